@@ -1,0 +1,5 @@
+use Rattle.resp_wire.proofs.FrontLaws.{front_is_whole}
+use Rattle.resp_wire.proofs.laws.front_is_whole.Goals as goal
+
+pub returns : goal.returns
+returns c = front_is_whole

@@ -1,0 +1,150 @@
+//! A value from its bytes.
+
+ghost use Rattle.std.specs.Prelude.{◌≡◌, map, IsTrue};
+ghost use Rattle.resp_wire.specs.Text.{is_one_line};
+ghost use Rattle.resp_wire.specs.Data.{items_of};
+ghost use Rattle.resp_wire.specs.Seen.{data_of, items_view};
+ghost use Rattle.resp_wire.specs.Gives.{Builds, byte_of};
+ghost use Rattle.resp_wire.specs.Reading as reading;
+ghost use Rattle.resp_wire.specs.Reading.{value_at, items_at, items_in, integer_at, bulk_at, array_at, counted_array};
+
+use crate::bytes::Bytes;
+use crate::fault::WireFault;
+use crate::head::{body_at, length_of, line_at};
+use crate::limits::Limits;
+use crate::line::Kind;
+use crate::number::integer_in;
+use crate::text::Line;
+use crate::value::{Value, Values};
+use std::alloc::Global;
+
+/// The value at the front, and what follows it, where so many arrays may still stand one inside another.
+#[cycle(build)]
+pub(crate) fn build<'a>(
+    alloc: Global,
+    limits: &Limits,
+    room: usize,
+    bytes: &'a [u8],
+) -> Result<Option<(Value, &'a [u8])>, WireFault>
+    ensures { Builds data_of result (value_at limits.now room bytes.now) }
+{
+    match line_at(limits, bytes) {
+        Ok(Some((kind, text, rest))) => build_after(alloc, limits, room, kind, text, rest),
+        Ok(None) => Ok(None),
+        Err(fault) => Err(fault),
+    }
+}
+
+/// The value that a line of this kind and text begins.
+#[cycle(build)]
+fn build_after<'a>(
+    alloc: Global,
+    limits: &Limits,
+    room: usize,
+    kind: Kind,
+    text: &[u8],
+    rest: &'a [u8],
+) -> Result<Option<(Value, &'a [u8])>, WireFault>
+    requires { IsTrue (is_one_line text.now) }
+    ensures { Builds data_of result
+        (reading.after_line limits.now (items_in limits.now room) (byte_of kind) text.now rest.now) }
+{
+    match kind {
+        Kind::Simple => match Line::from_text(alloc, text) {
+            Ok(line) => Ok(Some((Value::Simple(line), rest))),
+            Err(_) => Err(WireFault::NoMemory),
+        },
+        Kind::Error => match Line::from_text(alloc, text) {
+            Ok(line) => Ok(Some((Value::Error(line), rest))),
+            Err(_) => Err(WireFault::NoMemory),
+        },
+        Kind::Integer => match integer_in(text) {
+            Some(number) => Ok(Some((Value::Integer(number), rest))),
+            None => Err(WireFault::BadNumber),
+        },
+        Kind::Bulk => match length_of(text) {
+            Ok(Some(len)) => build_bulk(alloc, limits, len, rest),
+            Ok(None) => Ok(Some((Value::NullBulk, rest))),
+            Err(fault) => Err(fault),
+        },
+        Kind::Array => match length_of(text) {
+            Ok(Some(len)) => build_array(alloc, limits, room, len, rest),
+            Ok(None) => Ok(Some((Value::NullArray, rest))),
+            Err(fault) => Err(fault),
+        },
+    }
+}
+
+/// A bulk string of so many bytes.
+fn build_bulk<'a>(
+    alloc: Global,
+    limits: &Limits,
+    len: usize,
+    rest: &'a [u8],
+) -> Result<Option<(Value, &'a [u8])>, WireFault>
+    ensures { Builds data_of result (reading.counted_bulk limits.now rest.now len) }
+{
+    if len > limits.bulk() {
+        return Err(WireFault::TooLong);
+    }
+    match body_at(rest, len) {
+        Ok(Some((body, after))) => match Bytes::from_slice(alloc, body) {
+            Ok(bytes) => Ok(Some((Value::Bulk(bytes), after))),
+            Err(_) => Err(WireFault::NoMemory),
+        },
+        Ok(None) => Ok(None),
+        Err(fault) => Err(fault),
+    }
+}
+
+/// An array of so many items.
+#[cycle(build)]
+fn build_array<'a>(
+    alloc: Global,
+    limits: &Limits,
+    room: usize,
+    len: usize,
+    rest: &'a [u8],
+) -> Result<Option<(Value, &'a [u8])>, WireFault>
+    ensures { Builds data_of result (counted_array (items_in limits.now room) rest.now len) }
+{
+    if room == 0 {
+        return Err(WireFault::TooDeep);
+    }
+    if len > limits.items() {
+        return Err(WireFault::TooMany);
+    }
+    match build_items(alloc, limits, room - 1, len, rest) {
+        Ok(Some((items, after))) => Ok(Some((Value::Array(Values::new(items)), after))),
+        Ok(None) => Ok(None),
+        Err(fault) => Err(fault),
+    }
+}
+
+/// So many values, one after another. Their room is made at once, since all of them are there where this is called.
+#[cycle(build)]
+fn build_items<'a>(
+    alloc: Global,
+    limits: &Limits,
+    room: usize,
+    len: usize,
+    bytes: &'a [u8],
+) -> Result<Option<(Vec<Value>, &'a [u8])>, WireFault>
+    ensures { Builds items_view result (items_at (value_at limits.now room) len bytes.now) }
+{
+    let Ok(mut items) = Vec::with_capacity(alloc, len) else {
+        return Err(WireFault::NoMemory);
+    };
+    let mut rest = bytes;
+    for _ in 0..len {
+        match build(alloc, limits, room, rest) {
+            Ok(Some((value, after))) => match items.push(value) {
+                Ok(()) => rest = after,
+                Err(_) => return Err(WireFault::NoMemory),
+            },
+            Ok(None) => return Ok(None),
+            Err(fault) => return Err(fault),
+        }
+    }
+    Ok(Some((items, rest)))
+}
