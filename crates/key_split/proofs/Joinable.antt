@@ -1,0 +1,75 @@
+-- The ends of a plan's parts can be joined.
+use Rattle.std.proofs.Common.{◌≡◌, ℕ, ℤ, ◌<◌, ◌+◌, List, [], ◌∷◌, length, Bool, true, false, Option, None, Some, refl, sym, subst, arith}
+use Rattle.std.specs.Prelude.{All, IfOk, Ok, Err, if◌then◌else◌}
+use Rattle.std.proofs.lemmas.Bool.{false≢true}
+use Rattle.std.proofs.lemmas.List.Elements.{All-map, All-nil, All-cons}
+use Rattle.key_split.specs.declared.command.Op.{Op}
+use Rattle.key_split.specs.declared.command.Op.TheVariants as op
+use Rattle.key_split.specs.declared.command.Mode.{Mode}
+use Rattle.key_split.specs.declared.name.Name.{Name}
+use Rattle.key_split.specs.declared.name.Name.TheVariants.{Get, Set, SetNx, GetSet, GetDel, Append, StrLen, Incr, Decr, IncrBy, Del, Exists, MGet, MSet, Ping, Echo, Select, Quit}
+use Rattle.key_split.specs.declared.planned.Planned.{Planned}
+use Rattle.key_split.specs.declared.planned.Planned.TheVariants.{Local}
+use Rattle.key_split.specs.declared.planned.PlanFault.{PlanFault}
+use Rattle.resp_wire.specs.declared.value.Value.{Value}
+use Rattle.key_split.specs.Command.{Pair}
+use Rattle.key_split.specs.Groups.{slot_at, slots, group_numbers, parts_of, alone}
+use Rattle.key_split.specs.Names.{allows}
+use Rattle.key_split.specs.Plan.{Answer, Plans, Words, plan_as, set_with, increase}
+use Rattle.key_split.specs.Join.{CanBeJoined}
+use Rattle.key_split.proofs.Grouping.{AllAmong, all-among, place, place-within, length-parts}
+
+some-parts : (o : Op) (p : Pair) (ps : List Pair) → 0 < length (parts_of o (p ∷ ps))
+some-parts o p ps = omega arith
+
+places-among : (ps : List Pair) (ns : List ℕ) → AllAmong ps ns → All (λ p. place (slot_at p) ns < length ns) ps
+places-among [] ns h = All-nil _
+places-among (p ∷ ps) ns h = All-cons (λ q. place (slot_at q) ns < length ns) p ps (place-within (slot_at p) ns h.0) (places-among ps ns h.1)
+
+places-within : (o : Op) (ps : List Pair) → All (λ place. place < length (parts_of o ps)) (group_numbers ps)
+places-within o ps =
+    subst (λ n. All (λ place. place < n) (group_numbers ps)) (sym (length-parts o ps))
+    (All-map (λ place. place < length (slots ps)) (λ p. place (slot_at p) (slots ps)) ps (places-among ps (slots ps) (all-among ps)))
+
+set_with-joins : (mode : Option Mode) (args : Words) → IfOk (set_with mode args) CanBeJoined
+set_with-joins None args = tt
+set_with-joins (Some mode) args = refl
+
+increase-joins : (amount : Option ℤ) (args : Words) → IfOk (increase amount args) CanBeJoined
+increase-joins None args = tt
+increase-joins (Some n) args = refl
+
+either-joins : (b : Bool) (x y : Value) → IfOk {T = Planned} {E = PlanFault} (if b then Ok (Local x) else Ok (Local y)) CanBeJoined
+either-joins true x y = tt
+either-joins false x y = tt
+
+pub plan_as-joins : (name : Name) (args : Words) → allows name (length args + 1) ≡ true → IfOk (plan_as name args) CanBeJoined
+plan_as-joins Get args h = refl
+plan_as-joins Set args h = set_with-joins _ args
+plan_as-joins SetNx args h = refl
+plan_as-joins GetSet args h = refl
+plan_as-joins GetDel args h = refl
+plan_as-joins Append args h = refl
+plan_as-joins StrLen args h = refl
+plan_as-joins Incr args h = refl
+plan_as-joins Decr args h = refl
+plan_as-joins IncrBy args h = increase-joins _ args
+plan_as-joins Del [] h = absurd (false≢true h)
+plan_as-joins Del (key ∷ keys) h = some-parts op.Del _ _
+plan_as-joins Exists [] h = absurd (false≢true h)
+plan_as-joins Exists (key ∷ keys) h = some-parts op.Exists _ _
+plan_as-joins MGet [] h = absurd (false≢true h)
+plan_as-joins MGet (key ∷ keys) h = (some-parts op.MGet _ _, places-within op.MGet (alone (key ∷ keys)))
+plan_as-joins MSet [] h = absurd (false≢true h)
+plan_as-joins MSet (key ∷ []) h = absurd (false≢true h)
+plan_as-joins MSet (key ∷ value ∷ args) h = some-parts op.MSet _ _
+plan_as-joins Ping [] h = tt
+plan_as-joins Ping (text ∷ args) h = tt
+plan_as-joins Echo args h = tt
+plan_as-joins Select args h = either-joins _ _ _
+plan_as-joins Quit args h = tt
+
+pub IfOk-planned : (wanted given : Answer) → Plans wanted given → IfOk wanted CanBeJoined → IfOk given CanBeJoined
+IfOk-planned wanted (Err e) h j = tt
+IfOk-planned (Err fault) (Ok p) h j = absurd cc
+IfOk-planned (Ok wanted) (Ok p) h j = subst CanBeJoined (sym h) j

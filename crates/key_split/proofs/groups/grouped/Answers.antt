@@ -1,0 +1,51 @@
+use Rattle.std.proofs.Common.{◌∙◌, ap, sym, arith, length, ◌++◌, ◌∷◌, []}
+use Rattle.std.specs.Ordering.{nat_cmp}
+use Rattle.std.specs.Map.{lookup}
+use Rattle.std.specs.BTreeMap.{is_at}
+use Rattle.key_split.specs.Command.{takes_group}
+use Rattle.slot_hash.specs.Slot.{slot_of}
+use Rattle.key_split.proofs.groups.grouped.Goals.{in-Some-get+in_ok-push-in-Some-get, in-None-get+in_ok-insert-in-None-get+in_ok-push-in-None-get}
+use Rattle.key_split.proofs.Grouping.{part-at, few-slots, made-own, made-new, length-parts}
+use Rattle.key_split.proofs.groups.grouped.Goals as goal
+
+pub push-requires-clause-same_slot : goal.push-requires-clause-same_slot
+push-requires-clause-same_slot c =
+    let at = part-at c.args.op c.loop-key.yielded c.number-slot.result c.in-Some-get.number.now c.loop-key.parts.items c.index_mut.result.now
+    (sym (c.loop-key.invariant.2 c.number-slot.result) ∙ sym c.in-Some-get.ensures.value) c.loop-key.invariant.0 c.index_mut.ensures.value in
+    sym (at.slot ∙ c.number-slot.ensures.value ∙ c.slot_of.ensures.value ∙ ap slot_of c.as_slice.ensures)
+
+pub push-requires-clause-group : goal.push-requires-clause-group
+push-requires-clause-group c =
+    let at = part-at c.args.op c.loop-key.yielded c.number-slot.result c.in-Some-get.number.now c.loop-key.parts.items c.index_mut.result.now
+    (sym (c.loop-key.invariant.2 c.number-slot.result) ∙ sym c.in-Some-get.ensures.value) c.loop-key.invariant.0 c.index_mut.ensures.value in
+    ap takes_group at.op ∙ c.requires
+
+pub overflow_cast-number-in-None-get : goal.overflow_cast-number-in-None-get
+overflow_cast-number-in-None-get c =
+    let l = few-slots c.loop-key.yielded in
+    let e = length-parts c.args.op c.loop-key.yielded in
+    let f = ap length c.loop-key.invariant.0 in
+    record { fits = omega arith }
+
+pub loop-key-preserved : goal.loop-key-preserved
+loop-key-preserved c =
+    let slot = c.number-slot.ensures.value ∙ c.slot_of.ensures.value ∙ ap slot_of c.as_slice.ensures in
+    elim c.match-get.branch [
+      | in-Some-get+in_ok-push-in-Some-get w ↦
+          made-own c.args.op c.loop-key.yielded (c.in-Some.key, c.in-Some.value) c.number-slot.result w.in-Some-get.number.now
+          c.loop-key.parts.items c.match-get.parts.items w.index_mut.result.now w.push.new.self
+          c.loop-key.places.items c.push-in-loop-key.new.self.items
+          (λ t. lookup (is_at (nat_cmp t)) c.loop-key.numbers.entries) (λ t. lookup (is_at (nat_cmp t)) c.match-get.numbers.entries)
+          slot c.loop-key.invariant w.in-Some-get.ensures.value w.index_mut.ensures.value w.in_ok-push-in-Some-get.ensures.ok
+          (ap (λ v. v.items) w.parts-is) (c.in_ok-push.ensures.items ∙ ap (λ k. c.loop-key.places.items ++ k ∷ []) w.number-is)
+          (λ t. ap (λ m. lookup (is_at (nat_cmp t)) m.entries) w.numbers-is)
+      | in-None-get+in_ok-insert-in-None-get+in_ok-push-in-None-get w ↦
+          made-new c.args.op c.loop-key.yielded (c.in-Some.key, c.in-Some.value) c.number-slot.result w.len-number.result
+          c.loop-key.parts.items c.match-get.parts.items
+          c.loop-key.places.items c.push-in-loop-key.new.self.items
+          (λ t. lookup (is_at (nat_cmp t)) c.loop-key.numbers.entries) (λ t. lookup (is_at (nat_cmp t)) c.match-get.numbers.entries)
+          slot c.loop-key.invariant w.in-None-get.ensures.value (let q = w.len-number.ensures in let e = c.loop-key.parts.ok in omega arith)
+          (ap (λ v. v.items) w.parts-is ∙ w.in_ok-push-in-None-get.ensures.items ∙ ap (λ q. c.loop-key.parts.items ++ q ∷ []) w.new.ensures)
+          (c.in_ok-push.ensures.items ∙ ap (λ k. c.loop-key.places.items ++ k ∷ []) w.number-is)
+          (λ t. ap (λ m. lookup (is_at (nat_cmp t)) m.entries) w.numbers-is ∙ w.in_ok-insert-in-None-get.ensures.updates.0 t)
+    ]

@@ -1,0 +1,13 @@
+pub mod Number
+pub mod Command
+pub mod Same
+pub mod Groups
+pub mod Names
+pub mod Plan
+pub mod Words
+pub mod Texts
+pub mod Woven
+pub mod Join
+pub mod Requests
+pub mod Told
+pub mod Laws
