@@ -1,0 +1,9 @@
+pub mod Store
+pub mod History
+pub mod Laws
+pub mod BySlot
+pub mod Standings
+pub mod Nodes
+pub mod Serving
+pub mod Moves
+pub mod Listing
