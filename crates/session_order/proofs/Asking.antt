@@ -1,0 +1,61 @@
+-- What a value asks for.
+use Rattle.std.proofs.Common.{◌≡◌, ◌<◌, ◌∷◌, [], List, ℕ, Bool, true, false, Option, Some, None, ap, refl, ◌∙◌, arith, length, cond, nat_eq, map}
+use Rattle.std.specs.Prelude.{option_map, is_some}
+use Rattle.resp_wire.specs.Data.{Data, Items, simple, error, integer, bulk, null_bulk, array, null_array, no_items, item, items_of}
+use Rattle.resp_wire.specs.Words.{words_of, bulks_of}
+use Rattle.resp_wire.specs.Seen.{data_of}
+use Rattle.resp_wire.specs.declared.value.Value.{Value}
+use Rattle.session_order.specs.declared.intake.Kind.{Kind}
+use Rattle.session_order.specs.declared.intake.Kind.TheVariants as kind
+use Rattle.session_order.proofs.Lists.{eqb-no}
+use Rattle.session_order.specs.Requests.{Asked, Words, Skipped, Refused, is_empty_array, asked_by, asked_of, IsKind}
+
+pub kind_is : (empty : Bool) (words : Option (List (List ℕ))) (found : Kind) → found ≡ cond empty kind.Skipped (cond (is_some words) kind.Request kind.Refused)
+    → IsKind (cond empty Skipped (asked_by words)) found
+kind_is true words found is = rw is tt
+kind_is false None found is = rw is tt
+kind_is false (Some words) found is = rw is tt
+
+some_in : (first : List ℕ) (others : Option (List (List ℕ))) (words : List (List ℕ)) → option_map (λ more. first ∷ more) others ≡ Some words → 0 < length words
+some_in first others [] is = elim others as (λ o. option_map (λ more. first ∷ more) o ≡ Some [] → 0 < 0) [ Some xs ↦ λ h. (let e : Some (first ∷ xs) ≡ Some [] = h in cc) | None ↦ λ h. (let e : None ≡ Some [] = h in cc) ] is
+some_in first others (w ∷ ws) is = omega arith
+
+-- a request that is no empty array has a word
+pub has_words : (value : Data) (words : List (List ℕ)) → is_empty_array value ≡ false → words_of value ≡ Some words → 0 < length words
+has_words (simple text) words some is = cc
+has_words (error text) words some is = cc
+has_words (integer n) words some is = cc
+has_words (bulk word) words some is = cc
+has_words null_bulk words some is = cc
+has_words null_array words some is = cc
+has_words (array no_items) words some is = cc
+has_words (array (item (bulk word) more)) words some is = some_in word (bulks_of more) words is
+has_words (array (item (simple text) more)) words some is = cc
+has_words (array (item (error text) more)) words some is = cc
+has_words (array (item (integer n) more)) words some is = cc
+has_words (array (item null_bulk more)) words some is = cc
+has_words (array (item (array ds) more)) words some is = cc
+has_words (array (item null_array more)) words some is = cc
+
+not_skipped : (empty : Bool) (asked : Asked) → IsKind (cond empty Skipped asked) kind.Request → empty ≡ false
+not_skipped true asked is = absurd is
+not_skipped false asked is = refl
+
+-- the words of a value that is a request are those that it asks for, and there is one
+pub words_asked : (value : Data) (words : List (List ℕ)) → IsKind (asked_of value) kind.Request → words_of value ≡ Some words
+    → (asked_of value ≡ Words words) × (0 < length words)
+words_asked value words is are =
+    let some : is_empty_array value ≡ false = not_skipped (is_empty_array value) (asked_by (words_of value)) is in
+    (ap (λ (b : Bool). cond b Skipped (asked_by (words_of value))) some ∙ ap asked_by are, has_words value words some are)
+
+-- a value that is a request asks for words
+pub asks_words : (asked : Asked) → IsKind asked kind.Request → (words : List (List ℕ)) × (asked ≡ Words words)
+asks_words (Words words) is = (words, refl)
+asks_words Skipped is = absurd is
+asks_words Refused is = absurd is
+
+-- an array is empty exactly where it has no item
+pub array_is_empty : (value : Data) (items : List Data) (vs : List Value) → value ≡ array (items_of items) → map data_of vs ≡ items
+    → nat_eq (length vs) 0 ≡ is_empty_array value
+array_is_empty value items [] is same = rw (is, ← same) refl
+array_is_empty value items (v ∷ vs) is same = rw (is, ← same) (eqb-no (length (v ∷ vs)) 0 (λ none. omega (arith, none)))

@@ -1,0 +1,10 @@
+use Rattle.std.proofs.Common.{◌≤◌, length, append_assoc}
+use Rattle.std.proofs.lemmas.Grind.{flat_map-append}
+use Rattle.session_order.specs.Replies.{replied}
+use Rattle.session_order.proofs.Drained.{replies_all}
+use Rattle.session_order.proofs.replies.write_output.Goals as goal
+
+pub returns-in_ok-write_line-clause-written : goal.returns-in_ok-write_line-clause-written
+returns-in_ok-write_line-clause-written c =
+    let all : length c.args.requests.now ≤ (replied c.args.requests.now c.args.queue.now.stages c.args.ends.now).0 = rw (← c.in_ok-count.ensures.counts) c.if-requests-count.true in
+    rw (c.if-line_owed.true, replies_all _ _ _ _ all, flat_map-append, ← append_assoc, ← c.in_ok-count.ensures.written) c.in_ok-write_line.ensures.ok

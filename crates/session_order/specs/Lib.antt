@@ -1,0 +1,12 @@
+pub mod Turn
+pub mod Requests
+pub mod Ahead
+pub mod Incoming
+pub mod Owed
+pub mod Step
+pub mod Replies
+pub mod Held
+pub mod Sound
+pub mod Steps
+pub mod Output
+pub mod Life

@@ -1,0 +1,115 @@
+-- A session's output: the replies in the order of the requests, up to the first that has a part which has not ended.
+use Rattle.std.specs.Prelude.{◌≡◌, ◌≤◌, ◌+◌, suc, List, [], ◌∷◌, ◌++◌, ℕ, Bool, true, false, Option, Some, None, Result, Ok, Err, if◌then◌else◌, take, drop, length, flat_map, nat_le}
+use Rattle.std.specs.List.{list_all}
+use Rattle.resp_wire.specs.declared.value.Value.{Value}
+use Rattle.resp_wire.specs.Seen.{data_of}
+use Rattle.resp_wire.specs.Canonical.{canonical}
+use Rattle.key_split.specs.declared.travel.Ended.{Ended}
+use Rattle.key_split.specs.declared.planned.Joining.{Joining}
+use Rattle.key_split.specs.Join.{join_of, CanJoin}
+use Rattle.session_order.specs.Owed.{protocol_error}
+use Rattle.session_order.specs.declared.queue.Stage.{Stage}
+use Rattle.session_order.specs.declared.replies.Owed.{Owed}
+use Rattle.session_order.specs.declared.replies.Owed.TheVariants.{Reply, Parts}
+use Rattle.session_order.specs.declared.closing.Closing.{Closing}
+use Rattle.session_order.specs.declared.closing.Closing.TheVariants.{Open, Quit, Faulted}
+use Rattle.resp_wire.specs.declared.fault.NoMemory.{NoMemory}
+use Rattle.session_order.specs.Turn.{is_done}
+use Rattle.session_order.specs.Held.{Held}
+
+-- the canonical spelling of a reply
+unfoldable pub spelling : Value → List ℕ
+spelling value = canonical (data_of value)
+
+-- the reply that the ends of a request's parts make
+unfoldable pub joined : Joining → List Ended → Value
+joined how ends = join_of how ends
+
+-- A request's reply and how many parts it has, once all of them have ended. The stages and ends are those of its
+-- parts and of the parts after them.
+abbrev pub reply_of : Owed → List Stage → List Ended → Option (Value × ℕ)
+reply_of (Reply value) stages ends = Some (value, 0)
+reply_of (Parts how n) stages ends = if list_all is_done (take n stages) then Some (joined how (take n ends), n) else None
+
+-- the replies that are next in order; the last line follows when every request has its reply
+abbrev pub replies : List Owed → List Stage → List Ended → List Value → List Value
+replies [] stages ends last = last
+replies (owed ∷ rs) stages ends last = elim (reply_of owed stages ends) [
+  | Some reply ↦ reply.0 ∷ replies rs (drop reply.1 stages) (drop reply.1 ends) last
+  | None ↦ []
+]
+
+-- how many requests have their reply in order, and how many parts these have
+abbrev pub replied : List Owed → List Stage → List Ended → ℕ × ℕ
+replied [] stages ends = (0, 0)
+replied (owed ∷ rs) stages ends = elim (reply_of owed stages ends) [
+  | Some reply ↦ (suc (replied rs (drop reply.1 stages) (drop reply.1 ends)).0, reply.1 + (replied rs (drop reply.1 stages) (drop reply.1 ends)).1)
+  | None ↦ (0, 0)
+]
+
+-- the error line that is owed after a fault
+abbrev pub last_line : Closing → List Value
+last_line Open = []
+last_line Quit = []
+last_line (Faulted why true) = protocol_error ∷ []
+last_line (Faulted why false) = []
+
+abbrev pub lines_owed : Bool → List Value
+lines_owed true = protocol_error ∷ []
+lines_owed false = []
+
+-- how many parts the requests have
+abbrev pub parts_of : List Owed → ℕ
+parts_of [] = 0
+parts_of (Reply value ∷ rs) = parts_of rs
+parts_of (Parts how n ∷ rs) = n + parts_of rs
+
+-- each request with parts can be joined
+abbrev pub AreJoinable : List Owed → Type 0
+AreJoinable [] = Unit {0}
+AreJoinable (Reply value ∷ rs) = AreJoinable rs
+AreJoinable (Parts how n ∷ rs) = CanJoin how n × AreJoinable rs
+
+-- the bytes of the replies
+abbrev pub bytes_of : List Value → List ℕ
+bytes_of values = flat_map spelling values
+
+-- what the next drain appends
+abbrev pub output : Held → List ℕ
+output held = bytes_of (replies held.requests held.stages held.ends (last_line held.closing))
+
+-- the error line was drained
+abbrev pub said : Closing → Closing
+said Open = Open
+said Quit = Quit
+said (Faulted why owed) = Faulted why false
+
+-- what is held after these many requests and parts were drained
+abbrev pub without : Held → ℕ × ℕ → Held
+without held n = record held {
+  requests = drop n.0 held.requests;
+  stages = drop n.1 held.stages;
+  ends = drop n.1 held.ends;
+  first = held.first + n.1;
+  closing = if nat_le (length held.requests) n.0 then said held.closing else held.closing;
+}
+
+abbrev pub drained : Held → Held
+drained held = without held (replied held.requests held.stages held.ends)
+
+-- the parts of a request are among these many, and can be joined
+abbrev pub HasParts : Owed → ℕ → Type 0
+HasParts (Reply value) n = Unit {0}
+HasParts (Parts how count) n = (count ≤ n) × CanJoin how count
+
+-- what writing one request's reply does
+abbrev pub ReplyOutcome : Owed → List Stage → List Ended → List ℕ → Result (Option ℕ) NoMemory → List ℕ → Type 0
+ReplyOutcome owed stages ends old (Ok (Some n)) new =
+    (value : Value) × (reply_of owed stages ends ≡ Some (value, n)) × (new ≡ old ++ spelling value)
+ReplyOutcome owed stages ends old (Ok None) new = (reply_of owed stages ends ≡ None) × (new ≡ old)
+ReplyOutcome owed stages ends old (Err refused) new = new ≡ old
+
+-- what draining does: all replies that are next in order, or nothing
+abbrev pub DrainOutcome : Held → List ℕ → Result ℕ NoMemory → Held → List ℕ → Type 0
+DrainOutcome old before (Ok n) new after = (after ≡ before ++ output old) × (n ≡ length (output old)) × (new ≡ drained old)
+DrainOutcome old before (Err refused) new after = (after ≡ before) × (new ≡ old)

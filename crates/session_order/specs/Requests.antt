@@ -1,0 +1,43 @@
+-- What a client's value asks for.
+use Rattle.std.specs.Prelude.{ℕ, List, Bool, true, false, Option, Some, None, if◌then◌else◌}
+use Rattle.resp_wire.specs.Data.{Data, simple, error, integer, bulk, null_bulk, array, null_array, no_items, item}
+use Rattle.resp_wire.specs.Words.{words_of}
+use Rattle.session_order.specs.declared.intake.Kind.{Kind}
+use Rattle.session_order.specs.declared.intake.Kind.TheVariants as kind
+
+-- A request with its words, nothing, or a value that is no request.
+pub data Asked : Type 0 where
+  Words : List (List ℕ) → Asked
+  Skipped : Asked
+  Refused : Asked
+
+abbrev pub is_empty_array : Data → Bool
+is_empty_array (simple text) = false
+is_empty_array (error text) = false
+is_empty_array (integer n) = false
+is_empty_array (bulk word) = false
+is_empty_array null_bulk = false
+is_empty_array (array no_items) = true
+is_empty_array (array (item first more)) = false
+is_empty_array null_array = true
+
+abbrev pub asked_by : Option (List (List ℕ)) → Asked
+asked_by None = Refused
+asked_by (Some words) = Words words
+
+-- RESP2 specification, "Sending commands to a Redis server": a request is an array of bulk strings. An empty or a null
+-- array is skipped.
+abbrev pub asked_of : Data → Asked
+asked_of value = if is_empty_array value then Skipped else asked_by (words_of value)
+
+-- what is asked is of the kind
+abbrev pub IsKind : Asked → Kind → Type 0
+IsKind (Words words) kind.Request = Unit {0}
+IsKind (Words words) kind.Skipped = ⊥
+IsKind (Words words) kind.Refused = ⊥
+IsKind Skipped kind.Request = ⊥
+IsKind Skipped kind.Skipped = Unit {0}
+IsKind Skipped kind.Refused = ⊥
+IsKind Refused kind.Request = ⊥
+IsKind Refused kind.Skipped = ⊥
+IsKind Refused kind.Refused = Unit {0}

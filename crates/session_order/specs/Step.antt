@@ -1,0 +1,29 @@
+-- The step that a plan makes.
+use Rattle.std.specs.Prelude.{◌≡◌, ℕ, Result, Ok, Err, length}
+use Rattle.key_split.specs.declared.planned.Planned.{Planned}
+use Rattle.key_split.specs.declared.planned.Planned.TheVariants as planned
+use Rattle.key_split.specs.declared.planned.PlanFault.{PlanFault}
+use Rattle.key_split.specs.Join.{CanJoin}
+use Rattle.session_order.specs.declared.step.Step.{Step}
+use Rattle.session_order.specs.declared.step.Step.TheVariants.{Reply, Close, Parts}
+use Rattle.key_split.specs.Texts.{refusal_of}
+use Rattle.session_order.specs.Owed.{goodbye}
+
+-- the step that a plan, or words that have none, make
+abbrev pub Makes : Result Planned PlanFault → Step → Type 0
+Makes (Err fault) (Reply value) = value ≡ refusal_of fault
+Makes (Ok (planned.Local reply)) (Reply value) = value ≡ reply
+Makes (Ok planned.Close) (Close value) = value ≡ goodbye
+Makes (Ok (planned.Parts how parts)) (Parts how' parts') = (how' ≡ how) × (parts' ≡ parts)
+Makes plan made = ⊥
+
+-- the ends of its parts can be joined
+abbrev pub CanJoinStep : Step → Type 0
+CanJoinStep (Reply value) = Unit {0}
+CanJoinStep (Close value) = Unit {0}
+CanJoinStep (Parts how parts) = CanJoin how (length parts)
+
+abbrev pub parts_added : Step → ℕ
+parts_added (Reply value) = 0
+parts_added (Close value) = 0
+parts_added (Parts how parts) = length parts

@@ -1,0 +1,145 @@
+//! A client's bytes, and the request that is next of them.
+
+ghost use Rattle.std.specs.Prelude.{◌≡◌, ◌<◌, [], None, Some, length};
+ghost use Rattle.resp_wire.specs.Seen.{data_of};
+ghost use Rattle.session_order.specs.Ahead.{GiveOutcome};
+ghost use Rattle.session_order.specs.Requests.{asked_of, is_empty_array, IsKind};
+
+use crate::fault::SessionFault;
+use resp_wire::{Limits, Reader, Value, WireFault, Words};
+use std::alloc::Global;
+use std::marker::Model;
+use std::mem;
+
+/// What is next.
+#[derive(Drop)]
+pub enum Next {
+    Words(Words),
+    /// An empty or a null array, which asks for nothing.
+    Skipped,
+    /// No value is whole.
+    Nothing,
+}
+
+/// What was taken off the bytes and not given, for want of memory.
+#[derive(Drop)]
+enum Ahead {
+    Nothing,
+    Value(Value),
+    Words(Words),
+}
+
+enum Kind {
+    Request,
+    Skipped,
+    Refused,
+}
+
+/// Takes requests off a client's bytes.
+#[derive(Drop)]
+pub struct Intake {
+    alloc: Global,
+    reader: Reader,
+    ahead: Ahead,
+}
+
+impl Model for Intake {
+    ghost use Rattle.session_order.specs.Incoming.{Incoming};
+
+    ghost Value = { Incoming };
+
+    ghost use Rattle.session_order.specs.Ahead.{words_ahead, IsAhead};
+
+    ghost view = { λ a. record { input = a.reader; ahead = words_ahead a.ahead } };
+
+    ghost invariant = { λ a. IsAhead a.ahead };
+}
+
+impl Intake {
+    ghost use Rattle.session_order.specs.Incoming.{TakeOutcome, HasWords};
+    ghost use Rattle.resp_wire.specs.Front.{Feeds};
+
+    pub fn new(alloc: Global, limits: Limits) -> Intake
+        ensures { result ≡ record { input = record { bounds = limits; unread = []; fault = None }; ahead = None } }
+    {
+        Intake {
+            alloc,
+            reader: Reader::new(alloc, limits),
+            ahead: Ahead::Nothing,
+        }
+    }
+
+    pub fn feed(&mut self, piece: &[u8]) -> Result<(), WireFault>
+        ensures fed { Feeds self.old.input piece.now result self.new.input }
+        ensures rest { self.new ≡ record self.old { input = self.new.input } }
+    {
+        self.reader.feed(piece)
+    }
+
+    /// Takes the next request off the bytes.
+    pub fn next(&mut self) -> Result<Next, SessionFault>
+        requires { self.old.input.fault ≡ None }
+        ensures does { TakeOutcome self.old result self.new }
+        ensures words { HasWords result }
+    {
+        match mem::replace(&mut self.ahead, Ahead::Nothing) {
+            Ahead::Words(words) => Ok(Next::Words(words)),
+            Ahead::Value(value) => give(self.alloc, value, &mut self.ahead),
+            Ahead::Nothing => match self.reader.next() {
+                Ok(Some(value)) => give(self.alloc, value, &mut self.ahead),
+                Ok(None) => Ok(Next::Nothing),
+                Err(WireFault::NoMemory) => Err(SessionFault::NoMemory),
+                Err(fault) => Err(SessionFault::Wire(fault)),
+            },
+        }
+    }
+
+    /// Puts the words back that were taken last.
+    pub fn put_back(&mut self, words: Words)
+        requires none { self.old.ahead ≡ None }
+        requires some { 0 < length words }
+        ensures { self.new ≡ record self.old { ahead = Some words } }
+    {
+        self.ahead = Ahead::Words(words);
+    }
+}
+
+// What a value that was taken off the bytes asks for. A request whose words find no memory is kept ahead.
+fn give(alloc: Global, value: Value, ahead: &mut Ahead) -> Result<Next, SessionFault>
+    requires { ahead.old ≡ Ahead.Nothing }
+    ensures { GiveOutcome value result ahead.new }
+{
+    match kind_of(&value) {
+        Kind::Skipped => Ok(Next::Skipped),
+        Kind::Refused => Err(SessionFault::NotRequest),
+        Kind::Request => match value.into_words(alloc) {
+            Ok(words) => Ok(Next::Words(words)),
+            Err(value) => {
+                *ahead = Ahead::Value(value);
+                Err(SessionFault::NoMemory)
+            }
+        },
+    }
+}
+
+fn kind_of(value: &Value) -> Kind
+    ensures { IsKind (asked_of (data_of value.now)) result }
+{
+    if is_empty_array(value) {
+        Kind::Skipped
+    } else if value.is_request() {
+        Kind::Request
+    } else {
+        Kind::Refused
+    }
+}
+
+fn is_empty_array(value: &Value) -> bool
+    ensures { result ≡ is_empty_array (data_of value.now) }
+{
+    match value {
+        Value::Array(items) => items.as_slice().is_empty(),
+        Value::NullArray => true,
+        _ => false,
+    }
+}

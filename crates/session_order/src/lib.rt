@@ -1,0 +1,25 @@
+//! One client's session: its bytes in, its commands out, and its replies in the order of its requests.
+//!
+//! ```text
+//! session.feed(bytes)?; while session.read()? {}
+//! while let Some((ticket, part)) = session.ready() { .. }   // post it
+//! session.ended(ticket, end); session.drain(&mut out)?;
+//! ```
+//!
+//! Whatever the calls, what was drained is a front of the output that `specs/Output.antt` gives for the requests read and
+//! the ends told, and all of it after a drain that answers Ok: `drains_output`. A part is handed out once, when all
+//! earlier parts for its slot have ended (`MayPost` of `specs/Turn.antt`).
+#![tactic(auto)]
+
+mod closing;
+mod fault;
+mod intake;
+mod laws;
+mod queue;
+mod replies;
+mod session;
+mod step;
+
+pub use fault::SessionFault;
+pub use laws::drains_output;
+pub use session::Session;

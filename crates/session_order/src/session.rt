@@ -1,0 +1,316 @@
+//! A client's session.
+
+ghost use Rattle.std.specs.Prelude.{◌≡◌, ◌≢◌, ◌<◌, ◌≤◌, ◌+◌, ◌++◌, ◌↔◌, [], ◌∷◌, None, IsTrue, IfSome, true, length, drop, replicate, vec_len, vec_capacity};
+
+use crate::closing::{Broken, Closing};
+use crate::fault::SessionFault;
+use crate::intake::{Intake, Next};
+use crate::queue::Queue;
+use crate::replies::{Owed, write_output};
+use crate::step::{Step, step_for};
+use key_split::{Ended, Part, Ticket};
+use resp_wire::{Limits, NoMemory, Words};
+use std::alloc::Global;
+use std::marker::Model;
+
+/// The most requests of a client without a drained reply.
+const MAX_UNANSWERED: usize = 1024;
+
+/// A client's session.
+#[derive(Drop)]
+pub struct Session {
+    alloc: Global,
+    worker: u16,
+    client: u32,
+    intake: Intake,
+    requests: Vec<Owed>,
+    queue: Queue,
+    ends: Vec<Ended>,
+    closing: Closing,
+}
+
+impl Model for Session {
+    ghost use Rattle.session_order.specs.Held.{Held};
+
+    ghost Value = { Held };
+
+    ghost use Rattle.std.specs.Coded.{codes};
+    ghost use Rattle.resp_wire.specs.Stored.{coded_data};
+
+    ghost coded = { Prim.hlevel (codes, coded_data) };
+
+    ghost use Rattle.session_order.specs.Sound.{IsSound};
+
+    ghost view = { λ a. record {
+      worker = a.worker;
+      client = a.client;
+      incoming = a.intake;
+      requests = a.requests.items;
+      stages = a.queue.stages;
+      ends = a.ends.items;
+      first = a.queue.first;
+      closing = a.closing;
+    } };
+
+    ghost invariant = { λ a. IsSound a.intake a.requests.items a.queue a.ends.items a.closing };
+}
+
+impl Session {
+    ghost use Rattle.key_split.specs.declared.travel.Ticket.{Ticket};
+    ghost use Rattle.session_order.specs.Life.{fresh};
+    ghost use Rattle.session_order.specs.Replies.{DrainOutcome};
+    ghost use Rattle.session_order.specs.Steps.{FeedOutcome, ReadOutcome, ReadyOutcome, IsHandedOut, EndOutcome, IsFinished, IsOut, KeepsOut};
+
+    /// A session to which nothing was fed.
+    pub fn new(alloc: Global, worker: u16, client: u32, limits: Limits) -> Session
+        ensures { result ≡ fresh worker client limits }
+    {
+        Session {
+            alloc,
+            worker,
+            client,
+            intake: Intake::new(alloc, limits),
+            requests: Vec::new(alloc),
+            queue: Queue::new(alloc),
+            ends: Vec::new(alloc),
+            closing: Closing::Open,
+        }
+    }
+
+    /// Takes the whole piece, or nothing where too many requests are unanswered, and answers how many bytes it took.
+    pub fn feed(&mut self, piece: &[u8]) -> Result<usize, SessionFault>
+        ensures does { FeedOutcome self.old piece.now result self.new }
+        ensures kept { KeepsOut self.old self.new }
+    {
+        self.take_piece(piece)
+    }
+
+    /// Reads at most one request. It is false where none is whole, too many are unanswered, or QUIT was read.
+    pub fn read(&mut self) -> Result<bool, SessionFault>
+        ensures does { ReadOutcome self.old result self.new }
+        ensures kept { KeepsOut self.old self.new }
+    {
+        self.read_next()
+    }
+
+    /// Hands out the earliest part whose turn it is, of those that were not handed out.
+    pub fn ready(&mut self) -> Option<(Ticket, Part)>
+        ensures does { ReadyOutcome self.old result self.new }
+        ensures out { IfSome result (λ given. IsOut self.new given.0 × (IsOut self.old given.0 → ⊥)) }
+        ensures kept { KeepsOut self.old self.new }
+    {
+        self.hand_out()
+    }
+
+    /// Whether the ticket is of a part that was handed out and has not ended.
+    pub fn awaits(&self, ticket: Ticket) -> bool
+        ensures { IsTrue result ↔ IsHandedOut self.now ticket }
+    {
+        ticket.worker == self.worker
+            && ticket.client == self.client
+            && self.queue.is_out(ticket.part)
+    }
+
+    /// Tells the end of a part that was handed out.
+    pub fn ended(&mut self, ticket: Ticket, end: Ended)
+        requires { IsHandedOut self.old ticket }
+        ensures does { EndOutcome self.old ticket end self.new }
+        ensures over { IsOut self.new ticket → ⊥ }
+        ensures kept { (other : Ticket) → other ≢ ticket → IsOut self.old other → IsOut self.new other }
+    {
+        self.put_end(ticket, end);
+    }
+
+    /// Appends all replies that are next in order, and answers how many bytes.
+    pub fn drain(&mut self, out: &mut Vec<u8>) -> Result<usize, NoMemory>
+        ensures does { DrainOutcome self.old out.old.items result self.new out.new.items }
+        ensures kept { KeepsOut self.old self.new }
+    {
+        self.write_next(out)
+    }
+
+    /// Whether the session is closed and nothing is left to drain.
+    pub fn finished(&self) -> bool
+        ensures { IsTrue result ↔ IsFinished self.now }
+    {
+        match self.closing {
+            Closing::Open => false,
+            Closing::Quit => self.requests.is_empty(),
+            Closing::Faulted(_, owed) => !owed && self.requests.is_empty(),
+        }
+    }
+}
+
+impl Session {
+    ghost use Rattle.session_order.specs.Replies.{DrainOutcome};
+    ghost use Rattle.session_order.specs.Steps.{FeedOutcome, ReadOutcome, ReadyOutcome, EndOutcome, IsHandedOut, MayRead, AddOutcome};
+
+    fn take_piece(&mut self, piece: &[u8]) -> Result<usize, SessionFault>
+        ensures { FeedOutcome self.old piece.now result self.new }
+    {
+        match self.closing {
+            Closing::Faulted(why, _) => return Err(why.fault()),
+            _ if self.requests.len() == MAX_UNANSWERED => return Ok(0),
+            Closing::Quit => return Ok(piece.len()),
+            Closing::Open => {}
+        }
+        match self.intake.feed(piece) {
+            Ok(()) => Ok(piece.len()),
+            Err(_) => Err(SessionFault::NoMemory),
+        }
+    }
+
+    fn read_next(&mut self) -> Result<bool, SessionFault>
+        ensures { ReadOutcome self.old result self.new }
+    {
+        match self.closing {
+            Closing::Open => {}
+            Closing::Quit => return Ok(false),
+            Closing::Faulted(why, _) => return Err(why.fault()),
+        }
+        if self.requests.len() == MAX_UNANSWERED {
+            return Ok(false);
+        }
+        match self.intake.next() {
+            Ok(Next::Words(words)) => self.add(words),
+            Ok(Next::Skipped) => Ok(true),
+            Ok(Next::Nothing) => Ok(false),
+            Err(SessionFault::NoMemory) => Err(SessionFault::NoMemory),
+            Err(SessionFault::Wire(fault)) => {
+                self.closing = Closing::Faulted(Broken::Wire(fault), true);
+                Err(SessionFault::Wire(fault))
+            }
+            Err(SessionFault::NotRequest) => {
+                self.closing = Closing::Faulted(Broken::NotRequest, true);
+                Err(SessionFault::NotRequest)
+            }
+        }
+    }
+
+    fn hand_out(&mut self) -> Option<(Ticket, Part)>
+        ensures { ReadyOutcome self.old result self.new }
+    {
+        let Some((number, part)) = self.queue.hand_out() else {
+            return None;
+        };
+        let ticket = Ticket {
+            worker: self.worker,
+            client: self.client,
+            part: number,
+        };
+        Some((ticket, part))
+    }
+
+    fn put_end(&mut self, ticket: Ticket, end: Ended)
+        requires { IsHandedOut self.old ticket }
+        ensures { EndOutcome self.old ticket end self.new }
+    {
+        let i = (ticket.part - self.queue.first()) as usize;
+        self.queue.end(ticket.part);
+        self.ends[i] = end;
+    }
+
+    fn write_next(&mut self, out: &mut Vec<u8>) -> Result<usize, NoMemory>
+        ensures { DrainOutcome self.old out.old.items result self.new out.new.items }
+    {
+        let start = out.len();
+        let line_owed = self.closing.owes_line();
+        match write_output(
+            self.alloc,
+            &self.requests,
+            &self.queue,
+            &self.ends,
+            line_owed,
+            out,
+        ) {
+            Ok((requests, parts)) => {
+                self.closing = self.closing.after(self.requests.len() <= requests);
+                drop_front(&mut self.requests, requests);
+                drop_front(&mut self.ends, parts);
+                self.queue.drop_front(parts);
+                Ok(out.len() - start)
+            }
+            Err(refused) => {
+                out.truncate(start);
+                Err(refused)
+            }
+        }
+    }
+
+    #[tactic(auto, using(crate::proofs::Added::parts_of_push, crate::proofs::Added::joinable_push))]
+    // Adds what a request's words ask for: its reply or its parts. Where memory runs out the words are put back.
+    fn add(&mut self, words: Words) -> Result<bool, SessionFault>
+        requires open { MayRead self.old }
+        requires none_ahead { self.old.incoming.ahead ≡ None }
+        requires words { 0 < length words }
+        ensures { AddOutcome self.old words result self.new }
+    {
+        let Ok(step) = step_for(self.alloc, words.as_slice()) else {
+            self.intake.put_back(words);
+            return Err(SessionFault::NoMemory);
+        };
+        let count = step.parts();
+        if count as u64 > self.queue.room() {
+            self.closing = Closing::Faulted(Broken::NotRequest, true);
+            return Err(SessionFault::NotRequest);
+        }
+        if !make_room(&mut self.requests, &mut self.ends, count) {
+            self.intake.put_back(words);
+            return Err(SessionFault::NoMemory);
+        }
+        match step {
+            Step::Reply(value) => push(&mut self.requests, Owed::Reply(value)),
+            Step::Close(value) => {
+                push(&mut self.requests, Owed::Reply(value));
+                self.closing = Closing::Quit;
+            }
+            Step::Parts(how, parts) => {
+                if self.queue.add(parts.into_vec()).is_err() {
+                    self.intake.put_back(words);
+                    return Err(SessionFault::NoMemory);
+                }
+                push(&mut self.requests, Owed::Parts(how, count));
+                push_lost(&mut self.ends, count);
+            }
+        }
+        Ok(true)
+    }
+}
+
+// Drops the first n.
+fn drop_front<T: Drop>(items: &mut Vec<T>, n: usize)
+    requires { n ≤ length items.old.items }
+    ensures { items.new.items ≡ drop n items.old.items }
+{
+    drop(items.drain(..n));
+}
+
+// Makes room for one more request with so many parts.
+fn make_room(requests: &mut Vec<Owed>, ends: &mut Vec<Ended>, parts: usize) -> bool
+    ensures requests { requests.new.items ≡ requests.old.items }
+    ensures ends { ends.new.items ≡ ends.old.items }
+    ensures requests_room { result ≡ true → vec_len requests.new < vec_capacity requests.new }
+    ensures ends_room { result ≡ true → vec_len ends.new + parts ≤ vec_capacity ends.new }
+{
+    requests.reserve(1).is_ok() && ends.reserve(parts).is_ok()
+}
+
+// Puts one more behind the others.
+fn push<T: Drop>(items: &mut Vec<T>, last: T)
+    requires { vec_len items.old < vec_capacity items.old }
+    ensures items { items.new.items ≡ items.old.items ++ last ∷ [] }
+    ensures capacity { vec_capacity items.old ≤ vec_capacity items.new }
+    ensures len { vec_len items.new ≡ vec_len items.old + 1 }
+{
+    let _ = items.push(last);
+}
+
+// Puts places for so many ends behind the others.
+fn push_lost(ends: &mut Vec<Ended>, count: usize)
+    requires { vec_len ends.old + count ≤ vec_capacity ends.old }
+    ensures { ends.new.items ≡ ends.old.items ++ replicate count Ended.Lost }
+{
+    for _ in 0..count {
+        push(ends, Ended::Lost);
+    }
+}
