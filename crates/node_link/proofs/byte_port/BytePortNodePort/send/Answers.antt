@@ -1,0 +1,18 @@
+use Rattle.std.proofs.Common.{[], refl, inr, sym, ◌∙◌, ap}
+use Rattle.std.proofs.lemmas.List.{append-nil}
+use Rattle.key_split.specs.Requests.{requests_of}
+use Rattle.node_link.specs.Bytes.{Outgoing, spelled}
+use Rattle.node_link.proofs.Moves.{appended}
+use Rattle.node_link.proofs.byte_port.BytePortNodePort.send.Goals as goal
+
+pub returns-in-Err-clause-does : goal.returns-in-Err-clause-does
+returns-in-Err-clause-does g c =
+    let gone = c.in-Err.ensures.written in
+    rw (← c.self.view_is) (gone.0, inr ([], [], gone.1, append-nil _ ∙ sym gone.2, append-nil _, refl))
+
+pub returns-clause-does : goal.returns-clause-does
+returns-clause-does g c =
+    let wrote = c.in_default.ensures.written in
+    let all = ap (λ (o : Outgoing). o.unsent) c.in_default-append_batch.ensures.ok in
+    rw (← c.self.view_is)
+    (wrote.0, [], wrote.1, appended c.self.inside.outbox.unsent wrote.0 c.go_on.new.self.unsent (spelled (requests_of c.args.batch.now)) _ wrote.2 all, append-nil _, refl)

@@ -1,0 +1,10 @@
+pub mod Port
+pub mod Fused
+pub mod Stream
+pub mod Line
+pub mod Telling
+pub mod State
+pub mod Connection
+pub mod Laws
+pub mod Spelling
+pub mod Bytes

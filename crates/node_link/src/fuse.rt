@@ -1,0 +1,99 @@
+//! A port that fails after a number of calls.
+
+ghost use Rattle.std.specs.Prelude.{◌≡◌, ◌≤◌, ◌+◌, List, [], ◌∷◌};
+ghost use Rattle.key_split.specs.Requests.{Request, Slots, requests_of};
+ghost use Rattle.node_link.specs.Port.{SendOutcome, NextOutcome};
+
+use crate::port::{NodePort, PortFault};
+use key_split::Batch;
+use resp_wire::Value;
+use std::marker::Model;
+
+/// Passes so many calls on to its port. From then on each call answers that the port failed, and does not reach it.
+#[derive(Drop)]
+pub struct Fuse<P> {
+    port: P,
+    calls: u64,
+    blown: u64,
+}
+
+impl<P> Model for Fuse<P> {
+    ghost use Rattle.node_link.specs.Fused.{Fused};
+
+    ghost Value = { Fused P };
+
+    ghost view = { λ a. record { port = a.port; left = a.calls; blown = a.blown } };
+}
+
+impl<P> Fuse<P> {
+    pub fn new(port: P, calls: u64) -> Self
+        ensures { result ≡ record { port = port; left = calls; blown = 0 } }
+    {
+        Fuse {
+            port,
+            calls,
+            blown: 0,
+        }
+    }
+}
+
+impl<P> Fuse<P> {
+    ghost use Rattle.node_link.specs.Fused.{PassOutcome};
+
+    // Whether the next call goes on to the port.
+    fn passes(&mut self) -> bool
+        ensures { PassOutcome self.old result self.new }
+    {
+        if self.calls == 0 {
+            self.blown = self.blown.saturating_add(1);
+            return false;
+        }
+        self.calls -= 1;
+        true
+    }
+}
+
+impl<P: NodePort> NodePort for Fuse<P> {
+    ghost use Rattle.node_link.specs.Fused.{FuseOutcome, failures_with, Inside, ExchangesInside};
+
+    ghost failures = { failures_with P.failures };
+
+    ghost is_garbled = { Inside P.is_garbled };
+
+    ghost exchange = { ExchangesInside P.exchange };
+
+    ghost still = { λ f. P.still f.port };
+
+    fn send(&mut self, batch: &Batch) -> Result<(), PortFault>
+        ensures does { SendOutcome (failures_with P.failures) (Inside P.is_garbled) (ExchangesInside P.exchange) self.old (requests_of batch.now) result self.new }
+        ensures count { failures_with P.failures self.old ≤ failures_with P.failures self.new }
+        ensures fuse { FuseOutcome (λ old given new. SendOutcome P.failures P.is_garbled P.exchange old (requests_of batch.now) given new) self.old result self.new }
+    {
+        if !self.passes() {
+            return Err(PortFault::Failed);
+        }
+        self.port.send(batch)
+    }
+
+    fn ask_slots(&mut self) -> Result<(), PortFault>
+        ensures does { SendOutcome (failures_with P.failures) (Inside P.is_garbled) (ExchangesInside P.exchange) self.old (Slots ∷ []) result self.new }
+        ensures count { failures_with P.failures self.old ≤ failures_with P.failures self.new }
+        ensures fuse { FuseOutcome (λ old given new. SendOutcome P.failures P.is_garbled P.exchange old (Slots ∷ []) given new) self.old result self.new }
+    {
+        if !self.passes() {
+            return Err(PortFault::Failed);
+        }
+        self.port.ask_slots()
+    }
+
+    fn next(&mut self) -> Result<Option<Value>, PortFault>
+        ensures does { NextOutcome (failures_with P.failures) (Inside P.is_garbled) (ExchangesInside P.exchange) self.old result self.new }
+        ensures count { failures_with P.failures self.old ≤ failures_with P.failures self.new }
+        ensures fuse { FuseOutcome (NextOutcome P.failures P.is_garbled P.exchange) self.old result self.new }
+    {
+        if !self.passes() {
+            return Err(PortFault::Failed);
+        }
+        self.port.next()
+    }
+}

@@ -1,0 +1,106 @@
+//! The bytes that were read and make no value yet.
+
+ghost use Rattle.std.specs.Prelude.{◌≡◌, ◌≤◌, [], None, OnOk, length, take};
+ghost use Rattle.node_link.specs.Bytes.{input_of, FillOutcome, ReadChunkOutcome, TakeOutcome};
+
+use crate::port::PortFault;
+use crate::stream::{Flow, Gone, Stream};
+use resp_wire::{Limits, NoMemory, Reader, Value, WireFault};
+use std::alloc::Global;
+use std::marker::Model;
+
+/// So many bytes are read at once, in bytes.
+const CHUNK: usize = 16384;
+
+/// Bytes that were read, as they come and as a reader holds them.
+#[derive(Drop)]
+pub struct Inbox {
+    reader: Reader,
+    chunk: Vec<u8>,
+    /// How many bytes of the chunk the reader was not fed yet.
+    filled: usize,
+}
+
+impl Model for Inbox {
+    ghost use Rattle.std.specs.Prelude.{◌≤◌, length, take};
+    ghost use Rattle.node_link.specs.Bytes.{Incoming, IsFaultFirst};
+
+    ghost Value = { Incoming };
+
+    ghost view = { λ a. record { fed = a.reader; unfed = take a.filled a.chunk.items } };
+
+    ghost invariant = { λ a. (a.filled ≤ length a.chunk.items) × IsFaultFirst a.reader (take a.filled a.chunk.items) };
+}
+
+impl Inbox {
+    pub fn new(alloc: Global, limits: Limits) -> Inbox
+        ensures { result ≡ record { fed = record { bounds = limits; unread = []; fault = None }; unfed = [] } }
+    {
+        Inbox {
+            reader: Reader::new(alloc, limits),
+            chunk: Vec::new(alloc),
+            filled: 0,
+        }
+    }
+
+    /// Takes the first value, where a whole one was read.
+    pub fn take(&mut self) -> Result<Option<Value>, PortFault>
+        ensures taken { TakeOutcome (input_of self.old) result (input_of self.new) }
+        ensures fed { OnOk result ((self.new.unfed ≡ []) × (self.new.fed.fault ≡ None)) }
+    {
+        if self.filled > 0 {
+            match self.reader.feed(&self.chunk[..self.filled]) {
+                Ok(()) => self.filled = 0,
+                Err(WireFault::NoMemory) => return Err(PortFault::NoMemory),
+                Err(_) => return Err(PortFault::BadWire),
+            }
+        }
+        match self.reader.next() {
+            Ok(value) => Ok(value),
+            Err(WireFault::NoMemory) => Err(PortFault::NoMemory),
+            Err(_) => Err(PortFault::BadWire),
+        }
+    }
+
+    /// Makes room for what will be read.
+    pub fn make_room(&mut self) -> Result<(), NoMemory>
+        requires { self.old.unfed ≡ [] }
+        ensures { self.new ≡ self.old }
+    {
+        if !self.chunk.is_empty() {
+            return Ok(());
+        }
+        match self.chunk.resize(CHUNK, 0) {
+            Ok(()) => Ok(()),
+            Err(_) => Err(NoMemory),
+        }
+    }
+
+    /// Reads some bytes.
+    pub fn fill<S: Stream>(&mut self, stream: &mut S) -> Result<(), Gone>
+        requires empty { self.old.unfed ≡ [] }
+        requires sound { self.old.fed.fault ≡ None }
+        ensures read { FillOutcome S.failures S.moved stream.old self.old result stream.new self.new }
+        ensures count { S.failures stream.old ≤ S.failures stream.new }
+    {
+        match read_chunk(stream, &mut self.chunk) {
+            Ok(count) => {
+                self.filled = count;
+                Ok(())
+            }
+            Err(Gone) => Err(Gone),
+        }
+    }
+}
+
+// Reads some bytes to the front of the chunk.
+fn read_chunk<S: Stream>(stream: &mut S, chunk: &mut Vec<u8>) -> Result<usize, Gone>
+    ensures read { ReadChunkOutcome S.failures S.moved stream.old result stream.new chunk.new.items }
+    ensures count { S.failures stream.old ≤ S.failures stream.new }
+{
+    match stream.read(chunk) {
+        Flow::Bytes(count) => Ok(count),
+        Flow::Nothing => Ok(0),
+        Flow::Gone => Err(Gone),
+    }
+}

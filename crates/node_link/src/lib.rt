@@ -1,0 +1,32 @@
+//! A pipelined connection to a node: requests go out in order, and each value that comes back belongs to the
+//! oldest request that has none yet.
+//!
+//! ```text
+//! let mut link = Link::new(alloc, BytePort::new(alloc, stream, Limits::full()), node);
+//! link.send(&batch)?;
+//! while let Some(Got::Ticket(ticket, told)) = link.receive(&mut table)? { tell(ticket, told); }
+//! ```
+//!
+//! Exact links: `Sends` and `Receives` of specs/Connection.antt, and `replies_match`. Exact byte port: `Exchanges` of
+//! specs/Bytes.antt. What a line of a node says is `told_by` of specs/Telling.antt.
+#![tactic(auto)]
+
+mod byte_port;
+mod fuse;
+mod inbox;
+mod laws;
+mod link;
+mod outbox;
+mod port;
+mod redirect;
+mod spelling;
+mod stream;
+mod told;
+
+pub use byte_port::BytePort;
+pub use fuse::Fuse;
+pub use laws::replies_match;
+pub use link::{Due, Failure, Got, Link, LinkFault};
+pub use port::{NodePort, PortFault};
+pub use stream::{Flow, Stream};
+pub use told::told_of;

@@ -1,0 +1,280 @@
+//! A connection to a node, on which many commands are under way.
+
+ghost use Rattle.std.specs.Prelude.{◌≡◌, ◌<◌, ◌≤◌, ◌+◌, ◌++◌, ◌∷◌, [], ℕ, List, IsTrue, ◌↔◌, IsSome, None, Some, MatchOption, length, map};
+ghost use Rattle.std.specs.VecDeque.{deque_len, deque_capacity};
+ghost use Rattle.key_split.specs.Requests.{Slots, requests_of};
+ghost use Rattle.slot_map.specs.Table.{Grows};
+ghost use Rattle.node_link.specs.Connection.{due_of, tickets_of, fault_of, Sends, Receives};
+
+use crate::port::{NodePort, PortFault};
+use crate::told::told_of;
+use key_split::{Batch, Ticket, Told};
+use resp_wire::Value;
+use slot_map::{NodeId, NodeTable};
+use std::alloc::Global;
+use std::collections::VecDeque;
+use std::marker::Model;
+use thiserror::Error;
+
+/// Why a link refused. After each but NoMemory the link has failed, and refuses for the same reason from then on.
+#[derive(Clone, Copy, Debug, PartialEq, Eq, Drop, Error)]
+pub enum LinkFault {
+    /// Nothing was sent, and a value that came is kept for the next call.
+    #[error("out of memory")]
+    NoMemory,
+    #[error("the connection failed or ended")]
+    PortFailed,
+    #[error("the node sent a value that nothing waits for")]
+    Stray,
+    #[error("the node sent bytes that are no value")]
+    BadWire,
+}
+
+/// What a link received.
+#[derive(Drop)]
+pub enum Got {
+    /// What a ticket's command is told.
+    Ticket(Ticket, Told),
+    /// The answer to CLUSTER SLOTS.
+    Slots(Value),
+}
+
+/// What the sender of a request waits for.
+#[derive(Clone, Copy, Debug, PartialEq, Eq)]
+pub enum Due {
+    /// The reply to ASKING, which says nothing.
+    Asking,
+    /// The reply to a ticket's command.
+    Command(Ticket),
+    /// The answer to CLUSTER SLOTS.
+    Slots,
+}
+
+/// Why nothing more goes over a link.
+#[derive(Clone, Copy, Debug, PartialEq, Eq)]
+pub enum Failure {
+    PortFailed,
+    Stray,
+    BadWire,
+}
+
+impl Failure {
+    fn fault(self) -> LinkFault
+        ensures { result ≡ fault_of self }
+    {
+        match self {
+            Failure::PortFailed => LinkFault::PortFailed,
+            Failure::Stray => LinkFault::Stray,
+            Failure::BadWire => LinkFault::BadWire,
+        }
+    }
+}
+
+/// A pipelined connection to one node.
+#[derive(Drop)]
+pub struct Link<P> {
+    port: P,
+    node: NodeId,
+    due: VecDeque<Due>,
+    kept: Option<Value>,
+    failure: Option<Failure>,
+}
+
+impl<P> Model for Link<P> {
+    ghost use Rattle.node_link.specs.State.{Connection};
+    ghost use Rattle.std.specs.Coded.{codes};
+    ghost use Rattle.resp_wire.specs.Stored.{coded_data};
+
+    ghost Value = { Connection P };
+
+    ghost coded = { Prim.hlevel (codes, coded_data) };
+
+    ghost view = { λ a. record { port = a.port; node = a.node; due = a.due.items; kept = a.kept; failure = a.failure } };
+}
+
+impl<P: NodePort> Link<P> {
+    /// A link to the node over the port, on which nothing was sent.
+    pub fn new(alloc: Global, port: P, node: NodeId) -> Self
+        ensures { result ≡ record { port = port; node = node; due = []; kept = None; failure = None } }
+    {
+        Link {
+            port,
+            node,
+            due: VecDeque::new(alloc),
+            kept: None,
+            failure: None,
+        }
+    }
+
+    /// The node at the other end.
+    pub fn node(&self) -> NodeId
+        ensures { result ≡ self.now.node }
+    {
+        self.node
+    }
+
+    pub fn port(&self) -> &P
+        ensures { result.now ≡ self.now.port }
+    {
+        &self.port
+    }
+
+    /// Whether the link has failed.
+    pub fn failed(&self) -> bool
+        ensures { IsTrue result ↔ IsSome self.now.failure }
+    {
+        self.failure.is_some()
+    }
+
+    /// Sends a batch, whose ticket waits from then on.
+    pub fn send(&mut self, batch: &Batch) -> Result<(), LinkFault>
+        ensures { Sends P.failures P.is_garbled P.exchange self.old (requests_of batch.now) result self.new }
+    {
+        if let Some(failure) = self.failure {
+            return Err(failure.fault());
+        }
+        if self.due.reserve(2).is_err() {
+            return Err(LinkFault::NoMemory);
+        }
+        match self.port.send(batch) {
+            Err(PortFault::NoMemory) => Err(LinkFault::NoMemory),
+            Ok(()) => {
+                owe_batch(&mut self.due, batch);
+                Ok(())
+            }
+            Err(PortFault::Failed) => {
+                owe_batch(&mut self.due, batch); // it may have been sent
+                self.failure = Some(Failure::PortFailed);
+                Err(LinkFault::PortFailed)
+            }
+            Err(PortFault::BadWire) => {
+                owe_batch(&mut self.due, batch);
+                self.failure = Some(Failure::BadWire);
+                Err(LinkFault::BadWire)
+            }
+        }
+    }
+
+    /// Asks which nodes serve which slots.
+    pub fn ask_slots(&mut self) -> Result<(), LinkFault>
+        ensures { Sends P.failures P.is_garbled P.exchange self.old (Slots ∷ []) result self.new }
+    {
+        if let Some(failure) = self.failure {
+            return Err(failure.fault());
+        }
+        if self.due.reserve(1).is_err() {
+            return Err(LinkFault::NoMemory);
+        }
+        match self.port.ask_slots() {
+            Err(PortFault::NoMemory) => Err(LinkFault::NoMemory),
+            Ok(()) => {
+                owe(&mut self.due, Due::Slots);
+                Ok(())
+            }
+            Err(PortFault::Failed) => {
+                owe(&mut self.due, Due::Slots);
+                self.failure = Some(Failure::PortFailed);
+                Err(LinkFault::PortFailed)
+            }
+            Err(PortFault::BadWire) => {
+                owe(&mut self.due, Due::Slots);
+                self.failure = Some(Failure::BadWire);
+                Err(LinkFault::BadWire)
+            }
+        }
+    }
+
+    /// Takes the next value, and gives it to the request that it belongs to. None means that no whole value has
+    /// come, or that it was the reply to ASKING.
+    pub fn receive(&mut self, table: &mut NodeTable) -> Result<Option<Got>, LinkFault>
+        requires { self.old.node < length table.old }
+        ensures does { Receives P.failures P.is_garbled P.exchange self.old table.old result self.new table.new }
+        ensures grown { Grows table.old table.new }
+    {
+        self.receive_next(table)
+    }
+
+    fn receive_next(&mut self, table: &mut NodeTable) -> Result<Option<Got>, LinkFault>
+        requires { self.old.node < length table.old }
+        ensures { Receives P.failures P.is_garbled P.exchange self.old table.old result self.new table.new }
+    {
+        if let Some(failure) = self.failure {
+            return Err(failure.fault());
+        }
+        let value = match self.kept.take() {
+            Some(value) => value,
+            None => match self.port.next() {
+                Ok(Some(value)) => value,
+                Ok(None) => return Ok(None),
+                Err(PortFault::NoMemory) => return Err(LinkFault::NoMemory),
+                Err(PortFault::Failed) => {
+                    self.failure = Some(Failure::PortFailed);
+                    return Err(LinkFault::PortFailed);
+                }
+                Err(PortFault::BadWire) => {
+                    self.failure = Some(Failure::BadWire);
+                    return Err(LinkFault::BadWire);
+                }
+            },
+        };
+        match self.due.pop_front() {
+            None => {
+                self.failure = Some(Failure::Stray);
+                Err(LinkFault::Stray)
+            }
+            Some(Due::Asking) => Ok(None),
+            Some(Due::Slots) => Ok(Some(Got::Slots(value))),
+            Some(Due::Command(ticket)) => match told_of(value, self.node, table) {
+                Ok(told) => Ok(Some(Got::Ticket(ticket, told))),
+                Err(value) => {
+                    self.kept = Some(value);
+                    let _ = self.due.push_front(Due::Command(ticket));
+                    Err(LinkFault::NoMemory)
+                }
+            },
+        }
+    }
+
+    /// Takes off the oldest waiting ticket of a link that has failed.
+    pub fn lose(&mut self) -> Option<Ticket>
+        requires { IsSome self.old.failure }
+        ensures next { MatchOption result ((tickets_of self.old.due ≡ []) × (self.new.due ≡ []))
+            (λ ticket. tickets_of self.old.due ≡ ticket ∷ tickets_of self.new.due) }
+        ensures same { self.new ≡ record self.old { due = self.new.due } }
+    {
+        first_ticket(&mut self.due)
+    }
+}
+
+// Puts what the sender of a request waits for behind the others.
+fn owe(due: &mut VecDeque<Due>, last: Due)
+    requires { deque_len due.old < deque_capacity due.old }
+    ensures items { due.new.items ≡ due.old.items ++ last ∷ [] }
+    ensures len { deque_len due.new ≡ deque_len due.old + 1 }
+    ensures room { deque_capacity due.old ≤ deque_capacity due.new }
+{
+    let _ = due.push_back(last);
+}
+
+fn owe_batch(due: &mut VecDeque<Due>, batch: &Batch)
+    requires { deque_len due.old + 2 ≤ deque_capacity due.old }
+    ensures { due.new.items ≡ due.old.items ++ map due_of (requests_of batch.now) }
+{
+    if batch.asking {
+        owe(due, Due::Asking);
+    }
+    owe(due, Due::Command(batch.ticket));
+}
+
+// Takes all off up to the first ticket.
+fn first_ticket(due: &mut VecDeque<Due>) -> Option<Ticket>
+    ensures { MatchOption result ((tickets_of due.old.items ≡ []) × (due.new.items ≡ []))
+        (λ ticket. tickets_of due.old.items ≡ ticket ∷ tickets_of due.new.items) }
+{
+    while let Some(first) = due.pop_front() {
+        if let Due::Command(ticket) = first {
+            return Some(ticket);
+        }
+    }
+    None
+}

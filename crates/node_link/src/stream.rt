@@ -1,0 +1,44 @@
+//! A stream of bytes that does not block.
+
+ghost use Rattle.std.specs.Prelude.{◌≡◌, ◌≤◌, List, [], ◌++◌, ℕ, length, take};
+ghost use Rattle.node_link.specs.Stream.{ReadOutcome, WriteOutcome};
+
+/// What one call on a stream moved.
+#[derive(Clone, Copy, Debug, PartialEq, Eq)]
+pub enum Flow {
+    /// So many bytes.
+    Bytes(usize),
+    /// No byte now; a later call may move some.
+    Nothing,
+    /// The stream failed or ended.
+    Gone,
+}
+
+/// Bytes out and bytes in, by calls that do not wait.
+pub trait Stream {
+    /// How often the stream has failed or ended, in 64 bits: a failure at their last value leaves the count.
+    ghost failures: { Self → ℕ };
+
+    /// From the first state to the second these bytes were written and these were read, each in order.
+    ghost moved: { Self → List ℕ → List ℕ → Self → Type 0 };
+
+    /// Reads some bytes to the front of the buffer.
+    fn read(&mut self, buffer: &mut [u8]) -> Flow
+        ensures read { ReadOutcome failures moved self.old buffer.new result self.new }
+        ensures count { failures self.old ≤ failures self.new };
+
+    /// Writes some bytes off the front.
+    fn write(&mut self, bytes: &[u8]) -> Flow
+        ensures written { WriteOutcome failures moved self.old bytes.now result self.new }
+        ensures count { failures self.old ≤ failures self.new };
+
+    /// Where no call is made, nothing moves.
+    ghost still: { (stream : Self) → moved stream [] [] stream };
+
+    /// What two calls moved, one after the other.
+    ghost joined: { (a b c : Self) (w r w' r' : List ℕ) → moved a w r b → moved b w' r' c → moved a (w ++ w') (r ++ r') c };
+}
+
+/// The stream failed or ended.
+#[derive(Clone, Copy)]
+pub struct Gone;
