@@ -1,0 +1,6 @@
+pub mod Lane
+pub mod Ends
+pub mod Carrier
+pub mod History
+pub mod Opened
+pub mod Published

@@ -1,0 +1,97 @@
+//! The ends of all lanes: one for each worker, and the carrier's.
+
+mod lane_ends;
+mod made;
+
+use crate::history::Naming;
+use crate::map_view::MapView;
+use crate::ring::{Inlet, Note, Outlet};
+use key_split::{Batch, Ticket, Told};
+pub use lane_ends::LaneEnds;
+pub use made::lanes;
+
+/// The end at which a worker takes the clients that are handed to it.
+pub type Newcomers<H> = Inlet<H>;
+
+/// A worker's ends: what it posts goes up, what it takes came down, and new clients come in.
+#[derive(Drop)]
+pub struct WorkerEnds<H: Drop, J: Naming> {
+    pub worker: u16,
+    pub outlet: Outlet<Batch>,
+    pub inlet: Inlet<(Ticket, Told)>,
+    pub newcomers: Newcomers<H>,
+    pub view: MapView<J>,
+}
+
+/// The other ends, by worker, and the map's writer.
+#[derive(Drop)]
+pub struct CarrierEnds<H: Drop, M: Drop> {
+    lanes: Vec<LaneEnds<H>>,
+    pub map: M,
+}
+
+impl<H: Drop, M: Drop> CarrierEnds<H, M> {
+    ghost use Rattle.std.specs.Prelude.{◌≡◌, ◌<◌, length, slice_get};
+    ghost use Rattle.std.specs.Option.{ForSome};
+    ghost use Rattle.proxy_lanes.specs.Lane.{IsNoteOf};
+    ghost use Rattle.proxy_lanes.specs.Ends.{ChangesAt, FinishesDown, GivesDown, HandsOver, SettlesUp, TakesUp};
+    ghost use Rattle.proxy_lanes.specs.Carrier.{lanes_of};
+
+    /// How many workers there are.
+    pub fn workers(&self) -> usize
+        ensures { result ≡ length (lanes_of self.now) }
+    {
+        self.lanes.len()
+    }
+
+    /// Takes the next batch of this worker.
+    pub fn take(&mut self, worker: u16) -> Option<Batch>
+        requires { worker < length (lanes_of self.old) }
+        ensures lane { ChangesAt (lanes_of self.old) worker (lanes_of self.new) (λ old new. TakesUp old new result) }
+        ensures workers { length (lanes_of self.new) ≡ length (lanes_of self.old) }
+        ensures map { self.new.map ≡ self.old.map }
+    {
+        self.lanes[usize::from(worker)].take()
+    }
+
+    /// Gives the worker what it is told. It comes back where no place is known to be free, or the lane is finished.
+    pub fn give(&mut self, worker: u16, ticket: Ticket, told: Told) -> Result<(), (Ticket, Told)>
+        requires { worker < length (lanes_of self.old) }
+        ensures lane { ChangesAt (lanes_of self.old) worker (lanes_of self.new) (λ old new. GivesDown old new (ticket, told) result) }
+        ensures workers { length (lanes_of self.new) ≡ length (lanes_of self.old) }
+        ensures map { self.new.map ≡ self.old.map }
+    {
+        self.lanes[usize::from(worker)].give(ticket, told)
+    }
+
+    /// Hands a new client to this worker. It comes back where no place is known to be free.
+    pub fn hand(&mut self, worker: u16, client: H) -> Result<(), H>
+        requires { worker < length (lanes_of self.old) }
+        ensures lane { ChangesAt (lanes_of self.old) worker (lanes_of self.new) (λ old new. HandsOver old new client result) }
+        ensures workers { length (lanes_of self.new) ≡ length (lanes_of self.old) }
+        ensures map { self.new.map ≡ self.old.map }
+    {
+        self.lanes[usize::from(worker)].hand(client)
+    }
+
+    /// Nothing more is given to this worker. `None` the second time, or where the worker's end is gone.
+    pub fn finish_down(&mut self, worker: u16) -> Option<Note<(Ticket, Told)>>
+        requires { worker < length (lanes_of self.old) }
+        ensures lane { ChangesAt (lanes_of self.old) worker (lanes_of self.new) (λ old new. FinishesDown old new result) }
+        ensures workers { length (lanes_of self.new) ≡ length (lanes_of self.old) }
+        ensures map { self.new.map ≡ self.old.map }
+    {
+        self.lanes[usize::from(worker)].finish_down()
+    }
+
+    /// How many batches of this worker are left to take, once it has finished.
+    pub fn settle(&mut self, worker: u16, note: Note<Batch>) -> usize
+        requires worker { worker < length (lanes_of self.old) }
+        requires note { ForSome (slice_get (lanes_of self.old) worker) (λ lane. IsNoteOf note lane.up) }
+        ensures lane { ChangesAt (lanes_of self.old) worker (lanes_of self.new) (λ old new. SettlesUp old new note result) }
+        ensures workers { length (lanes_of self.new) ≡ length (lanes_of self.old) }
+        ensures map { self.new.map ≡ self.old.map }
+    {
+        self.lanes[usize::from(worker)].settle(note)
+    }
+}

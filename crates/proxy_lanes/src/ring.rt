@@ -1,0 +1,104 @@
+//! One lane: a ring whose items carry their numbers.
+
+ghost use Rattle.std.specs.Prelude.{◌≡◌, ◌+◌, ◌≤◌, length};
+ghost use Rattle.rtrb.specs.Ring.{sent, known_free};
+
+mod make;
+
+pub use make::lane;
+use rtrb::{Consumer, Finished, Producer, Protocol, PushError};
+use std::alloc::Global;
+
+/// How many items a lane has room for.
+pub const LANE_PLACES: usize = 1024;
+
+/// An item with its number in the lane, from 0.
+#[derive(Drop)]
+pub struct Numbered<T> {
+    pub number: u64,
+    pub item: T,
+}
+
+/// The k-th item carries the number k.
+#[derive(Clone, Copy)]
+pub struct InOrder;
+
+impl<T> Protocol<Numbered<T>> for InOrder {
+    ghost allows = { λ before x. x.number ≡ length before };
+}
+
+/// The end at which items go in.
+#[derive(Drop)]
+pub struct Outlet<T: Drop> {
+    producer: Producer<Numbered<T>, Global, InOrder>,
+    next: u64,
+    ghost counted: { next ≡ length (sent producer) },
+    ghost room: { 1024 ≤ known_free producer + length (sent producer) },
+}
+
+/// The end at which items come out.
+#[derive(Drop)]
+pub struct Inlet<T: Drop> {
+    consumer: Consumer<Numbered<T>, Global, InOrder>,
+}
+
+/// Shows all that was posted, once nothing more can be.
+#[derive(Drop)]
+pub struct Note<T: Drop> {
+    finished: Finished<Numbered<T>, Global, InOrder>,
+}
+
+impl<T: Drop> Outlet<T> {
+    ghost use Rattle.std.specs.Prelude.{IfSome};
+    ghost use Rattle.proxy_lanes.specs.Lane.{Posts, FinishesAs};
+
+    /// Puts the item behind all that was posted. It comes back where no place is known to be free, or no number is left.
+    pub fn post(&mut self, item: T) -> Result<(), T>
+        ensures { Posts self.old self.new item result }
+    {
+        if self.next == u64::MAX {
+            return Err(item);
+        }
+        let number = self.next;
+        match self.producer.push(Numbered { number, item }) {
+            Ok(()) => {
+                self.next = number + 1;
+                Ok(())
+            }
+            Err(PushError::Full(back)) => {
+                let Numbered { number: _, item } = back;
+                Err(item)
+            }
+        }
+    }
+
+    /// Nothing more is posted. `None` where the other end is gone.
+    pub fn finish(self) -> Option<Note<T>>
+        ensures { IfSome result (FinishesAs self) }
+    {
+        let Outlet { producer, next: _ } = self;
+        let finished = producer.finish()?;
+        Some(Note { finished })
+    }
+}
+
+impl<T: Drop> Inlet<T> {
+    ghost use Rattle.proxy_lanes.specs.Lane.{IsNoteOf, Settles, Takes};
+
+    /// Takes the next item.
+    pub fn take(&mut self) -> Option<T>
+        ensures { Takes self.old self.new result }
+    {
+        let Numbered { number: _, item } = self.consumer.pop().ok()?;
+        Some(item)
+    }
+
+    /// How many items are left. With those that were taken they are all that was ever posted, and the next takes give them.
+    pub fn settle(&mut self, note: Note<T>) -> usize
+        requires { IsNoteOf note self.old }
+        ensures { Settles self.old self.new note result }
+    {
+        let Note { mut finished } = note;
+        self.consumer.slots_after(&mut finished)
+    }
+}
