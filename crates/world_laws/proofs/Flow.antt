@@ -1,0 +1,173 @@
+-- What each event takes from a world's items and adds to them.
+use Rattle.std.proofs.Common.{◌≡◌, ◌⊎◌, inl, inr, ℕ, ◌+◌, Bool, true, false, List, [], ◌∷◌, ◌++◌, map, Some, refl, ap, subst, arith}
+use Rattle.std.specs.Prelude.{slice_get, if◌then◌else◌, All}
+use Rattle.std.proofs.lemmas.Option.{get_or_from_slice_get, slice_get_within}
+use Rattle.key_split.specs.Command.{Command as Part}
+use Rattle.key_split.specs.declared.travel.Ticket.{Ticket}
+use Rattle.key_split.specs.declared.travel.Told.{Told}
+use Rattle.key_split.specs.declared.travel.Told.TheVariants.{Unsent}
+use Rattle.command_future.specs.Progress.{batch_of}
+use Rattle.world_laws.specs.State.{World, Arrival, Posted, Link, Request, Back, awaiting, after_told, posted, new_link, requests_of, sent, replied, answered_of, sent_of, waiting}
+use Rattle.world_laws.specs.declared.state.Request.TheVariants.{Asking, Runs}
+use Rattle.world_laws.specs.declared.state.Back.TheVariants.{Welcome, To}
+use Rattle.world_laws.specs.Places.{Item, total, in_requests, in_backs, in_link, tally, is}
+use Rattle.world_laws.specs.Places.Item.{Stands, Lies, Sent, Comes}
+use Rattle.node_model.specs.declared.role.Verdict.{Verdict}
+use Rattle.world_laws.specs.World.{Does, CarriesOver, ServesAsking, ServesCommand, FetchesWelcome, FetchesReply, arrival}
+use Rattle.world_laws.specs.declared.event.Event.TheVariants.{Arrive, Post, Carry, Refuse, Serve, Fetch, Take, Drop, Discard, Import, Migrate, MoveKey, Own, Release, Forget, Stay}
+use Rattle.world_laws.specs.declared.event.Event.TheVariants as ev
+use Rattle.world_laws.proofs.Tally.{total-append, total-set, total-remove, flag_after}
+
+pub all_at : {X : Type 0} (P : X → Type 0) (xs : List X) (i : ℕ) (x : X) → slice_get xs i ≡ Some x → All P xs → P x
+all_at P xs i x e h = subst P (get_or_from_slice_get xs i x x e) (h i x (slice_get_within xs i x e))
+
+-- lists of a link
+
+pub in_requests-sent : (f : Item → ℕ) (o : Bool) (n : ℕ) (flag : Bool) (rs : List Request) (b : Posted) → flag_after flag rs ≡ false
+    → in_requests f o n flag (rs ++ requests_of b) ≡ in_requests f o n flag rs + f (Sent o n b.asking b.ticket)
+in_requests-sent f o n flag [] b h = omega (arith, go b.asking)
+  where
+    go : (a : Bool) → in_requests f o n flag (if a then Asking ∷ Runs b.ticket ∷ [] else Runs b.ticket ∷ []) ≡ f (Sent o n a b.ticket)
+    go true = omega arith
+    go false = omega (arith, ap (λ (x : Bool). f (Sent o n x b.ticket)) h)
+in_requests-sent f o n flag (Asking ∷ rs) b h = in_requests-sent f o n true rs b h
+in_requests-sent f o n flag (Runs t ∷ rs) b h = omega (arith, in_requests-sent f o n false rs b h)
+
+pub in_backs-append : (f : Item → ℕ) (xs ys : List Back) → in_backs f (xs ++ ys) ≡ in_backs f xs + in_backs f ys
+in_backs-append f [] ys = omega arith
+in_backs-append f (Welcome ∷ xs) ys = in_backs-append f xs ys
+in_backs-append f (To t told ∷ xs) ys = omega (arith, in_backs-append f xs ys)
+
+-- an item, if the link is open
+abbrev pub if_open : Bool → ℕ → ℕ
+if_open true n = n
+if_open false n = 0
+
+pub in_link-replied : (f : Item → ℕ) (l : Link) (t : Ticket) (told : Told) → in_link f (replied l (To t told)) ≡ in_link f l + if_open l.is_open (f (Comes t told))
+in_link-replied f l t told = go l.is_open
+  where
+    go : (o : Bool) → in_link f (replied (record l { is_open = o }) (To t told)) ≡ in_link f (record l { is_open = o }) + if_open o (f (Comes t told))
+    go true = omega (arith, in_backs-append f l.backs (To t told ∷ []))
+    go false = omega arith
+
+pub in_link-welcomed : (f : Item → ℕ) (l : Link) → in_link f (replied l Welcome) ≡ in_link f l
+in_link-welcomed f l = go l.is_open
+  where
+    go : (o : Bool) → in_link f (replied (record l { is_open = o }) Welcome) ≡ in_link f (record l { is_open = o })
+    go true = omega (arith, in_backs-append f l.backs (Welcome ∷ []))
+    go false = refl
+
+-- no link that is open ends with ASKING alone
+abbrev pub IsTidy : Link → Type 0
+IsTidy l = l.is_open ≡ true → flag_after l.asking l.requests ≡ false
+
+module _ (f : Item → ℕ) (w w' : World) where
+  pub arrive-flow : (client : ℕ) (part : Part) → Does w (Arrive client part) w' → tally f w' ≡ tally f w + f (Stands (arrival w client part))
+  arrive-flow client part d = omega (arith, ap (tally f) d.1, total-append (λ (c : Arrival). f (Stands c)) w.commands (arrival w client part ∷ []))
+
+  pub post-flow : (ticket : Ticket) (node : ℕ) (d : Does w (Post ticket node) w')
+      → tally f w' + f (Stands d.1) ≡ tally f w + f (Stands (awaiting d.1)) + f (Lies (posted (batch_of (d.1).command node)))
+  post-flow ticket node d =
+      omega (
+        arith,
+        ap (tally f) d.6,
+        total-set (λ (c : Arrival). f (Stands c)) w.commands d.0 d.1 (awaiting d.1) d.2.1,
+        total-append (λ (b : Posted). f (Lies b)) w.ups (posted (batch_of (d.1).command node) ∷ []),
+      )
+
+  pub refuse-flow : (lane : ℕ) (d : Does w (Refuse lane) w') → tally f w' + f (Lies d.1) ≡ tally f w + f (Comes (d.1).ticket Unsent)
+  refuse-flow lane d =
+      omega (
+        arith,
+        ap (tally f) d.3,
+        total-remove (λ (b : Posted). f (Lies b)) w.ups d.0 d.1 d.2.1,
+        total-append (λ (p : Ticket × Told). f (Comes p.0 p.1)) w.downs (((d.1).ticket, Unsent) ∷ []),
+      )
+
+  pub take-flow : (lane : ℕ) (d : Does w (Take lane) w')
+      → tally f w' + f (Stands d.2) + f (Comes (d.2).command.ticket d.3) ≡ tally f w + f (Stands (after_told d.2 d.3))
+  take-flow lane d =
+      omega (
+        arith,
+        ap (tally f) d.7,
+        total-remove (λ (p : Ticket × Told). f (Comes p.0 p.1)) w.downs d.0 ((d.2).command.ticket, d.3) d.4.1,
+        total-set (λ (c : Arrival). f (Stands c)) w.commands d.1 d.2 (after_told d.2 d.3) d.5.1,
+      )
+
+  pub answer-flow : (client : ℕ) (d : Does w (ev.Answer client) w')
+      → tally f w' + f (Stands d.1) ≡ tally f w + f (Stands (record (d.1) { answered = true }))
+  answer-flow client d =
+      omega (arith, ap (tally f) d.8, total-set (λ (c : Arrival). f (Stands c)) w.commands d.0 d.1 (record (d.1) { answered = true }) d.3)
+
+  pub carry-flow : (lane link : ℕ) (d : Does w (Carry lane link) w') → All IsTidy w.links
+      → tally f w' + f (Lies d.1) ≡ tally f w + f (Sent true (d.1).node (d.1).asking (d.1).ticket)
+  carry-flow lane link d tidy =
+      omega (arith, ap (tally f) d.5, total-remove (λ (b : Posted). f (Lies b)) w.ups d.0 d.1 d.3.1, links d.4)
+    where
+      links : CarriesOver w link d.1 d.2 → total (in_link f) d.2 ≡ total (in_link f) w.links + f (Sent true (d.1).node (d.1).asking (d.1).ticket)
+      links (inl h) =
+          let tidy_l : flag_after (h.0).asking (h.0).requests ≡ false = all_at IsTidy w.links link h.0 h.1 tidy h.2 in
+          let place : f (Sent (h.0).is_open (h.0).node (d.1).asking (d.1).ticket) ≡ f (Sent true (d.1).node (d.1).asking (d.1).ticket) = λ i. f (Sent (h.2 i) (h.3 i) (d.1).asking (d.1).ticket) in
+          omega (arith, ap (total (in_link f)) h.4, total-set (in_link f) w.links link h.0 (sent h.0 d.1) h.1, in_requests-sent f (h.0).is_open (h.0).node (h.0).asking (h.0).requests d.1 tidy_l, place)
+      links (inr h) =
+          omega (
+            arith,
+            ap (total (in_link f)) h.1,
+            total-append (in_link f) w.links (sent (new_link (d.1).node) d.1 ∷ []),
+            in_requests-sent f true (d.1).node false [] d.1 refl,
+          )
+
+  pub fetch-flow : (link : ℕ) (d : Does w (Fetch link) w') → tally f w' ≡ tally f w
+  fetch-flow link d = go d.3
+    where
+      go : FetchesWelcome w link d.0 w' ⊎ FetchesReply w link d.0 w' → tally f w' ≡ tally f w
+      go (inl h) = omega (arith, ap (tally f) h.2, total-set (in_link f) w.links link d.0 (record (d.0) { backs = h.0 }) d.1, ap (in_backs f) h.1)
+      go (inr h) = omega (
+        arith,
+        ap (tally f) h.4,
+        total-set (in_link f) w.links link d.0 (record (d.0) { backs = h.0 }) d.1,
+        ap (in_backs f) h.3,
+        total-append (λ (p : Ticket × Told). f (Comes p.0 p.1)) w.downs ((h.1, h.2) ∷ []),
+      )
+
+  pub discard-flow : (link : ℕ) (d : Does w (Discard link) w') → tally f w' + in_requests f (d.0).is_open (d.0).node (d.0).asking (d.0).requests ≡ tally f w
+  discard-flow link d = omega (arith, ap (tally f) d.4, total-set (in_link f) w.links link d.0 (record (d.0) { requests = [] }) d.1)
+
+  pub total_lost : (ts : List Ticket) → total (λ (p : Ticket × Told). f (Comes p.0 p.1)) (map (λ t. (t, Told.Lost)) ts) ≡ total (λ t. f (Comes t Told.Lost)) ts
+  total_lost [] = refl
+  total_lost (t ∷ ts) = omega (arith, total_lost ts)
+
+  pub drop-flow : (link : ℕ) (d : Does w (Drop link) w')
+      → tally f w' + in_link f d.0 ≡ tally f w + in_requests f false (d.0).node (d.0).asking (d.0).requests + total (λ t. f (Comes t Told.Lost)) (answered_of (d.0).backs) + total (λ t. f (Comes t Told.Lost)) (sent_of (d.0).requests)
+  drop-flow link d =
+      omega (
+        arith,
+        ap (tally f) d.3,
+        total-set (in_link f) w.links link d.0 (record (d.0) { is_open = false; backs = [] }) d.1,
+        total-append (λ (p : Ticket × Told). f (Comes p.0 p.1)) w.downs (map (λ t. (t, Told.Lost)) (waiting d.0)),
+        total_lost (waiting d.0),
+        total-append (λ (t : Ticket). f (Comes t Told.Lost)) (answered_of (d.0).backs) (sent_of (d.0).requests),
+      )
+
+  -- ASKING leaves all items
+  pub welcome-flow : (link : ℕ) (l : Link) (v : Verdict) → slice_get w.links link ≡ Some l → (d : ServesAsking w link l v w') → tally f w' ≡ tally f w
+  welcome-flow link l v is d =
+      omega (
+        arith,
+        ap (tally f) d.3,
+        total-set (in_link f) w.links link l (replied (record l { requests = d.0; asking = true }) Welcome) is,
+        in_link-welcomed f (record l { requests = d.0; asking = true }),
+        ap (in_requests f l.is_open l.node l.asking) d.1,
+      )
+
+  -- a command leaves the requests; where the link is open, what it is told comes back
+  pub serve-flow : (link : ℕ) (l : Link) (v : Verdict) → slice_get w.links link ≡ Some l → (d : ServesCommand w link l v w')
+      → tally f w' + f (Sent l.is_open l.node l.asking (d.2).command.ticket) ≡ tally f w + if_open l.is_open (f (Comes (d.2).command.ticket d.3))
+  serve-flow link l v is d =
+      omega (
+        arith,
+        ap (tally f) d.9,
+        total-set (in_link f) w.links link l (replied (record l { requests = d.0; asking = false }) (To (d.2).command.ticket d.3)) is,
+        in_link-replied f (record l { requests = d.0; asking = false }) (d.2).command.ticket d.3,
+        ap (in_requests f l.is_open l.node l.asking) d.5,
+      )

@@ -1,0 +1,17 @@
+pub mod Tally
+pub mod Flow
+pub mod Counted
+pub mod Placed
+pub mod Stores
+pub mod Nodes
+pub mod There
+pub mod Homes
+pub mod Kept
+pub mod Serves
+pub mod Moves
+pub mod Recorded
+pub mod Same
+pub mod Lives
+pub mod Runs
+pub mod Single
+pub mod Allowed

@@ -1,0 +1,5 @@
+pub mod State
+pub mod Places
+pub mod World
+pub mod Headline
+pub mod Allowed
