@@ -98,7 +98,10 @@ fn replies_of_a_real_server(rt: HostRuntime) -> Result<(), Fail> {
         assert_eq!(rt; got.0, 0, "status of {request:?}");
         assert_eq!(rt; got.1.as_slice(), reply.as_slice(), "reply to {request:?}");
     }
-    assert!(rt; next_spelled(rt.alloc(), &mut values)?.is_none(), "all are read");
+    assert!(rt;
+        next_spelled(rt.alloc(), &mut values)?.is_none(),
+        "all are read"
+    );
     Ok(())
 }
 

@@ -1,7 +1,7 @@
 -- What a value asks for.
 use Rattle.std.proofs.Common.{◌≡◌, ◌<◌, ◌∷◌, [], List, ℕ, Bool, true, false, Option, Some, None, ap, refl, ◌∙◌, arith, length, cond, nat_eq, map}
 use Rattle.std.specs.Prelude.{option_map, is_some}
-use Rattle.resp_wire.specs.Data.{Data, Items, simple, error, integer, bulk, null_bulk, array, null_array, no_items, item, items_of}
+use Rattle.resp_wire.specs.Data.{Data, simple, error, integer, bulk, null_bulk, array, null_array, no_items, item, items_of}
 use Rattle.resp_wire.specs.Words.{words_of, bulks_of}
 use Rattle.resp_wire.specs.Seen.{data_of}
 use Rattle.resp_wire.specs.declared.value.Value.{Value}

@@ -1,9 +1,7 @@
 -- What is left when the replies that are next in order are drained.
-use Rattle.std.proofs.Common.{◌≡◌, ◌≤◌, ◌<◌, ◌+◌, ◌++◌, ◌∷◌, [], List, ℕ, length, drop, take, refl, ap, sym, ◌∙◌, arith, zero, suc, Option, Some, None, length-drop, append_assoc, cond, true, false, Bool}
+use Rattle.std.proofs.Common.{◌≡◌, ◌≤◌, ◌<◌, ◌+◌, ◌++◌, ◌∷◌, [], List, ℕ, length, drop, take, refl, ap, arith, zero, suc, Option, Some, None, length-drop, cond, true, false, Bool}
 use Rattle.std.specs.List.{list_all}
 use Rattle.session_order.proofs.Lists.{all_take}
-use Rattle.std.proofs.lemmas.Grind.{common_steps}
-use Rattle.std.proofs.lemmas.List.{take-append-le, drop-append-le}
 use Rattle.resp_wire.specs.declared.value.Value.{Value}
 use Rattle.key_split.specs.declared.travel.Ended.{Ended}
 use Rattle.session_order.specs.declared.queue.Stage.{Stage}

@@ -1,6 +1,6 @@
 -- Each call keeps the parts that are out.
-use Rattle.std.proofs.Common.{◌≡◌, ◌≢◌, ◌++◌, [], ◌+◌, ◌-◌, ◌≤◌, ◌^◌, ℕ, List, Bool, true, false, Option, Some, None, Result, Ok, Err, inl, inr, length, take, drop, sym, subst, ◌∙◌, arith, refl, cond}
-use Rattle.std.specs.Prelude.{IfSome, map, nat_le, slice_get, slice_set}
+use Rattle.std.proofs.Common.{◌≡◌, ◌≢◌, ◌++◌, [], ◌+◌, ◌-◌, ◌≤◌, ◌^◌, ℕ, List, Bool, true, false, Option, Some, None, Result, Ok, Err, inl, inr, length, take, sym, subst, ◌∙◌, arith, refl, cond}
+use Rattle.std.specs.Prelude.{IfSome, map, nat_le, slice_get}
 use Rattle.std.specs.List.{list_any, list_all}
 use Rattle.std.proofs.lemmas.List.{take-append-le, append-nil}
 use Rattle.std.proofs.lemmas.Option.{slice_get_within}
@@ -23,7 +23,7 @@ use Rattle.session_order.specs.Turn.{is_done, blocks}
 use Rattle.session_order.specs.Incoming.{Incoming}
 use Rattle.session_order.specs.Held.{Held}
 use Rattle.session_order.specs.Replies.{replied, without, DrainOutcome}
-use Rattle.session_order.specs.Steps.{IsOut, KeepsOut, ReadyOutcome, IsHandedOut, EndOutcome, FeedOutcome, ReadOutcome, added, with_words, with_incoming, ReadsWords}
+use Rattle.session_order.specs.Steps.{IsOut, KeepsOut, ReadyOutcome, IsHandedOut, EndOutcome, FeedOutcome, ReadOutcome, added, with_incoming, ReadsWords}
 use Rattle.session_order.proofs.Lists.{any_set, get_set_other, get_set_same, get_append, get_drop, any_drop, stands_behind}
 use Rattle.session_order.proofs.Drained.{replied_done}
 

@@ -5,3 +5,8 @@ pub mod Drained
 pub mod Added
 pub mod Keeping
 pub mod Lifelong
+pub mod Opening
+pub mod Chaining
+pub mod Tabling
+pub mod Turning
+pub mod Fronting

@@ -35,7 +35,7 @@ use Rattle.session_order.specs.Incoming.{Incoming}
 use Rattle.session_order.specs.Owed.{owed_by, owed_for, plan_for, goodbye, protocol_error, ends_session}
 use Rattle.session_order.specs.Held.{Held}
 use Rattle.session_order.specs.Replies.{joined, replies, replied, parts_of, bytes_of, spelling, last_line, lines_owed, output, said, drained}
-use Rattle.session_order.specs.Steps.{added, with_words, with_incoming, ReadsWords, FeedOutcome, ReadOutcome, ReadyOutcome, IsHandedOut, EndOutcome, FaultedBy}
+use Rattle.session_order.specs.Steps.{added, with_incoming, ReadsWords, FeedOutcome, ReadOutcome, ReadyOutcome, IsHandedOut, EndOutcome, FaultedBy}
 use Rattle.session_order.specs.Output.{until_quit, end_of, ends_from, replies_told}
 use Rattle.session_order.specs.Life.{Call, Fed, Read, Handed, Told, Drained, Reads, Does, read_by, told_by, drained_by, met_fault, output_for, fresh, DrainsOutput}
 use Rattle.session_order.proofs.Lists.{eqb-no, eqb-yes}

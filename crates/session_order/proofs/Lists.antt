@@ -1,5 +1,5 @@
 -- On lists: what stands at a place, and what passes a test.
-use Rattle.std.proofs.Common.{◌≡◌, ◌≢◌, ◌++◌, ◌∷◌, [], ◌+◌, ◌≤◌, ℕ, List, Bool, true, false, Option, Some, zero, suc, take, drop, sym, ap, subst, ◌∙◌, arith, rules, refl, ◌||◌, ◌&&◌, nat_eq}
+use Rattle.std.proofs.Common.{◌≡◌, ◌≢◌, ◌++◌, ◌∷◌, [], ◌+◌, ◌≤◌, ℕ, List, Bool, true, false, Some, zero, suc, take, drop, ap, subst, arith, rules, refl, ◌||◌, ◌&&◌, nat_eq}
 use Rattle.std.specs.Prelude.{slice_get, slice_set}
 use Rattle.std.specs.List.{list_any, list_all}
 use Rattle.std.proofs.lemmas.Bool.{eqb-false}

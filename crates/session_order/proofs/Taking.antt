@@ -1,5 +1,5 @@
 -- What the next request is, where a value was taken off the bytes for it.
-use Rattle.std.proofs.Common.{◌≡◌, List, ℕ, Option, Some, None, refl, sym, ap, ◌∙◌, inl, inr, Result, Ok, Err}
+use Rattle.std.proofs.Common.{◌≡◌, List, ℕ, Option, Some, None, refl, sym, ap, ◌∙◌, inr, Result, Ok, Err}
 use Rattle.resp_wire.specs.Input.{Input}
 use Rattle.resp_wire.specs.Front.{Takes}
 use Rattle.resp_wire.specs.declared.value.Value.{Value}
@@ -8,9 +8,8 @@ use Rattle.session_order.specs.declared.fault.SessionFault.TheVariants.{NoMemory
 use Rattle.session_order.specs.declared.intake.Ahead.{Ahead}
 use Rattle.session_order.specs.declared.intake.Next.{Next}
 use Rattle.session_order.specs.declared.intake.Next.TheVariants as next
-use Rattle.session_order.specs.Requests.{Words}
 use Rattle.session_order.specs.Ahead.{words_ahead, words_asked, GiveOutcome}
-use Rattle.session_order.specs.Incoming.{Incoming, TakeOutcome, HasWords}
+use Rattle.session_order.specs.Incoming.{Incoming, TakeOutcome}
 
 abbrev pub left : Input → Option (List (List ℕ)) → Incoming
 left input words = record { input = input; ahead = words }

@@ -1,4 +1,5 @@
 pub mod Turn
+pub mod Tables
 pub mod Requests
 pub mod Ahead
 pub mod Incoming
@@ -10,3 +11,4 @@ pub mod Sound
 pub mod Steps
 pub mod Output
 pub mod Life
+pub mod Front

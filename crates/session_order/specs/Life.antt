@@ -1,22 +1,19 @@
 -- A session over its whole life: what was drained, as a function of the requests that were read and the ends that were told.
-use Rattle.std.specs.Prelude.{◌≡◌, ◌+◌, suc, zero, List, [], ◌∷◌, ◌++◌, ℕ, Bool, true, false, Option, Some, None, Result, Ok, Err, if◌then◌else◌, nat_eq, map, option_map, length}
+use Rattle.std.specs.Prelude.{◌≡◌, List, [], ◌∷◌, ◌++◌, ℕ, Bool, true, false, Option, Some, None, Result, Ok, Err}
 use Rattle.std.specs.List.{FoldsTo, flat_map, list_any}
 use Rattle.resp_wire.specs.declared.fault.NoMemory.{NoMemory as Refusal}
 use Rattle.resp_wire.specs.Bounds.{Bounds}
-use Rattle.resp_wire.specs.declared.value.Value.{Value}
 use Rattle.key_split.specs.Command.{Command}
 use Rattle.key_split.specs.declared.travel.Ticket.{Ticket}
 use Rattle.key_split.specs.declared.travel.Ended.{Ended}
 use Rattle.session_order.specs.Output.{until_quit, output_of}
-use Rattle.session_order.specs.declared.replies.Owed.{Owed}
-use Rattle.session_order.specs.declared.replies.Owed.TheVariants.{Reply, Parts}
 use Rattle.session_order.specs.declared.closing.Closing.TheVariants.{Open}
 use Rattle.session_order.specs.declared.fault.SessionFault.{SessionFault}
 use Rattle.session_order.specs.declared.fault.SessionFault.TheVariants.{NoMemory, Wire, NotRequest}
 use Rattle.session_order.specs.Requests.{Skipped}
 use Rattle.session_order.specs.Incoming.{Incoming, TakesValue}
 use Rattle.session_order.specs.Held.{Held}
-use Rattle.session_order.specs.Replies.{bytes_of, lines_owed, output, DrainOutcome}
+use Rattle.session_order.specs.Replies.{output, DrainOutcome}
 use Rattle.session_order.specs.Steps.{MayRead, ReadsWords, with_incoming, FeedOutcome, ReadOutcome, ReadyOutcome, IsHandedOut, EndOutcome}
 
 -- A call with its answer; a call of read with the words of the request that it read, if it read one.

@@ -1,5 +1,5 @@
 -- Output: what a client is written, by its requests and the ends of their parts.
-use Rattle.std.specs.Prelude.{◌≡◌, ◌+◌, suc, zero, List, [], ◌∷◌, ℕ, Bool, Option, Some, None, if◌then◌else◌, nat_eq, map, option_map}
+use Rattle.std.specs.Prelude.{◌+◌, suc, zero, List, [], ◌∷◌, ℕ, Bool, Option, Some, None, if◌then◌else◌, nat_eq, map, option_map}
 use Rattle.resp_wire.specs.declared.value.Value.{Value}
 use Rattle.key_split.specs.declared.travel.Ticket.{Ticket}
 use Rattle.key_split.specs.declared.travel.Ended.{Ended}

@@ -1,5 +1,5 @@
 -- What a request is owed.
-use Rattle.std.specs.Prelude.{◌≡◌, List, ℕ, Bool, true, false, Result, Ok, Err, codes, length}
+use Rattle.std.specs.Prelude.{List, ℕ, Bool, true, false, Result, Ok, Err, codes, length}
 use Rattle.resp_wire.specs.declared.value.Value.{Value}
 use Rattle.resp_wire.specs.declared.value.Value.TheVariants.{Simple, Error}
 use Rattle.key_split.specs.declared.planned.Planned.{Planned}

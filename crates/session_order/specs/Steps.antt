@@ -9,7 +9,6 @@ use Rattle.key_split.specs.declared.planned.PlanFault.{PlanFault}
 use Rattle.key_split.specs.declared.planned.Planned.{Planned}
 use Rattle.key_split.specs.declared.planned.Planned.TheVariants as planned
 use Rattle.session_order.specs.declared.queue.Stage.TheVariants.{Waiting, Out, Done}
-use Rattle.session_order.specs.declared.replies.Owed.TheVariants as owed
 use Rattle.session_order.specs.declared.closing.Closing.{Closing}
 use Rattle.session_order.specs.declared.closing.Closing.TheVariants.{Open, Quit, Faulted}
 use Rattle.session_order.specs.declared.closing.Broken.{Broken}

@@ -1,14 +1,18 @@
 //! The parts of a client's requests, and whose turn it is.
 
-ghost use Rattle.std.specs.Prelude.{◌≡◌, ◌<◌, ◌≤◌, ◌+◌, ◌^◌, ◌↔◌, IsTrue, OnOk, OnErr, length, map, take, drop, true, Some, slice_get, slice_set, ℕ, MatchOption, IfSome, ◌++◌, ◌-◌, ◌≢◌, [], vec_len, vec_capacity};
-ghost use Rattle.std.specs.List.{list_all, list_any};
+ghost use Rattle.std.specs.Prelude.{◌≡◌, ◌<◌, ◌≤◌, ◌+◌, ◌^◌, ◌↔◌, IsTrue, OnOk, OnErr, length, map, take, drop, true, Some, slice_get, slice_set, ℕ, MatchOption, IfSome, ◌++◌, ◌-◌, ◌≢◌, [], vec_len, ◌∷◌, suc};
+ghost use Rattle.std.specs.List.{list_all};
 ghost use Rattle.slot_hash.specs.Slot.{slot_of};
-ghost use Rattle.session_order.specs.Turn.{is_done, blocks, IsWaiting, IsOutAt, MayPost};
+ghost use Rattle.session_order.specs.Turn.{is_done, IsWaiting, IsOutAt, IsNumbered, HandOutcome};
+ghost use Rattle.session_order.specs.Tables.{AreSound, SameParts, HasRoom, parts_in};
+ghost use Rattle.session_order.specs.Front.{done_at_front};
 
 use key_split::Part;
 use resp_wire::NoMemory;
 use slot_hash::Slot;
 use std::alloc::Global;
+use std::cmp::Reverse;
+use std::collections::{BinaryHeap, HashMap};
 use std::marker::Model;
 use std::mem;
 
@@ -28,34 +32,42 @@ impl Stage {
     {
         matches!(self, Stage::Done)
     }
-
-    /// Whether a later part for the slot has to wait for this one.
-    fn blocks(&self, slot: Slot) -> bool
-        ensures { result ≡ blocks slot self.now }
-    {
-        match self {
-            Stage::Waiting(part) => part.slot().number() == slot.number(),
-            Stage::Out(own) => own.number() == slot.number(),
-            Stage::Done => false,
-        }
-    }
 }
 
-/// The parts that a session holds, numbered on from the first.
+/// Parts, numbered on from the first, and the tables by which the next one is found.
 #[derive(Drop)]
-pub struct Queue {
+struct Tables {
     first: u64,
     stages: Vec<Stage>,
+    /// For each part the number of the next one for its slot.
+    later: Vec<Option<u64>>,
+    /// For each slot with a part that has not ended the number of the last one.
+    last: HashMap<u16, u64>,
+    /// The parts that were not handed out and whose turn it is.
+    turns: BinaryHeap<Reverse<u64>>,
+}
+
+/// The parts that a session holds.
+#[derive(Drop)]
+pub struct Queue {
+    tables: Tables,
+    /// How many parts at the front are done.
+    done: usize,
 }
 
 impl Model for Queue {
-    ghost use Rattle.session_order.specs.Turn.{Queued, IsNumbered};
+    ghost use Rattle.session_order.specs.Turn.{Queued};
 
     ghost Value = { Queued };
 
-    ghost view = { λ a. record { first = a.first; stages = a.stages.items } };
+    ghost use Rattle.session_order.specs.Turn.{IsNumbered};
+    ghost use Rattle.session_order.specs.Tables.{AreSound};
+    ghost use Rattle.session_order.specs.Front.{done_at_front};
+    ghost use Rattle.std.specs.Prelude.{◌≡◌};
 
-    ghost invariant = { λ a. IsNumbered a.first a.stages.items };
+    ghost view = { λ a. record { first = a.tables.first; stages = a.tables.stages.items } };
+
+    ghost invariant = { λ a. IsNumbered a.tables.first a.tables.stages.items × AreSound a.tables × (a.done ≡ done_at_front a.tables.stages.items) };
 }
 
 impl Queue {
@@ -66,8 +78,14 @@ impl Queue {
         ensures { result ≡ record { first = 0; stages = [] } }
     {
         Queue {
-            first: 0,
-            stages: Vec::new(alloc),
+            tables: Tables {
+                first: 0,
+                stages: Vec::new(alloc),
+                later: Vec::new(alloc),
+                last: HashMap::new(alloc),
+                turns: BinaryHeap::new(alloc),
+            },
+            done: 0,
         }
     }
 
@@ -75,14 +93,14 @@ impl Queue {
     pub fn first(&self) -> u64
         ensures { result ≡ self.now.first }
     {
-        self.first
+        self.tables.first
     }
 
     /// How many parts can still be numbered.
     pub fn room(&self) -> u64
         ensures { result + (self.now.first + length self.now.stages) ≡ 2 ^ 48 }
     {
-        MAX_PARTS - (self.first + self.stages.len() as u64)
+        MAX_PARTS - (self.tables.first + self.tables.stages.len() as u64)
     }
 
     /// Whether these many parts behind the first ones, which are done, are done too.
@@ -91,7 +109,21 @@ impl Queue {
         requires fits { from + count ≤ length self.now.stages }
         ensures { result ≡ list_all is_done (take count (drop from self.now.stages)) }
     {
-        are_done(&self.stages[from..from + count])
+        count <= self.done - from
+    }
+
+    /// Whether the part of this number was handed out and has not ended.
+    pub fn is_out(&self, number: u64) -> bool
+        ensures { IsTrue result ↔ IsOutAt self.now number }
+    {
+        let first = self.tables.first;
+        if number < first || self.tables.stages.len() as u64 <= number - first {
+            return false;
+        }
+        matches!(
+            &self.tables.stages[(number - first) as usize],
+            Stage::Out(_)
+        )
     }
 
     /// Adds parts behind the others, none of them handed out.
@@ -100,8 +132,8 @@ impl Queue {
         ensures ok { OnOk result (self.new ≡ record self.old { stages = self.old.stages ++ map Waiting parts.items }) }
         ensures err { OnErr result (self.new ≡ self.old) }
     {
-        self.stages.reserve(parts.len())?;
-        push_parts(&mut self.stages, parts);
+        make_room(&mut self.tables, parts.len())?;
+        push_parts(&mut self.tables, parts);
         Ok(())
     }
 
@@ -109,21 +141,7 @@ impl Queue {
     pub fn hand_out(&mut self) -> Option<(u64, Part)>
         ensures { HandOutcome self.old result self.new }
     {
-        let Some(i) = first_turn(&self.stages) else {
-            return None;
-        };
-        let part = take_part(&mut self.stages, i);
-        Some((self.first + i as u64, part))
-    }
-
-    /// Whether the part of this number was handed out and has not ended.
-    pub fn is_out(&self, number: u64) -> bool
-        ensures { IsTrue result ↔ IsOutAt self.now number }
-    {
-        if number < self.first || self.stages.len() as u64 <= number - self.first {
-            return false;
-        }
-        matches!(&self.stages[(number - self.first) as usize], Stage::Out(_))
+        hand_out(&mut self.tables)
     }
 
     /// Notes that a part has ended.
@@ -131,8 +149,8 @@ impl Queue {
         requires out { IsOutAt self.old number }
         ensures { self.new ≡ record self.old { stages = slice_set self.old.stages (number - self.old.first) Done } }
     {
-        let i = (number - self.first) as usize;
-        self.stages[i] = Stage::Done;
+        end(&mut self.tables, number);
+        self.done = count_done(&self.tables.stages, self.done);
     }
 
     /// Drops the first parts, which are done.
@@ -141,57 +159,138 @@ impl Queue {
         requires done { list_all is_done (take count self.old.stages) ≡ true }
         ensures { self.new ≡ record { first = self.old.first + count; stages = drop count self.old.stages } }
     {
-        drop(self.stages.drain(..count));
-        self.first += count as u64;
+        drop_front(&mut self.tables, count);
+        self.done -= count;
     }
 }
 
 /// The most parts that a session numbers.
 const MAX_PARTS: u64 = 1 << 48;
 
-fn are_done(stages: &[Stage]) -> bool
-    ensures { result ≡ list_all is_done stages.now }
+// Counts the parts at the front that are done, these many of which are known.
+fn count_done(stages: &[Stage], known: usize) -> usize
+    requires fits { known ≤ length stages.now }
+    requires known { list_all is_done (take known stages.now) ≡ true }
+    ensures { result ≡ done_at_front stages.now }
 {
-    stages.iter().all(|stage| stage.is_done())
-}
-
-// Whether a later part for the slot has to wait for one of these.
-fn any_blocks(earlier: &[Stage], slot: Slot) -> bool
-    ensures { result ≡ list_any (blocks slot) earlier.now }
-{
-    earlier.iter().any(|stage| stage.blocks(slot))
-}
-
-// Whether the part at i may be posted.
-fn may_post(stages: &[Stage], i: usize) -> bool
-    requires { i < length stages.now }
-    ensures { IsTrue result ↔ MayPost stages.now i }
-{
-    match &stages[i] {
-        Stage::Waiting(part) => !any_blocks(&stages[..i], part.slot()),
-        _ => false,
-    }
-}
-
-// The first part that may be posted.
-fn first_turn(stages: &[Stage]) -> Option<usize>
-    ensures first { MatchOption result ((i : ℕ) → MayPost stages.now i → ⊥)
-        (λ i. MayPost stages.now i × ((j : ℕ) → j < i → MayPost stages.now j → ⊥)) }
-    ensures bound { IfSome result (λ i. i < length stages.now) }
-{
-    for i in 0..stages.len() {
-        if may_post(stages, i) {
-            return Some(i);
+    for i in known..stages.len() {
+        if !stages[i].is_done() {
+            return i;
         }
     }
-    None
+    stages.len()
+}
+
+// Makes room for so many more parts.
+fn make_room(tables: &mut Tables, count: usize) -> Result<(), NoMemory>
+    requires { AreSound tables.old }
+    ensures sound { AreSound tables.new }
+    ensures same { SameParts tables.old tables.new }
+    ensures room { OnOk result (HasRoom tables.new count) }
+{
+    tables.stages.reserve(count)?;
+    tables.later.reserve(count)?;
+    tables.last.reserve(count)?;
+    let held = tables.stages.len();
+    let Some(most) = held.checked_add(count) else {
+        return Err(NoMemory);
+    };
+    tables.turns.reserve(most)?;
+    Ok(())
+}
+
+// Puts parts behind the others, none of them handed out.
+fn push_parts(tables: &mut Tables, parts: Vec<Part>)
+    requires sound { AreSound tables.old }
+    requires numbered { tables.old.first + length tables.old.stages.items + vec_len parts ≤ 2 ^ 48 }
+    requires room { HasRoom tables.old (vec_len parts) }
+    ensures sound { AreSound tables.new }
+    ensures first { tables.new.first ≡ tables.old.first }
+    ensures stages { tables.new.stages.items ≡ tables.old.stages.items ++ map Stage.Waiting parts.items }
+{
+    for part in parts {
+        push_part(tables, part);
+    }
+}
+
+// Puts one more part behind the others. It has its turn where it is the only one of its slot that has not ended.
+fn push_part(tables: &mut Tables, part: Part)
+    requires sound { AreSound tables.old }
+    requires numbered { tables.old.first + length tables.old.stages.items < 2 ^ 48 }
+    requires room { HasRoom tables.old 1 }
+    ensures sound { AreSound tables.new }
+    ensures first { tables.new.first ≡ tables.old.first }
+    ensures stages { tables.new.stages.items ≡ tables.old.stages.items ++ Stage.Waiting part ∷ [] }
+    ensures room { (n : ℕ) → HasRoom tables.old (suc n) → HasRoom tables.new n }
+{
+    let slot = part.slot().number();
+    let number = tables.first + tables.stages.len() as u64;
+    let _ = tables.stages.push(Stage::Waiting(part));
+    let _ = tables.later.push(None);
+    match tables.last.insert(slot, number) {
+        Ok(Some(before)) => tables.later[(before - tables.first) as usize] = Some(number),
+        Ok(None) => {
+            let _ = tables.turns.push(Reverse(number));
+        }
+        Err(_) => {}
+    }
+}
+
+// Hands out the earliest part whose turn it is.
+fn hand_out(tables: &mut Tables) -> Option<(u64, Part)>
+    requires { AreSound tables.old }
+    ensures sound { AreSound tables.new }
+    ensures does { HandOutcome (parts_in tables.old) result (parts_in tables.new) }
+{
+    let Some(Reverse(number)) = tables.turns.pop() else {
+        return None;
+    };
+    let i = (number - tables.first) as usize;
+    let part = take_part(&mut tables.stages, i);
+    Some((number, part))
+}
+
+// Notes that a part has ended, so that it is the turn of the next one for its slot.
+fn end(tables: &mut Tables, number: u64)
+    requires sound { AreSound tables.old }
+    requires out { IsOutAt (parts_in tables.old) number }
+    ensures sound { AreSound tables.new }
+    ensures first { tables.new.first ≡ tables.old.first }
+    ensures stages { tables.new.stages.items ≡ slice_set tables.old.stages.items (number - tables.old.first) Stage.Done }
+{
+    let i = (number - tables.first) as usize;
+    let Stage::Out(slot) = mem::replace(&mut tables.stages[i], Stage::Done) else {
+        unreachable!()
+    };
+    match tables.later[i] {
+        Some(next) => {
+            let _ = tables.turns.push(Reverse(next));
+        }
+        None => {
+            tables.last.remove(&slot.number());
+        }
+    }
+}
+
+fn drop_front(tables: &mut Tables, count: usize)
+    requires sound { AreSound tables.old }
+    requires numbered { IsNumbered tables.old.first tables.old.stages.items }
+    requires fits { count ≤ length tables.old.stages.items }
+    requires done { list_all is_done (take count tables.old.stages.items) ≡ true }
+    ensures sound { AreSound tables.new }
+    ensures first { tables.new.first ≡ tables.old.first + count }
+    ensures stages { tables.new.stages.items ≡ drop count tables.old.stages.items }
+{
+    drop(tables.stages.drain(..count));
+    drop(tables.later.drain(..count));
+    tables.first += count as u64;
 }
 
 // Hands out the part at i.
-fn take_part(stages: &mut [Stage], i: usize) -> Part
-    requires { IsWaiting (slice_get stages.old i) }
-    ensures part { slice_get stages.old i ≡ Some (Stage.Waiting result) }
-    ensures stages { stages.new ≡ slice_set stages.old i (Stage.Out (slot_of result.key)) }
+fn take_part(stages: &mut Vec<Stage>, i: usize) -> Part
+    requires { IsWaiting (slice_get stages.old.items i) }
+    ensures part { slice_get stages.old.items i ≡ Some (Stage.Waiting result) }
+    ensures stages { stages.new.items ≡ slice_set stages.old.items i (Stage.Out (slot_of result.key)) }
 {
     let Stage::Waiting(part) = &stages[i] else {
         unreachable!()
@@ -200,15 +299,5 @@ fn take_part(stages: &mut [Stage], i: usize) -> Part
     match mem::replace(&mut stages[i], Stage::Out(slot)) {
         Stage::Waiting(part) => part,
         _ => unreachable!(),
-    }
-}
-
-// Puts parts behind the others, none of them handed out.
-fn push_parts(stages: &mut Vec<Stage>, parts: Vec<Part>)
-    requires { vec_len stages.old + vec_len parts ≤ vec_capacity stages.old }
-    ensures { stages.new.items ≡ stages.old.items ++ map Stage.Waiting parts.items }
-{
-    for part in parts {
-        let _ = stages.push(Stage::Waiting(part));
     }
 }

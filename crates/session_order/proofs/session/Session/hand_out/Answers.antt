@@ -1,5 +1,4 @@
-use Rattle.std.proofs.Common.{refl, arith, ap}
-use Rattle.std.proofs.lemmas.Grind.{common_steps}
+use Rattle.std.proofs.Common.{refl}
 use Rattle.session_order.proofs.session.Session.hand_out.Goals as goal
 
 pub returns-in_default : goal.returns-in_default

@@ -1,0 +1,10 @@
+-- The faults of the nodes' steps, as the world's.
+use Rattle.node_model.specs.declared.standing.MoveFault.{MoveFault}
+use Rattle.node_model.specs.declared.standing.MoveFault.TheVariants as move
+use Rattle.cluster_world.specs.declared.fault.WorldFault.{WorldFault}
+use Rattle.cluster_world.specs.declared.fault.WorldFault.TheVariants.{NoMemory, NotNow}
+
+-- why a step of a move was not made
+abbrev pub of_move : MoveFault → WorldFault
+of_move move.NoMemory = NoMemory
+of_move move.NotNow = NotNow

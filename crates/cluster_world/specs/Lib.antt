@@ -1,0 +1,4 @@
+pub mod Fault
+pub mod Lost
+pub mod Machine
+pub mod Rests

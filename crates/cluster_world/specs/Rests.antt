@@ -1,0 +1,22 @@
+-- Where a command that ASK sent to a node may be on its way there: place by place, it is not.
+use Rattle.std.specs.Prelude.{◌≡◌, ℕ, All}
+use Rattle.key_split.specs.declared.travel.Ticket.{Ticket}
+use Rattle.world_laws.specs.State.{World, Link}
+use Rattle.world_laws.specs.Places.{asks, in_requests, in_backs}
+use Rattle.world_laws.specs.Places.Item.{Stands, Lies, Comes}
+
+-- no request of the link is the ticket's command for the node behind ASKING, and no reply tells it to ask there
+unfoldable pub LinkRests : Link → ℕ → Ticket → Type 0
+LinkRests l node ticket =
+    (in_requests (asks node ticket) l.is_open l.node l.asking l.requests ≡ 0) × (in_backs (asks node ticket) l.backs ≡ 0)
+
+-- it is nowhere on its way there
+pub record RestsEverywhere (w : World) (node : ℕ) (ticket : Ticket) : Type 0 where
+  pub commands : All (λ c. asks node ticket (Stands c) ≡ 0) w.commands
+  pub ups : All (λ b. asks node ticket (Lies b) ≡ 0) w.ups
+  pub links : All (λ l. LinkRests l node ticket) w.links
+  pub downs : All (λ p. asks node ticket (Comes p.0 p.1) ≡ 0) w.downs
+
+-- the same, as one word
+unfoldable pub Rests : World → ℕ → Ticket → Type 0
+Rests w node ticket = RestsEverywhere w node ticket

@@ -1,0 +1,310 @@
+//! What a world holds, and its events on lanes and links.
+
+ghost use Rattle.std.specs.Prelude.{◌≡◌, ◌==◌, ◌↔◌, ◌<◌, ◌&&◌, not, count_by, All, IsTrue, position, length};
+ghost use Rattle.cluster_world.specs.Machine.{state_of, Answers, Carries};
+ghost use Rattle.command_future.specs.Progress.{asks_at, MayPost};
+ghost use Rattle.world_laws.specs.State.{HasEnded};
+ghost use Rattle.world_laws.specs.World.{SameTurn};
+ghost use Rattle.command_future.specs.declared.stage.Stage.TheVariants.{Awaits};
+ghost use Rattle.key_split.specs.Same.{same_ticket};
+ghost use Rattle.world_laws.specs.declared.event.Event.TheVariants as event;
+
+use crate::fault::WorldFault;
+use crate::link::Link;
+use command_future::{Command, Want};
+use key_split::{Part, Ticket, Told};
+use node_model::Cluster;
+use slot_map::NodeId;
+use std::alloc::Global;
+use world_laws::{Answer, Arrival, Back, Entry, Posted};
+
+/// The commands, lanes, links and nodes, with what was executed and answered.
+#[derive(Drop)]
+pub(crate) struct Machine {
+    pub(crate) alloc: Global,
+    pub(crate) workers: u16,
+    pub(crate) nodes: u8,
+    pub(crate) cluster: Cluster,
+    pub(crate) commands: Vec<Arrival>,
+    pub(crate) ups: Vec<Posted>,
+    pub(crate) links: Vec<Link>,
+    pub(crate) downs: Vec<(Ticket, Told)>,
+    pub(crate) history: Vec<Entry>,
+    pub(crate) answers: Vec<Answer>,
+    pub(crate) moment: u64,
+}
+
+// The place of a lane's first batch.
+fn first_posted(ups: &[Posted], lane: u16) -> Option<usize>
+    ensures { result ≡ position (λ (b : Posted). b.ticket.worker == lane) ups.now }
+{
+    ups.iter().position(|posted| posted.ticket.worker == lane)
+}
+
+// The place of a lane's first pair.
+fn first_down(downs: &[(Ticket, Told)], lane: u16) -> Option<usize>
+    ensures { result ≡ position (λ (x : Ticket × Told). x.0.worker == lane) downs.now }
+{
+    downs.iter().position(|down| down.0.worker == lane)
+}
+
+// The place of a ticket's command.
+fn place_of(commands: &[Arrival], ticket: Ticket) -> Option<usize>
+    ensures { result ≡ position (λ (c : Arrival). same_ticket ticket c.command.ticket) commands.now }
+{
+    commands
+        .iter()
+        .position(|arrival| ticket == arrival.command.ticket())
+}
+
+// How many commands of the client there are.
+fn count_of(commands: &[Arrival], client: u32) -> usize
+    ensures { result ≡ count_by (λ (c : Arrival). c.command.ticket.client == client) commands.now }
+{
+    commands
+        .iter()
+        .filter(|arrival| arrival.command.ticket().client == client)
+        .count()
+}
+
+// The place of the client's oldest unanswered command.
+fn first_unanswered(commands: &[Arrival], client: u32) -> Option<usize>
+    ensures { result ≡ position (λ (c : Arrival). (c.command.ticket.client == client) && not c.answered) commands.now }
+{
+    commands.iter().position(|arrival| arrival.command.ticket().client == client
+        && !arrival.answered)
+}
+
+// Whether the command wants to be posted, and may be at this node.
+fn may_post(command: &Command, node: NodeId) -> bool
+    ensures { IsTrue result ↔ MayPost command.now.stage node }
+{
+    match command.want() {
+        Want::Post(_, None) => true,
+        Want::Post(_, Some(named)) => node == named,
+        Want::Await | Want::Finished => false,
+    }
+}
+
+// Whether it wants to be posted after ASKING.
+fn asks(command: &Command) -> bool
+    ensures { result ≡ asks_at command.now.stage }
+{
+    matches!(command.want(), Want::Post(true, _))
+}
+
+// Whether all commands of one turn before this one have ended.
+fn turn_has_come(before: &[Arrival], arrival: &Arrival) -> bool
+    ensures { IsTrue result ↔ All (λ d. SameTurn arrival.now d → HasEnded d) before.now }
+{
+    before.iter().all(|earlier| {
+        earlier.command.ticket().client != arrival.command.ticket().client
+            || earlier.command.slot() != arrival.command.slot()
+            || earlier.command.end().is_some()
+    })
+}
+
+// Whether the command awaits what it is told.
+fn awaits(command: &Command) -> bool
+    ensures { IsTrue result ↔ (command.now.stage ≡ Awaits) }
+{
+    matches!(command.want(), Want::Await)
+}
+
+// Puts a batch on an open link to its node, or on a new one.
+fn carry_over(
+    alloc: Global,
+    links: &mut Vec<Link>,
+    at: usize,
+    posted: Posted,
+) -> Result<(), WorldFault>
+    ensures { Carries links.old.items at posted result links.new.items }
+{
+    if at > links.len() {
+        return Err(WorldFault::NotNow);
+    }
+    if at == links.len() {
+        let mut link = Link::new(alloc, posted.node);
+        link.send(posted)?;
+        links.reserve(1)?;
+        links.push_reserved(link);
+        return Ok(());
+    }
+    let link = &mut links[at];
+    if !link.leads_to(posted.node) {
+        return Err(WorldFault::NotNow);
+    }
+    link.send(posted)?;
+    Ok(())
+}
+
+impl Machine {
+    /// Hands the first batch of a lane back, unsent.
+    pub(crate) fn refuse(&mut self, lane: u16) -> Result<(), WorldFault>
+        ensures { Answers (state_of self.old) (event.Refuse lane) result (state_of self.new) }
+    {
+        let Some(first) = first_posted(&self.ups, lane) else {
+            return Err(WorldFault::NotNow);
+        };
+        self.downs.reserve(1)?;
+        let posted = self.ups.remove(first);
+        self.downs.push_reserved((posted.ticket, Told::Unsent));
+        Ok(())
+    }
+
+    /// Closes a link; who waits on it is told so.
+    pub(crate) fn close(&mut self, link: u64) -> Result<(), WorldFault>
+        ensures { Answers (state_of self.old) (event.Drop link) result (state_of self.new) }
+    {
+        let Some(link) = self.links.get_mut(link as usize) else {
+            return Err(WorldFault::NotNow);
+        };
+        if !link.is_open() {
+            return Err(WorldFault::NotNow);
+        }
+        let mut lost = link.lost(self.alloc)?;
+        self.downs.append(&mut lost)?;
+        link.close();
+        Ok(())
+    }
+
+    /// Throws the requests of a closed link away.
+    pub(crate) fn discard(&mut self, link: u64) -> Result<(), WorldFault>
+        ensures { Answers (state_of self.old) (event.Discard link) result (state_of self.new) }
+    {
+        let Some(link) = self.links.get_mut(link as usize) else {
+            return Err(WorldFault::NotNow);
+        };
+        if !link.can_discard() {
+            return Err(WorldFault::NotNow);
+        }
+        link.discard();
+        Ok(())
+    }
+
+    /// Takes the first reply of a link down to its worker; that of ASKING is dropped.
+    pub(crate) fn fetch(&mut self, link: u64) -> Result<(), WorldFault>
+        ensures { Answers (state_of self.old) (event.Fetch link) result (state_of self.new) }
+    {
+        let Some(link) = self.links.get_mut(link as usize) else {
+            return Err(WorldFault::NotNow);
+        };
+        if !link.can_fetch() {
+            return Err(WorldFault::NotNow);
+        }
+        self.downs.reserve(1)?;
+        match link.take_back() {
+            Back::Welcome => {}
+            Back::To(ticket, told) => self.downs.push_reserved((ticket, told)),
+        }
+        Ok(())
+    }
+
+    /// Tells the first pair of a lane to its command.
+    pub(crate) fn take(&mut self, lane: u16) -> Result<(), WorldFault>
+        ensures { Answers (state_of self.old) (event.Take lane) result (state_of self.new) }
+    {
+        let Some(first) = first_down(&self.downs, lane) else {
+            return Err(WorldFault::NotNow);
+        };
+        let ticket = self.downs[first].0;
+        let Some(place) = place_of(&self.commands, ticket) else {
+            return Err(WorldFault::NotNow);
+        };
+        if !awaits(&self.commands[place].command) {
+            return Err(WorldFault::NotNow);
+        }
+        let (_, told) = self.downs.remove(first);
+        self.commands[place].command.told(told);
+        Ok(())
+    }
+
+    /// A client's next command arrives.
+    pub(crate) fn arrive(&mut self, client: u32, part: &Part) -> Result<(), WorldFault>
+        requires { 0 < self.old.workers }
+        ensures { Answers (state_of self.old) (event.Arrive client part.now) result (state_of self.new) }
+    {
+        let _ = part.slot();
+        let ticket = Ticket {
+            worker: (client % u32::from(self.workers)) as u16,
+            client,
+            part: count_of(&self.commands, client) as u64,
+        };
+        let command = Command::new(ticket, part.copy(self.alloc)?);
+        self.commands.reserve(1)?;
+        self.commands.push_reserved(Arrival {
+            command,
+            arrived: self.moment,
+            answered: false,
+        });
+        Ok(())
+    }
+
+    /// Posts a command to a node.
+    pub(crate) fn post(&mut self, ticket: Ticket, node: NodeId) -> Result<(), WorldFault>
+        requires { self.old.nodes ≡ length self.old.cluster.stores }
+        ensures { Answers (state_of self.old) (event.Post ticket node) result (state_of self.new) }
+    {
+        if node.number() >= self.nodes {
+            return Err(WorldFault::NotNow);
+        }
+        let Some(place) = place_of(&self.commands, ticket) else {
+            return Err(WorldFault::NotNow);
+        };
+        if !may_post(&self.commands[place].command, node) {
+            return Err(WorldFault::NotNow);
+        }
+        if !turn_has_come(&self.commands[..place], &self.commands[place]) {
+            return Err(WorldFault::NotNow);
+        }
+        self.ups.reserve(1)?;
+        let asking = asks(&self.commands[place].command);
+        let ticket = self.commands[place].command.ticket();
+        self.commands[place].command.posted(node);
+        self.ups.push_reserved(Posted {
+            ticket,
+            node,
+            asking,
+        });
+        Ok(())
+    }
+
+    /// Answers a client's oldest unanswered command, which has ended.
+    pub(crate) fn answer(&mut self, client: u32) -> Result<(), WorldFault>
+        ensures { Answers (state_of self.old) (event.Answer client) result (state_of self.new) }
+    {
+        let Some(place) = first_unanswered(&self.commands, client) else {
+            return Err(WorldFault::NotNow);
+        };
+        let Some(end) = self.commands[place].command.end() else {
+            return Err(WorldFault::NotNow);
+        };
+        let ended = end.copy(self.alloc)?;
+        self.answers.reserve(1)?;
+        let ticket = self.commands[place].command.ticket();
+        let arrived = self.commands[place].arrived;
+        self.commands[place].answered = true;
+        self.answers.push_reserved(Answer {
+            ticket,
+            ended,
+            arrived,
+            answered: self.moment,
+        });
+        Ok(())
+    }
+
+    /// Puts the first batch of a lane on a link, which it opens where the number is the next unused one.
+    pub(crate) fn carry(&mut self, lane: u16, link: u64) -> Result<(), WorldFault>
+        ensures { Answers (state_of self.old) (event.Carry lane link) result (state_of self.new) }
+    {
+        let Some(first) = first_posted(&self.ups, lane) else {
+            return Err(WorldFault::NotNow);
+        };
+        let posted = self.ups[first];
+        if let Err(fault) = carry_over(self.alloc, &mut self.links, link as usize, posted) {
+            return Err(fault);
+        }
+        self.ups.remove(first);
+        Ok(())
+    }
+}

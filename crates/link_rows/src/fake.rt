@@ -1,0 +1,114 @@
+//! A stream in memory: it gives the bytes that it was made with, keeps those that it takes, and can be slow or fail.
+
+ghost use Rattle.std.specs.Prelude.{◌^◌};
+
+use node_link::{Flow, Stream};
+use std::alloc::Global;
+
+#[derive(Drop)]
+pub struct FakeStream {
+    coming: Vec<u8>,
+    given: usize,
+    taken: Vec<u8>,
+    /// The most bytes that one call moves.
+    at_once: usize,
+    /// Each second call would have to wait.
+    waits: bool,
+    waited: bool,
+    /// So many bytes are taken before the stream fails.
+    room: usize,
+    reads: u32,
+    writes: u32,
+}
+
+impl FakeStream {
+    /// A stream that moves any number of bytes at once, and does not fail.
+    pub fn new(alloc: Global, coming: Vec<u8>) -> FakeStream {
+        FakeStream {
+            coming,
+            given: 0,
+            taken: Vec::new(alloc),
+            at_once: usize::MAX,
+            waits: false,
+            waited: false,
+            room: usize::MAX,
+            reads: 0,
+            writes: 0,
+        }
+    }
+
+    /// The same, a byte at a time, with a call that would have to wait before each.
+    pub fn slow(alloc: Global, coming: Vec<u8>) -> FakeStream {
+        let mut stream = FakeStream::new(alloc, coming);
+        stream.at_once = 1;
+        stream.waits = true;
+        stream
+    }
+
+    /// A stream that takes so many bytes, and then fails.
+    pub fn failing(alloc: Global, room: usize) -> FakeStream {
+        let mut stream = FakeStream::new(alloc, Vec::new(alloc));
+        stream.room = room;
+        stream
+    }
+
+    /// The bytes that were written.
+    pub fn taken(&self) -> &[u8] {
+        self.taken.as_slice()
+    }
+
+    /// How often it was read, calls that had to wait among them.
+    pub fn reads(&self) -> u32 {
+        self.reads
+    }
+
+    /// How often it was written.
+    pub fn writes(&self) -> u32 {
+        self.writes
+    }
+
+    /// Whether this call would have to wait.
+    fn must_wait(&mut self) -> bool {
+        self.waited = self.waits && !self.waited;
+        self.waited
+    }
+}
+
+impl Stream for FakeStream {
+    // It promises nothing of what it moves: the tests look at the bytes.
+    ghost failures = { λ _. 2 ^ 64 };
+
+    ghost moved = { λ _ _ _ _. Unit {0} };
+
+    ghost still = { λ _. tt };
+
+    ghost joined = { λ _ _ _ _ _ _ _ _ _. tt };
+
+    fn read(&mut self, buffer: &mut [u8]) -> Flow {
+        self.reads = self.reads.saturating_add(1);
+        if self.must_wait() {
+            return Flow::Nothing;
+        }
+        let left = self.coming.len().saturating_sub(self.given);
+        let count = left.min(buffer.len()).min(self.at_once);
+        if count == 0 {
+            return Flow::Nothing;
+        }
+        buffer[..count].copy_from_slice(&self.coming[self.given..self.given + count]);
+        self.given += count;
+        Flow::Bytes(count)
+    }
+
+    fn write(&mut self, bytes: &[u8]) -> Flow {
+        self.writes = self.writes.saturating_add(1);
+        if self.must_wait() {
+            return Flow::Nothing;
+        }
+        let count = bytes.len().min(self.at_once).min(self.room);
+        if count == 0 || self.taken.extend_from_slice(&bytes[..count]).is_err() {
+            return Flow::Gone;
+        }
+        self.room -= count;
+        Flow::Bytes(count)
+    }
+}
