@@ -4,7 +4,7 @@
 
 # Builds the program, proofs first, and asks it for `GET a` on the empty store: it answers the null bulk, `$-1`.
 run:
-	cd crates/cluster_proxy && printf '*2\r\n$$3\r\nGET\r\n$$1\r\na\r\n' | rt run -- one
+	@cd crates/cluster_proxy && printf '*2\r\n$$3\r\nGET\r\n$$1\r\na\r\n' | rt run -- one
 
 # The gate: every proof from nothing, the edits that must be refused, every test, every program.
 test:
