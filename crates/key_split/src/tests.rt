@@ -195,7 +195,7 @@ fn names_in_each_case(rt: HostRuntime) -> Result<(), Fail> {
 }
 
 #[test]
-fn ten_thousand_keys_at_once(rt: HostRuntime) -> Result<(), Fail> {
+fn ten_thousand_keys_within_a_second(rt: HostRuntime) -> Result<(), Fail> {
     let alloc = rt.alloc();
     let mut words = words(alloc, "MGET")?;
     for number in 0..10_000 {
@@ -207,8 +207,7 @@ fn ten_thousand_keys_at_once(rt: HostRuntime) -> Result<(), Fail> {
     let start = Instant::now(&rt)?;
     let planned = plan(alloc, &words)?;
     let elapsed = start.elapsed(&rt)?;
-    // A second, and room for a machine that does much else.
-    assert!(rt; elapsed < Duration::from_secs(10), "{elapsed:?}");
+    assert!(rt; elapsed < Duration::from_secs(1), "{elapsed:?}");
     let Planned::Parts(Joining::Array(places), _) = &planned else {
         return Err("MGET is joined by places".into());
     };

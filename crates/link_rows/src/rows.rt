@@ -261,6 +261,36 @@ fn thousand(alloc: Global, answers: Vec<u8>) -> Result<Course, Fail> {
     send_and_receive(alloc, &mut link, &mut table)
 }
 
+/// How many bytes a link wrote after each of three commands, and after the first call that finds no value.
+fn written_step_by_step(
+    alloc: Global,
+    link: &mut FakeLink,
+    table: &mut NodeTable,
+) -> Result<[usize; 4], Fail> {
+    let mut written = [0; 4];
+    for part in 0..3usize {
+        send_set(alloc, link, part as u64, false)??;
+        written[part] = taken(link).len();
+    }
+    see_next(link, table)?;
+    written[3] = taken(link).len();
+    Ok(written)
+}
+
+/// A link that waits for nothing writes its first command with the next call; those behind it wait for more.
+#[test]
+fn an_idle_link_holds_nothing_back(rt: HostRuntime) -> Result<(), Fail> {
+    let (mut table, node) = table_of_one(rt.alloc())?;
+    let stream = FakeStream::new(rt.alloc(), Vec::new(rt.alloc()));
+    let mut link = link_over(rt.alloc(), stream, node);
+    let size = SET.len();
+    let first = written_step_by_step(rt.alloc(), &mut link, &mut table)?;
+    assert_eq!(rt; first, [0, size, size, 3 * size]);
+    let second = written_step_by_step(rt.alloc(), &mut link, &mut table)?;
+    assert_eq!(rt; second, [3 * size, 4 * size, 4 * size, 6 * size]);
+    Ok(())
+}
+
 #[test]
 fn thousand_commands_in_few_calls(rt: HostRuntime) -> Result<(), Fail> {
     let mut answers = Vec::new(rt.alloc());

@@ -1,7 +1,7 @@
 //! A port over a stream of bytes.
 
 ghost use Rattle.std.specs.Prelude.{◌≡◌, ◌≤◌, [], None};
-ghost use Rattle.node_link.specs.Bytes.{Exchanges, IsGarbled, PumpOutcome};
+ghost use Rattle.node_link.specs.Bytes.{Exchanges, IsGarbled, PumpOutcome, TakeOutcome, input_of};
 
 use crate::inbox::Inbox;
 use crate::outbox::Outbox;
@@ -14,8 +14,8 @@ use std::alloc::Global;
 use std::marker::Model;
 
 /// A port over a stream that does not block. It holds what is sent until it has no whole value to give, or 16 KiB
-/// wait, so that under load one write and one read serve many commands. What the stream refused goes out with the
-/// next call of any kind.
+/// wait, so that under load one write and one read serve many commands. What the stream refused, and what was sent
+/// while nothing came, goes out with the next call of any kind.
 #[derive(Drop)]
 pub struct BytePort<S> {
     stream: S,
@@ -100,8 +100,20 @@ impl<S: Stream> NodePort for BytePort<S> {
         if let Err(Gone) = pump(&mut self.stream, &mut self.outbox, &mut self.inbox) {
             return Err(PortFault::Failed);
         }
-        self.inbox.take()
+        take_or_be_idle(&mut self.inbox, &mut self.outbox)
     }
+}
+
+// Takes the first value. Where none came, what is sent next goes out without waiting for more.
+fn take_or_be_idle(inbox: &mut Inbox, outbox: &mut Outbox) -> Result<Option<Value>, PortFault>
+    ensures taken { TakeOutcome (input_of inbox.old) result (input_of inbox.new) }
+    ensures outbox { outbox.new ≡ outbox.old }
+{
+    let taken = inbox.take();
+    if let Ok(None) = taken {
+        outbox.be_idle();
+    }
+    taken
 }
 
 // Writes some of what waits, and reads some bytes.

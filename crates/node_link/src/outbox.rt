@@ -19,8 +19,8 @@ pub struct Outbox {
     written: usize,
     /// How many of the bytes are of whole requests.
     finished: usize,
-    /// The stream took less than was offered.
-    refused: bool,
+    /// What waits goes out with the next call of any kind: the stream refused it, or nothing came to wait for.
+    due: bool,
 }
 
 impl Model for Outbox {
@@ -42,7 +42,7 @@ impl Outbox {
             bytes: Vec::new(alloc),
             written: 0,
             finished: 0,
-            refused: false,
+            due: true,
         }
     }
 
@@ -71,13 +71,20 @@ impl Outbox {
         self.bytes.truncate(self.finished);
     }
 
-    /// Goes on writing what the stream refused, or what is so much that it does not wait for more.
+    /// Nothing came: what is sent from now on does not wait for more.
+    pub fn be_idle(&mut self)
+        ensures { self.new ≡ self.old }
+    {
+        self.due = true;
+    }
+
+    /// Writes what is due, or so much that it does not wait for more.
     pub fn go_on<S: Stream>(&mut self, stream: &mut S) -> Result<(), Gone>
         ensures written { FlushOutcome S.failures S.moved stream.old self.old.unsent result stream.new self.new.unsent }
         ensures draft { self.new.draft ≡ self.old.draft }
         ensures count { S.failures stream.old ≤ S.failures stream.new }
     {
-        if self.refused || self.finished - self.written >= FULL {
+        if self.due || self.finished - self.written >= FULL {
             self.flush(stream)
         } else {
             Ok(())
@@ -99,7 +106,7 @@ impl Outbox {
                 Ok(())
             }
             Flow::Nothing => {
-                self.refused = true;
+                self.due = true;
                 Ok(())
             }
             Flow::Gone => Err(Gone),
@@ -112,7 +119,7 @@ impl Outbox {
         ensures { self.new ≡ record self.old { unsent = drop count self.old.unsent } }
     {
         self.written += count;
-        self.refused = self.written < self.finished;
+        self.due = self.written < self.finished;
         forget_written(&mut self.bytes, &mut self.written, &mut self.finished);
     }
 }

@@ -3,7 +3,7 @@ use Rattle.std.specs.Prelude.{◌≡◌, ◌<◌, ◌≤◌, ◌+◌, ◌-◌, L
 use Rattle.std.specs.declared.cmp.Reverse.{Reverse}
 use Rattle.std.specs.declared.cmp.Ordering.{Ordering}
 use Rattle.std.specs.Ordering.{nat_cmp}
-use Rattle.std.specs.Vec.{vec_len, vec_capacity}
+use Rattle.std.specs.VecDeque.{deque_len, deque_capacity}
 use Rattle.std.specs.BinaryHeap.{heap_items, heap_len, heap_capacity, IsHeap}
 use Rattle.std.specs.HashMap.{get, spare}
 use Rattle.session_order.specs.declared.queue.Tables.{Tables}
@@ -86,7 +86,7 @@ SameParts old new = (new.first ≡ old.first) × (new.stages.items ≡ old.stage
 
 -- so many parts can be added without more memory
 pub record HasRoom (t : Tables) (count : ℕ) : Type 0 where
-  pub stages : vec_len t.stages + count ≤ vec_capacity t.stages
-  pub later : vec_len t.later + count ≤ vec_capacity t.later
+  pub stages : deque_len t.stages + count ≤ deque_capacity t.stages
+  pub later : deque_len t.later + count ≤ deque_capacity t.later
   pub last : count ≤ spare t.last
   pub turns : heap_len t.turns + outs t.stages.items + count ≤ heap_capacity t.turns

@@ -12,7 +12,7 @@ use resp_wire::NoMemory;
 use slot_hash::Slot;
 use std::alloc::Global;
 use std::cmp::Reverse;
-use std::collections::{BinaryHeap, HashMap};
+use std::collections::{BinaryHeap, HashMap, VecDeque};
 use std::marker::Model;
 use std::mem;
 
@@ -38,9 +38,9 @@ impl Stage {
 #[derive(Drop)]
 struct Tables {
     first: u64,
-    stages: Vec<Stage>,
+    stages: VecDeque<Stage>,
     /// For each part the number of the next one for its slot.
-    later: Vec<Option<u64>>,
+    later: VecDeque<Option<u64>>,
     /// For each slot with a part that has not ended the number of the last one.
     last: HashMap<u16, u64>,
     /// The parts that were not handed out and whose turn it is.
@@ -80,8 +80,8 @@ impl Queue {
         Queue {
             tables: Tables {
                 first: 0,
-                stages: Vec::new(alloc),
-                later: Vec::new(alloc),
+                stages: VecDeque::new(alloc),
+                later: VecDeque::new(alloc),
                 last: HashMap::new(alloc),
                 turns: BinaryHeap::new(alloc),
             },
@@ -168,10 +168,10 @@ impl Queue {
 const MAX_PARTS: u64 = 1 << 48;
 
 // Counts the parts at the front that are done, these many of which are known.
-fn count_done(stages: &[Stage], known: usize) -> usize
-    requires fits { known ≤ length stages.now }
-    requires known { list_all is_done (take known stages.now) ≡ true }
-    ensures { result ≡ done_at_front stages.now }
+fn count_done(stages: &VecDeque<Stage>, known: usize) -> usize
+    requires fits { known ≤ length stages.now.items }
+    requires known { list_all is_done (take known stages.now.items) ≡ true }
+    ensures { result ≡ done_at_front stages.now.items }
 {
     for i in known..stages.len() {
         if !stages[i].is_done() {
@@ -225,8 +225,8 @@ fn push_part(tables: &mut Tables, part: Part)
 {
     let slot = part.slot().number();
     let number = tables.first + tables.stages.len() as u64;
-    let _ = tables.stages.push(Stage::Waiting(part));
-    let _ = tables.later.push(None);
+    tables.stages.push_back_reserved(Stage::Waiting(part));
+    tables.later.push_back_reserved(None);
     match tables.last.insert(slot, number) {
         Ok(Some(before)) => tables.later[(before - tables.first) as usize] = Some(number),
         Ok(None) => {
@@ -287,7 +287,7 @@ fn drop_front(tables: &mut Tables, count: usize)
 }
 
 // Hands out the part at i.
-fn take_part(stages: &mut Vec<Stage>, i: usize) -> Part
+fn take_part(stages: &mut VecDeque<Stage>, i: usize) -> Part
     requires { IsWaiting (slice_get stages.old.items i) }
     ensures part { slice_get stages.old.items i ≡ Some (Stage.Waiting result) }
     ensures stages { stages.new.items ≡ slice_set stages.old.items i (Stage.Out (slot_of result.key)) }

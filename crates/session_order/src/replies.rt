@@ -1,15 +1,17 @@
 //! The replies that are next in order.
 
-ghost use Rattle.std.specs.Prelude.{◌≡◌, ◌≤◌, ◌+◌, ◌++◌, ℕ, List, [], length, drop, take, true, IfOk, OnOk, OnErr, IfSome};
+ghost use Rattle.std.specs.Prelude.{◌≡◌, ◌≤◌, ◌+◌, ◌-◌, ◌++◌, ℕ, List, [], length, drop, take, true, IfOk, OnOk, OnErr, IfSome};
 ghost use Rattle.std.specs.List.{list_all};
 ghost use Rattle.session_order.specs.Turn.{is_done};
-ghost use Rattle.session_order.specs.Replies.{HasParts, ReplyOutcome, parts_of, AreJoinable, bytes_of, replies, replied, lines_owed};
+ghost use Rattle.key_split.specs.Join.{CanJoin};
+ghost use Rattle.session_order.specs.Replies.{HasParts, joined, ReplyOutcome, parts_of, AreJoinable, bytes_of, replies, replied, lines_owed};
 
 use crate::queue::Queue;
 use crate::step::protocol_error;
 use key_split::{Ended, Joining, join};
 use resp_wire::{NoMemory, Value, write_value};
 use std::alloc::Global;
+use std::collections::VecDeque;
 
 /// What a request is owed: its reply, or one that is joined from the ends of its parts.
 #[derive(Drop)]
@@ -23,21 +25,22 @@ pub enum Owed {
 #[tactic(auto, using(crate::proofs::Drained::replied_bounds, crate::proofs::Drained::replies_all, crate::proofs::Drained::replies_part, crate::proofs::Drained::parts_of_drop, crate::proofs::Drained::joinable_drop, crate::proofs::Drained::replied_done))]
 pub fn write_output(
     alloc: Global,
-    requests: &[Owed],
+    requests: &VecDeque<Owed>,
     queue: &Queue,
-    ends: &[Ended],
+    ends: &mut VecDeque<Ended>,
     line_owed: bool,
     out: &mut Vec<u8>,
 ) -> Result<(usize, usize), NoMemory>
-    requires counted { parts_of requests.now ≡ length queue.now.stages }
-    requires places { length ends.now ≡ length queue.now.stages }
-    requires joinable { AreJoinable requests.now }
-    ensures written { OnOk result (out.new.items ≡ out.old.items ++ bytes_of (replies requests.now queue.now.stages ends.now (lines_owed line_owed))) }
-    ensures counts { IfOk result (λ n. n ≡ replied requests.now queue.now.stages ends.now) }
-    ensures bound { IfOk result (λ n. (n.0 ≤ length requests.now) × (n.1 ≤ length queue.now.stages)) }
-    ensures left { IfOk result (λ n. parts_of (drop n.0 requests.now) + n.1 ≡ length queue.now.stages) }
-    ensures still_joinable { IfOk result (λ n. AreJoinable (drop n.0 requests.now)) }
+    requires counted { parts_of requests.now.items ≡ length queue.now.stages }
+    requires places { length ends.old.items ≡ length queue.now.stages }
+    requires joinable { AreJoinable requests.now.items }
+    ensures written { OnOk result (out.new.items ≡ out.old.items ++ bytes_of (replies requests.now.items queue.now.stages ends.old.items (lines_owed line_owed))) }
+    ensures counts { IfOk result (λ n. n ≡ replied requests.now.items queue.now.stages ends.old.items) }
+    ensures bound { IfOk result (λ n. (n.0 ≤ length requests.now.items) × (n.1 ≤ length queue.now.stages)) }
+    ensures left { IfOk result (λ n. parts_of (drop n.0 requests.now.items) + n.1 ≡ length queue.now.stages) }
+    ensures still_joinable { IfOk result (λ n. AreJoinable (drop n.0 requests.now.items)) }
     ensures done { IfOk result (λ n. list_all is_done (take n.1 queue.now.stages) ≡ true) }
+    ensures ends { ends.new.items ≡ ends.old.items }
     ensures grown { (more : List ℕ) × (out.new.items ≡ out.old.items ++ more) }
 {
     let (count, parts) = write_replies(alloc, requests, queue, ends, out)?;
@@ -50,21 +53,22 @@ pub fn write_output(
 // Writes the replies that are next in order, and answers how many requests and parts these are of.
 fn write_replies(
     alloc: Global,
-    requests: &[Owed],
+    requests: &VecDeque<Owed>,
     queue: &Queue,
-    ends: &[Ended],
+    ends: &mut VecDeque<Ended>,
     out: &mut Vec<u8>,
 ) -> Result<(usize, usize), NoMemory>
-    requires counted { parts_of requests.now ≡ length queue.now.stages }
-    requires places { length ends.now ≡ length queue.now.stages }
-    requires joinable { AreJoinable requests.now }
-    ensures written { OnOk result (out.new.items ≡ out.old.items ++ bytes_of (replies requests.now queue.now.stages ends.now [])) }
-    ensures counts { IfOk result (λ n. n ≡ replied requests.now queue.now.stages ends.now) }
+    requires counted { parts_of requests.now.items ≡ length queue.now.stages }
+    requires places { length ends.old.items ≡ length queue.now.stages }
+    requires joinable { AreJoinable requests.now.items }
+    ensures written { OnOk result (out.new.items ≡ out.old.items ++ bytes_of (replies requests.now.items queue.now.stages ends.old.items [])) }
+    ensures counts { IfOk result (λ n. n ≡ replied requests.now.items queue.now.stages ends.old.items) }
+    ensures ends { ends.new.items ≡ ends.old.items }
     ensures grown { (more : List ℕ) × (out.new.items ≡ out.old.items ++ more) }
 {
     let mut parts = 0;
     for i in 0..requests.len() {
-        match write_reply(alloc, &requests[i], queue, parts, &ends[parts..], out)? {
+        match write_reply(alloc, &requests[i], queue, ends, parts, out)? {
             Some(count) => parts += count,
             None => return Ok((i, parts)),
         }
@@ -72,21 +76,23 @@ fn write_replies(
     Ok((requests.len(), parts))
 }
 
-#[tactic(auto, unfolding(crate::specs::Replies::joined, crate::specs::Replies::spelling))]
+#[tactic(auto, unfolding(crate::specs::Replies::spelling))]
 // Writes one request's reply, if its parts have all ended, and answers how many these are. They begin behind these many
 // parts, which are done.
 fn write_reply(
     alloc: Global,
     owed: &Owed,
     queue: &Queue,
+    ends: &mut VecDeque<Ended>,
     from: usize,
-    ends: &[Ended],
     out: &mut Vec<u8>,
 ) -> Result<Option<usize>, NoMemory>
     requires known { list_all is_done (take from queue.now.stages) ≡ true }
-    requires places { from + length ends.now ≡ length queue.now.stages }
-    requires parts { HasParts owed.now (length ends.now) }
-    ensures does { ReplyOutcome owed.now (drop from queue.now.stages) ends.now out.old.items result out.new.items }
+    requires places { length ends.old.items ≡ length queue.now.stages }
+    requires fits { from ≤ length ends.old.items }
+    requires parts { HasParts owed.now (length ends.old.items - from) }
+    ensures ends { ends.new.items ≡ ends.old.items }
+    ensures does { ReplyOutcome owed.now (drop from queue.now.stages) (drop from ends.old.items) out.old.items result out.new.items }
     ensures done { IfOk result (λ r. IfSome r (λ count. list_all is_done (take count (drop from queue.now.stages)) ≡ true)) }
 {
     match owed {
@@ -98,11 +104,51 @@ fn write_reply(
             if !queue.are_done(from, *count) {
                 return Ok(None);
             }
-            let value = join(alloc, how, &ends[..*count])?;
+            let value = join_ends(alloc, how, ends, from, *count)?;
             write_value(out, &value)?;
             Ok(Some(*count))
         }
     }
+}
+
+#[tactic(auto, unfolding(crate::specs::Replies::joined))]
+// The reply that the ends of a request's parts make. These begin behind so many others. Where they do not stand side by
+// side the ends are moved.
+fn join_ends(
+    alloc: Global,
+    how: &Joining,
+    ends: &mut VecDeque<Ended>,
+    from: usize,
+    count: usize,
+) -> Result<Value, NoMemory>
+    requires fits { from + count ≤ length ends.old.items }
+    requires joinable { CanJoin how.now count }
+    ensures ends { ends.new.items ≡ ends.old.items }
+    ensures reply { IfOk result (λ reply. reply ≡ joined how.now (take count (drop from ends.old.items))) }
+{
+    match side_by_side(ends, from, count) {
+        Some(own) => join(alloc, how, own),
+        None => {
+            let all: &[Ended] = ends.make_contiguous();
+            join(alloc, how, &all[from..from + count])
+        }
+    }
+}
+
+// The ends of so many parts behind so many others, if they stand side by side.
+fn side_by_side(ends: &VecDeque<Ended>, from: usize, count: usize) -> Option<&[Ended]>
+    requires { from + count ≤ length ends.now.items }
+    ensures { IfSome result (λ own. own.now ≡ take count (drop from ends.now.items)) }
+{
+    let (front, back) = ends.as_slices();
+    if from + count <= front.len() {
+        return Some(&front[from..from + count]);
+    }
+    if front.len() <= from {
+        let start = from - front.len();
+        return Some(&back[start..start + count]);
+    }
+    None
 }
 
 #[tactic(auto, unfolding(crate::specs::Replies::spelling))]

@@ -1,6 +1,7 @@
 //! A client's session.
 
-ghost use Rattle.std.specs.Prelude.{◌≡◌, ◌≢◌, ◌<◌, ◌≤◌, ◌+◌, ◌++◌, ◌↔◌, [], ◌∷◌, None, IsTrue, IfSome, true, length, drop, replicate, vec_len, vec_capacity};
+ghost use Rattle.std.specs.Prelude.{◌≡◌, ◌≢◌, ◌<◌, ◌≤◌, ◌+◌, ◌++◌, ◌↔◌, [], ◌∷◌, None, IsTrue, IfSome, true, length, drop, replicate};
+ghost use Rattle.std.specs.VecDeque.{deque_len, deque_capacity};
 
 use crate::closing::{Broken, Closing};
 use crate::fault::SessionFault;
@@ -11,6 +12,7 @@ use crate::step::{Step, step_for};
 use key_split::{Ended, Part, Ticket};
 use resp_wire::{Limits, NoMemory, Words};
 use std::alloc::Global;
+use std::collections::VecDeque;
 use std::marker::Model;
 
 /// The most requests of a client without a drained reply.
@@ -23,9 +25,9 @@ pub struct Session {
     worker: u16,
     client: u32,
     intake: Intake,
-    requests: Vec<Owed>,
+    requests: VecDeque<Owed>,
     queue: Queue,
-    ends: Vec<Ended>,
+    ends: VecDeque<Ended>,
     closing: Closing,
 }
 
@@ -70,9 +72,9 @@ impl Session {
             worker,
             client,
             intake: Intake::new(alloc, limits),
-            requests: Vec::new(alloc),
+            requests: VecDeque::new(alloc),
             queue: Queue::new(alloc),
-            ends: Vec::new(alloc),
+            ends: VecDeque::new(alloc),
             closing: Closing::Open,
         }
     }
@@ -219,7 +221,7 @@ impl Session {
             self.alloc,
             &self.requests,
             &self.queue,
-            &self.ends,
+            &mut self.ends,
             line_owed,
             out,
         ) {
@@ -259,9 +261,9 @@ impl Session {
             return Err(SessionFault::NoMemory);
         }
         match step {
-            Step::Reply(value) => push(&mut self.requests, Owed::Reply(value)),
+            Step::Reply(value) => self.requests.push_back_reserved(Owed::Reply(value)),
             Step::Close(value) => {
-                push(&mut self.requests, Owed::Reply(value));
+                self.requests.push_back_reserved(Owed::Reply(value));
                 self.closing = Closing::Quit;
             }
             Step::Parts(how, parts) => {
@@ -269,7 +271,7 @@ impl Session {
                     self.intake.put_back(words);
                     return Err(SessionFault::NoMemory);
                 }
-                push(&mut self.requests, Owed::Parts(how, count));
+                self.requests.push_back_reserved(Owed::Parts(how, count));
                 push_lost(&mut self.ends, count);
             }
         }
@@ -278,7 +280,7 @@ impl Session {
 }
 
 // Drops the first n.
-fn drop_front<T: Drop>(items: &mut Vec<T>, n: usize)
+fn drop_front<T: Drop>(items: &mut VecDeque<T>, n: usize)
     requires { n ≤ length items.old.items }
     ensures { items.new.items ≡ drop n items.old.items }
 {
@@ -286,31 +288,21 @@ fn drop_front<T: Drop>(items: &mut Vec<T>, n: usize)
 }
 
 // Makes room for one more request with so many parts.
-fn make_room(requests: &mut Vec<Owed>, ends: &mut Vec<Ended>, parts: usize) -> bool
+fn make_room(requests: &mut VecDeque<Owed>, ends: &mut VecDeque<Ended>, parts: usize) -> bool
     ensures requests { requests.new.items ≡ requests.old.items }
     ensures ends { ends.new.items ≡ ends.old.items }
-    ensures requests_room { result ≡ true → vec_len requests.new < vec_capacity requests.new }
-    ensures ends_room { result ≡ true → vec_len ends.new + parts ≤ vec_capacity ends.new }
+    ensures requests_room { result ≡ true → deque_len requests.new < deque_capacity requests.new }
+    ensures ends_room { result ≡ true → deque_len ends.new + parts ≤ deque_capacity ends.new }
 {
     requests.reserve(1).is_ok() && ends.reserve(parts).is_ok()
 }
 
-// Puts one more behind the others.
-fn push<T: Drop>(items: &mut Vec<T>, last: T)
-    requires { vec_len items.old < vec_capacity items.old }
-    ensures items { items.new.items ≡ items.old.items ++ last ∷ [] }
-    ensures capacity { vec_capacity items.old ≤ vec_capacity items.new }
-    ensures len { vec_len items.new ≡ vec_len items.old + 1 }
-{
-    let _ = items.push(last);
-}
-
 // Puts places for so many ends behind the others.
-fn push_lost(ends: &mut Vec<Ended>, count: usize)
-    requires { vec_len ends.old + count ≤ vec_capacity ends.old }
+fn push_lost(ends: &mut VecDeque<Ended>, count: usize)
+    requires { deque_len ends.old + count ≤ deque_capacity ends.old }
     ensures { ends.new.items ≡ ends.old.items ++ replicate count Ended.Lost }
 {
     for _ in 0..count {
-        push(ends, Ended::Lost);
+        ends.push_back_reserved(Ended::Lost);
     }
 }

@@ -143,3 +143,41 @@ fn a_thousand_sets_of_different_keys(rt: HostRuntime) -> Result<(), Fail> {
     }
     Ok(())
 }
+
+/// Ends all parts in the order in which they were taken, and drains after each.
+fn end_forwards(
+    alloc: Global,
+    session: &mut Session,
+    parts: &[(Ticket, Part)],
+    out: &mut Vec<u8>,
+) -> Result<(), Fail> {
+    for given in parts {
+        tell_answer(alloc, session, given.0, &given.1)?;
+        session.drain(out)?;
+    }
+    Ok(())
+}
+
+/// How many bytes are drained, one reply at a time.
+fn course_forwards(alloc: Global, session: &mut Session) -> Result<usize, Fail> {
+    let mut parts = Vec::new(alloc);
+    read_and_take(session, &mut parts)?;
+    let mut out = Vec::new(alloc);
+    end_forwards(alloc, session, &parts, &mut out)?;
+    Ok(out.len())
+}
+
+fn course_forwards_of(alloc: Global, bytes: &[u8]) -> Result<usize, Fail> {
+    let mut session = session_of(alloc, bytes)?;
+    course_forwards(alloc, &mut session)
+}
+
+#[test]
+fn a_thousand_replies_one_at_a_time(rt: HostRuntime) -> Result<(), Fail> {
+    let bytes = thousand_sets(rt.alloc(), true)?;
+    for _ in 0..100 {
+        let written = course_forwards_of(rt.alloc(), bytes.as_slice())?;
+        assert_eq!(rt; written, 5000);
+    }
+    Ok(())
+}

@@ -124,6 +124,37 @@ fn an_end_is_told_once(rt: HostRuntime) -> Result<(), Fail> {
     Ok(())
 }
 
+/// Whether the end of a part is awaited.
+#[derive(Clone, Copy)]
+struct Awaited {
+    before: bool,
+    /// After it was told.
+    after: bool,
+}
+
+fn tell_lost(alloc: Global, session: &mut Session) -> Result<Awaited, Fail> {
+    let mut parts = Vec::new(alloc);
+    read_and_take(session, &mut parts)?;
+    let ticket = ticket_at(&parts, 0)?;
+    let before = session.awaits(ticket);
+    tell(session, ticket, Ended::Lost);
+    let after = session.awaits(ticket);
+    Ok(Awaited { before, after })
+}
+
+fn awaited_of_first(alloc: Global) -> Result<Awaited, Fail> {
+    let mut session = session_of(alloc, SET_A_GET_B_GET_A)?;
+    tell_lost(alloc, &mut session)
+}
+
+#[test]
+fn an_end_is_awaited_until_it_is_told(rt: HostRuntime) -> Result<(), Fail> {
+    let seen = awaited_of_first(rt.alloc())?;
+    assert!(rt; seen.before);
+    assert!(rt; !seen.after);
+    Ok(())
+}
+
 /// What comes of bytes that need no node.
 #[derive(Drop)]
 struct Course {

@@ -15,3 +15,5 @@ pub mod Lives
 pub mod Runs
 pub mod Single
 pub mod Allowed
+mod Sizes
+pub mod Bare

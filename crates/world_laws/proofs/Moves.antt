@@ -63,7 +63,7 @@ release-good Imported q b e = absurd (cc)
 release-good Released q b e = absurd (cc)
 release-good Forgotten q b e = absurd (cc)
 
-own-moving : (p q : Phase) → after_own p ≡ Some q → p ≢ Settled
+pub own-moving : (p q : Phase) → after_own p ≡ Some q → p ≢ Settled
 own-moving Settled q e = absurd (cc)
 own-moving Imported q e = absurd (cc)
 own-moving Migrated q e = λ x. absurd (cc)
@@ -71,7 +71,7 @@ own-moving Owned q e = absurd (cc)
 own-moving Released q e = λ x. absurd (cc)
 own-moving Forgotten q e = absurd (cc)
 
-release-moving : (p q : Phase) → after_release p ≡ Some q → p ≢ Settled
+pub release-moving : (p q : Phase) → after_release p ≡ Some q → p ≢ Settled
 release-moving Settled q e = absurd (cc)
 release-moving Imported q e = absurd (cc)
 release-moving Migrated q e = λ x. absurd (cc)
@@ -79,7 +79,7 @@ release-moving Owned q e = λ x. absurd (cc)
 release-moving Released q e = absurd (cc)
 release-moving Forgotten q e = absurd (cc)
 
-giving : (p : Phase) → (p ≡ Migrated) ⊎ (p ≡ Owned) → (p ≢ Settled) × (is_bad p false ≡ false)
+pub giving : (p : Phase) → (p ≡ Migrated) ⊎ (p ≡ Owned) → (p ≢ Settled) × (is_bad p false ≡ false)
 giving Migrated e = ((λ x. absurd (cc)), refl)
 giving Owned e = ((λ x. absurd (cc)), refl)
 giving Settled (inl e) = absurd (cc)
@@ -91,11 +91,11 @@ giving Released (inr e) = absurd (cc)
 giving Forgotten (inl e) = absurd (cc)
 giving Forgotten (inr e) = absurd (cc)
 
-some-is : {X : Type 0} (o : Option X) (x : X) → IsSome o → o ≡ Some (unwrap_or o x)
+pub some-is : {X : Type 0} (o : Option X) (x : X) → IsSome o → o ≡ Some (unwrap_or o x)
 some-is (Some y) x h = refl
 some-is None x h = absurd (cc)
 
-some-value : {X : Type 0} (o : Option X) → IsSome o → (x : X) × (o ≡ Some x)
+pub some-value : {X : Type 0} (o : Option X) → IsSome o → (x : X) × (o ≡ Some x)
 some-value (Some y) h = (y, refl)
 some-value None h = absurd (cc)
 

@@ -1,12 +1,12 @@
 -- What the steps look up is there: in a world that events reach, these events are allowed wherever a lane or a link has something for them.
-use Rattle.std.specs.Prelude.{◌≡◌, ℕ, ◌<◌, ◌==◌, List, ◌∷◌, Some, slice_get}
+use Rattle.std.specs.Prelude.{◌≡◌, ℕ, ◌<◌, ◌==◌, List, ◌∷◌, Some, slice_get, length, All}
 use Rattle.key_split.specs.declared.travel.Ticket.{Ticket}
 use Rattle.key_split.specs.declared.travel.Told.{Told}
 use Rattle.node_model.specs.declared.role.Verdict.{Verdict}
 use Rattle.node_model.specs.declared.role.Verdict.TheVariants.{Plain}
 use Rattle.world_laws.specs.State.{World, Link, Request}
 use Rattle.world_laws.specs.declared.state.Request.TheVariants.{Asking, Runs}
-use Rattle.world_laws.specs.World.{Step, IsFirst, NamesNode, last_moment}
+use Rattle.world_laws.specs.World.{Step, IsFirst, IsNode, NamesNode, last_moment}
 use Rattle.world_laws.specs.Headline.{IsReached}
 use Rattle.world_laws.specs.declared.event.Event.{Event}
 use Rattle.world_laws.specs.declared.event.Event.TheVariants.{Serve, Take}
@@ -29,3 +29,11 @@ Fits w verdict (Runs ticket) = NamesNode w.cluster verdict
 abbrev pub ServeIsAllowed : Type 0
 ServeIsAllowed = (w : World) (link : ℕ) (verdict : Verdict) (l : Link) (first : Request) (rest : List Request) → IsReached w → w.moment < last_moment
     → slice_get w.links link ≡ Some l → l.requests ≡ first ∷ rest → Fits w verdict first → IsAllowed w (Serve link verdict)
+
+-- links lead to nodes that exist
+abbrev pub LinksLeadToNodes : Type 0
+LinksLeadToNodes = (w : World) → IsReached w → All (λ l. IsNode w.cluster l.node) w.links
+
+-- workers and nodes stay as many as they were
+abbrev pub SizesStay : Type 0
+SizesStay = (w w' : World) (event : Event) → Step w event w' → (w'.workers ≡ w.workers) × (length w'.cluster.stores ≡ length w.cluster.stores)

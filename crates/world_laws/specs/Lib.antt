@@ -3,3 +3,4 @@ pub mod Places
 pub mod World
 pub mod Headline
 pub mod Allowed
+pub mod Bare

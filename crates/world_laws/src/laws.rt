@@ -1,7 +1,8 @@
 //! Laws over every schedule. Each is the contract of a function that does nothing.
 
 ghost use Rattle.std.specs.Prelude.{◌≡◌, List};
-ghost use Rattle.world_laws.specs.Allowed.{TakeIsAllowed, ServeIsAllowed};
+ghost use Rattle.world_laws.specs.Allowed.{LinksLeadToNodes, ServeIsAllowed, SizesStay, TakeIsAllowed};
+ghost use Rattle.world_laws.specs.Bare.{NoKeyAtTwoNodes};
 ghost use Rattle.world_laws.specs.Headline.{EverySchedule, Headline, IsReached};
 ghost use Rattle.world_laws.specs.State.{World};
 ghost use Rattle.world_laws.specs.World.{Step, Run};
@@ -28,4 +29,19 @@ pub fn reached_worlds()
 pub fn nothing_is_stuck()
     ensures take { TakeIsAllowed }
     ensures serve { ServeIsAllowed }
+{}
+
+/// In a world that events reach, links lead to nodes that exist.
+pub fn links_lead_to_nodes()
+    ensures { LinksLeadToNodes }
+{}
+
+/// No event changes how many workers and nodes there are.
+pub fn sizes_stay()
+    ensures { SizesStay }
+{}
+
+/// At a cluster that is asked without a proxy no key is at two nodes, where each ASK that is followed is true.
+pub fn no_key_at_two_nodes()
+    ensures { NoKeyAtTwoNodes }
 {}

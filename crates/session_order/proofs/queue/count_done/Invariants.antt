@@ -5,6 +5,6 @@ use Rattle.session_order.proofs.queue.count_done.Given as goal
 
 abbrev pub invariant-loop-i : goal.invariant-loop-i
 invariant-loop-i l = record {
-  fits : l.i ≤ length l.stages;
-  done : list_all is_done (take l.i l.stages) ≡ true;
+  fits : l.i ≤ length l.stages.items;
+  done : list_all is_done (take l.i l.stages.items) ≡ true;
 }

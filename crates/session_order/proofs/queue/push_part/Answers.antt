@@ -27,7 +27,7 @@ index_mut-requires c =
     let old : Some c.in-Ok-Some.before ≡ get nat_eq t.last c.number-slot.result = rw c.in-Ok-Some.field-0-is at c.in-Ok-Some.ensures.old in
     let is : last_of (open_parts slot t.first t.stages.items) ≡ Some c.in-Ok-Some.before = sym (old ∙ ap (get nat_eq t.last) key ∙ c.requires.sound.tabled.lasts slot) in
     let within = last_climbs t.first _ c.in-Ok-Some.before _ (open_climbs slot t.first _ t.stages.items refl) is in
-    omega (arith, within.0, within.1, c.requires.sound.tabled.places, t.later.ok.0, c.push-2.ensures.lower_bound)
+    omega (arith, within.0, within.1, c.requires.sound.tabled.places, t.later.ok.0, c.push_back_reserved-2.ensures.len)
 
 pub returns-in-Ok-Some-clause-sound : goal.returns-in-Ok-Some-clause-sound
 returns-in-Ok-Some-clause-sound c =
@@ -38,10 +38,8 @@ returns-in-Ok-Some-clause-sound c =
     let key : c.number-slot.result ≡ slot = c.number-slot.ensures.value ∙ c.slot.ensures.value in
     let old : Some c.in-Ok-Some.before ≡ get nat_eq t.last c.number-slot.result = rw c.in-Ok-Some.field-0-is at c.in-Ok-Some.ensures.old in
     let is : get nat_eq t.last slot ≡ Some c.in-Ok-Some.before = sym (old ∙ ap (get nat_eq t.last) key) in
-    let fits = c.push.ensures.succeeds (omega (arith, c.requires.room.stages)) in
-    let fits_later = c.push-2.ensures.succeeds (omega (arith, c.requires.room.later)) in
-    let stages_are : c.push.new.self.items ≡ t.stages.items ++ Waiting part ∷ [] = rw fits at c.push.ensures.items in
-    let later_are : c.push-2.new.self.items ≡ t.later.items ++ None ∷ [] = rw fits_later at c.push-2.ensures.items in
+    let stages_are : c.push_back_reserved.new.self.items ≡ t.stages.items ++ Waiting part ∷ [] = c.push_back_reserved.ensures.items in
+    let later_are : c.push_back_reserved-2.new.self.items ≡ t.later.items ++ None ∷ [] = c.push_back_reserved-2.ensures.items in
     let tabled : IsTabled t.first (t.stages.items ++ Waiting part ∷ []) (linked t.first t.later.items (get nat_eq t.last slot) number) (get nat_eq c.insert.new.self) (tally (heap_items t.turns)) =
     pushed t.first number t.stages.items t.later.items (get nat_eq t.last) (get nat_eq c.insert.new.self) (tally (heap_items t.turns)) (tally (heap_items t.turns)) part
     (omega (arith, c.len.ensures, t.stages.ok.0))
@@ -64,14 +62,12 @@ returns-in-Ok-None-clause-sound c =
     let key : c.number-slot.result ≡ slot = c.number-slot.ensures.value ∙ c.slot.ensures.value in
     let old : None ≡ get nat_eq t.last c.number-slot.result = rw c.in-Ok-None.field-0-is at c.in-Ok-None.ensures.old in
     let is : get nat_eq t.last slot ≡ None = sym (old ∙ ap (get nat_eq t.last) key) in
-    let fits = c.push.ensures.succeeds (omega (arith, c.requires.room.stages)) in
-    let fits_later = c.push-2.ensures.succeeds (omega (arith, c.requires.room.later)) in
-    let stages_are : c.push.new.self.items ≡ t.stages.items ++ Waiting part ∷ [] = rw fits at c.push.ensures.items in
-    let later_are : c.push-2.new.self.items ≡ t.later.items ++ None ∷ [] = rw fits_later at c.push-2.ensures.items in
-    let turned = c.push-in-Ok-None.ensures.succeeds (omega (arith, c.requires.room.turns)) in
-    let moved = on_ok _ turned c.push-in-Ok-None.ensures.permutation in
-    let len = on_ok _ turned c.push-in-Ok-None.ensures.len in
-    let turns' = tally (heap_items c.push-in-Ok-None.new.self) in
+    let stages_are : c.push_back_reserved.new.self.items ≡ t.stages.items ++ Waiting part ∷ [] = c.push_back_reserved.ensures.items in
+    let later_are : c.push_back_reserved-2.new.self.items ≡ t.later.items ++ None ∷ [] = c.push_back_reserved-2.ensures.items in
+    let turned = c.push.ensures.succeeds (omega (arith, c.requires.room.turns)) in
+    let moved = on_ok _ turned c.push.ensures.permutation in
+    let len = on_ok _ turned c.push.ensures.len in
+    let turns' = tally (heap_items c.push.new.self) in
     let tabled : IsTabled t.first (t.stages.items ++ Waiting part ∷ []) (linked t.first t.later.items (get nat_eq t.last slot) number) (get nat_eq c.insert.new.self) turns' =
     pushed t.first number t.stages.items t.later.items (get nat_eq t.last) (get nat_eq c.insert.new.self) (tally (heap_items t.turns)) turns' part
     (omega (arith, c.len.ensures, t.stages.ok.0))
@@ -81,18 +77,17 @@ returns-in-Ok-None-clause-sound c =
     c.requires.sound.tabled in
     record {
       tabled = rw (stages_are, later_are) (subst (λ o. IsTabled t.first (t.stages.items ++ Waiting part ∷ []) (linked t.first t.later.items o number) (get nat_eq c.insert.new.self) turns') is tabled);
-      ordered = on_ok _ turned c.push-in-Ok-None.ensures.heap_order c.requires.sound.ordered;
-      room = rw stages_are (omega (arith, outs_push t.stages.items part, len, c.push-in-Ok-None.ensures.capacity, c.requires.room.turns));
+      ordered = on_ok _ turned c.push.ensures.heap_order c.requires.sound.ordered;
+      room = rw stages_are (omega (arith, outs_push t.stages.items part, len, c.push.ensures.capacity, c.requires.room.turns));
     }
 
 pub returns-in-Ok-Some-clause-room : goal.returns-in-Ok-Some-clause-room
 returns-in-Ok-Some-clause-room c = λ n room. (
     let t = c.args.tables.now in
-    let fits = c.push.ensures.succeeds (omega (arith, c.requires.room.stages)) in
-    let stages_are : c.push.new.self.items ≡ t.stages.items ++ Waiting c.args.part ∷ [] = rw fits at c.push.ensures.items in
+    let stages_are : c.push_back_reserved.new.self.items ≡ t.stages.items ++ Waiting c.args.part ∷ [] = c.push_back_reserved.ensures.items in
     record {
-      stages = omega (arith, room.stages, c.push.ensures.upper_bound, c.push.ensures.capacity);
-      later = omega (arith, room.later, c.push-2.ensures.upper_bound, c.push-2.ensures.capacity);
+      stages = omega (arith, room.stages, c.push_back_reserved.ensures.len, c.push_back_reserved.ensures.capacity);
+      later = omega (arith, room.later, c.push_back_reserved-2.ensures.len, c.push_back_reserved-2.ensures.capacity);
       last = omega (arith, room.last, c.in-Ok-Some.ensures.spare);
       turns = rw stages_are (omega (arith, room.turns, outs_push t.stages.items c.args.part));
     })
@@ -100,13 +95,12 @@ returns-in-Ok-Some-clause-room c = λ n room. (
 pub returns-in-Ok-None-clause-room : goal.returns-in-Ok-None-clause-room
 returns-in-Ok-None-clause-room c = λ n room. (
     let t = c.args.tables.now in
-    let fits = c.push.ensures.succeeds (omega (arith, c.requires.room.stages)) in
-    let stages_are : c.push.new.self.items ≡ t.stages.items ++ Waiting c.args.part ∷ [] = rw fits at c.push.ensures.items in
-    let turned = c.push-in-Ok-None.ensures.succeeds (omega (arith, c.requires.room.turns)) in
-    let len = on_ok _ turned c.push-in-Ok-None.ensures.len in
+    let stages_are : c.push_back_reserved.new.self.items ≡ t.stages.items ++ Waiting c.args.part ∷ [] = c.push_back_reserved.ensures.items in
+    let turned = c.push.ensures.succeeds (omega (arith, c.requires.room.turns)) in
+    let len = on_ok _ turned c.push.ensures.len in
     record {
-      stages = omega (arith, room.stages, c.push.ensures.upper_bound, c.push.ensures.capacity);
-      later = omega (arith, room.later, c.push-2.ensures.upper_bound, c.push-2.ensures.capacity);
+      stages = omega (arith, room.stages, c.push_back_reserved.ensures.len, c.push_back_reserved.ensures.capacity);
+      later = omega (arith, room.later, c.push_back_reserved-2.ensures.len, c.push_back_reserved-2.ensures.capacity);
       last = omega (arith, room.last, c.in-Ok-None.ensures.spare);
-      turns = rw stages_are (omega (arith, room.turns, outs_push t.stages.items c.args.part, len, c.push-in-Ok-None.ensures.capacity));
+      turns = rw stages_are (omega (arith, room.turns, outs_push t.stages.items c.args.part, len, c.push.ensures.capacity));
     })

@@ -1,6 +1,6 @@
-use Rattle.std.proofs.Common.{[], ◌++◌, refl, sym, ◌∙◌}
+use Rattle.std.proofs.Common.{[], ◌++◌, refl, sym, ap, ◌∙◌}
 use Rattle.std.proofs.lemmas.List.{append-nil}
-use Rattle.node_link.specs.Bytes.{input_of}
+use Rattle.node_link.specs.Bytes.{Outgoing, input_of}
 use Rattle.node_link.proofs.Moves.{rose_later, written_twice, next_outcome, kept_unread, kept_bounds, filled_unread, filled_bounds}
 use Rattle.node_link.proofs.byte_port.BytePortNodePort.next.Goals as goal
 
@@ -37,9 +37,9 @@ returns-clause-does g c =
     let both = g.met.S.Stream.joined c.self.inside.stream c.go_on.new.stream c.pump.new.stream wrote.0 [] pumped.0 c.pump.new.inbox.unfed wrote.1 pumped.1 in
     rw (← c.self.view_is) (next_outcome g.S.Stream.failures g.S.Stream.moved
     (record { stream = c.self.inside.stream; unsent = c.self.inside.outbox.unsent; input = input_of c.self.inside.inbox })
-    (record { stream = c.pump.new.stream; unsent = c.pump.new.outbox.unsent; input = input_of c.take-2.new.self })
-    (wrote.0 ++ pumped.0) c.pump.new.inbox.unfed (input_of c.pump.new.inbox) c.take-2.result
-    both (written_twice c.self.inside.outbox.unsent wrote.0 c.go_on.new.self.unsent pumped.0 c.pump.new.outbox.unsent wrote.2 pumped.2)
+    (record { stream = c.pump.new.stream; unsent = c.take_or_be_idle.new.outbox.unsent; input = input_of c.take_or_be_idle.new.inbox })
+    (wrote.0 ++ pumped.0) c.pump.new.inbox.unfed (input_of c.pump.new.inbox) c.take_or_be_idle.result
+    both (written_twice c.self.inside.outbox.unsent wrote.0 c.go_on.new.self.unsent pumped.0 c.take_or_be_idle.new.outbox.unsent wrote.2 (pumped.2 ∙ ap (λ (o : Outgoing). pumped.0 ++ o.unsent) (sym c.take_or_be_idle.ensures.outbox)))
     (filled_unread c.self.inside.inbox c.take.new.self c.make_room.new.self c.pump.new.inbox taken.0 fed.0 pumped.3 c.in_default-make_room.ensures)
     (filled_bounds c.self.inside.inbox c.take.new.self c.make_room.new.self c.pump.new.inbox taken.1 pumped.3 c.in_default-make_room.ensures)
-    c.take-2.ensures.taken)
+    c.take_or_be_idle.ensures.taken)
