@@ -8,6 +8,8 @@ use std::alloc::{AllocError, Global};
 pub enum Choice {
     /// Answers the first request of standard input from an empty store.
     One,
+    /// Runs the events of standard input in a new world.
+    Simulate,
 }
 
 fn command<'a>(alloc: Global) -> Result<Command<'a>, AllocError> {
@@ -17,6 +19,9 @@ fn command<'a>(alloc: Global) -> Result<Command<'a>, AllocError> {
         .arg_required_else_help(true)
         .subcommand(Command::new(alloc, "one").about(
             "Answers the first request of standard input from an empty store",
+        ))?
+        .subcommand(Command::new(alloc, "simulate").about(
+            "Runs the events of standard input, one after another, and prints what was answered and executed",
         ))
 }
 
@@ -26,6 +31,7 @@ pub fn choose<'a>(alloc: Global, words: &'a [String]) -> Result<Choice, Error> {
     let matches = command(alloc)?.try_get_matches_from(words)?;
     match matches.subcommand() {
         Some(("one", _)) => Ok(Choice::One),
+        Some(("simulate", _)) => Ok(Choice::Simulate),
         _ => Err(command(alloc)?.error(
             clap::error::ErrorKind::MissingSubcommand,
             "a subcommand is asked for",

@@ -9,13 +9,11 @@ ghost use Rattle.resp_wire.specs.Words.{words_of};
 ghost use Rattle.cluster_proxy.specs.Looks.{HasWords, IsOpen, Looks, Shows, opening_of};
 
 use crate::one::OneFault;
+use cluster_world::INPUT_LIMIT;
 use resp_wire::laws::{front_is_faulty, front_keeps_fault};
 use resp_wire::{Limits, Reader, Value, WireFault, Words};
 use std::alloc::Global;
 use std::io::Read;
-
-/// How many bytes of an input are read at most, and so how often.
-pub const INPUT_LIMIT: usize = 1_048_576;
 
 /// How many bytes one read takes at most.
 const PIECE: usize = 4096;

@@ -1,9 +1,9 @@
 //! A proxy between plain Redis clients and a Redis Cluster.
 //!
-//! The program reads its words (`choice`) and runs the subcommand that they name. So far there is one: `one` answers
-//! the first request of standard input from an empty store. The contract of `one::run_one` says exactly which bytes are
-//! written for which input; its definitions stand in `specs/Opening.antt` (what an input asks first) and
-//! `specs/One.antt` (what is answered).
+//! The program reads its words (`choice`) and runs the subcommand that they name. `one` answers the first request of
+//! standard input from an empty store. The contract of `one::run_one` says exactly which bytes are written for which
+//! input; its definitions stand in `specs/Opening.antt` (what an input asks first) and `specs/One.antt` (what is
+//! answered). `simulate` runs a script of events: `cluster_world::run_simulate`, whose contract is as exact.
 #![tactic(auto)]
 
 mod answer;
@@ -12,6 +12,7 @@ mod first;
 mod one;
 
 use choice::{Choice, choose};
+use cluster_world::run_simulate;
 use one::run_one;
 use std::process::ExitCode;
 
@@ -19,6 +20,7 @@ use std::process::ExitCode;
 fn run<R: Input + Print + AllocGlobal>(rt: &R, choice: Choice) -> u8 {
     match choice {
         Choice::One => run_one(rt.alloc(), &mut rt.reader(), &mut std::io::writer(rt)),
+        Choice::Simulate => run_simulate(rt.alloc(), &mut rt.reader(), &mut std::io::writer(rt)),
     }
 }
 

@@ -6,7 +6,8 @@ ghost use Rattle.cluster_proxy.specs.Looks.{HasWords, opening_of};
 ghost use Rattle.cluster_proxy.specs.One.{Writes, WritesFor};
 
 use crate::answer::reply_on_empty;
-use crate::first::{First, INPUT_LIMIT, first_request};
+use crate::first::{First, first_request};
+use cluster_world::INPUT_LIMIT;
 use resp_wire::{Line, NoMemory, Value, write_value};
 use std::alloc::Global;
 use std::io::{Read, Write};

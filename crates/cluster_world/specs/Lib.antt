@@ -1,4 +1,17 @@
 pub mod Fault
+pub mod Kept
+pub mod Links
 pub mod Lost
 pub mod Machine
+pub mod Owners
 pub mod Rests
+pub mod Steps
+pub mod Script
+pub mod Schedule
+pub mod Report
+pub mod Simulate
+pub mod Cuts
+pub mod Reading
+pub mod Outcomes
+pub mod Lawful
+pub mod Index

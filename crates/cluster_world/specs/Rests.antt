@@ -1,14 +1,29 @@
 -- Where a command that ASK sent to a node may be on its way there: place by place, it is not.
-use Rattle.std.specs.Prelude.{◌≡◌, ℕ, All}
+use Rattle.std.specs.Prelude.{◌≡◌, ℕ, ◌==◌, ◌&&◌, if◌then◌else◌, All}
 use Rattle.key_split.specs.declared.travel.Ticket.{Ticket}
 use Rattle.world_laws.specs.State.{World, Link}
-use Rattle.world_laws.specs.Places.{asks, in_requests, in_backs}
-use Rattle.world_laws.specs.Places.Item.{Stands, Lies, Comes}
+use Rattle.world_laws.specs.Places.{Item, asks, asks_in_stage, asks_in_told, in_requests, in_backs}
+use Rattle.world_laws.specs.Places.Item.{Stands, Lies, Sent, Comes}
+use Rattle.cluster_world.specs.Kept.{Line, in_kept}
 
 -- no request of the link is the ticket's command for the node behind ASKING, and no reply tells it to ask there
 unfoldable pub LinkRests : Link → ℕ → Ticket → Type 0
 LinkRests l node ticket =
     (in_requests (asks node ticket) l.is_open l.node l.asking l.requests ≡ 0) × (in_backs (asks node ticket) l.backs ≡ 0)
+
+-- the same of a link as the code has it
+unfoldable pub LineRests : Line → ℕ → Ticket → Type 0
+LineRests l node ticket = (in_requests (asks node ticket) l.is_open l.node l.asking l.requests ≡ 0) × (in_kept (asks node ticket) l.backs ≡ 0)
+
+-- the same of any command: whether something asks at the node at all
+abbrev pub asked : ℕ → Item → ℕ
+asked node (Stands c) = asks_in_stage node c.command.stage 1
+asked node (Lies b) = if b.asking && (b.node == node) then 1 else 0
+asked node (Sent o m asking u) = if asking && (m == node) then 1 else 0
+asked node (Comes u told) = asks_in_told node told 1
+
+unfoldable pub LineAsksNot : Line → ℕ → Type 0
+LineAsksNot l node = (in_requests (asked node) l.is_open l.node l.asking l.requests ≡ 0) × (in_kept (asked node) l.backs ≡ 0)
 
 -- it is nowhere on its way there
 pub record RestsEverywhere (w : World) (node : ℕ) (ticket : Ticket) : Type 0 where

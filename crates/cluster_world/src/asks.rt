@@ -1,16 +1,17 @@
 //! Whether a command that ASK sent to a node is on its way there, place by place.
 
 ghost use Rattle.std.specs.Prelude.{◌≡◌, ◌↔◌, All, IsTrue};
-ghost use Rattle.world_laws.specs.Places.{asks_in_stage, asks_in_told, in_backs, is};
+ghost use Rattle.world_laws.specs.Places.{asks_in_stage, asks_in_told, is};
 ghost use Rattle.world_laws.specs.Places.{asks as asks_by};
-ghost use Rattle.cluster_world.specs.Rests.{LinkRests};
+ghost use Rattle.cluster_world.specs.Kept.{in_kept};
+ghost use Rattle.cluster_world.specs.Rests.{asked};
 ghost use Rattle.world_laws.specs.Places.Item.{Lies, Stands, Comes};
 
-use crate::link::Link;
+use crate::link::Kept;
 use command_future::{Command, Want};
 use key_split::{Ticket, Told};
 use slot_map::NodeId;
-use world_laws::{Arrival, Back, Posted};
+use world_laws::{Arrival, Posted};
 
 /// Whether the ticket's command does not want to be posted there, after ASKING.
 pub(crate) fn command_rests(command: &Command, node: NodeId, ticket: Ticket) -> bool
@@ -39,13 +40,79 @@ pub(crate) fn told_rests(told_to: Ticket, told: &Told, node: NodeId, ticket: Tic
     }
 }
 
-/// Whether none of the replies tells the ticket's command to ask at the node.
-pub(crate) fn backs_rest(backs: &[Back], node: NodeId, ticket: Ticket) -> bool
-    ensures { IsTrue result ↔ (in_backs (asks_by node ticket) backs.now ≡ 0) }
+/// Whether the command does not want to be posted at the node after ASKING.
+pub(crate) fn command_asks_not(command: &Command, node: NodeId) -> bool
+    ensures { IsTrue result ↔ (asks_in_stage node command.now.stage 1 ≡ 0) }
+{
+    match command.want() {
+        Want::Post(true, Some(named)) => named != node,
+        Want::Post(..) | Want::Await | Want::Finished => true,
+    }
+}
+
+/// Whether the batch is not for the node and behind ASKING.
+pub(crate) fn batch_asks_not(posted: Posted, node: NodeId) -> bool
+    ensures { IsTrue result ↔ (asked node (Lies posted) ≡ 0) }
+{
+    !(posted.asking && posted.node == node)
+}
+
+/// Whether it does not tell a command to ask at the node.
+pub(crate) fn told_asks_not(told: &Told, node: NodeId) -> bool
+    ensures { IsTrue result ↔ (asks_in_told node told.now 1 ≡ 0) }
+{
+    match told {
+        Told::Ask(_, named) => *named != node,
+        _ => true,
+    }
+}
+
+/// Whether none of the kept replies tells a command to ask at the node.
+pub(crate) fn kept_ask_not(backs: &[Kept], node: NodeId) -> bool
+    ensures { IsTrue result ↔ (in_kept (asked node) backs.now ≡ 0) }
 {
     let mut rest = backs;
-    while let [back, further @ ..] = rest {
-        if let Back::To(told_to, told) = back
+    while let [kept, further @ ..] = rest {
+        if let Kept::Refusal(_, told) = kept
+            && !told_asks_not(told, node)
+        {
+            return false;
+        }
+        rest = further;
+    }
+    true
+}
+
+/// Whether none of the commands wants to be posted at the node after ASKING.
+pub(crate) fn commands_ask_not(commands: &[Arrival], node: NodeId) -> bool
+    ensures { IsTrue result ↔ All (λ c. asked node (Stands c) ≡ 0) commands.now }
+{
+    commands
+        .iter()
+        .all(|arrival| command_asks_not(&arrival.command, node))
+}
+
+/// Whether none of the batches is for the node and behind ASKING.
+pub(crate) fn batches_ask_not(ups: &[Posted], node: NodeId) -> bool
+    ensures { IsTrue result ↔ All (λ b. asked node (Lies b) ≡ 0) ups.now }
+{
+    ups.iter().all(|posted| batch_asks_not(*posted, node))
+}
+
+/// Whether none of the pairs tells its command to ask at the node.
+pub(crate) fn downs_ask_not(downs: &[(Ticket, Told)], node: NodeId) -> bool
+    ensures { IsTrue result ↔ All (λ p. asked node (Comes p.0 p.1) ≡ 0) downs.now }
+{
+    downs.iter().all(|down| told_asks_not(&down.1, node))
+}
+
+/// Whether none of the kept replies tells the ticket's command to ask at the node.
+pub(crate) fn kept_rest(backs: &[Kept], node: NodeId, ticket: Ticket) -> bool
+    ensures { IsTrue result ↔ (in_kept (asks_by node ticket) backs.now ≡ 0) }
+{
+    let mut rest = backs;
+    while let [kept, further @ ..] = rest {
+        if let Kept::Refusal(told_to, told) = kept
             && !told_rests(*told_to, told, node, ticket)
         {
             return false;
@@ -78,11 +145,4 @@ pub(crate) fn downs_rest(downs: &[(Ticket, Told)], node: NodeId, ticket: Ticket)
     downs
         .iter()
         .all(|down| told_rests(down.0, &down.1, node, ticket))
-}
-
-/// Whether none of the links carries the ticket's command there behind ASKING, or such a reply to it.
-pub(crate) fn links_rest(links: &[Link], node: NodeId, ticket: Ticket) -> bool
-    ensures { IsTrue result ↔ All (λ l. LinkRests l node ticket) links.now }
-{
-    links.iter().all(|link| link.rests(node, ticket))
 }

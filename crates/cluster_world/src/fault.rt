@@ -1,6 +1,6 @@
 //! Why an event is refused.
 
-use node_model::MoveFault;
+use node_model::{MoveFault, ServeFault};
 use resp_wire::NoMemory;
 use std::alloc::{AllocError, AllocFailed};
 use thiserror::Error;
@@ -13,6 +13,15 @@ pub enum WorldFault {
     /// The event is not allowed in this world.
     #[error("not now")]
     NotNow,
+}
+
+/// Which of the events was refused, and why. Those before it happened.
+#[derive(Clone, Copy, Debug, PartialEq, Eq, Drop, Error)]
+#[error("event {number}: {why}")]
+pub struct RunFault {
+    /// From 1.
+    pub number: u64,
+    pub why: WorldFault,
 }
 
 impl From<NoMemory> for WorldFault {
@@ -47,6 +56,20 @@ impl From<MoveFault> for WorldFault {
         match fault {
             MoveFault::NoMemory => WorldFault::NoMemory,
             MoveFault::NotNow => WorldFault::NotNow,
+        }
+    }
+}
+
+impl From<ServeFault> for WorldFault {
+    ghost use Rattle.std.specs.Prelude.{◌≡◌};
+    ghost use Rattle.cluster_world.specs.Fault.{of_serve};
+
+    ghost from_gives = { λ fault given. given ≡ of_serve fault };
+
+    fn from(fault: ServeFault) -> Self {
+        match fault {
+            ServeFault::NoMemory => WorldFault::NoMemory,
+            ServeFault::NoSuchNode | ServeFault::NotThisVerdict => WorldFault::NotNow,
         }
     }
 }

@@ -1,19 +1,46 @@
 //! The core of the proxy, event by event, in code.
 //!
 //! ```text
-//! machine.post(ticket, node)?;
-//! machine.carry(lane, link)?;
+//! let mut world = World::new(alloc, 3, 2, &owners)?;
+//! world.apply(&Event::Arrive { client: 7, part })?;
+//! world.run(&events)?;
+//! for entry in world.history() { .. }
 //! ```
 //!
-//! Promise: exact steps. Each event of `Machine` answers as `Answers` in `specs/Machine.antt` says: the step of world_laws,
-//! `NotNow` exactly where that has none, `NoMemory` with nothing changed.
+//! Promises: exact steps, and the headline. `World::apply` makes the step of world_laws and answers `NotNow` exactly where there
+//! is none (`specs/Steps.antt`); `World::run` is the fold of it. Whatever events a world was led by, its history is one legal
+//! history of one store, and each answer stands in it (the clauses `headline`).
 #![tactic(auto)]
 
 mod asks;
+mod event_line;
 mod fault;
+mod fields;
+mod header;
+mod input;
+mod lawful;
 mod link;
+mod links;
 mod machine;
 mod moves;
+mod owners;
+mod places;
+mod report;
+mod run_report;
+mod schedule;
+mod script;
+mod script_fault;
+mod simulate;
+mod verb;
+mod world;
 
-pub use fault::WorldFault;
+pub use event_line::event_of;
+pub use fault::{RunFault, WorldFault};
+pub use input::{INPUT_LIMIT, Input, read_input};
+pub use lawful::audit;
+pub use report::write_value_text;
+pub use run_report::RunReport;
+pub use script::{LineRead, cut, number, read_line, words};
+pub use simulate::{SimulateFault, run_script, run_simulate};
+pub use world::World;
 pub use world_laws::{Answer, Entry, Event};

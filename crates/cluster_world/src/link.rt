@@ -1,17 +1,41 @@
 //! A link to a node.
 
-ghost use Rattle.std.specs.Prelude.{◌≡◌, [], ◌∷◌, ◌++◌, true, false, List, MatchOption, OnOk, OnErr, ◌≢◌, IsTrue, ◌↔◌, IfOk};
-ghost use Rattle.world_laws.specs.State.{answered_of, new_link, sent, sent_of, waiting};
+ghost use Rattle.std.specs.Prelude.{◌≡◌, ◌<◌, [], ◌∷◌, ◌++◌, true, false, List, OnOk, OnErr, ◌≢◌, IsTrue, ◌↔◌, IfOk, MatchOption, length};
+ghost use Rattle.world_laws.specs.State.{requests_of, sent_of};
 ghost use Rattle.world_laws.specs.Places.{asks, in_requests};
-ghost use Rattle.cluster_world.specs.Rests.{LinkRests};
+ghost use Rattle.cluster_world.specs.Kept.{FirstEntry, keeps, kept_for, new_line, refusal_in};
+ghost use Rattle.cluster_world.specs.Rests.{asked, LineAsksNot, LineRests};
 ghost use Rattle.cluster_world.specs.Lost.{each_lost};
 
-use crate::asks::backs_rest;
+use crate::asks::{kept_ask_not, kept_rest};
 use key_split::{Ticket, Told};
 use slot_map::NodeId;
 use std::alloc::{AllocError, Global};
 use std::marker::Model;
-use world_laws::{Back, Posted, Request};
+use world_laws::{Posted, Request};
+
+/// What a link keeps of a reply that is not yet fetched.
+#[derive(Drop)]
+pub(crate) enum Kept {
+    /// The reply to ASKING.
+    Welcome,
+    /// What a command was told that was not executed.
+    Refusal(Ticket, Told),
+    /// The place in the history of a command that was executed.
+    Entry(Ticket, usize),
+}
+
+impl Kept {
+    /// Who is told what by it; nobody by that of ASKING, and an entry's reply stands in the history.
+    pub(crate) fn refusal(self) -> Option<(Ticket, Told)>
+        ensures { result ≡ refusal_in self }
+    {
+        match self {
+            Kept::Refusal(ticket, told) => Some((ticket, told)),
+            Kept::Welcome | Kept::Entry(..) => None,
+        }
+    }
+}
 
 /// A link: its requests not yet taken, its replies not yet fetched, and the flag that ASKING sets.
 #[derive(Drop)]
@@ -19,25 +43,26 @@ pub(crate) struct Link {
     node: NodeId,
     is_open: bool,
     requests: Vec<Request>,
-    backs: Vec<Back>,
+    backs: Vec<Kept>,
     asking: bool,
 }
 
 impl Model for Link {
-    ghost use Rattle.world_laws.specs.State.{Link as Channel};
+    ghost use Rattle.cluster_world.specs.Kept.{Line};
     ghost use Rattle.resp_wire.specs.contracts.value.Value as value;
     ghost use Rattle.std.specs.Coded.{codes};
+    ghost use Rattle.std.specs.Vec.{vec_capacity};
 
-    ghost Value = { Channel };
+    ghost Value = { Line };
 
     ghost coded = { Prim.hlevel (codes, value.the_row.coded) };
 
-    ghost view = { λ l. record { node = l.node; is_open = l.is_open; requests = l.requests.items; backs = l.backs.items; asking = l.asking } };
+    ghost view = { λ l. record { node = l.node; is_open = l.is_open; requests = l.requests.items; backs = l.backs.items; asking = l.asking; room = vec_capacity l.backs } };
 }
 
 impl Link {
     pub(crate) fn new(alloc: Global, node: NodeId) -> Link
-        ensures { result ≡ new_link node }
+        ensures { result ≡ new_line node result.room }
     {
         Link {
             node,
@@ -60,6 +85,12 @@ impl Link {
         self.is_open
     }
 
+    pub(crate) fn asking(&self) -> bool
+        ensures { result ≡ self.now.asking }
+    {
+        self.asking
+    }
+
     /// Whether a closed link has requests.
     pub(crate) fn can_discard(&self) -> bool
         ensures { IsTrue result ↔ ((self.now.is_open ≡ false) × (self.now.requests ≢ [])) }
@@ -80,13 +111,58 @@ impl Link {
         self.is_open && !self.backs.is_empty()
     }
 
+    /// Whose the first reply is and the place of its entry, where it is that of a command that was executed.
+    pub(crate) fn first_entry(&self) -> Option<(Ticket, usize)>
+        ensures { FirstEntry self.now.backs result }
+    {
+        match self.backs.first() {
+            Some(Kept::Entry(ticket, place)) => Some((*ticket, *place)),
+            _ => None,
+        }
+    }
+
     /// Takes the first reply.
-    pub(crate) fn take_back(&mut self) -> Back
+    pub(crate) fn take_back(&mut self) -> Kept
         requires { self.old.backs ≢ [] }
         ensures first { self.old.backs ≡ result ∷ self.new.backs }
-        ensures rest { self.new ≡ record self.old { backs = self.new.backs } }
+        ensures rest { self.new ≡ record self.old { backs = self.new.backs; room = self.new.room } }
     {
         self.backs.remove(0)
+    }
+
+    /// The first request.
+    pub(crate) fn first_request(&self) -> Option<Request>
+        ensures { MatchOption result (self.now.requests ≡ []) (λ request. (rest : List Request) × (self.now.requests ≡ request ∷ rest)) }
+    {
+        self.requests.first().copied()
+    }
+
+    /// Takes the first request. What comes after it meets the flag so.
+    pub(crate) fn take_request(&mut self, asking: bool) -> Request
+        requires { self.old.requests ≢ [] }
+        ensures first { self.old.requests ≡ result ∷ self.new.requests }
+        ensures rest { self.new ≡ record self.old { requests = self.new.requests; asking = asking } }
+    {
+        self.asking = asking;
+        self.requests.remove(0)
+    }
+
+    /// Makes room for one reply.
+    pub(crate) fn reserve(&mut self) -> Result<(), AllocError>
+        ensures same { self.new ≡ record self.old { room = self.new.room } }
+        ensures room { OnOk result (length self.new.backs < self.new.room) }
+    {
+        self.backs.reserve(1)
+    }
+
+    /// Keeps a reply, for which there is room; a closed link throws it away.
+    pub(crate) fn keep(&mut self, kept: Kept)
+        requires { length self.old.backs < self.old.room }
+        ensures { self.new ≡ keeps (record self.old { room = self.new.room }) kept }
+    {
+        if self.is_open {
+            self.backs.push_reserved(kept);
+        }
     }
 
     /// Whether it is open and leads to this node.
@@ -98,7 +174,7 @@ impl Link {
 
     /// Puts a batch's requests at the end: all of them, or none for want of memory.
     pub(crate) fn send(&mut self, posted: Posted) -> Result<(), AllocError>
-        ensures ok { OnOk result (self.new ≡ sent self.old posted) }
+        ensures ok { OnOk result (self.new ≡ record self.old { requests = self.old.requests ++ requests_of posted }) }
         ensures err { OnErr result (self.new ≡ self.old) }
     {
         self.requests.reserve(2)?;
@@ -111,7 +187,7 @@ impl Link {
 
     /// Who waits on it, in order of sending: each is told that it is lost.
     pub(crate) fn lost(&self, alloc: Global) -> Result<Vec<(Ticket, Told)>, AllocError>
-        ensures { IfOk result (λ lost. lost.items ≡ each_lost (waiting self.now)) }
+        ensures { IfOk result (λ lost. lost.items ≡ each_lost (kept_for self.now.backs ++ sent_of self.now.requests)) }
     {
         let mut lost = Vec::new(alloc);
         push_answered(&mut lost, &self.backs)?;
@@ -121,9 +197,9 @@ impl Link {
 
     /// Whether it does not carry the ticket's command to the node behind ASKING, nor a reply that tells it to ask there.
     pub(crate) fn rests(&self, node: NodeId, ticket: Ticket) -> bool
-        ensures { IsTrue result ↔ LinkRests self.now node ticket }
+        ensures { IsTrue result ↔ LineRests self.now node ticket }
     {
-        self.requests_rest(node, ticket) && backs_rest(&self.backs, node, ticket)
+        self.requests_rest(node, ticket) && kept_rest(&self.backs, node, ticket)
     }
 
     // Whether none of its requests is the ticket's command, for the node and behind ASKING.
@@ -147,9 +223,37 @@ impl Link {
         true
     }
 
+    /// Whether it carries no command to the node behind ASKING, nor a reply that tells one to ask there.
+    pub(crate) fn asks_not(&self, node: NodeId) -> bool
+        ensures { IsTrue result ↔ LineAsksNot self.now node }
+    {
+        self.requests_ask_not(node) && kept_ask_not(&self.backs, node)
+    }
+
+    // Whether none of its requests is for the node and behind ASKING.
+    fn requests_ask_not(&self, node: NodeId) -> bool
+        ensures { IsTrue result ↔ (in_requests (asked node) self.now.is_open self.now.node self.now.asking self.now.requests ≡ 0) }
+    {
+        let mut asking = self.asking;
+        let mut rest = self.requests.as_slice();
+        while let [request, further @ ..] = rest {
+            match request {
+                Request::Asking => asking = true,
+                Request::Runs(_) => {
+                    if asking && self.node == node {
+                        return false;
+                    }
+                    asking = false;
+                }
+            }
+            rest = further;
+        }
+        true
+    }
+
     /// Closes it; its replies are thrown away.
     pub(crate) fn close(&mut self)
-        ensures { self.new ≡ record self.old { is_open = false; backs = [] } }
+        ensures { self.new ≡ record self.old { is_open = false; backs = []; room = self.new.room } }
     {
         self.is_open = false;
         self.backs.clear();
@@ -157,13 +261,15 @@ impl Link {
 }
 
 // Adds those whose replies these are.
-fn push_answered(lost: &mut Vec<(Ticket, Told)>, backs: &[Back]) -> Result<(), AllocError>
-    ensures { OnOk result (lost.new.items ≡ lost.old.items ++ each_lost (answered_of backs.now)) }
+fn push_answered(lost: &mut Vec<(Ticket, Told)>, backs: &[Kept]) -> Result<(), AllocError>
+    ensures { OnOk result (lost.new.items ≡ lost.old.items ++ each_lost (kept_for backs.now)) }
 {
     let mut rest = backs;
-    while let [back, further @ ..] = rest {
-        if let Back::To(ticket, _) = back {
-            lost.push((*ticket, Told::Lost))?;
+    while let [kept, further @ ..] = rest {
+        match kept {
+            Kept::Welcome => {}
+            Kept::Refusal(ticket, _) => lost.push((*ticket, Told::Lost))?,
+            Kept::Entry(ticket, _) => lost.push((*ticket, Told::Lost))?,
         }
         rest = further;
     }

@@ -1,35 +1,36 @@
 //! What a world holds, and its events on lanes and links.
 
 ghost use Rattle.std.specs.Prelude.{◌≡◌, ◌==◌, ◌↔◌, ◌<◌, ◌&&◌, not, count_by, All, IsTrue, position, length};
-ghost use Rattle.cluster_world.specs.Machine.{state_of, Answers, Carries};
+ghost use Rattle.cluster_world.specs.Machine.{state_of, Answers};
+ghost use Rattle.cluster_world.specs.Links.{There, Begins};
 ghost use Rattle.command_future.specs.Progress.{asks_at, MayPost};
-ghost use Rattle.world_laws.specs.State.{HasEnded};
-ghost use Rattle.world_laws.specs.World.{SameTurn};
+ghost use Rattle.world_laws.specs.State.{HasEnded, start};
+ghost use Rattle.world_laws.specs.World.{IsNode, SameTurn};
+ghost use Rattle.world_laws.specs.declared.state.Request.TheVariants.{Asking, Runs};
+ghost use Rattle.node_model.specs.declared.role.Verdict.TheVariants as verdict_of;
 ghost use Rattle.command_future.specs.declared.stage.Stage.TheVariants.{Awaits};
 ghost use Rattle.key_split.specs.Same.{same_ticket};
 ghost use Rattle.world_laws.specs.declared.event.Event.TheVariants as event;
 
 use crate::fault::WorldFault;
-use crate::link::Link;
+use crate::links::Links;
 use command_future::{Command, Want};
 use key_split::{Part, Ticket, Told};
-use node_model::Cluster;
+use node_model::{Cluster, Verdict};
 use slot_map::NodeId;
 use std::alloc::Global;
-use world_laws::{Answer, Arrival, Back, Entry, Posted};
+use world_laws::{Answer, Arrival, Event, Posted, Request};
 
 /// The commands, lanes, links and nodes, with what was executed and answered.
 #[derive(Drop)]
 pub(crate) struct Machine {
     pub(crate) alloc: Global,
     pub(crate) workers: u16,
-    pub(crate) nodes: u8,
     pub(crate) cluster: Cluster,
     pub(crate) commands: Vec<Arrival>,
     pub(crate) ups: Vec<Posted>,
-    pub(crate) links: Vec<Link>,
+    pub(crate) links: Links,
     pub(crate) downs: Vec<(Ticket, Told)>,
-    pub(crate) history: Vec<Entry>,
     pub(crate) answers: Vec<Answer>,
     pub(crate) moment: u64,
 }
@@ -111,34 +112,59 @@ fn awaits(command: &Command) -> bool
     matches!(command.want(), Want::Await)
 }
 
-// Puts a batch on an open link to its node, or on a new one.
-fn carry_over(
-    alloc: Global,
-    links: &mut Vec<Link>,
-    at: usize,
-    posted: Posted,
-) -> Result<(), WorldFault>
-    ensures { Carries links.old.items at posted result links.new.items }
+// Whether it is the verdict that a node serves ASKING with.
+fn is_plain(verdict: Verdict) -> bool
+    ensures { IsTrue result ↔ (verdict ≡ verdict_of.Plain) }
 {
-    if at > links.len() {
-        return Err(WorldFault::NotNow);
-    }
-    if at == links.len() {
-        let mut link = Link::new(alloc, posted.node);
-        link.send(posted)?;
-        links.reserve(1)?;
-        links.push_reserved(link);
-        return Ok(());
-    }
-    let link = &mut links[at];
-    if !link.leads_to(posted.node) {
-        return Err(WorldFault::NotNow);
-    }
-    link.send(posted)?;
-    Ok(())
+    matches!(verdict, Verdict::Plain)
 }
 
 impl Machine {
+    /// Nothing has happened yet.
+    pub(crate) fn new(alloc: Global, workers: u16, cluster: Cluster) -> Machine
+        ensures { state_of result ≡ start workers cluster }
+    {
+        Machine {
+            alloc,
+            workers,
+            cluster,
+            commands: Vec::new(alloc),
+            ups: Vec::new(alloc),
+            links: Links::new(alloc),
+            downs: Vec::new(alloc),
+            answers: Vec::new(alloc),
+            moment: 0,
+        }
+    }
+
+    /// Makes an event, where there are so many nodes.
+    pub(crate) fn happen(&mut self, event: &Event, nodes: u8) -> Result<(), WorldFault>
+        requires workers { 0 < self.old.workers }
+        requires nodes { nodes ≡ length self.old.cluster.stores }
+        requires links { All (λ l. IsNode self.old.cluster l.node) self.old.links.links }
+        ensures { Answers (state_of self.old) event.now result (state_of self.new) }
+    {
+        match event {
+            Event::Arrive { client, part } => self.arrive(*client, part),
+            Event::Post { ticket, node } => self.post(*ticket, *node, nodes),
+            Event::Carry { lane, link } => self.carry(*lane, *link),
+            Event::Refuse { lane } => self.refuse(*lane),
+            Event::Serve { link, verdict } => self.serve(*link, *verdict),
+            Event::Fetch { link } => self.fetch(*link),
+            Event::Take { lane } => self.take(*lane),
+            Event::Drop { link } => self.close(*link),
+            Event::Discard { link } => self.discard(*link),
+            Event::Answer { client } => self.answer(*client),
+            Event::Import { slot, target } => self.import(*slot, *target),
+            Event::Migrate { slot } => self.migrate(*slot),
+            Event::MoveKey { slot, key } => self.move_key(*slot, key),
+            Event::Own { slot } => self.own(*slot),
+            Event::Release { slot } => self.release(*slot),
+            Event::Forget { slot } => self.forget(*slot),
+            Event::Stay { slot } => self.stay(*slot),
+        }
+    }
+
     /// Hands the first batch of a lane back, unsent.
     pub(crate) fn refuse(&mut self, lane: u16) -> Result<(), WorldFault>
         ensures { Answers (state_of self.old) (event.Refuse lane) result (state_of self.new) }
@@ -156,48 +182,77 @@ impl Machine {
     pub(crate) fn close(&mut self, link: u64) -> Result<(), WorldFault>
         ensures { Answers (state_of self.old) (event.Drop link) result (state_of self.new) }
     {
-        let Some(link) = self.links.get_mut(link as usize) else {
-            return Err(WorldFault::NotNow);
-        };
-        if !link.is_open() {
-            return Err(WorldFault::NotNow);
-        }
-        let mut lost = link.lost(self.alloc)?;
-        self.downs.append(&mut lost)?;
-        link.close();
-        Ok(())
+        self.links.close(link as usize, &mut self.downs)
     }
 
     /// Throws the requests of a closed link away.
     pub(crate) fn discard(&mut self, link: u64) -> Result<(), WorldFault>
         ensures { Answers (state_of self.old) (event.Discard link) result (state_of self.new) }
     {
-        let Some(link) = self.links.get_mut(link as usize) else {
-            return Err(WorldFault::NotNow);
-        };
-        if !link.can_discard() {
+        self.links.discard(link as usize)
+    }
+
+    /// A link's node takes its first request.
+    pub(crate) fn serve(&mut self, link: u64, verdict: Verdict) -> Result<(), WorldFault>
+        requires { All (λ l. IsNode self.old.cluster l.node) self.old.links.links }
+        ensures { Answers (state_of self.old) (event.Serve link verdict) result (state_of self.new) }
+    {
+        match self.links.first_request(link as usize) {
+            None => Err(WorldFault::NotNow),
+            Some(Request::Asking) => self.serve_asking(link, verdict),
+            Some(Request::Runs(ticket)) => self.serve_command(link, ticket, verdict),
+        }
+    }
+
+    // The first request is ASKING.
+    fn serve_asking(&mut self, link: u64, verdict: Verdict) -> Result<(), WorldFault>
+        requires { There self.old.links link (Begins Asking) }
+        ensures { Answers (state_of self.old) (event.Serve link verdict) result (state_of self.new) }
+    {
+        if !is_plain(verdict) {
             return Err(WorldFault::NotNow);
         }
-        link.discard();
-        Ok(())
+        self.links.welcome(link as usize)
+    }
+
+    // The first request is the ticket's command.
+    fn serve_command(
+        &mut self,
+        link: u64,
+        ticket: Ticket,
+        verdict: Verdict,
+    ) -> Result<(), WorldFault>
+        requires first { There self.old.links link (Begins (Runs ticket)) }
+        requires nodes { All (λ l. IsNode self.old.cluster l.node) self.old.links.links }
+        ensures { Answers (state_of self.old) (event.Serve link verdict) result (state_of self.new) }
+    {
+        let Some(place) = place_of(&self.commands, ticket) else {
+            return Err(WorldFault::NotNow);
+        };
+        let part = self.commands[place].command.part().copy(self.alloc)?;
+        self.links.execute(
+            &mut self.cluster,
+            link as usize,
+            ticket,
+            part,
+            verdict,
+            self.moment,
+        )
     }
 
     /// Takes the first reply of a link down to its worker; that of ASKING is dropped.
     pub(crate) fn fetch(&mut self, link: u64) -> Result<(), WorldFault>
         ensures { Answers (state_of self.old) (event.Fetch link) result (state_of self.new) }
     {
-        let Some(link) = self.links.get_mut(link as usize) else {
-            return Err(WorldFault::NotNow);
-        };
-        if !link.can_fetch() {
-            return Err(WorldFault::NotNow);
-        }
         self.downs.reserve(1)?;
-        match link.take_back() {
-            Back::Welcome => {}
-            Back::To(ticket, told) => self.downs.push_reserved((ticket, told)),
+        match self.links.fetch(link as usize) {
+            Ok(Some(down)) => {
+                self.downs.push_reserved(down);
+                Ok(())
+            }
+            Ok(None) => Ok(()),
+            Err(fault) => Err(fault),
         }
-        Ok(())
     }
 
     /// Tells the first pair of a lane to its command.
@@ -240,12 +295,12 @@ impl Machine {
         Ok(())
     }
 
-    /// Posts a command to a node.
-    pub(crate) fn post(&mut self, ticket: Ticket, node: NodeId) -> Result<(), WorldFault>
-        requires { self.old.nodes ≡ length self.old.cluster.stores }
+    /// Posts a command to one of so many nodes.
+    pub(crate) fn post(&mut self, ticket: Ticket, node: NodeId, nodes: u8) -> Result<(), WorldFault>
+        requires { nodes ≡ length self.old.cluster.stores }
         ensures { Answers (state_of self.old) (event.Post ticket node) result (state_of self.new) }
     {
-        if node.number() >= self.nodes {
+        if node.number() >= nodes {
             return Err(WorldFault::NotNow);
         }
         let Some(place) = place_of(&self.commands, ticket) else {
@@ -301,7 +356,7 @@ impl Machine {
             return Err(WorldFault::NotNow);
         };
         let posted = self.ups[first];
-        if let Err(fault) = carry_over(self.alloc, &mut self.links, link as usize, posted) {
+        if let Err(fault) = self.links.carry(link as usize, posted) {
             return Err(fault);
         }
         self.ups.remove(first);

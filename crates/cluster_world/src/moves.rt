@@ -6,7 +6,9 @@ ghost use Rattle.world_laws.specs.State.{slot_for};
 ghost use Rattle.cluster_world.specs.Rests.{Rests};
 ghost use Rattle.world_laws.specs.declared.event.Event.TheVariants as event;
 
-use crate::asks::{batches_rest, commands_rest, downs_rest, links_rest};
+use crate::asks::{
+    batches_ask_not, batches_rest, commands_ask_not, commands_rest, downs_ask_not, downs_rest,
+};
 use crate::fault::WorldFault;
 use crate::machine::Machine;
 use key_split::Ticket;
@@ -30,6 +32,24 @@ impl Machine {
     fn none_asks(&self, slot: Slot, node: NodeId) -> bool
         ensures { IsTrue result ↔ All (λ c. slot_for c.command.part ≡ slot → Rests (state_of self.now) node c.command.ticket) self.now.commands.items }
     {
+        self.asks_not(node) || self.slot_rests(slot, node)
+    }
+
+    // Whether nothing at all asks at the node: a quick look, once through the lists.
+    #[tactic(auto, unfolding(crate::specs::Rests::Rests))]
+    fn asks_not(&self, node: NodeId) -> bool
+        ensures { IsTrue result → (ticket : Ticket) → Rests (state_of self.now) node ticket }
+    {
+        commands_ask_not(&self.commands, node)
+            && batches_ask_not(&self.ups, node)
+            && self.links.ask_not(node)
+            && downs_ask_not(&self.downs, node)
+    }
+
+    // The same of each command for the slot.
+    fn slot_rests(&self, slot: Slot, node: NodeId) -> bool
+        ensures { IsTrue result ↔ All (λ c. slot_for c.command.part ≡ slot → Rests (state_of self.now) node c.command.ticket) self.now.commands.items }
+    {
         self.commands.iter().all(|arrival| {
             arrival.command.slot() != slot || self.rests(node, arrival.command.ticket())
         })
@@ -42,7 +62,7 @@ impl Machine {
     {
         commands_rest(&self.commands, node, ticket)
             && batches_rest(&self.ups, node, ticket)
-            && links_rest(&self.links, node, ticket)
+            && self.links.rest(node, ticket)
             && downs_rest(&self.downs, node, ticket)
     }
 

@@ -1,11 +1,11 @@
 use Rattle.std.proofs.Common.{◌≡◌, ◌++◌, length}
-use Rattle.world_laws.specs.State.{answered_of}
+use Rattle.cluster_world.specs.Kept.{kept_for}
 use Rattle.cluster_world.specs.Lost.{each_lost}
 use Rattle.cluster_world.proofs.link.push_answered.Given as goal
 
 -- those so far, and those that are left
 abbrev pub invariant-loop-rest : goal.invariant-loop-rest
-invariant-loop-rest l = l.lost.items ++ each_lost (answered_of l.rest) ≡ l.fn.lost.items ++ each_lost (answered_of l.backs)
+invariant-loop-rest l = l.lost.items ++ each_lost (kept_for l.rest) ≡ l.fn.lost.items ++ each_lost (kept_for l.backs)
 
 abbrev pub decreases-loop-rest : goal.decreases-loop-rest
 decreases-loop-rest l = length l.rest

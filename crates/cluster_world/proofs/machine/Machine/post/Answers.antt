@@ -44,6 +44,6 @@ returns c =
       its,
       c.if-not-may_post.ensures.0 refl,
       turn,
-      omega (arith, c.number.ensures.value, c.requires, c.if-number-self.false),
+      omega (arith, c.number.ensures.value, c.requires, c.if-number-nodes.false),
       λ i. record (state_of c.args.self.now) { commands = slice_set commands c.in-Some.place (after i); ups = lies i },
     )

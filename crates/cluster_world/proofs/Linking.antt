@@ -1,0 +1,113 @@
+-- What the links' calls say of the machine's events.
+use Rattle.std.proofs.Common.{◌≡◌, ◌⊎◌, inl, inr, ℕ, List, ◌∷◌, Some, Result, Ok, Err, refl, sym, ap, ◌∙◌, subst}
+use Rattle.std.specs.Prelude.{slice_get}
+use Rattle.key_split.specs.Command.{Command as Part}
+use Rattle.key_split.specs.declared.travel.Ticket.{Ticket}
+use Rattle.key_split.specs.declared.travel.Told.{Told}
+use Rattle.key_split.specs.declared.travel.Told.TheVariants.{Reply, Moved, Ask, TryAgain, ClusterDown, Unclear, Unsent}
+use Rattle.node_model.specs.Nodes.{Nodes}
+use Rattle.node_model.specs.declared.role.Verdict.{Verdict}
+use Rattle.node_model.specs.declared.role.Verdict.TheVariants.{Plain}
+use Rattle.world_laws.specs.State.{World, Link}
+use Rattle.world_laws.specs.World.{IsOf, recorded, ServesAsking, ServesCommand}
+use Rattle.world_laws.specs.declared.state.Arrival.{Arrival}
+use Rattle.world_laws.specs.declared.state.Request.{Request}
+use Rattle.world_laws.specs.declared.state.Request.TheVariants.{Asking, Runs}
+use Rattle.world_laws.specs.declared.event.Event.TheVariants as event
+use Rattle.cluster_world.specs.Kept.{noted}
+use Rattle.cluster_world.specs.Links.{Linked, There, Begins, Closes, Discards, Welcomes, Executes}
+use Rattle.cluster_world.specs.Machine.{Answers}
+use Rattle.cluster_world.specs.declared.fault.WorldFault.{WorldFault}
+use Rattle.cluster_world.specs.declared.fault.WorldFault.TheVariants.{NoMemory, NotNow}
+use Rattle.cluster_world.proofs.Lookups.{same-item}
+
+abbrev pub links_in : World → Linked
+links_in w = record { links = w.links; history = w.history }
+
+abbrev pub with_linked : World → Linked → World
+with_linked w k = record w { links = k.links; history = k.history }
+
+pub closes : {U : Type 0} (w : World) (link : ℕ) (r : Result U WorldFault) (k : Linked) (downs : List (Ticket × Told)) → Closes (links_in w) link w.downs r k downs
+    → Answers w (event.Drop link) r (record w { links = k.links; history = k.history; downs = downs })
+closes w link (Ok u) k downs h = (h.0, h.1, h.2.0, λ i. record w { links = (h.2.1 i).links; history = (h.2.1 i).history; downs = h.2.2 i })
+closes w link (Err NotNow) k downs h = ((λ v d. h.0 d.0 d.1 d.2), λ i. record w { links = (h.1 i).links; history = (h.1 i).history; downs = h.2 i })
+closes w link (Err NoMemory) k downs h = λ i. record w { links = (h.0 i).links; history = (h.0 i).history; downs = h.1 i }
+
+pub discards : {U : Type 0} (w : World) (link : ℕ) (r : Result U WorldFault) (k : Linked) → Discards (links_in w) link r k → Answers w (event.Discard link) r (with_linked w k)
+discards w link (Ok u) k h = (h.0, h.1, h.2.0.0, h.2.0.1, ap (with_linked w) h.2.1)
+discards w link (Err NotNow) k h = ((λ v d. h.0 d.0 d.1 (d.2, d.3)), ap (with_linked w) h.1)
+discards w link (Err NoMemory) k h = ap (with_linked w) h
+
+-- Serve
+
+apart : (xs rest more : List Request) (t : Ticket) → xs ≡ Asking ∷ rest → xs ≡ Runs t ∷ more → ⊥
+apart xs rest more t e f = cc
+
+same-link : (w : World) (link : ℕ) (x y : Link) → slice_get w.links link ≡ Some x → slice_get w.links link ≡ Some y → x.requests ≡ y.requests
+same-link w link x y e f = ap (λ (l : Link). l.requests) (same-item w.links link x y e f)
+
+-- ASKING is served by Plain alone
+pub asking-refused : (U : Type 0) (w : World) (link : ℕ) (verdict : Verdict) → There (links_in w) link (Begins Asking) → (verdict ≡ Plain → ⊥) → Answers {U = U} w (event.Serve link verdict) (Err NotNow) w
+asking-refused U w link verdict first other = (
+  (λ v d. elim d.2 [
+    | inl x ↦ other x.2
+    | inr x ↦ apart (first.0).requests first.2.0 x.0 (x.2).command.ticket first.2.1 (same-link w link first.0 d.0 first.1 d.1 ∙ x.5)
+  ]),
+  refl,
+)
+
+pub welcomes : {U : Type 0} (w : World) (link : ℕ) (verdict : Verdict) (r : Result U WorldFault) (k : Linked) → verdict ≡ Plain → Welcomes (links_in w) link r k → Answers w (event.Serve link verdict) r (with_linked w k)
+welcomes w link verdict (Ok u) k plain h = (h.0, h.1, inl (h.2.0, h.2.1, plain, ap (with_linked w) h.2.2))
+welcomes w link verdict (Err NotNow) k plain h = absurd h
+welcomes w link verdict (Err NoMemory) k plain h = ap (with_linked w) h
+
+-- a command is served where it stands among those that arrived
+
+same-ticket : (xs rest more : List Request) (t u : Ticket) → xs ≡ Runs t ∷ rest → xs ≡ Runs u ∷ more → t ≡ u
+same-ticket xs rest more t u e f = cc
+
+-- what a step of Serve says of the ticket's command
+its-command : (w : World) (link : ℕ) (verdict : Verdict) (ticket : Ticket) (v : World) (first : There (links_in w) link (Begins (Runs ticket)))
+    → (l : Link) → slice_get w.links link ≡ Some l → (P : Type 0) → ((i : ℕ) (c : Arrival) → c.command.ticket ≡ ticket → IsOf c.command.ticket w.commands i c → (x : ServesCommand w link l verdict v) → P)
+    → ServesAsking w link l verdict v ⊎ ServesCommand w link l verdict v → P
+its-command w link verdict ticket v first l at P with' (inl x) = absurd (apart l.requests x.0 first.2.0 ticket x.1 (same-link w link l first.0 at first.1 ∙ first.2.1))
+its-command w link verdict ticket v first l at P with' (inr x) =
+    with' x.1 x.2 (same-ticket l.requests x.0 first.2.0 (x.2).command.ticket ticket x.5 (same-link w link l first.0 at first.1 ∙ first.2.1)) x.6 x
+
+-- what is noted is what is recorded
+notes-record : (w : World) (c : Arrival) (told : Told) → noted w.history c.command.ticket c.command.part w.moment told ≡ recorded w c told
+notes-record w c (Reply value) = refl
+notes-record w c (Moved slot node) = refl
+notes-record w c (Ask slot node) = refl
+notes-record w c TryAgain = refl
+notes-record w c ClusterDown = refl
+notes-record w c Unclear = refl
+notes-record w c Told.Lost = refl
+notes-record w c Unsent = refl
+
+pub executes : {U : Type 0} (w : World) (link : ℕ) (verdict : Verdict) (ticket : Ticket) (part : Part) (i : ℕ) (c : Arrival) (r : Result U WorldFault) (k : Linked) (nodes : Nodes) → IsOf ticket w.commands i c → c.command.ticket ≡ ticket → part ≡ c.command.part
+    → There (links_in w) link (Begins (Runs ticket)) → Executes (links_in w) w.cluster link ticket part verdict w.moment r k nodes → Answers w (event.Serve link verdict) r (record w { cluster = nodes; links = k.links; history = k.history })
+executes {U} w link verdict ticket part i c r k nodes of' ticket-is part-is first h =
+    go r (subst (λ (p : Ticket × Part). IsOf p.0 w.commands i c × Executes (links_in w) w.cluster link p.0 p.1 verdict w.moment r k nodes) (λ j. (sym ticket-is j, part-is j)) (of', h))
+  where
+    go : (r : Result U WorldFault) → IsOf c.command.ticket w.commands i c × Executes (links_in w) w.cluster link c.command.ticket c.command.part verdict w.moment r k nodes
+        → Answers w (event.Serve link verdict) r (record w { cluster = nodes; links = k.links; history = k.history })
+    go (Ok u) (o, x) = (
+      x.0,
+      x.1,
+      inr (
+        x.2.0,
+        i,
+        c,
+        x.2.1,
+        nodes,
+        x.2.2,
+        o,
+        x.2.3,
+        x.2.4,
+        λ j. record w { cluster = nodes; links = (x.2.5 j).links; history = ((λ n. (x.2.5 n).history) ∙ notes-record w c x.2.1) j },
+      ),
+    )
+    go (Err NotNow) (o, x) =
+        ((λ v d. its-command w link verdict ticket v first d.0 d.1 ⊥ (λ i c e is y. x.0 y.7) d.2), λ j. record w { cluster = x.2 j; links = (x.1 j).links; history = (x.1 j).history })
+    go (Err NoMemory) (o, x) = λ j. record w { cluster = x.1 j; links = (x.0 j).links; history = (x.0 j).history }

@@ -1,0 +1,72 @@
+-- A step of a world, and its events one after another.
+use Rattle.std.proofs.Common.{◌≡◌, ℕ, zero, suc, ◌+◌, ◌-◌, ◌≤◌, get_or, List, [], ◌∷◌, ◌++◌, length, Some, Err, refl, sym, ap, ◌∙◌, subst, arith}
+use Rattle.std.specs.Prelude.{take, drop, slice_get}
+use Rattle.world_laws.specs.State.{World}
+use Rattle.world_laws.specs.World.{Step, Run}
+use Rattle.world_laws.specs.declared.event.Event.{Event}
+use Rattle.cluster_world.specs.Machine.{Answers}
+use Rattle.cluster_world.specs.Steps.{RefusedFor, Steps, Runs}
+use Rattle.cluster_world.specs.declared.fault.WorldFault.{WorldFault}
+use Rattle.cluster_world.specs.declared.fault.WorldFault.TheVariants.{NoMemory, NotNow}
+
+-- a refused event changes nothing
+
+unchanged : (U : Type 0) (w w' : World) (e : Event) (fault : WorldFault) → Answers {U = U} w e (Err fault) w' → w' ≡ w
+unchanged U w w' e NotNow h = h.1
+unchanged U w w' e NoMemory h = h
+
+less-one : (n : ℕ) → n + 1 - 1 ≡ n
+less-one n = omega arith
+
+pub undone : (U : Type 0) (w w' : World) (e : Event) (fault : WorldFault) → Answers {U = U} (record w { moment = w.moment + 1 }) e (Err fault) w' → record w' { moment = w'.moment - 1 } ≡ w
+undone U w w' e fault h = ap (λ (v : World). record v { moment = v.moment - 1 }) (unchanged U (record w { moment = w.moment + 1 }) w' e fault h) ∙ ap (λ n. record w { moment = n }) (less-one w.moment)
+
+pub refused-for : (U : Type 0) (w w' : World) (e : Event) (fault : WorldFault) → Answers {U = U} (record w { moment = w.moment + 1 }) e (Err fault) w' → RefusedFor w e fault
+refused-for U w w' e NotNow h = λ v s. h.0 v s.1
+refused-for U w w' e NoMemory h = tt
+
+-- events, one after another
+
+pub run-on : (w mid w' : World) (es : List Event) (e : Event) → Run w es mid → Step mid e w' → Run w (es ++ e ∷ []) w'
+run-on w mid w' [] e r s = (w', subst (λ (v : World). Step v e w') r s, refl)
+run-on w mid w' (x ∷ es) e r s = (r.0, r.1, run-on r.0 mid w' es e r.2 s)
+
+pub joined : (done rest : List Event) (e : Event) → (done ++ e ∷ []) ++ rest ≡ done ++ e ∷ rest
+joined [] rest e = refl
+joined (x ∷ done) rest e = ap (λ es. x ∷ es) (joined done rest e)
+
+pub one-more : (done : List Event) (e : Event) → length (done ++ e ∷ []) ≡ length done + 1
+one-more [] e = refl
+one-more (x ∷ done) e = omega (arith, one-more done e)
+
+taken : (done rest : List Event) → take (length done) (done ++ rest) ≡ done
+taken [] rest = refl
+taken (x ∷ done) rest = ap (λ es. x ∷ es) (taken done rest)
+
+next : (done rest : List Event) (e : Event) → slice_get (done ++ e ∷ rest) (length done) ≡ Some e
+next [] rest e = refl
+next (x ∷ done) rest e = next done rest e
+
+-- the first that is refused
+pub stops : (U : Type 0) (w mid w' : World) (es done rest : List Event) (e : Event) (number : ℕ) (why : WorldFault) → done ++ e ∷ rest ≡ es → length done + 1 ≡ number → Run w done mid → Steps {U = U} mid e (Err why) w'
+    → Runs {U = U} w es (Err (record { number = number; why = why })) w'
+stops U w mid w' es done rest e number why is count r s =
+    let place : length done ≡ number - 1 = omega (arith, count) in
+    let same : w' ≡ mid = s.1 in (
+      e,
+      omega (arith, count),
+      subst (λ (p : ℕ × List Event). slice_get p.1 p.0 ≡ Some e) (λ i. (place i, is i)) (next done rest e),
+      subst (λ (p : ℕ × List Event). Run w (take p.0 p.1) w') (λ i. (place i, is i)) (subst (λ (xs : List Event). Run w xs w') (sym (taken done (e ∷ rest))) (subst (Run w done) (sym same) r)),
+      subst (λ (v : World). RefusedFor v e why) (sym same) s.0,
+    )
+
+-- a list by its first event
+pub by-first : (xs : List Event) (x : Event) → 1 ≤ length xs → x ≡ get_or xs 0 x → xs ≡ x ∷ take (length xs - 1) (drop 1 xs)
+by-first [] x lt is = absurd (omega (arith, lt))
+by-first (y ∷ ys) x lt is = λ i. sym is i ∷ whole ys (suc (length ys) - 1) (omega arith) i
+  where
+    whole : (ys : List Event) (n : ℕ) → n ≡ length ys → ys ≡ take n ys
+    whole [] zero e = refl
+    whole [] (suc n) e = refl
+    whole (y ∷ ys) zero e = absurd (omega (arith, e))
+    whole (y ∷ ys) (suc n) e = ap (λ zs. y ∷ zs) (whole ys n (omega (arith, e)))

@@ -1,0 +1,11 @@
+use Rattle.std.proofs.Common.{◌≡◌, length}
+use Rattle.cluster_world.specs.Rests.{asked}
+use Rattle.cluster_world.specs.Kept.{in_kept}
+use Rattle.cluster_world.proofs.asks.kept_ask_not.Given as goal
+
+-- those before asked nothing
+abbrev pub invariant-loop-rest : goal.invariant-loop-rest
+invariant-loop-rest l = in_kept (asked l.node) l.rest ≡ in_kept (asked l.node) l.backs
+
+abbrev pub decreases-loop-rest : goal.decreases-loop-rest
+decreases-loop-rest l = length l.rest

@@ -1,0 +1,34 @@
+use Rattle.std.proofs.Common.{subst, refl}
+use Rattle.cluster_world.specs.Index.{place_in, Indexes}
+use Rattle.cluster_world.proofs.Lists.{never, of-ok}
+use Rattle.cluster_world.proofs.Replies.{of-entry, entries-differ, at-most-one}
+use Rattle.cluster_world.proofs.lawful.is_lawful.Goals as goal
+
+pub returns-in_default-3 : goal.returns-in_default-3
+returns-in_default-3 c = (
+  λ n. absurd (never n),
+  λ lawful. absurd (subst (Indexes of-entry c.args.history.now) c.in_default-3.is c.in_ok-entry_places.ensures (entries-differ c.args.parts.now c.args.history.now lawful.at_most_once lawful.entries_have_parts)),
+)
+
+pub returns : goal.returns
+returns c =
+    let parts = c.args.parts.now in
+    let ends = c.args.ends.now in
+    let history = c.args.history.now in
+    let by_part = subst (Indexes (λ part. part.0) parts) c.in-Some.is c.in_ok-part_places.ensures in
+    let by_end = subst (Indexes (λ end. end.0) ends) c.in-Some-2.is c.in_ok-end_places.ensures in
+    let by_entry = subst (Indexes of-entry history) c.in-Some-3.is c.in_ok-entry_places.ensures in
+    of-ok _ _ c.are_in_turn.result (
+    λ b turn. (
+      λ yes. record {
+        legal = c.in_ok-is_legal.ensures.0 c.if-not-branch.false;
+        parts_differ = by_part.0;
+        ends_differ = by_end.0;
+        ends_have_parts = c.if-not-ends_have_parts.ensures.0 refl;
+        entries_have_parts = c.if-not-entries_have_parts.ensures.0 refl;
+        at_most_once = λ k d lt. at-most-one history (place_in c.in-Some-3.entry_places.entries) _ by_entry.1;
+        as_ended = c.if-not-are_as_ended.ensures.0 refl;
+        in_turn = turn.0 yes;
+      },
+      λ lawful. turn.1 lawful.in_turn,
+    )) c.are_in_turn.ensures

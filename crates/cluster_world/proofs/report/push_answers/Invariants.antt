@@ -1,0 +1,7 @@
+use Rattle.std.proofs.Common.{◌≡◌, ◌++◌, take}
+use Rattle.std.specs.List.{flat_map}
+use Rattle.cluster_world.specs.Report.{answer_line}
+use Rattle.cluster_world.proofs.report.push_answers.Given as goal
+
+abbrev pub invariant-loop-answer : goal.invariant-loop-answer
+invariant-loop-answer l = l.out.items ≡ l.fn.out.items ++ flat_map answer_line (take l.answer-index l.answers)

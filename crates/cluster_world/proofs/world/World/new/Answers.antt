@@ -1,0 +1,31 @@
+use Rattle.std.proofs.Common.{ℕ, ◌<◌, List, [], length, Ok, refl, sym, ap, ◌∙◌, subst, arith}
+use Rattle.slot_map.specs.Map.{node_after}
+use Rattle.slot_map.specs.declared.ops.MapOp.{MapOp}
+use Rattle.node_model.specs.Nodes.{Opens}
+use Rattle.world_laws.specs.Headline.{IsReached}
+use Rattle.world_laws.specs.State.{World}
+use Rattle.cluster_world.proofs.Taking.{opens-new, opens-same, starts-fault}
+use Rattle.cluster_world.proofs.world.World.new.Goals as goal
+
+pub invariant_of-result : goal.invariant_of-result
+invariant_of-result c =
+    let changes : List MapOp = c.in-Ok.ensures.0 in
+    let opens : Opens c.args.nodes (node_after changes) (Ok c.in-Ok-new.cluster) = c.in-Ok-new.ensures changes (c.in-Ok.ensures.1).shown in
+    record {
+      reached = subst IsReached (sym c.new-in-Ok-new.ensures) (c.args.workers, c.in-Ok-new.cluster, [], opens-new c.args.nodes (node_after changes) c.in-Ok-new.cluster opens, refl);
+      workers = subst (λ (n : ℕ). 0 < n) (sym (ap (λ (w : World). w.workers) c.new-in-Ok-new.ensures)) (omega (arith, c.requires.0));
+      nodes = sym (opens.1).all_nodes ∙ sym (ap (λ (w : World). length w.cluster.stores) c.new-in-Ok-new.ensures);
+    }
+
+pub returns-in-Ok-new : goal.returns-in-Ok-new
+returns-in-Ok-new c = λ ops shows.
+    let changes : List MapOp = c.in-Ok.ensures.0 in (
+      c.in-Ok-new.cluster,
+      opens-same c.args.nodes (node_after changes) (node_after ops) ((c.in-Ok.ensures.1).same ops shows) c.in-Ok-new.cluster (c.in-Ok-new.ensures changes (c.in-Ok.ensures.1).shown),
+      c.new-in-Ok-new.ensures,
+    )
+
+pub returns : goal.returns
+returns c = λ ops shows.
+    let changes : List MapOp = c.in-Ok.ensures.0 in
+    starts-fault c.args.nodes c.args.workers (node_after changes) (node_after ops) ((c.in-Ok.ensures.1).same ops shows) c.in-Err.fault (c.in-Err.ensures changes (c.in-Ok.ensures.1).shown)

@@ -1,0 +1,54 @@
+-- What the calls that read a script give.
+use Rattle.std.specs.Prelude.{◌≡◌, ◌<◌, ◌≤◌, ℕ, ◌+◌, List, [], ◌∷◌, ◌++◌, Option, None, Some, Result, Ok, Err, Vec, drop, length}
+use Rattle.std.specs.declared.alloc.Global.{Global}
+use Rattle.slot_map.specs.declared.ops.MapOp.{MapOp}
+use Rattle.slot_map.specs.Map.{Shows}
+use Rattle.world_laws.specs.declared.event.Event.{Event}
+use Rattle.cluster_world.specs.declared.input.Input.{Input}
+use Rattle.cluster_world.specs.declared.input.Input.TheVariants.{Whole, TooLong, Failed}
+use Rattle.cluster_world.specs.declared.input.Came.{Came}
+use Rattle.cluster_world.specs.declared.input.Came.TheVariants as came
+use Rattle.std.specs.Io.KnownBytes.{Consumes, IsAtEnd}
+use Rattle.cluster_world.specs.declared.script.LineRead.{LineRead}
+use Rattle.cluster_world.specs.declared.script_fault.ScriptFault.{ScriptFault}
+use Rattle.cluster_world.specs.declared.script_fault.ScriptFault.TheVariants.{NoMemory, BadLine}
+use Rattle.cluster_world.specs.declared.header.Header.{Header}
+use Rattle.cluster_world.specs.Script.{lines_of}
+use Rattle.cluster_world.specs.Schedule.{HasHeader, IsBadAt}
+
+-- the whole input; or as many bytes as may be read, or more; or a read failed
+abbrev pub IsInput : ℕ → List ℕ → Input → Type 0
+IsInput limit input (Whole bytes) = (bytes.items ≡ input) × (length input ≤ limit)
+IsInput limit input TooLong = limit ≤ length input
+IsInput limit input Failed = Unit {0}
+
+-- what was read whole is within the limit
+abbrev pub IsShort : Input → Type 0
+IsShort (Whole bytes) = length bytes.items ≤ 1048576
+IsShort TooLong = Unit {0}
+IsShort Failed = Unit {0}
+
+-- one read: some bytes came, or the end, or it failed
+abbrev pub TakesPiece : Option (List ℕ) → Option (List ℕ) → List ℕ → Came → List ℕ → Type 0
+TakesPiece before now old came.Some new = (piece : List ℕ) × Consumes before now piece × (new ≡ old ++ piece) × (0 < length piece)
+TakesPiece before now old came.End new = Consumes before now [] × IsAtEnd now × (new ≡ old)
+TakesPiece before now old came.Failure new = new ≡ old
+
+-- the first line is taken off, or there is none
+abbrev pub ReadsLine : List ℕ → Option LineRead → Type 0
+ReadsLine input None = lines_of input ≡ []
+ReadsLine input (Some read) = (lines_of input ≡ read.words ∷ lines_of read.rest.now) × (length read.rest.now < length input)
+
+-- the events of a number of lines, or the number of the first that says none
+abbrev pub ReadsEvents : Result (List Event) ℕ → Result (Vec Event Global) ScriptFault → Type 0
+ReadsEvents said (Ok events) = said ≡ Ok events.items
+ReadsEvents said (Err (BadLine number)) = said ≡ Err number
+ReadsEvents said (Err NoMemory) = Unit {0}
+
+-- the header of the lines, and what stands behind it; or where they are bad
+abbrev pub ReadsHeader : List ℕ → Result Header ScriptFault → Type 0
+ReadsHeader input (Ok header) =
+    (owners : List MapOp) × HasHeader (lines_of input) header.nodes header.workers owners × Shows header.owners owners
+    × (header.count ≡ length owners + 2) × (lines_of header.rest.now ≡ drop (length owners + 2) (lines_of input))
+ReadsHeader input (Err (BadLine number)) = IsBadAt (lines_of input) number
+ReadsHeader input (Err NoMemory) = Unit {0}

@@ -1,0 +1,36 @@
+-- What a run of `simulate` writes.
+use Rattle.std.specs.Prelude.{◌≡◌, ℕ, ◌+◌, ◌≤◌, List, ◌++◌, length, take, Some, slice_get, codes}
+use Rattle.slot_map.specs.Map.{node_after}
+use Rattle.node_model.specs.Nodes.{Nodes, IsOpening}
+use Rattle.world_laws.specs.State.{World, start}
+use Rattle.world_laws.specs.World.{Run}
+use Rattle.world_laws.specs.declared.event.Event.{Event}
+use Rattle.cluster_world.specs.declared.fault.WorldFault.{WorldFault}
+use Rattle.cluster_world.specs.Steps.{RefusedFor}
+use Rattle.cluster_world.specs.Script.{lines_of}
+use Rattle.cluster_world.specs.Schedule.{Schedule, Says, IsBadAt}
+use Rattle.cluster_world.specs.Report.{state_text, refused_line, bad_line, line}
+
+-- the world in which a schedule begins
+abbrev pub Begins : Schedule → World → Type 0
+Begins s w = (k : Nodes) × IsOpening s.nodes (node_after s.owners) k × (w ≡ start s.workers k)
+
+-- the status and the text for an input that was read whole
+pub data Writes : List ℕ → ℕ → List ℕ → Type 0 where
+  bad : (input : List ℕ) (number : ℕ) → IsBadAt (lines_of input) number → Writes input 1 (bad_line number)
+  ran : (input : List ℕ) (s : Schedule) (first last : World) → Says (lines_of input) s → Begins s first → Run first s.events last → Writes input 0 (state_text last)
+  refused : (input : List ℕ) (s : Schedule) (first last : World) (place : ℕ) (event : Event) (why : WorldFault) → Says (lines_of input) s → Begins s first
+      → slice_get s.events place ≡ Some event → Run first (take place s.events) last → RefusedFor last event why
+      → Writes input 1 (state_text last ++ refused_line (place + 1) why)
+
+abbrev pub too_long_text : List ℕ
+too_long_text = line (codes "too long")
+
+abbrev pub read_failed_text : List ℕ
+read_failed_text = line (codes "read failed")
+
+-- the same for an input of which so many bytes are read at most, in as many reads: one whose end has not come within them has at least so many bytes
+pub data WritesFor : ℕ → List ℕ → ℕ → List ℕ → Type 0 where
+  whole : (limit : ℕ) (input : List ℕ) (status : ℕ) (text : List ℕ) → length input ≤ limit → Writes input status text → WritesFor limit input status text
+  too_long : (limit : ℕ) (input : List ℕ) → limit ≤ length input → WritesFor limit input 1 too_long_text
+  read_failed : (limit : ℕ) (input : List ℕ) → WritesFor limit input 1 read_failed_text

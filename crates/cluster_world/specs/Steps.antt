@@ -1,0 +1,47 @@
+-- What the calls of a world answer, over its state: the step of an event, or why there is none.
+use Rattle.std.specs.Prelude.{◌≡◌, ◌-◌, ◌<◌, ℕ, List, length, take, Option, Some, Result, Ok, Err, slice_get}
+use Rattle.node_model.specs.Nodes.{Nodes, HasOwners, Opens}
+use Rattle.node_model.specs.declared.cluster.ClusterFault.{ClusterFault}
+use Rattle.node_model.specs.declared.cluster.ClusterFault.TheVariants.{BadOwners}
+use Rattle.node_model.specs.declared.cluster.ClusterFault.TheVariants as cluster
+use Rattle.world_laws.specs.State.{World, start}
+use Rattle.world_laws.specs.World.{Step, Run}
+use Rattle.world_laws.specs.Headline.{IsReached}
+use Rattle.world_laws.specs.declared.event.Event.{Event}
+use Rattle.cluster_world.specs.Machine.{state_of}
+use Rattle.cluster_world.specs.declared.machine.Machine.{Machine}
+use Rattle.cluster_world.specs.declared.fault.WorldFault.{WorldFault}
+use Rattle.cluster_world.specs.declared.fault.WorldFault.TheVariants.{NoMemory, NotNow}
+use Rattle.cluster_world.specs.declared.fault.RunFault.{RunFault}
+
+-- the world is new, over the nodes that these owners open; or the owners are bad; or there is no memory
+abbrev pub Starts : ℕ → ℕ → (ℕ → Option ℕ) → Result World ClusterFault → Type 0
+Starts count workers owners (Ok w) = (k : Nodes) × Opens count owners (Ok k) × (w ≡ start workers k)
+Starts count workers owners (Err BadOwners) = HasOwners count owners → ⊥
+Starts count workers owners (Err cluster.NoMemory) = Unit {0}
+
+-- the event has no next state
+abbrev pub IsRefused : World → Event → Type 0
+IsRefused w e = (w' : World) → Step w e w' → ⊥
+
+-- why an event is refused in a world
+abbrev pub RefusedFor : World → Event → WorldFault → Type 0
+RefusedFor w e NotNow = IsRefused w e
+RefusedFor w e NoMemory = Unit {0}
+
+-- the event happened; or it is refused, and nothing changed
+abbrev pub Steps : {U : Type 0} → World → Event → Result U WorldFault → World → Type 0
+Steps w e (Ok u) w' = Step w e w'
+Steps w e (Err why) w' = RefusedFor w e why × (w' ≡ w)
+
+-- all the events happened; or those before the first that is refused
+abbrev pub Runs : {U : Type 0} → World → List Event → Result U RunFault → World → Type 0
+Runs w es (Ok u) w' = Run w es w'
+Runs w es (Err fault) w' =
+    (e : Event) × (0 < fault.number) × (slice_get es (fault.number - 1) ≡ Some e) × Run w (take (fault.number - 1) es) w' × RefusedFor w' e fault.why
+
+-- a world's code: events lead to its state, and it has workers and knows how many nodes there are
+pub record IsWorld (m : Machine) (count : ℕ) : Type 0 where
+  pub reached : IsReached (state_of m)
+  pub workers : 0 < m.workers
+  pub nodes : count ≡ length m.cluster.stores

@@ -1,0 +1,68 @@
+//! Words that name clients, lanes, links, nodes, slots and tickets.
+
+ghost use Rattle.std.specs.Prelude.{◌≡◌, ◌<◌, IfSome};
+ghost use Rattle.cluster_world.specs.Script.{number_below};
+ghost use Rattle.cluster_world.specs.Schedule.{client_in, lane_in, link_in, node_in, slot_in, ticket_in};
+
+use crate::script::{cut, number};
+use key_split::Ticket;
+use slot_hash::{SLOT_COUNT, Slot};
+use slot_map::{NODE_LIMIT, NodeId};
+
+/// The number that a word writes, where it is below a bound.
+pub(crate) fn number_under(word: &[u8], bound: u64) -> Option<u64>
+    ensures value { result ≡ number_below bound word.now }
+    ensures under { IfSome result (λ number. number < bound) }
+{
+    let value = number(word)?;
+    if value < bound { Some(value) } else { None }
+}
+
+pub(crate) fn client_in(word: &[u8]) -> Option<u32>
+    ensures { result ≡ client_in word.now }
+{
+    let client = number_under(word, 0x1_0000_0000)?;
+    Some(client as u32)
+}
+
+pub(crate) fn lane_in(word: &[u8]) -> Option<u16>
+    ensures { result ≡ lane_in word.now }
+{
+    let lane = number_under(word, 0x1_0000)?;
+    Some(lane as u16)
+}
+
+pub(crate) fn link_in(word: &[u8]) -> Option<u64>
+    ensures { result ≡ link_in word.now }
+{
+    number(word)
+}
+
+pub(crate) fn node_in(word: &[u8]) -> Option<NodeId>
+    ensures { result ≡ node_in word.now }
+{
+    let node = number_under(word, NODE_LIMIT as u64)?;
+    NodeId::new(node as u8)
+}
+
+pub(crate) fn slot_in(word: &[u8]) -> Option<Slot>
+    ensures { result ≡ slot_in word.now }
+{
+    let slot = number_under(word, u64::from(SLOT_COUNT))?;
+    Slot::new(slot as u16)
+}
+
+/// CLIENT.PART
+pub(crate) fn ticket_in(workers: u16, word: &[u8]) -> Option<Ticket>
+    requires { 0 < workers }
+    ensures { result ≡ ticket_in workers word.now }
+{
+    let (client, part) = cut(word, b'.')?;
+    let client = client_in(client)?;
+    let part = number(part)?;
+    Some(Ticket {
+        worker: (client % u32::from(workers)) as u16,
+        client,
+        part,
+    })
+}

@@ -1,0 +1,231 @@
+//! The links, with the history of what their nodes executed.
+
+ghost use Rattle.std.specs.Prelude.{◌≡◌, ◌<◌, ◌↔◌, [], ◌∷◌, List, All, IsTrue, length};
+ghost use Rattle.std.specs.Vec.{vec_len, vec_capacity};
+ghost use Rattle.cluster_world.specs.Kept.{Notes};
+ghost use Rattle.cluster_world.specs.Links.{There, Begins, Carries, Closes, Discards, Fetches, FirstIs, Welcomes, Executes};
+ghost use Rattle.cluster_world.specs.Rests.{LineAsksNot, LineRests, LinkRests};
+ghost use Rattle.world_laws.specs.World.{IsNode};
+ghost use Rattle.world_laws.specs.declared.state.Request.TheVariants.{Asking, Runs};
+
+use crate::fault::WorldFault;
+use crate::link::{Kept, Link};
+use key_split::{Part, Ticket, Told};
+use node_model::{Cluster, Verdict};
+use slot_map::NodeId;
+use std::alloc::Global;
+use std::marker::Model;
+use world_laws::{Entry, Posted, Request};
+
+/// The links by their numbers, and what was executed. Of an executed command a link keeps the place of its entry, so that the
+/// reply stands in memory once.
+#[derive(Drop)]
+pub(crate) struct Links {
+    alloc: Global,
+    links: Vec<Link>,
+    history: Vec<Entry>,
+}
+
+impl Model for Links {
+    ghost use Rattle.std.specs.Prelude.{All, length};
+    ghost use Rattle.resp_wire.specs.Stored.{coded_data};
+    ghost use Rattle.resp_wire.specs.contracts.value.Value as value;
+    ghost use Rattle.std.specs.Coded.{codes};
+    ghost use Rattle.cluster_world.specs.Kept.{KeepsBelow};
+    ghost use Rattle.cluster_world.specs.Links.{Linked, linked};
+
+    ghost Value = { Linked };
+
+    ghost coded = { Prim.hlevel (codes, value.the_row.coded, coded_data) };
+
+    ghost view = { λ k. linked k.links.items k.history.items };
+
+    ghost invariant = { λ k. All (KeepsBelow (length k.history.items)) k.links.items };
+}
+
+impl Links {
+    pub(crate) fn new(alloc: Global) -> Links
+        ensures { result ≡ record { links = []; history = [] } }
+    {
+        Links {
+            alloc,
+            links: Vec::new(alloc),
+            history: Vec::new(alloc),
+        }
+    }
+
+    /// What was executed so far.
+    pub(crate) fn history(&self) -> &[Entry]
+        ensures { result.now ≡ self.now.history }
+    {
+        &self.history
+    }
+
+    /// Puts a batch on an open link to its node, or on a new one.
+    pub(crate) fn carry(&mut self, at: usize, posted: Posted) -> Result<(), WorldFault>
+        ensures { Carries self.old at posted result self.new }
+    {
+        if at > self.links.len() {
+            return Err(WorldFault::NotNow);
+        }
+        if at == self.links.len() {
+            let mut link = Link::new(self.alloc, posted.node);
+            link.send(posted)?;
+            self.links.reserve(1)?;
+            self.links.push_reserved(link);
+            return Ok(());
+        }
+        let link = &mut self.links[at];
+        if !link.leads_to(posted.node) {
+            return Err(WorldFault::NotNow);
+        }
+        link.send(posted)?;
+        Ok(())
+    }
+
+    /// Closes a link; who waits on it is told so.
+    pub(crate) fn close(
+        &mut self,
+        at: usize,
+        downs: &mut Vec<(Ticket, Told)>,
+    ) -> Result<(), WorldFault>
+        ensures { Closes self.old at downs.old.items result self.new downs.new.items }
+    {
+        let Some(link) = self.links.get_mut(at) else {
+            return Err(WorldFault::NotNow);
+        };
+        if !link.is_open() {
+            return Err(WorldFault::NotNow);
+        }
+        let mut lost = link.lost(self.alloc)?;
+        downs.append(&mut lost)?;
+        link.close();
+        Ok(())
+    }
+
+    /// Throws the requests of a closed link away.
+    pub(crate) fn discard(&mut self, at: usize) -> Result<(), WorldFault>
+        ensures { Discards self.old at result self.new }
+    {
+        let Some(link) = self.links.get_mut(at) else {
+            return Err(WorldFault::NotNow);
+        };
+        if !link.can_discard() {
+            return Err(WorldFault::NotNow);
+        }
+        link.discard();
+        Ok(())
+    }
+
+    /// Takes the first reply of an open link, and whose it is; that of ASKING is nobody's.
+    pub(crate) fn fetch(&mut self, at: usize) -> Result<Option<(Ticket, Told)>, WorldFault>
+        ensures { Fetches self.old at result self.new }
+    {
+        let Some(link) = self.links.get_mut(at) else {
+            return Err(WorldFault::NotNow);
+        };
+        if !link.can_fetch() {
+            return Err(WorldFault::NotNow);
+        }
+        if let Some((ticket, place)) = link.first_entry() {
+            let reply = self.history[place].reply.copy(self.alloc)?;
+            link.take_back();
+            return Ok(Some((ticket, Told::Reply(reply))));
+        }
+        Ok(link.take_back().refusal())
+    }
+
+    /// The first request of a link.
+    pub(crate) fn first_request(&self, at: usize) -> Option<Request>
+        ensures { FirstIs self.now at result }
+    {
+        let Some(link) = self.links.get(at) else {
+            return None;
+        };
+        link.first_request()
+    }
+
+    /// A link's node takes ASKING.
+    pub(crate) fn welcome(&mut self, at: usize) -> Result<(), WorldFault>
+        requires { There self.old at (Begins Asking) }
+        ensures { Welcomes self.old at result self.new }
+    {
+        let link = &mut self.links[at];
+        link.reserve()?;
+        link.take_request(true);
+        link.keep(Kept::Welcome);
+        Ok(())
+    }
+
+    /// A link's node takes a command.
+    pub(crate) fn execute(
+        &mut self,
+        cluster: &mut Cluster,
+        at: usize,
+        ticket: Ticket,
+        part: Part,
+        verdict: Verdict,
+        moment: u64,
+    ) -> Result<(), WorldFault>
+        requires first { There self.old at (Begins (Runs ticket)) }
+        requires nodes { All (λ l. IsNode cluster.old l.node) self.old.links }
+        ensures { Executes self.old cluster.old at ticket part verdict moment result self.new cluster.new }
+    {
+        let link = &mut self.links[at];
+        link.reserve()?;
+        self.history.reserve(1)?;
+        let told = cluster.serve(link.node(), link.asking(), &part, verdict)?;
+        let kept = note(&mut self.history, ticket, part, moment, told);
+        link.take_request(false);
+        link.keep(kept);
+        Ok(())
+    }
+
+    /// Whether none of the links carries the ticket's command to the node behind ASKING, or such a reply to it.
+    pub(crate) fn rest(&self, node: NodeId, ticket: Ticket) -> bool
+        ensures { IsTrue result ↔ All (λ l. LinkRests l node ticket) self.now.links }
+    {
+        lines_rest(&self.links, node, ticket)
+    }
+
+    /// Whether none of the links carries a command to the node behind ASKING, or a reply that tells one to ask there.
+    pub(crate) fn ask_not(&self, node: NodeId) -> bool
+        ensures { IsTrue result → (ticket : Ticket) → All (λ l. LinkRests l node ticket) self.now.links }
+    {
+        lines_ask_not(&self.links, node)
+    }
+}
+
+// The same of links in a list.
+fn lines_ask_not(links: &[Link], node: NodeId) -> bool
+    ensures { IsTrue result ↔ All (λ l. LineAsksNot l node) links.now }
+{
+    links.iter().all(|link| link.asks_not(node))
+}
+
+// The same of links in a list.
+fn lines_rest(links: &[Link], node: NodeId, ticket: Ticket) -> bool
+    ensures { IsTrue result ↔ All (λ l. LineRests l node ticket) links.now }
+{
+    links.iter().all(|link| link.rests(node, ticket))
+}
+
+// Notes in the history what a node replied to, and gives what its link keeps of it.
+fn note(history: &mut Vec<Entry>, ticket: Ticket, part: Part, moment: u64, told: Told) -> Kept
+    requires { vec_len history.old < vec_capacity history.old }
+    ensures { Notes history.old.items ticket part moment told history.new.items result }
+{
+    match told {
+        Told::Reply(reply) => {
+            let place = history.len();
+            history.push_reserved(Entry {
+                ticket,
+                part,
+                reply,
+                moment,
+            });
+            Kept::Entry(ticket, place)
+        }
+        refusal => Kept::Refusal(ticket, refusal),
+    }
+}

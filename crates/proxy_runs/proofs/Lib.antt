@@ -1,0 +1,12 @@
+pub mod Homes
+pub mod Stores
+pub mod Nodes
+pub mod Serving
+pub mod Moving
+pub mod Sound
+pub mod Served
+pub mod Stepped
+pub mod Foreseeing
+pub mod Twice
+pub mod Noted
+pub mod Opened

@@ -1,0 +1,4 @@
+pub mod Local
+pub mod Kept
+pub mod Laws
+pub mod Foresight

@@ -1,0 +1,26 @@
+//! The steps by which slots move.
+
+use resp_wire::Bytes;
+use slot_hash::Slot;
+use slot_map::NodeId;
+
+/// A step of a slot's move.
+#[derive(Drop)]
+pub enum MoveStep {
+    /// The target begins to import the slot.
+    Import(Slot, NodeId),
+    /// The source begins to migrate it.
+    Migrate(Slot),
+    /// The source gives a key.
+    MoveKey(Slot, Bytes),
+    /// The source gives any key that is left.
+    MoveRest(Slot),
+    /// The target becomes the owner.
+    Own(Slot),
+    /// The source gives the slot up.
+    Release(Slot),
+    /// The target forgets the slot: the move is called back.
+    Forget(Slot),
+    /// The source stays the owner.
+    Stay(Slot),
+}

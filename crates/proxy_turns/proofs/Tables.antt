@@ -1,0 +1,73 @@
+-- The finite map that the entries of a hash map stand for, by numbers.
+use Rattle.std.proofs.Common.{◌≡◌, ℕ, nat_eq, Bool, List, [], ◌∷◌, length, arith, cond, Option, Some, None, true, false, eqb→eq, refl, sym, ap, ◌∙◌, subst}
+use Rattle.std.specs.Ordering.{nat_cmp, eq_by_cmp}
+use Rattle.std.specs.Cmp.{nat_cmp_total, unsigned_ties, eq_by_cmp_equiv}
+use Rattle.std.specs.FinMap.{FinMap, empty, get, get-empty, insert, remove, from_entries, find, get-from_entries, get-insert, get-remove, same_map, nat_cmp-IsAntisymmetric}
+use Rattle.std.specs.Map.{lookup}
+use Rattle.std.specs.Prelude.{T}
+
+turned : (k q : ℕ) → nat_eq k q ≡ eq_by_cmp nat_cmp q k
+turned k q = unsigned_ties k q ∙ (eq_by_cmp_equiv nat_cmp_total).symm k q
+
+pub none_some : {A : Type 0} (x : A) → None ≡ Some x → ⊥
+none_some {A} x e = subst there e tt
+  where
+    there : Option A → Type 0
+    there None = Unit {0}
+    there (Some y) = ⊥
+
+module _ {X : Type 0} where
+  find-lookup : (q : ℕ) (es : List (ℕ × X)) → lookup (nat_eq q) es ≡ find nat_cmp q es
+  find-lookup q [] = refl
+  find-lookup q (e ∷ es) = λ i. cond (unsigned_ties q e.0 i) (Some e.1) (find-lookup q es i)
+
+  -- the value at a number
+  pub at_number : (q : ℕ) (es : List (ℕ × X)) → lookup (nat_eq q) es ≡ get (from_entries {R = nat_cmp} es) q
+  at_number q es = find-lookup q es ∙ sym (get-from_entries nat_cmp_total es q)
+
+  -- the same look-ups, the same map
+  pub same_look-ups : (old new : List (ℕ × X)) → ((q : ℕ) → lookup (nat_eq q) new ≡ lookup (nat_eq q) old) → from_entries {R = nat_cmp} new ≡ from_entries {R = nat_cmp} old
+  same_look-ups old new h =
+      same_map nat_cmp_total nat_cmp-IsAntisymmetric _ _ (λ q. sym (at_number q new) ∙ h q ∙ at_number q old)
+
+  pub put_at : (k : ℕ) (v : X) (old new : List (ℕ × X)) → ((q : ℕ) → lookup (nat_eq q) new ≡ cond (nat_eq k q) (Some v) (lookup (nat_eq q) old))
+      → from_entries {R = nat_cmp} new ≡ insert (from_entries {R = nat_cmp} old) k v
+  put_at k v old new h =
+      same_map nat_cmp_total nat_cmp-IsAntisymmetric _ _
+      (λ q. sym (at_number q new) ∙ h q ∙ ap (λ b. cond b (Some v) (lookup (nat_eq q) old)) (turned k q)
+      ∙ ap (cond (eq_by_cmp nat_cmp q k) (Some v)) (at_number q old) ∙ sym (get-insert nat_cmp_total (from_entries {R = nat_cmp} old) k v q))
+
+  pub taken_at : (k : ℕ) (old new : List (ℕ × X)) → ((q : ℕ) → lookup (nat_eq q) new ≡ cond (nat_eq k q) None (lookup (nat_eq q) old))
+      → from_entries {R = nat_cmp} new ≡ remove (from_entries {R = nat_cmp} old) k
+  taken_at k old new h =
+      same_map nat_cmp_total nat_cmp-IsAntisymmetric _ _
+      (λ q. sym (at_number q new) ∙ h q ∙ ap (λ b. cond b None (lookup (nat_eq q) old)) (turned k q)
+      ∙ ap (cond (eq_by_cmp nat_cmp q k) None) (at_number q old) ∙ sym (get-remove nat_cmp_total (from_entries {R = nat_cmp} old) k q))
+
+  pub wrote : (k : ℕ) (c c' : X) (old new : List (ℕ × X)) → lookup (nat_eq k) old ≡ Some c
+      → ((q : ℕ) → lookup (nat_eq q) new ≡ cond (nat_eq k q) (Some c') (lookup (nat_eq q) old))
+      → (get (from_entries {R = nat_cmp} old) k ≡ Some c) × (from_entries {R = nat_cmp} new ≡ insert (from_entries {R = nat_cmp} old) k c')
+  wrote k c c' old new at h = (sym (at_number k old) ∙ at, put_at k c' old new h)
+
+  picked : (b : Bool) (o r : Option X) → (b ≡ true → r ≡ o) → cond b o r ≡ r
+  picked true o r h = sym (h refl)
+  picked false o r h = refl
+
+  -- what stands there is put again
+  pub put_again : (m : FinMap nat_cmp X) (k : ℕ) (c : X) → get m k ≡ Some c → insert m k c ≡ m
+  put_again m k c at =
+      same_map nat_cmp_total nat_cmp-IsAntisymmetric _ _
+      (λ q. get-insert nat_cmp_total m k c q ∙ picked (eq_by_cmp nat_cmp q k) (Some c) (get m q)
+      (λ same. ap (get m) (eqb→eq q k (subst T (sym (unsigned_ties q k ∙ same)) tt)) ∙ at))
+
+  -- no entries, the empty map
+  pub empty_by : (es : List (ℕ × X)) → length es ≡ 0 → from_entries {R = nat_cmp} es ≡ empty
+  empty_by [] e = refl
+  empty_by (x ∷ es) e = absurd (omega (arith, e))
+
+  pub none_by : (es : List (ℕ × X)) → from_entries {R = nat_cmp} es ≡ empty → length es ≡ 0
+  none_by [] e = refl
+  none_by (x ∷ es) e =
+      let here : get (insert (from_entries {R = nat_cmp} es) x.0 x.1) x.0 ≡ Some x.1 =
+      get-insert nat_cmp_total (from_entries es) x.0 x.1 x.0 ∙ ap (λ b. cond b (Some x.1) (get (from_entries {R = nat_cmp} es) x.0)) ((eq_by_cmp_equiv nat_cmp_total).refl x.0) in
+      absurd (none_some x.1 (sym (get-empty nat_cmp x.0) ∙ ap (λ (m : FinMap nat_cmp X). get m x.0) (sym e) ∙ here))

@@ -1,0 +1,18 @@
+use Rattle.std.proofs.Common.{◌≡◌, ◌∙◌, ◌<◌, sym, ap, subst, arith, length, Some, None, refl}
+use Rattle.std.specs.Prelude.{slice_get, slice_set}
+use Rattle.std.proofs.lemmas.Result.{err_from_is_err_and}
+use Rattle.proxy_turns.specs.Carriage.{carriage_of, Goes, Turns}
+use Rattle.proxy_turns.proofs.Carrying.{at-place, set-itself, same-item, stays, goes_by, goes_then, turns_err, err_stays, served, starved, gave, told, took, sent, not_sent, opened, undialled, refused, greeted, missed}
+use Rattle.proxy_turns.proofs.carrier.Carrier+H+Publisher+J+R+D+P.serve_lanes.Goals as goal
+
+pub loop-worker-init : goal.loop-worker-init
+loop-worker-init g c = record { goes = stays g.P.NodePort.failures g.P.NodePort.is_garbled g.P.NodePort.exchange _ }
+
+pub loop-worker-preserved : goal.loop-worker-preserved
+loop-worker-preserved g c = record { goes = goes_then g.P.NodePort.failures g.P.NodePort.is_garbled g.P.NodePort.exchange _ _ _ _ _ c.loop-worker.invariant.goes c.in_ok-moved.ensures }
+
+pub returns-in_err-moved : goal.returns-in_err-moved
+returns-in_err-moved g c = turns_err g.P.NodePort.failures g.P.NodePort.is_garbled g.P.NodePort.exchange _ _ _ _ _ _ _ c.loop-worker.invariant.goes c.in_err-moved.ensures (err_from_is_err_and c.from_residual.result c.from_residual.ensures.1).1
+
+pub returns : goal.returns
+returns g c = c.loop-worker.invariant.goes

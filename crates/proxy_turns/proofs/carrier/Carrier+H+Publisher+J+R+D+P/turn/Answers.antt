@@ -1,0 +1,18 @@
+use Rattle.std.proofs.Common.{◌≡◌, ◌∙◌, ◌<◌, sym, ap, subst, arith, length, Some, None, refl}
+use Rattle.std.specs.Prelude.{slice_get, slice_set}
+use Rattle.std.proofs.lemmas.Result.{err_from_is_err_and}
+use Rattle.proxy_turns.specs.Carriage.{carriage_of, Goes, Turns}
+use Rattle.proxy_turns.proofs.Carrying.{at-place, set-itself, same-item, stays, goes_by, goes_then, turns_err, err_stays, served, starved, gave, told, took, sent, not_sent, opened, undialled, refused, greeted, missed}
+use Rattle.proxy_turns.proofs.carrier.Carrier+H+Publisher+J+R+D+P.turn.Goals as goal
+
+pub returns-in_err-greeted : goal.returns-in_err-greeted
+returns-in_err-greeted g c = turns_err g.P.NodePort.failures g.P.NodePort.is_garbled g.P.NodePort.exchange _ _ _ _ _ _ _ c.in_ok-seated.ensures c.in_err-greeted.ensures (err_from_is_err_and c.from_residual-in_err-greeted.result c.from_residual-in_err-greeted.ensures.1).1
+
+pub returns-in_err-fetched : goal.returns-in_err-fetched
+returns-in_err-fetched g c = turns_err g.P.NodePort.failures g.P.NodePort.is_garbled g.P.NodePort.exchange _ _ _ _ _ _ _ (goes_then g.P.NodePort.failures g.P.NodePort.is_garbled g.P.NodePort.exchange _ _ _ _ _ c.in_ok-seated.ensures c.in_ok-greeted.ensures) c.in_err-fetched.ensures (err_from_is_err_and c.from_residual-in_err-fetched.result c.from_residual-in_err-fetched.ensures.1).1
+
+pub returns-in_err-carried : goal.returns-in_err-carried
+returns-in_err-carried g c = turns_err g.P.NodePort.failures g.P.NodePort.is_garbled g.P.NodePort.exchange _ _ _ _ _ _ _ (goes_then g.P.NodePort.failures g.P.NodePort.is_garbled g.P.NodePort.exchange _ _ _ _ _ (goes_then g.P.NodePort.failures g.P.NodePort.is_garbled g.P.NodePort.exchange _ _ _ _ _ c.in_ok-seated.ensures c.in_ok-greeted.ensures) c.in_ok-fetched.ensures) c.in_err-carried.ensures (err_from_is_err_and c.from_residual-in_err-carried.result c.from_residual-in_err-carried.ensures.1).1
+
+pub returns : goal.returns
+returns g c = (goes_then g.P.NodePort.failures g.P.NodePort.is_garbled g.P.NodePort.exchange _ _ _ _ _ (goes_then g.P.NodePort.failures g.P.NodePort.is_garbled g.P.NodePort.exchange _ _ _ _ _ (goes_then g.P.NodePort.failures g.P.NodePort.is_garbled g.P.NodePort.exchange _ _ _ _ _ c.in_ok-seated.ensures c.in_ok-greeted.ensures) c.in_ok-fetched.ensures) c.in_ok-carried.ensures)

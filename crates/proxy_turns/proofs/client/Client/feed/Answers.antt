@@ -1,0 +1,14 @@
+use Rattle.std.proofs.Common.{◌≡◌, ◌∙◌, ◌||◌, ap, sym, refl, subst, rules, true, false, Bool, Ok, Err, Some, None}
+use Rattle.proxy_turns.specs.Turn.{Goes, Turns}
+use Rattle.proxy_turns.specs.Commands.{HasEnd}
+use Rattle.proxy_turns.proofs.Going.{drained, drops, err_turn, fed, finished, front_left, front_moves, goes_then, handed, not_some, noted, parted, pulled, pushed, stays, takes_none, takes_nothing, tried, turns_err, turns_posts, turns_read}
+use Rattle.proxy_turns.proofs.Sound.{ended_part, sound_drops, sound_ended, sound_handed, sound_hears, sound_kept, sound_result}
+use Rattle.proxy_turns.proofs.client.Client.feed.Goals as goal
+
+pub invariant_of-self : goal.invariant_of-self
+invariant_of-self g c = sound_kept c.self.inside.session c.feed.new.self c.self.inside.commands c.feed.ensures.kept c.self.invariant
+
+pub returns-in-Ok : goal.returns-in-Ok
+returns-in-Ok g c = λ outlet view.
+    let done = rw c.as_slice.ensures.value at c.in-Ok.ensures.does in
+    rw (← c.self.view_is) (fed g.C.ClientPort.moves _ outlet view _ (Ok c.in-Ok.count) _ _ done c.take_off.ensures refl)

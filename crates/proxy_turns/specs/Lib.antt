@@ -1,0 +1,12 @@
+pub mod Port
+pub mod Commands
+pub mod Talk
+pub mod Turn
+pub mod Floor
+pub mod Room
+pub mod Worker
+pub mod Dialling
+pub mod Line
+pub mod Links
+pub mod Hands
+pub mod Carriage

@@ -1,0 +1,31 @@
+-- What one call on a client's port moves, by its answer.
+use Rattle.std.specs.Prelude.{◌≤◌, List, [], ◌∷◌, ℕ, length, take, Result, Ok, Err}
+use Rattle.key_split.specs.declared.travel.Ticket.{Ticket}
+use Rattle.key_split.specs.declared.travel.Ended.{Ended}
+use Rattle.node_link.specs.declared.stream.Flow.{Flow}
+use Rattle.node_link.specs.declared.stream.Flow.TheVariants.{Bytes, Nothing, Gone}
+use Rattle.resp_wire.specs.declared.fault.NoMemory.{NoMemory}
+
+-- from one state of a port to another these bytes were pulled, these were pushed, and these ends were noted
+abbrev pub Moves : Type 0 → Type 1
+Moves C = C → List ℕ → List ℕ → List (Ticket × Ended) → C → Type 0
+
+module _ {C : Type 0} (moves : Moves C) where
+  -- the bytes at the front of the buffer were pulled
+  abbrev pub PullOutcome : C → List ℕ → Result Flow NoMemory → C → Type 0
+  PullOutcome old buffer (Ok (Bytes n)) new = (n ≤ length buffer) × moves old (take n buffer) [] [] new
+  PullOutcome old buffer (Ok Nothing) new = moves old [] [] [] new
+  PullOutcome old buffer (Ok Gone) new = moves old [] [] [] new
+  PullOutcome old buffer (Err refused) new = moves old [] [] [] new
+
+  -- the bytes at the front were pushed
+  abbrev pub PushOutcome : C → List ℕ → Result Flow NoMemory → C → Type 0
+  PushOutcome old bytes (Ok (Bytes n)) new = (n ≤ length bytes) × moves old [] (take n bytes) [] new
+  PushOutcome old bytes (Ok Nothing) new = moves old [] [] [] new
+  PushOutcome old bytes (Ok Gone) new = moves old [] [] [] new
+  PushOutcome old bytes (Err refused) new = moves old [] [] [] new
+
+  -- the end was noted
+  abbrev pub NoteOutcome : C → Ticket × Ended → Result Unit NoMemory → C → Type 0
+  NoteOutcome old noted (Ok _) new = moves old [] [] (noted ∷ []) new
+  NoteOutcome old noted (Err refused) new = moves old [] [] [] new

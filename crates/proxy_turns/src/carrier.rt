@@ -1,0 +1,337 @@
+//! The carrier: one turn after another.
+
+ghost use Rattle.std.specs.Prelude.{◌≡◌, ◌<◌};
+
+use crate::dial::Dial;
+use crate::hand::Hand;
+use crate::line::{Dialled, Line, Task, any_unanswered};
+use node_link::NodePort;
+use proxy_lanes::{CarrierEnds, Naming, Publisher};
+use resp_wire::NoMemory;
+use slot_map::{NodeId, NodeTable};
+use std::alloc::Global;
+use std::sync::Wait;
+
+// What is done at a line in a turn.
+#[derive(Clone, Copy)]
+enum Duty {
+    At(Task),
+    // Give what is owed to its worker.
+    Give,
+}
+
+// What the carrier holds goes on first, then one reply is taken, which goes on in the same turn where it can.
+const ROUND: [Duty; 11] = [
+    Duty::At(Task::Publish),
+    Duty::At(Task::Ask),
+    Duty::At(Task::Read),
+    Duty::At(Task::Renew),
+    Duty::Give,
+    Duty::At(Task::Fetch),
+    Duty::At(Task::Publish),
+    Duty::At(Task::Ask),
+    Duty::At(Task::Read),
+    Duty::At(Task::Renew),
+    Duty::Give,
+];
+
+/// Carries batches from the workers' lanes to the nodes, and what the nodes reply back, and renews the slot map.
+#[derive(Drop)]
+pub struct Carrier<H: Drop, M: Drop, D, P> {
+    alloc: Global,
+    ends: CarrierEnds<H, M>,
+    dial: D,
+    nodes: NodeTable,
+    hands: Vec<Hand>,
+    lines: Vec<Line<P>>,
+    /// The seed is still to be dialled.
+    greets: bool,
+}
+
+// The place of a node's line.
+fn place_of(node: NodeId) -> usize
+    ensures value { result ≡ node }
+    ensures in_range { result < 64 }
+{
+    node.number() as usize
+}
+
+impl<H: Drop, J, R, P, D> Carrier<H, Publisher<J, R>, D, P>
+where
+    J: Naming,
+    R: Wait + Drop,
+    P: NodePort + Drop,
+    D: Dial<Port = P> + Drop,
+{
+    ghost use Rattle.proxy_turns.specs.Carriage.{carriage_of, ends_of, fresh_carriage, Goes, Turns};
+    ghost use Rattle.proxy_lanes.specs.Carrier.{lanes_of};
+
+    /// A carrier between these lanes and the nodes of this table, of which the first is the seed. No link is open.
+    pub fn new(
+        alloc: Global,
+        ends: CarrierEnds<H, Publisher<J, R>>,
+        dial: D,
+        nodes: NodeTable,
+    ) -> Self
+        ensures { carriage_of D.failures result ≡ fresh_carriage (lanes_of ends) nodes ends.map (D.failures dial) }
+    {
+        Carrier {
+            alloc,
+            ends,
+            dial,
+            nodes,
+            hands: Vec::new(alloc),
+            lines: Vec::new(alloc),
+            greets: true,
+        }
+    }
+
+    /// The carrier's ends of the lanes, by which new clients are handed over.
+    pub fn ends(&mut self) -> &mut CarrierEnds<H, Publisher<J, R>>
+        ensures { result.now ≡ ends_of self.old }
+    {
+        &mut self.ends
+    }
+
+    // Does one task at a line.
+    fn serve(&mut self, at: usize, task: Task) -> Result<bool, NoMemory>
+        ensures { Turns P.failures P.is_garbled P.exchange (carriage_of D.failures self.old) result (carriage_of D.failures self.new) }
+    {
+        if at >= self.lines.len() {
+            return Ok(false);
+        }
+        let unanswered = any_unanswered(&self.lines);
+        let step = self.lines[at].serve(task, unanswered, &mut self.nodes, &mut self.ends.map)?;
+        Ok(step.is_move())
+    }
+
+    // Gives what is owed at a line.
+    fn give(&mut self, at: usize) -> bool
+        ensures { Goes P.failures P.is_garbled P.exchange (carriage_of D.failures self.old) result (carriage_of D.failures self.new) }
+    {
+        if at >= self.lines.len() {
+            return false;
+        }
+        self.lines[at].give(&mut self.ends)
+    }
+
+    // A line for one more node.
+    fn add_line(&mut self) -> Result<bool, NoMemory>
+        ensures { Turns P.failures P.is_garbled P.exchange (carriage_of D.failures self.old) result (carriage_of D.failures self.new) }
+    {
+        self.lines.push(Line::new())?;
+        Ok(false)
+    }
+
+    // A hand for one more worker.
+    fn add_hand(&mut self) -> Result<bool, NoMemory>
+        ensures { Turns P.failures P.is_garbled P.exchange (carriage_of D.failures self.old) result (carriage_of D.failures self.new) }
+    {
+        self.hands.push(Hand::new())?;
+        Ok(false)
+    }
+
+    // Takes the next batch of a worker's lane.
+    fn take(&mut self, at: usize) -> bool
+        ensures { Goes P.failures P.is_garbled P.exchange (carriage_of D.failures self.old) result (carriage_of D.failures self.new) }
+    {
+        if at >= self.hands.len() || at >= self.ends.workers() || at > 65_535 {
+            return false;
+        }
+        self.hands[at].take(at as u16, &mut self.ends)
+    }
+
+    // Tells a worker that a batch is unsent.
+    fn tell(&mut self, at: usize) -> bool
+        ensures { Goes P.failures P.is_garbled P.exchange (carriage_of D.failures self.old) result (carriage_of D.failures self.new) }
+    {
+        if at >= self.hands.len() {
+            return false;
+        }
+        self.hands[at].tell(&mut self.ends)
+    }
+
+    // Dials the node of the batch in a hand, where there is no link to it.
+    fn dial(&mut self, worker: usize) -> Result<bool, NoMemory>
+        ensures { Turns P.failures P.is_garbled P.exchange (carriage_of D.failures self.old) result (carriage_of D.failures self.new) }
+    {
+        if worker >= self.hands.len() {
+            return Ok(false);
+        }
+        let Some(node) = self.hands[worker].goal() else {
+            return Ok(false);
+        };
+        let at = place_of(node);
+        if at >= self.lines.len() {
+            return Ok(false);
+        }
+        match self.lines[at].open(self.alloc, node, &mut self.dial, &self.nodes)? {
+            Dialled::Present => Ok(false),
+            Dialled::Opened => Ok(true),
+            Dialled::Unreached => {
+                self.hands[worker].refuse();
+                Ok(true)
+            }
+        }
+    }
+
+    // Sends the batch in a hand.
+    fn send(&mut self, worker: usize) -> Result<bool, NoMemory>
+        ensures { Turns P.failures P.is_garbled P.exchange (carriage_of D.failures self.old) result (carriage_of D.failures self.new) }
+    {
+        if worker >= self.hands.len() {
+            return Ok(false);
+        }
+        let hand = &mut self.hands[worker];
+        let Some(batch) = &hand.batch else {
+            return Ok(false);
+        };
+        let at = place_of(batch.node);
+        if at >= self.lines.len() {
+            return Ok(false);
+        }
+        let sent = self.lines[at].send(batch)?;
+        if !sent {
+            return Ok(false);
+        }
+        hand.batch = None;
+        Ok(true)
+    }
+
+    // Lines for all nodes up to this one.
+    fn reach(&mut self, node: NodeId) -> Result<bool, NoMemory>
+        ensures { Turns P.failures P.is_garbled P.exchange (carriage_of D.failures self.old) result (carriage_of D.failures self.new) }
+    {
+        let mut moved = false;
+        for _ in self.lines.len()..place_of(node) + 1 {
+            moved |= self.add_line()?;
+        }
+        Ok(moved)
+    }
+
+    // Hands for all workers.
+    fn seat(&mut self) -> Result<bool, NoMemory>
+        ensures { Turns P.failures P.is_garbled P.exchange (carriage_of D.failures self.old) result (carriage_of D.failures self.new) }
+    {
+        let mut moved = false;
+        for _ in self.hands.len()..self.ends.workers() {
+            moved |= self.add_hand()?;
+        }
+        Ok(moved)
+    }
+
+    // Dials the seed, which is then to be asked for CLUSTER SLOTS.
+    fn greet(&mut self, seed: NodeId) -> Result<bool, NoMemory>
+        requires { seed ≡ 0 }
+        ensures { Turns P.failures P.is_garbled P.exchange (carriage_of D.failures self.old) result (carriage_of D.failures self.new) }
+    {
+        if !self.greets {
+            return Ok(false);
+        }
+        let at = place_of(seed);
+        if at >= self.lines.len() {
+            return Ok(false);
+        }
+        let line = &mut self.lines[at];
+        match line.open(self.alloc, seed, &mut self.dial, &self.nodes)? {
+            Dialled::Opened => Ok(true),
+            Dialled::Present => {
+                line.to_ask = true;
+                self.greets = false;
+                Ok(true)
+            }
+            Dialled::Unreached => {
+                self.greets = false;
+                Ok(true)
+            }
+        }
+    }
+
+    fn fulfil(&mut self, at: usize, duty: Duty) -> Result<bool, NoMemory>
+        ensures { Turns P.failures P.is_garbled P.exchange (carriage_of D.failures self.old) result (carriage_of D.failures self.new) }
+    {
+        match duty {
+            Duty::At(task) => self.serve(at, task),
+            Duty::Give => Ok(self.give(at)),
+        }
+    }
+
+    // A line's turn.
+    fn serve_line(&mut self, at: usize) -> Result<bool, NoMemory>
+        ensures { Turns P.failures P.is_garbled P.exchange (carriage_of D.failures self.old) result (carriage_of D.failures self.new) }
+    {
+        let mut moved = false;
+        for i in 0..ROUND.len() {
+            moved |= self.fulfil(at, ROUND[i])?;
+        }
+        Ok(moved)
+    }
+
+    fn serve_lines(&mut self) -> Result<bool, NoMemory>
+        ensures { Turns P.failures P.is_garbled P.exchange (carriage_of D.failures self.old) result (carriage_of D.failures self.new) }
+    {
+        let mut moved = false;
+        for at in 0..self.lines.len() {
+            moved |= self.serve_line(at)?;
+        }
+        Ok(moved)
+    }
+
+    // A line for the node of the batch in a hand.
+    fn prepare(&mut self, worker: usize) -> Result<bool, NoMemory>
+        ensures { Turns P.failures P.is_garbled P.exchange (carriage_of D.failures self.old) result (carriage_of D.failures self.new) }
+    {
+        if worker >= self.hands.len() {
+            return Ok(false);
+        }
+        let Some(node) = self.hands[worker].goal() else {
+            return Ok(false);
+        };
+        self.reach(node)
+    }
+
+    // The turn of a worker's lanes.
+    fn serve_lane(&mut self, worker: usize) -> Result<bool, NoMemory>
+        ensures { Turns P.failures P.is_garbled P.exchange (carriage_of D.failures self.old) result (carriage_of D.failures self.new) }
+    {
+        let told = self.tell(worker);
+        let took = self.take(worker);
+        let prepared = self.prepare(worker)?;
+        let dialled = self.dial(worker)?;
+        let sent = self.send(worker)?;
+        Ok(told | took | prepared | dialled | sent)
+    }
+
+    fn serve_lanes(&mut self) -> Result<bool, NoMemory>
+        ensures { Turns P.failures P.is_garbled P.exchange (carriage_of D.failures self.old) result (carriage_of D.failures self.new) }
+    {
+        let mut moved = false;
+        for worker in 0..self.hands.len() {
+            moved |= self.serve_lane(worker)?;
+        }
+        Ok(moved)
+    }
+
+    /// Carries at most one batch of each worker, and takes at most one reply off each link. True exactly where something
+    /// moved. After NoMemory what was done stands, and the item at which memory ran out stays where it was.
+    pub fn turn(&mut self) -> Result<bool, NoMemory>
+        ensures { Turns P.failures P.is_garbled P.exchange (carriage_of D.failures self.old) result (carriage_of D.failures self.new) }
+    {
+        let seated = self.seat()?;
+        let greeted = self.greet_seed()?;
+        let fetched = self.serve_lines()?;
+        let carried = self.serve_lanes()?;
+        Ok(seated | greeted | fetched | carried)
+    }
+
+    fn greet_seed(&mut self) -> Result<bool, NoMemory>
+        ensures { Turns P.failures P.is_garbled P.exchange (carriage_of D.failures self.old) result (carriage_of D.failures self.new) }
+    {
+        let Some(seed) = NodeId::new(0) else {
+            return Ok(false);
+        };
+        let reached = self.reach(seed)?;
+        let greeted = self.greet(seed)?;
+        Ok(reached | greeted)
+    }
+}

@@ -1,0 +1,271 @@
+//! The commands of one client.
+
+ghost use Rattle.std.specs.Prelude.{◌≡◌, ◌<◌, ◌↔◌, ℕ, Option, is_some, IsSome, Result, None, Some, false, IfOk, IfSome, OnErr, IsTrue, IsSomeAnd, MatchOption};
+ghost use Rattle.std.specs.FinMap as map;
+ghost use Rattle.std.specs.HashMap.{spare};
+ghost use Rattle.slot_hash.specs.Slot.{slot_of};
+ghost use Rattle.command_future.specs.Progress.{MayPost, Progress, fresh};
+ghost use Rattle.proxy_lanes.specs.declared.map_view.NotEntered.{NotEntered as NotEnteredNow};
+ghost use Rattle.proxy_turns.specs.Commands.{Drops, EndsAt, GoesTo, HandsIn, HasEnd, Hears, HearsOne, Looks, PostOutcome, PostsResult, commanded, in_table, node_looked_up};
+
+use command_future::{Command, Want};
+use key_split::{Batch, Ended, Part, Ticket, Told};
+use proxy_lanes::{MapView, Naming, Outlet};
+use resp_wire::NoMemory;
+use slot_hash::Slot;
+use slot_map::NodeId;
+use std::alloc::{AllocFailed, Global};
+use std::collections::HashMap;
+use std::marker::Model;
+
+/// The commands of the parts of one client that were handed out and have not ended.
+#[derive(Drop)]
+pub(crate) struct Commands {
+    alloc: Global,
+    // Handed out and not posted yet.
+    fresh: Option<Command>,
+    // Posted at least once, by the numbers of their parts.
+    posted: HashMap<u64, Command>,
+}
+
+impl Model for Commands {
+    ghost use Rattle.std.specs.FinMap as map;
+    ghost use Rattle.std.specs.Coded.{codes, coded_ℕ};
+    ghost use Rattle.resp_wire.specs.Stored.{coded_data};
+    ghost use Rattle.proxy_turns.specs.Commands.{Commanded};
+
+    ghost Value = { Commanded };
+
+    ghost coded = { Prim.hlevel (codes, coded_data, map.code) };
+
+    ghost view = { λ c. record { fresh = c.fresh; posted = map.from_entries c.posted.entries } };
+}
+
+impl Commands {
+    pub(crate) fn new(alloc: Global) -> Commands
+        ensures { result ≡ record { fresh = None; posted = map.empty } }
+    {
+        Commands {
+            alloc,
+            fresh: None,
+            posted: HashMap::new(alloc),
+        }
+    }
+
+    /// Whether a command is waiting for its first post.
+    pub(crate) fn has_fresh(&self) -> bool
+        ensures { result ≡ is_some self.now.fresh }
+    {
+        self.fresh.is_some()
+    }
+
+    /// Whether no command that was posted is left.
+    pub(crate) fn has_none_posted(&self) -> bool
+        ensures { IsTrue result ↔ (self.now.posted ≡ map.empty) }
+    {
+        self.posted.is_empty()
+    }
+
+    /// The command of a part that was handed out begins.
+    pub(crate) fn begin(&mut self, ticket: Ticket, part: Part)
+        requires { self.old.fresh ≡ None }
+        ensures { self.new ≡ record self.old { fresh = Some (fresh ticket part) } }
+    {
+        self.fresh = Some(Command::new(ticket, part));
+    }
+
+    /// Drops the command that was not posted yet, where there is one.
+    pub(crate) fn drop_fresh(&mut self) -> bool
+        ensures { Drops self.old result self.new }
+    {
+        self.fresh.take().is_some()
+    }
+
+    /// Posts the command that was not posted yet. True where it was posted.
+    pub(crate) fn post_fresh<J: Naming>(
+        &mut self,
+        outlet: &mut Outlet<Batch>,
+        view: &mut MapView<J>,
+    ) -> Result<bool, NoMemory>
+        ensures { PostsResult self.old outlet.old view.old result self.new outlet.new view.new }
+    {
+        self.posted.reserve(1)?;
+        let Some(mut command) = self.fresh.take() else {
+            return Ok(false);
+        };
+        match post_command(self.alloc, &mut command, outlet, view) {
+            Ok(true) => {
+                put_ready(&mut self.posted, command);
+                Ok(true)
+            }
+            Ok(false) => {
+                self.fresh = Some(command);
+                Ok(false)
+            }
+            Err(refused) => {
+                self.fresh = Some(command);
+                Err(refused)
+            }
+        }
+    }
+
+    /// Posts the command for the part of this number again, where it wants that. True where it was posted.
+    pub(crate) fn post_again<J: Naming>(
+        &mut self,
+        number: u64,
+        outlet: &mut Outlet<Batch>,
+        view: &mut MapView<J>,
+    ) -> Result<bool, NoMemory>
+        ensures { PostsResult self.old outlet.old view.old result self.new outlet.new view.new }
+    {
+        post_at(self.alloc, &mut self.posted, number, outlet, view)
+    }
+
+    /// Tells the command of this ticket what came, where it awaits that. True where it does.
+    pub(crate) fn hear(&mut self, ticket: Ticket, told: Told) -> bool
+        ensures { Hears self.old ticket told result self.new }
+    {
+        tell_at(&mut self.posted, ticket, told)
+    }
+
+    /// Whether the command for the part of this number wants to be posted.
+    pub(crate) fn wants_post(&self, number: u64) -> bool {
+        match self.posted.get(&number) {
+            Some(command) => matches!(command.want(), Want::Post(_, _)),
+            None => false,
+        }
+    }
+
+    /// The ticket and the end of the command for the part of this number, where it has ended.
+    pub(crate) fn end_of(&self, number: u64) -> Option<(Ticket, &Ended)>
+        ensures { IfSome result (λ (ticket, end). HasEnd self.now number ticket end.now) }
+    {
+        let command = self.posted.get(&number)?;
+        Some((command.ticket(), command.end()?))
+    }
+
+    /// Takes off the command for the part of this number, which has ended, with its end.
+    pub(crate) fn finish(&mut self, number: u64) -> (Ticket, Ended)
+        requires { EndsAt self.old number }
+        ensures { HasEnd self.old number result.0 result.1 × (self.new ≡ record self.old { posted = map.remove self.old.posted number }) }
+    {
+        match take_at(&mut self.posted, number).finish() {
+            Ok(ended) => ended,
+            Err(_) => unreachable!(),
+        }
+    }
+}
+
+// Puts the command behind the number of its part. There is room for it.
+fn put_ready(posted: &mut HashMap<u64, Command>, command: Command)
+    requires { 0 < spare posted.old }
+    ensures { in_table posted.new.entries ≡ map.insert (in_table posted.old.entries) command.ticket.part command }
+{
+    let number = command.ticket().part;
+    let put: Result<Option<Command>, AllocFailed<(u64, Command)>> = posted.insert(number, command);
+    put.unwrap();
+}
+
+fn take_at(posted: &mut HashMap<u64, Command>, number: u64) -> Command
+    requires { IsSome (map.get (in_table posted.old.entries) number) }
+    ensures held { map.get (in_table posted.old.entries) number ≡ Some result }
+    ensures left { in_table posted.new.entries ≡ map.remove (in_table posted.old.entries) number }
+{
+    posted.remove(&number).unwrap()
+}
+
+fn tell_at(posted: &mut HashMap<u64, Command>, ticket: Ticket, told: Told) -> bool
+    ensures { (fresh : Option Progress) → Hears (commanded fresh posted.old.entries) ticket told result (commanded fresh posted.new.entries) }
+{
+    let Some(command) = posted.get_mut(&ticket.part) else {
+        return false;
+    };
+    tell_command(command, ticket, told)
+}
+
+fn tell_command(command: &mut Command, ticket: Ticket, told: Told) -> bool
+    ensures { HearsOne command.old ticket told result command.new }
+{
+    if command.ticket() == ticket && matches!(command.want(), Want::Await) {
+        command.told(told);
+        return true;
+    }
+    false
+}
+
+fn post_at<J: Naming>(
+    alloc: Global,
+    posted: &mut HashMap<u64, Command>,
+    number: u64,
+    outlet: &mut Outlet<Batch>,
+    view: &mut MapView<J>,
+) -> Result<bool, NoMemory>
+    ensures { (fresh : Option Progress) → PostsResult (commanded fresh posted.old.entries) outlet.old view.old result (commanded fresh posted.new.entries) outlet.new view.new }
+{
+    let Some(command) = posted.get_mut(&number) else {
+        return Ok(false);
+    };
+    post_command(alloc, command, outlet, view)
+}
+
+// Posts the command where it wants that. True where it was posted.
+fn post_command<J: Naming>(
+    alloc: Global,
+    command: &mut Command,
+    outlet: &mut Outlet<Batch>,
+    view: &mut MapView<J>,
+) -> Result<bool, NoMemory>
+    ensures ok { IfOk result (λ moved. PostOutcome command.old outlet.old view.old moved command.new outlet.new view.new) }
+    ensures err { OnErr result (PostOutcome command.old outlet.old view.old false command.new outlet.new view.new) }
+{
+    let Some(node) = aim(command, view) else {
+        return Ok(false);
+    };
+    let batch = command.batch(alloc, node)?;
+    if !hand_in(outlet, batch) {
+        return Ok(false);
+    }
+    command.posted(node);
+    Ok(true)
+}
+
+// The node at which the command wants to be posted.
+fn aim<J: Naming>(command: &Command, view: &mut MapView<J>) -> Option<NodeId>
+    ensures aims { MatchOption result (view.new ≡ view.old) (λ node. GoesTo command.now.stage (slot_of command.now.part.key) view.old node view.new) }
+    ensures may { IfSome result (λ node. MayPost command.now.stage node) }
+{
+    match command.want() {
+        Want::Post(_, Some(node)) => Some(node),
+        Want::Post(_, None) => Some(node_by_map(view, command.slot())),
+        Want::Await => None,
+        Want::Finished => None,
+    }
+}
+
+// Posts the batch. False where it came back.
+fn hand_in(outlet: &mut Outlet<Batch>, batch: Batch) -> bool
+    ensures { HandsIn outlet.old batch result outlet.new }
+{
+    match outlet.post(batch) {
+        Ok(()) => true,
+        Err(_) => false,
+    }
+}
+
+// The node of the slot by the map, or the seed.
+fn node_by_map<J: Naming>(view: &mut MapView<J>, slot: Slot) -> NodeId
+    ensures { (answer : Result (Option ℕ) NotEnteredNow) × Looks view.old slot answer view.new × (result ≡ node_looked_up answer) }
+{
+    match view.node_of(slot) {
+        Ok(Some(node)) => node,
+        Ok(None) => seed(),
+        Err(_) => seed(),
+    }
+}
+
+// The first node of the table.
+fn seed() -> NodeId
+    ensures { result ≡ 0 }
+{
+    NodeId::new(0).unwrap()
+}
