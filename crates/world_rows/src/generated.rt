@@ -1,5 +1,7 @@
 //! A long script of commands, groups, drops, moves and recalls, by a small fixed generator.
 
+ghost use Rattle.std.specs.Prelude.{◌<◌};
+
 use cluster_world::{World, event_of, read_line, run_simulate};
 use node_model::Store;
 use slot_hash::Slot;
@@ -67,7 +69,9 @@ fn command(slot: usize, choice: u64) -> &'static str {
 }
 
 /// Posts a command to its owner and carries it there. Gives the link.
-fn send(generator: &mut Generator, slot: usize) -> Result<u64, Fail> {
+fn send(generator: &mut Generator, slot: usize) -> Result<u64, Fail>
+    requires { slot < 3 }
+{
     let alloc = generator.alloc;
     let choice = next(generator, 4);
     let words = command(slot, choice);
@@ -90,7 +94,9 @@ fn send(generator: &mut Generator, slot: usize) -> Result<u64, Fail> {
 }
 
 /// A command from its arrival to its answer.
-fn answered(generator: &mut Generator, slot: usize) -> Result<(), Fail> {
+fn answered(generator: &mut Generator, slot: usize) -> Result<(), Fail>
+    requires { slot < 3 }
+{
     let alloc = generator.alloc;
     let link = send(generator, slot)?;
     say(generator, format!(in alloc; "serve {link}")?.as_str())?;
@@ -100,7 +106,9 @@ fn answered(generator: &mut Generator, slot: usize) -> Result<(), Fail> {
 }
 
 /// A command whose link drops, and that is served or thrown away afterwards.
-fn lost(generator: &mut Generator, slot: usize) -> Result<(), Fail> {
+fn lost(generator: &mut Generator, slot: usize) -> Result<(), Fail>
+    requires { slot < 3 }
+{
     let alloc = generator.alloc;
     let link = send(generator, slot)?;
     let node = generator.owners[slot];
@@ -117,7 +125,9 @@ fn lost(generator: &mut Generator, slot: usize) -> Result<(), Fail> {
 }
 
 /// A slot without keys begins to move; it is owned elsewhere then, or called back.
-fn moved(generator: &mut Generator, slot: usize, recalled: bool) -> Result<(), Fail> {
+fn moved(generator: &mut Generator, slot: usize, recalled: bool) -> Result<(), Fail>
+    requires { slot < 3 }
+{
     let alloc = generator.alloc;
     let number = SLOTS[slot];
     let target = generator.owners[slot].wrapping_add(1) % 3;
@@ -152,7 +162,9 @@ fn keys(slot: usize) -> &'static [&'static str] {
 }
 
 /// Sees to it that all keys of a slot are held, by a command.
-fn filled(generator: &mut Generator, slot: usize) -> Result<(), Fail> {
+fn filled(generator: &mut Generator, slot: usize) -> Result<(), Fail>
+    requires { slot < 3 }
+{
     let alloc = generator.alloc;
     let words = match slot {
         0 => "SET a 7",
@@ -180,13 +192,20 @@ fn filled(generator: &mut Generator, slot: usize) -> Result<(), Fail> {
     say(generator, "answer 0")
 }
 
-/// One episode.
-fn episode(generator: &mut Generator) -> Result<(), Fail> {
-    let slot = match next(generator, 3) {
+/// The place of a slot.
+fn any_slot(generator: &mut Generator) -> usize
+    ensures { result < 3 }
+{
+    match next(generator, 3) {
         0 => 0,
         1 => 1,
         _ => 2,
-    };
+    }
+}
+
+/// One episode.
+fn episode(generator: &mut Generator) -> Result<(), Fail> {
+    let slot = any_slot(generator);
     match next(generator, 8) {
         0 => lost(generator, slot),
         1 => moved(generator, slot, true),
