@@ -9,18 +9,45 @@
 mod answer;
 mod choice;
 mod first;
+mod nodes;
 mod one;
+mod serve;
 
 use choice::{Choice, choose};
 use cluster_world::run_simulate;
+use nodes::serve_nodes;
 use one::run_one;
+use serve::run_serve;
+use std::net::{Net, TcpListener, TcpStream};
 use std::process::ExitCode;
+use std::random::RandomSource;
+use std::sync::Wait;
+use std::thread::Threads;
 
 /// Runs what was chosen, and gives the status.
-fn run<R: Input + Print + AllocGlobal>(rt: &R, choice: Choice) -> u8 {
+fn run<R>(rt: &R, choice: Choice<'_>) -> u8
+where
+    R: Input
+        + Print
+        + Eprint
+        + AllocGlobal
+        + Threads
+        + Wait
+        + RandomSource
+        + Net<Listener = TcpListener, Stream = TcpStream>
+        + Sync,
+{
     match choice {
         Choice::One => run_one(rt.alloc(), &mut rt.reader(), &mut std::io::writer(rt)),
         Choice::Simulate => run_simulate(rt.alloc(), &mut rt.reader(), &mut std::io::writer(rt)),
+        Choice::Nodes(ports) => match serve_nodes(rt, rt.alloc(), ports) {
+            Ok(()) => 0,
+            Err(fault) => {
+                let _ = eprintln!(rt; "{fault}");
+                1
+            }
+        },
+        Choice::Serve(serving) => run_serve(rt, serving),
     }
 }
 

@@ -18,3 +18,7 @@ pub mod Indexes
 pub mod Replies
 pub mod Turning
 pub mod Lists
+mod Ranking
+mod Finding
+mod Found
+mod Allowing

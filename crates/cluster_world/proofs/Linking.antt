@@ -1,22 +1,31 @@
 -- What the links' calls say of the machine's events.
-use Rattle.std.proofs.Common.{◌≡◌, ◌⊎◌, inl, inr, ℕ, List, ◌∷◌, Some, Result, Ok, Err, refl, sym, ap, ◌∙◌, subst}
-use Rattle.std.specs.Prelude.{slice_get}
+use Rattle.std.proofs.Common.{◌≡◌, ◌⊎◌, inl, inr, ℕ, List, [], ◌∷◌, ◌++◌, true, false, Some, Result, Ok, Err, refl, sym, ap, ◌∙◌, subst}
+use Rattle.std.specs.Prelude.{slice_get, slice_set, map}
+use Rattle.resp_wire.specs.Data.{Data, simple, error, integer, bulk, null_bulk, array, null_array, items_of, list_of, Items, no_items, item}
+use Rattle.resp_wire.specs.Seen.{data_of}
 use Rattle.key_split.specs.Command.{Command as Part}
 use Rattle.key_split.specs.declared.travel.Ticket.{Ticket}
 use Rattle.key_split.specs.declared.travel.Told.{Told}
 use Rattle.key_split.specs.declared.travel.Told.TheVariants.{Reply, Moved, Ask, TryAgain, ClusterDown, Unclear, Unsent}
-use Rattle.node_model.specs.Nodes.{Nodes}
+use Rattle.node_model.specs.Nodes.{Nodes, store_at, with_store}
+use Rattle.node_model.specs.Store.{store_after, reply_to}
+use Rattle.node_model.specs.Serving.{deed_at, Does as NodeDoes}
+use Rattle.node_model.specs.declared.role.Deed.{Deed}
+use Rattle.node_model.specs.declared.role.Deed.TheVariants.{Executes, Says}
 use Rattle.node_model.specs.declared.role.Verdict.{Verdict}
 use Rattle.node_model.specs.declared.role.Verdict.TheVariants.{Plain}
-use Rattle.world_laws.specs.State.{World, Link}
-use Rattle.world_laws.specs.World.{IsOf, recorded, ServesAsking, ServesCommand}
+use Rattle.world_laws.specs.State.{World, Link, replied, waiting}
+use Rattle.world_laws.specs.World.{Does, IsOf, NamesNode, recorded, ServesAsking, ServesCommand}
 use Rattle.world_laws.specs.declared.state.Arrival.{Arrival}
 use Rattle.world_laws.specs.declared.state.Request.{Request}
 use Rattle.world_laws.specs.declared.state.Request.TheVariants.{Asking, Runs}
+use Rattle.world_laws.specs.declared.state.Back.{Back}
+use Rattle.world_laws.specs.declared.state.Back.TheVariants.{Welcome, To}
 use Rattle.world_laws.specs.declared.event.Event.TheVariants as event
-use Rattle.cluster_world.specs.Kept.{noted}
-use Rattle.cluster_world.specs.Links.{Linked, There, Begins, Closes, Discards, Welcomes, Executes}
-use Rattle.cluster_world.specs.Machine.{Answers}
+use Rattle.cluster_world.specs.Kept.{noted, value_of}
+use Rattle.cluster_world.specs.Links.{Linked, There, Begins, HasReply, Closes, Discards, Fetches, Welcomes}
+use Rattle.cluster_world.specs.Links.{Executes as ExecutesLinked}
+use Rattle.cluster_world.specs.Machine.{Answers, Can}
 use Rattle.cluster_world.specs.declared.fault.WorldFault.{WorldFault}
 use Rattle.cluster_world.specs.declared.fault.WorldFault.TheVariants.{NoMemory, NotNow}
 use Rattle.cluster_world.proofs.Lookups.{same-item}
@@ -31,12 +40,13 @@ pub closes : {U : Type 0} (w : World) (link : ℕ) (r : Result U WorldFault) (k 
     → Answers w (event.Drop link) r (record w { links = k.links; history = k.history; downs = downs })
 closes w link (Ok u) k downs h = (h.0, h.1, h.2.0, λ i. record w { links = (h.2.1 i).links; history = (h.2.1 i).history; downs = h.2.2 i })
 closes w link (Err NotNow) k downs h = ((λ v d. h.0 d.0 d.1 d.2), λ i. record w { links = (h.1 i).links; history = (h.1 i).history; downs = h.2 i })
-closes w link (Err NoMemory) k downs h = λ i. record w { links = (h.0 i).links; history = (h.0 i).history; downs = h.1 i }
+closes w link (Err NoMemory) k downs h =
+    ((record w { links = slice_set w.links link (record h.0.0 { is_open = false; backs = [] }); downs = w.downs ++ map (λ t. (t, Told.Lost)) (waiting h.0.0) }, (h.0.0, h.0.1, h.0.2, refl)), λ i. record w { links = (h.1 i).links; history = (h.1 i).history; downs = h.2 i })
 
 pub discards : {U : Type 0} (w : World) (link : ℕ) (r : Result U WorldFault) (k : Linked) → Discards (links_in w) link r k → Answers w (event.Discard link) r (with_linked w k)
 discards w link (Ok u) k h = (h.0, h.1, h.2.0.0, h.2.0.1, ap (with_linked w) h.2.1)
 discards w link (Err NotNow) k h = ((λ v d. h.0 d.0 d.1 (d.2, d.3)), ap (with_linked w) h.1)
-discards w link (Err NoMemory) k h = ap (with_linked w) h
+discards w link (Err NoMemory) k h = absurd h
 
 -- Serve
 
@@ -56,10 +66,11 @@ asking-refused U w link verdict first other = (
   refl,
 )
 
-pub welcomes : {U : Type 0} (w : World) (link : ℕ) (verdict : Verdict) (r : Result U WorldFault) (k : Linked) → verdict ≡ Plain → Welcomes (links_in w) link r k → Answers w (event.Serve link verdict) r (with_linked w k)
-welcomes w link verdict (Ok u) k plain h = (h.0, h.1, inl (h.2.0, h.2.1, plain, ap (with_linked w) h.2.2))
-welcomes w link verdict (Err NotNow) k plain h = absurd h
-welcomes w link verdict (Err NoMemory) k plain h = ap (with_linked w) h
+pub welcomes : {U : Type 0} (w : World) (link : ℕ) (verdict : Verdict) (r : Result U WorldFault) (k : Linked) → verdict ≡ Plain → There (links_in w) link (Begins Asking) → Welcomes (links_in w) link r k → Answers w (event.Serve link verdict) r (with_linked w k)
+welcomes w link verdict (Ok u) k plain first h = (h.0, h.1, inl (h.2.0, h.2.1, plain, ap (with_linked w) h.2.2))
+welcomes w link verdict (Err NotNow) k plain first h = absurd h
+welcomes w link verdict (Err NoMemory) k plain first h =
+    ((record w { links = slice_set w.links link (replied (record first.0 { requests = first.2.0; asking = true }) Welcome) }, (first.0, first.1, inl (first.2.0, first.2.1, plain, refl))), ap (with_linked w) h)
 
 -- a command is served where it stands among those that arrived
 
@@ -85,12 +96,79 @@ notes-record w c Unclear = refl
 notes-record w c Told.Lost = refl
 notes-record w c Unsent = refl
 
-pub executes : {U : Type 0} (w : World) (link : ℕ) (verdict : Verdict) (ticket : Ticket) (part : Part) (i : ℕ) (c : Arrival) (r : Result U WorldFault) (k : Linked) (nodes : Nodes) → IsOf ticket w.commands i c → c.command.ticket ≡ ticket → part ≡ c.command.part
-    → There (links_in w) link (Begins (Runs ticket)) → Executes (links_in w) w.cluster link ticket part verdict w.moment r k nodes → Answers w (event.Serve link verdict) r (record w { cluster = nodes; links = k.links; history = k.history })
-executes {U} w link verdict ticket part i c r k nodes of' ticket-is part-is first h =
-    go r (subst (λ (p : Ticket × Part). IsOf p.0 w.commands i c × Executes (links_in w) w.cluster link p.0 p.1 verdict w.moment r k nodes) (λ j. (sym ticket-is j, part-is j)) (of', h))
+-- a verdict that names a node that there is not serves no command
+pub serve-refused : (U : Type 0) (w : World) (link : ℕ) (verdict : Verdict) (ticket : Ticket) → There (links_in w) link (Begins (Runs ticket)) → (NamesNode w.cluster verdict → ⊥)
+    → (v : World) → Does w (event.Serve link verdict) v → ⊥
+serve-refused U w link verdict ticket first unnamed v d = its-command w link verdict ticket v first d.0 d.1 ⊥ (λ i c e is y. unnamed y.7) d.2
+
+-- whatever the node does with the command, there is a state after it
+
+data-of-list : (ds : Items) → items_of (list_of ds) ≡ ds
+data-of-list no_items = refl
+data-of-list (item d ds) = ap (item d) (data-of-list ds)
+
+data-of-value : (d : Data) → data_of (value_of d) ≡ d
+data-of-value (simple t) = refl
+data-of-value (error t) = refl
+data-of-value (integer n) = refl
+data-of-value (bulk b) = refl
+data-of-value null_bulk = refl
+data-of-value (array ds) = ap array (data-of-list ds)
+data-of-value null_array = refl
+
+some-deed : (deed : Deed) (nodes : Nodes) (node : ℕ) (part : Part) → (told : Told) × (after : Nodes) × NodeDoes deed nodes node part told after
+some-deed Executes nodes node part = (
+  Reply (value_of (reply_to (store_at nodes node) part)),
+  with_store nodes node (store_after (store_at nodes node) part),
+  (data-of-value (reply_to (store_at nodes node) part), refl),
+)
+some-deed (Says said) nodes node part = (said, nodes, (refl, refl))
+
+-- a command that stands first can be served
+pub serves-can : (w : World) (link : ℕ) (verdict : Verdict) (ticket : Ticket) (i : ℕ) (c : Arrival) → IsOf ticket w.commands i c → c.command.ticket ≡ ticket → NamesNode w.cluster verdict
+    → There (links_in w) link (Begins (Runs ticket)) → Can w (event.Serve link verdict)
+serves-can w link verdict ticket i c of' ticket-is named first =
+    let l : Link = first.0 in
+    let does = some-deed (deed_at w.cluster l.node l.asking c.command.part verdict) w.cluster l.node c.command.part in (
+      record w { cluster = does.1; links = slice_set w.links link (replied (record l { requests = first.2.0; asking = false }) (To c.command.ticket does.0)); history = recorded w c does.0 },
+      (
+        l,
+        first.1,
+        inr (
+          first.2.0,
+          i,
+          c,
+          does.0,
+          does.1,
+          first.2.1 ∙ ap (λ t. Runs t ∷ first.2.0) (sym ticket-is),
+          subst (λ (t : Ticket). IsOf t w.commands i c) (sym ticket-is) of',
+          named,
+          does.2,
+          refl,
+        ),
+      ),
+    )
+
+-- an open link's first reply can be fetched
+pub fetches-can : (w : World) (link : ℕ) → There (links_in w) link HasReply → Can w (event.Fetch link)
+fetches-can w link h = go (h.0).backs refl
   where
-    go : (r : Result U WorldFault) → IsOf c.command.ticket w.commands i c × Executes (links_in w) w.cluster link c.command.ticket c.command.part verdict w.moment r k nodes
+    go : (backs : List Back) → (h.0).backs ≡ backs → Can w (event.Fetch link)
+    go [] is = absurd (h.2.1 is)
+    go (Welcome ∷ rest) is = (record w { links = slice_set w.links link (record h.0 { backs = rest }) }, (h.0, h.1, h.2.0, inl (rest, is, refl)))
+    go (To ticket told ∷ rest) is = (record w { links = slice_set w.links link (record h.0 { backs = rest }); downs = w.downs ++ (ticket, told) ∷ [] }, (h.0, h.1, h.2.0, inr (rest, ticket, told, is, refl)))
+
+pub fetches-not : (U : Type 0) (w : World) (link : ℕ) (fault : WorldFault) (k : Linked) (downs : List (Ticket × Told)) → downs ≡ w.downs → There (links_in w) link HasReply → Fetches (links_in w) link (Err fault) k
+    → Answers {U = U} w (event.Fetch link) (Err fault) (record w { links = k.links; history = k.history; downs = downs })
+fetches-not U w link NotNow k downs same h f = absurd (f.0 h.0 h.1 h.2)
+fetches-not U w link NoMemory k downs same h f = (fetches-can w link h, λ i. record w { links = (f i).links; history = (f i).history; downs = same i })
+
+pub executes : {U : Type 0} (w : World) (link : ℕ) (verdict : Verdict) (ticket : Ticket) (part : Part) (i : ℕ) (c : Arrival) (r : Result U WorldFault) (k : Linked) (nodes : Nodes) → IsOf ticket w.commands i c → c.command.ticket ≡ ticket → part ≡ c.command.part → NamesNode w.cluster verdict
+    → There (links_in w) link (Begins (Runs ticket)) → ExecutesLinked (links_in w) w.cluster link ticket part verdict w.moment r k nodes → Answers w (event.Serve link verdict) r (record w { cluster = nodes; links = k.links; history = k.history })
+executes {U} w link verdict ticket part i c r k nodes of' ticket-is part-is named first h =
+    go r (subst (λ (p : Ticket × Part). IsOf p.0 w.commands i c × ExecutesLinked (links_in w) w.cluster link p.0 p.1 verdict w.moment r k nodes) (λ j. (sym ticket-is j, part-is j)) (of', h))
+  where
+    go : (r : Result U WorldFault) → IsOf c.command.ticket w.commands i c × ExecutesLinked (links_in w) w.cluster link c.command.ticket c.command.part verdict w.moment r k nodes
         → Answers w (event.Serve link verdict) r (record w { cluster = nodes; links = k.links; history = k.history })
     go (Ok u) (o, x) = (
       x.0,
@@ -110,4 +188,4 @@ executes {U} w link verdict ticket part i c r k nodes of' ticket-is part-is firs
     )
     go (Err NotNow) (o, x) =
         ((λ v d. its-command w link verdict ticket v first d.0 d.1 ⊥ (λ i c e is y. x.0 y.7) d.2), λ j. record w { cluster = x.2 j; links = (x.1 j).links; history = (x.1 j).history })
-    go (Err NoMemory) (o, x) = λ j. record w { cluster = x.1 j; links = (x.0 j).links; history = (x.0 j).history }
+    go (Err NoMemory) (o, x) = (serves-can w link verdict ticket i c of' ticket-is named first, λ j. record w { cluster = x.1 j; links = (x.0 j).links; history = (x.0 j).history })

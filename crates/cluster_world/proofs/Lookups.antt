@@ -1,5 +1,5 @@
 -- What is looked up in a list.
-use Rattle.std.proofs.Common.{◌≡◌, ◌≢◌, ◌⊎◌, inl, inr, ℕ, zero, suc, ◌<◌, ◌==◌, ◌&&◌, not, List, [], ◌∷◌, length, take, Some, None, Bool, true, false, refl, sym, ap, ◌∙◌, subst, arith, get_or}
+use Rattle.std.proofs.Common.{◌≡◌, ◌≢◌, ◌⊎◌, inl, inr, ℕ, zero, suc, ◌<◌, ◌≤◌, ◌==◌, ◌&&◌, not, List, [], ◌∷◌, length, take, Option, Some, None, Bool, true, false, refl, sym, ap, ◌∙◌, subst, arith, get_or}
 use Rattle.std.specs.Prelude.{slice_get, slice_set, slice_index_or, position, nat_lt, cond, All}
 use Rattle.std.specs.List.{position_or_len}
 use Rattle.std.proofs.lemmas.Bool.Decides.{eqb_tells, nat_tests}
@@ -44,6 +44,18 @@ place-within p xs i e = go (nat_lt (position_or_len p xs) (length xs)) refl e
 
 pub first-at : {X : Type 0} (p : X → Bool) (xs : List X) (i : ℕ) (x : X) → position p xs ≡ Some i → x ≡ slice_index_or xs i x → IsFirst p xs i x
 first-at p xs i x e is = (e, at-place xs i x (place-within p xs i e).1 is)
+
+past-none : {X : Type 0} (xs : List X) (i : ℕ) → slice_get xs i ≡ None → length xs ≤ i
+past-none [] i e = omega arith
+past-none (x ∷ xs) zero e = absurd (cc)
+past-none (x ∷ xs) (suc i) e = omega (arith, past-none xs i e)
+
+pub first-there : {X : Type 0} (p : X → Bool) (xs : List X) (i : ℕ) → position p xs ≡ Some i → (x : X) × IsFirst p xs i x
+first-there {X} p xs i e = go (slice_get xs i) refl
+  where
+    go : (o : Option X) → slice_get xs i ≡ o → (x : X) × IsFirst p xs i x
+    go (Some x) at = (x, (e, at))
+    go None none = absurd (let w = place-within p xs i e in omega (arith, w.1, past-none xs i none))
 
 pub first-passes : {X : Type 0} (p : X → Bool) (xs : List X) (i : ℕ) (x : X) → IsFirst p xs i x → p x ≡ true
 first-passes p xs i x h =

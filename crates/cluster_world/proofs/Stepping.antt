@@ -1,8 +1,8 @@
 -- A step of a world, and its events one after another.
-use Rattle.std.proofs.Common.{◌≡◌, ℕ, zero, suc, ◌+◌, ◌-◌, ◌≤◌, get_or, List, [], ◌∷◌, ◌++◌, length, Some, Err, refl, sym, ap, ◌∙◌, subst, arith}
+use Rattle.std.proofs.Common.{◌≡◌, ℕ, zero, suc, ◌+◌, ◌-◌, ◌<◌, ◌≤◌, get_or, List, [], ◌∷◌, ◌++◌, length, Some, Err, refl, sym, ap, ◌∙◌, subst, arith}
 use Rattle.std.specs.Prelude.{take, drop, slice_get}
 use Rattle.world_laws.specs.State.{World}
-use Rattle.world_laws.specs.World.{Step, Run}
+use Rattle.world_laws.specs.World.{Step, Run, last_moment}
 use Rattle.world_laws.specs.declared.event.Event.{Event}
 use Rattle.cluster_world.specs.Machine.{Answers}
 use Rattle.cluster_world.specs.Steps.{RefusedFor, Steps, Runs}
@@ -13,7 +13,7 @@ use Rattle.cluster_world.specs.declared.fault.WorldFault.TheVariants.{NoMemory, 
 
 unchanged : (U : Type 0) (w w' : World) (e : Event) (fault : WorldFault) → Answers {U = U} w e (Err fault) w' → w' ≡ w
 unchanged U w w' e NotNow h = h.1
-unchanged U w w' e NoMemory h = h
+unchanged U w w' e NoMemory h = h.1
 
 less-one : (n : ℕ) → n + 1 - 1 ≡ n
 less-one n = omega arith
@@ -21,9 +21,9 @@ less-one n = omega arith
 pub undone : (U : Type 0) (w w' : World) (e : Event) (fault : WorldFault) → Answers {U = U} (record w { moment = w.moment + 1 }) e (Err fault) w' → record w' { moment = w'.moment - 1 } ≡ w
 undone U w w' e fault h = ap (λ (v : World). record v { moment = v.moment - 1 }) (unchanged U (record w { moment = w.moment + 1 }) w' e fault h) ∙ ap (λ n. record w { moment = n }) (less-one w.moment)
 
-pub refused-for : (U : Type 0) (w w' : World) (e : Event) (fault : WorldFault) → Answers {U = U} (record w { moment = w.moment + 1 }) e (Err fault) w' → RefusedFor w e fault
-refused-for U w w' e NotNow h = λ v s. h.0 v s.1
-refused-for U w w' e NoMemory h = tt
+pub refused-for : (U : Type 0) (w w' : World) (e : Event) (fault : WorldFault) → w.moment < last_moment → Answers {U = U} (record w { moment = w.moment + 1 }) e (Err fault) w' → RefusedFor w e fault
+refused-for U w w' e NotNow lt h = λ v s. h.0 v s.1
+refused-for U w w' e NoMemory lt h = (h.0.0, (lt, h.0.1))
 
 -- events, one after another
 

@@ -92,7 +92,7 @@ module _ (count : ℕ) (a b : ℕ → Option ℕ) (same : (slot : ℕ) → slot 
 
 -- a world over taken owners, by the owners themselves
 pub starts-fault : (count workers : ℕ) (a b : ℕ → Option ℕ) → ((slot : ℕ) → slot < 16384 → a slot ≡ b slot) → (fault : ClusterFault) → Opens count a (Err fault) → Starts count workers b (Err fault)
-starts-fault count workers a b same NoMemory h = tt
+starts-fault count workers a b same NoMemory h = has-owners count a b same h
 starts-fault count workers a b same BadOwners h = λ x. h (has-owners count b a (λ slot lt. sym (same slot lt)) x)
 
 pub opens-same : (count : ℕ) (a b : ℕ → Option ℕ) → ((slot : ℕ) → slot < 16384 → a slot ≡ b slot) → (k : Nodes) → Opens count a (Ok k) → Opens count b (Ok k)

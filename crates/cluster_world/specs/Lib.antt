@@ -15,3 +15,6 @@ pub mod Reading
 pub mod Outcomes
 pub mod Lawful
 pub mod Index
+pub mod Rows
+pub mod Commands
+pub mod Tables

@@ -38,7 +38,7 @@ There k at P = (l : Link) × (slice_get k.links at ≡ Some l) × P l
 abbrev pub NoneThere : Linked → ℕ → (Link → Type 0) → Type 0
 NoneThere k at P = (l : Link) → slice_get k.links at ≡ Some l → P l → ⊥
 
--- the links after a batch was put on one; or none takes it, or there is no memory, and they stay
+-- the links after a batch was put on one; or none takes it, or one does and there is no memory, and they stay
 abbrev pub GoesOver : List Link → ℕ → Posted → List Link → Type 0
 GoesOver links at b new =
     ((l : Link) × (slice_get links at ≡ Some l) × (l.is_open ≡ true) × (l.node ≡ b.node) × (new ≡ slice_set links at (sent l b)))
@@ -47,7 +47,7 @@ GoesOver links at b new =
 abbrev pub Carries : {U : Type 0} → Linked → ℕ → Posted → Result U WorldFault → Linked → Type 0
 Carries k at b (Ok u) k' = GoesOver k.links at b k'.links × (k'.history ≡ k.history)
 Carries k at b (Err NotNow) k' = ((links : List Link) → GoesOver k.links at b links → ⊥) × (k' ≡ k)
-Carries k at b (Err NoMemory) k' = k' ≡ k
+Carries k at b (Err NoMemory) k' = ((links : List Link) × GoesOver k.links at b links) × (k' ≡ k)
 
 -- an open link is closed, and who waits on it is told so
 abbrev pub IsOpen : Link → Type 0
@@ -56,7 +56,7 @@ IsOpen l = l.is_open ≡ true
 abbrev pub Closes : {U : Type 0} → Linked → ℕ → List (Ticket × Told) → Result U WorldFault → Linked → List (Ticket × Told) → Type 0
 Closes k at downs (Ok u) k' downs' = There k at (λ l. IsOpen l × (k' ≡ with_link k at (record l { is_open = false; backs = [] })) × (downs' ≡ downs ++ each_lost (waiting l)))
 Closes k at downs (Err NotNow) k' downs' = NoneThere k at IsOpen × (k' ≡ k) × (downs' ≡ downs)
-Closes k at downs (Err NoMemory) k' downs' = (k' ≡ k) × (downs' ≡ downs)
+Closes k at downs (Err NoMemory) k' downs' = There k at IsOpen × (k' ≡ k) × (downs' ≡ downs)
 
 -- the requests of a closed link are thrown away
 abbrev pub HasRests : Link → Type 0
@@ -65,7 +65,7 @@ HasRests l = (l.is_open ≡ false) × (l.requests ≢ [])
 abbrev pub Discards : {U : Type 0} → Linked → ℕ → Result U WorldFault → Linked → Type 0
 Discards k at (Ok u) k' = There k at (λ l. HasRests l × (k' ≡ with_link k at (record l { requests = [] })))
 Discards k at (Err NotNow) k' = NoneThere k at HasRests × (k' ≡ k)
-Discards k at (Err NoMemory) k' = k' ≡ k
+Discards k at (Err NoMemory) k' = ⊥
 
 -- the first reply of an open link is taken: that of ASKING is for nobody
 abbrev pub HasReply : Link → Type 0

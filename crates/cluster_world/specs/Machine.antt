@@ -11,7 +11,7 @@ abbrev pub state_of : Machine → World
 state_of c = record {
   workers = c.workers;
   cluster = c.cluster;
-  commands = c.commands.items;
+  commands = c.commands;
   ups = c.ups.items;
   links = c.links.links;
   downs = c.downs.items;
@@ -20,8 +20,12 @@ state_of c = record {
   moment = c.moment;
 }
 
--- the event happened; or it is not allowed, or there is no memory, and nothing changed
+-- the event has a next state
+abbrev pub Can : World → Event → Type 0
+Can w e = (v : World) × Does w e v
+
+-- the event happened; or it is not allowed, or it is and there is no memory, and nothing changed
 abbrev pub Answers : {U : Type 0} → World → Event → Result U WorldFault → World → Type 0
 Answers w e (Ok u) w' = Does w e w'
 Answers w e (Err NotNow) w' = ((v : World) → Does w e v → ⊥) × (w' ≡ w)
-Answers w e (Err NoMemory) w' = w' ≡ w
+Answers w e (Err NoMemory) w' = Can w e × (w' ≡ w)

@@ -6,6 +6,7 @@ use Rattle.node_model.specs.declared.cluster.ClusterFault.TheVariants.{BadOwners
 use Rattle.node_model.specs.declared.cluster.ClusterFault.TheVariants as cluster
 use Rattle.world_laws.specs.State.{World, start}
 use Rattle.world_laws.specs.World.{Step, Run}
+use Rattle.world_laws.specs.Allowed.{IsAllowed}
 use Rattle.world_laws.specs.Headline.{IsReached}
 use Rattle.world_laws.specs.declared.event.Event.{Event}
 use Rattle.cluster_world.specs.Machine.{state_of}
@@ -14,22 +15,22 @@ use Rattle.cluster_world.specs.declared.fault.WorldFault.{WorldFault}
 use Rattle.cluster_world.specs.declared.fault.WorldFault.TheVariants.{NoMemory, NotNow}
 use Rattle.cluster_world.specs.declared.fault.RunFault.{RunFault}
 
--- the world is new, over the nodes that these owners open; or the owners are bad; or there is no memory
+-- the world is new, over the nodes that these owners open; or the owners are bad; or they are good, and there is no memory
 abbrev pub Starts : ℕ → ℕ → (ℕ → Option ℕ) → Result World ClusterFault → Type 0
 Starts count workers owners (Ok w) = (k : Nodes) × Opens count owners (Ok k) × (w ≡ start workers k)
 Starts count workers owners (Err BadOwners) = HasOwners count owners → ⊥
-Starts count workers owners (Err cluster.NoMemory) = Unit {0}
+Starts count workers owners (Err cluster.NoMemory) = HasOwners count owners
 
 -- the event has no next state
 abbrev pub IsRefused : World → Event → Type 0
 IsRefused w e = (w' : World) → Step w e w' → ⊥
 
--- why an event is refused in a world
+-- why an event is not made in a world: it has no next state; or it has one, and there is no memory
 abbrev pub RefusedFor : World → Event → WorldFault → Type 0
 RefusedFor w e NotNow = IsRefused w e
-RefusedFor w e NoMemory = Unit {0}
+RefusedFor w e NoMemory = IsAllowed w e
 
--- the event happened; or it is refused, and nothing changed
+-- the event happened; or it was not made, and nothing changed
 abbrev pub Steps : {U : Type 0} → World → Event → Result U WorldFault → World → Type 0
 Steps w e (Ok u) w' = Step w e w'
 Steps w e (Err why) w' = RefusedFor w e why × (w' ≡ w)

@@ -13,6 +13,7 @@
 #![tactic(auto)]
 
 mod asks;
+mod commands;
 mod event_line;
 mod fault;
 mod fields;
@@ -26,11 +27,13 @@ mod moves;
 mod owners;
 mod places;
 mod report;
+mod rows;
 mod run_report;
 mod schedule;
 mod script;
 mod script_fault;
 mod simulate;
+mod tables;
 mod verb;
 mod world;
 

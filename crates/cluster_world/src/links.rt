@@ -3,7 +3,7 @@
 ghost use Rattle.std.specs.Prelude.{◌≡◌, ◌<◌, ◌↔◌, [], ◌∷◌, List, All, IsTrue, length};
 ghost use Rattle.std.specs.Vec.{vec_len, vec_capacity};
 ghost use Rattle.cluster_world.specs.Kept.{Notes};
-ghost use Rattle.cluster_world.specs.Links.{There, Begins, Carries, Closes, Discards, Fetches, FirstIs, Welcomes, Executes};
+ghost use Rattle.cluster_world.specs.Links.{There, Begins, Carries, Closes, Discards, Fetches, FirstIs, HasReply, Welcomes, Executes};
 ghost use Rattle.cluster_world.specs.Rests.{LineAsksNot, LineRests, LinkRests};
 ghost use Rattle.world_laws.specs.World.{IsNode};
 ghost use Rattle.world_laws.specs.declared.state.Request.TheVariants.{Asking, Runs};
@@ -115,6 +115,16 @@ impl Links {
         }
         link.discard();
         Ok(())
+    }
+
+    /// Whether an open link has a reply.
+    pub(crate) fn has_reply(&self, at: usize) -> bool
+        ensures { IsTrue result ↔ There self.now at HasReply }
+    {
+        let Some(link) = self.links.get(at) else {
+            return false;
+        };
+        link.can_fetch()
     }
 
     /// Takes the first reply of an open link, and whose it is; that of ASKING is nobody's.

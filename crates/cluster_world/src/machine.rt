@@ -1,17 +1,18 @@
 //! What a world holds, and its events on lanes and links.
 
-ghost use Rattle.std.specs.Prelude.{◌≡◌, ◌==◌, ◌↔◌, ◌<◌, ◌&&◌, not, count_by, All, IsTrue, position, length};
+ghost use Rattle.std.specs.Prelude.{◌≡◌, ◌==◌, ◌↔◌, ◌<◌, All, IsTrue, position, length};
 ghost use Rattle.cluster_world.specs.Machine.{state_of, Answers};
 ghost use Rattle.cluster_world.specs.Links.{There, Begins};
 ghost use Rattle.command_future.specs.Progress.{asks_at, MayPost};
-ghost use Rattle.world_laws.specs.State.{HasEnded, start};
-ghost use Rattle.world_laws.specs.World.{IsNode, SameTurn};
+ghost use Rattle.world_laws.specs.State.{start};
+ghost use Rattle.world_laws.specs.World.{IsNode};
 ghost use Rattle.world_laws.specs.declared.state.Request.TheVariants.{Asking, Runs};
+ghost use Rattle.node_model.specs.Serving.{names_node as named_among};
 ghost use Rattle.node_model.specs.declared.role.Verdict.TheVariants as verdict_of;
 ghost use Rattle.command_future.specs.declared.stage.Stage.TheVariants.{Awaits};
-ghost use Rattle.key_split.specs.Same.{same_ticket};
 ghost use Rattle.world_laws.specs.declared.event.Event.TheVariants as event;
 
+use crate::commands::Commands;
 use crate::fault::WorldFault;
 use crate::links::Links;
 use command_future::{Command, Want};
@@ -19,7 +20,7 @@ use key_split::{Part, Ticket, Told};
 use node_model::{Cluster, Verdict};
 use slot_map::NodeId;
 use std::alloc::Global;
-use world_laws::{Answer, Arrival, Event, Posted, Request};
+use world_laws::{Answer, Event, Posted, Request};
 
 /// The commands, lanes, links and nodes, with what was executed and answered.
 #[derive(Drop)]
@@ -27,7 +28,7 @@ pub(crate) struct Machine {
     pub(crate) alloc: Global,
     pub(crate) workers: u16,
     pub(crate) cluster: Cluster,
-    pub(crate) commands: Vec<Arrival>,
+    pub(crate) commands: Commands,
     pub(crate) ups: Vec<Posted>,
     pub(crate) links: Links,
     pub(crate) downs: Vec<(Ticket, Told)>,
@@ -49,33 +50,6 @@ fn first_down(downs: &[(Ticket, Told)], lane: u16) -> Option<usize>
     downs.iter().position(|down| down.0.worker == lane)
 }
 
-// The place of a ticket's command.
-fn place_of(commands: &[Arrival], ticket: Ticket) -> Option<usize>
-    ensures { result ≡ position (λ (c : Arrival). same_ticket ticket c.command.ticket) commands.now }
-{
-    commands
-        .iter()
-        .position(|arrival| ticket == arrival.command.ticket())
-}
-
-// How many commands of the client there are.
-fn count_of(commands: &[Arrival], client: u32) -> usize
-    ensures { result ≡ count_by (λ (c : Arrival). c.command.ticket.client == client) commands.now }
-{
-    commands
-        .iter()
-        .filter(|arrival| arrival.command.ticket().client == client)
-        .count()
-}
-
-// The place of the client's oldest unanswered command.
-fn first_unanswered(commands: &[Arrival], client: u32) -> Option<usize>
-    ensures { result ≡ position (λ (c : Arrival). (c.command.ticket.client == client) && not c.answered) commands.now }
-{
-    commands.iter().position(|arrival| arrival.command.ticket().client == client
-        && !arrival.answered)
-}
-
 // Whether the command wants to be posted, and may be at this node.
 fn may_post(command: &Command, node: NodeId) -> bool
     ensures { IsTrue result ↔ MayPost command.now.stage node }
@@ -94,17 +68,6 @@ fn asks(command: &Command) -> bool
     matches!(command.want(), Want::Post(true, _))
 }
 
-// Whether all commands of one turn before this one have ended.
-fn turn_has_come(before: &[Arrival], arrival: &Arrival) -> bool
-    ensures { IsTrue result ↔ All (λ d. SameTurn arrival.now d → HasEnded d) before.now }
-{
-    before.iter().all(|earlier| {
-        earlier.command.ticket().client != arrival.command.ticket().client
-            || earlier.command.slot() != arrival.command.slot()
-            || earlier.command.end().is_some()
-    })
-}
-
 // Whether the command awaits what it is told.
 fn awaits(command: &Command) -> bool
     ensures { IsTrue result ↔ (command.now.stage ≡ Awaits) }
@@ -119,6 +82,16 @@ fn is_plain(verdict: Verdict) -> bool
     matches!(verdict, Verdict::Plain)
 }
 
+// Whether a node that the verdict names is one of so many.
+fn names_node(verdict: &Verdict, nodes: u8) -> bool
+    ensures { result ≡ named_among verdict.now nodes }
+{
+    match verdict {
+        Verdict::Moved(node) => node.number() < nodes,
+        Verdict::Plain | Verdict::TryAgain | Verdict::ClusterDown => true,
+    }
+}
+
 impl Machine {
     /// Nothing has happened yet.
     pub(crate) fn new(alloc: Global, workers: u16, cluster: Cluster) -> Machine
@@ -128,7 +101,7 @@ impl Machine {
             alloc,
             workers,
             cluster,
-            commands: Vec::new(alloc),
+            commands: Commands::new(alloc),
             ups: Vec::new(alloc),
             links: Links::new(alloc),
             downs: Vec::new(alloc),
@@ -149,7 +122,7 @@ impl Machine {
             Event::Post { ticket, node } => self.post(*ticket, *node, nodes),
             Event::Carry { lane, link } => self.carry(*lane, *link),
             Event::Refuse { lane } => self.refuse(*lane),
-            Event::Serve { link, verdict } => self.serve(*link, *verdict),
+            Event::Serve { link, verdict } => self.serve(*link, *verdict, nodes),
             Event::Fetch { link } => self.fetch(*link),
             Event::Take { lane } => self.take(*lane),
             Event::Drop { link } => self.close(*link),
@@ -192,15 +165,16 @@ impl Machine {
         self.links.discard(link as usize)
     }
 
-    /// A link's node takes its first request.
-    pub(crate) fn serve(&mut self, link: u64, verdict: Verdict) -> Result<(), WorldFault>
-        requires { All (λ l. IsNode self.old.cluster l.node) self.old.links.links }
+    /// A link's node takes its first request, where there are so many nodes.
+    pub(crate) fn serve(&mut self, link: u64, verdict: Verdict, nodes: u8) -> Result<(), WorldFault>
+        requires nodes { nodes ≡ length self.old.cluster.stores }
+        requires links { All (λ l. IsNode self.old.cluster l.node) self.old.links.links }
         ensures { Answers (state_of self.old) (event.Serve link verdict) result (state_of self.new) }
     {
         match self.links.first_request(link as usize) {
             None => Err(WorldFault::NotNow),
             Some(Request::Asking) => self.serve_asking(link, verdict),
-            Some(Request::Runs(ticket)) => self.serve_command(link, ticket, verdict),
+            Some(Request::Runs(ticket)) => self.serve_command(link, ticket, verdict, nodes),
         }
     }
 
@@ -221,15 +195,20 @@ impl Machine {
         link: u64,
         ticket: Ticket,
         verdict: Verdict,
+        nodes: u8,
     ) -> Result<(), WorldFault>
         requires first { There self.old.links link (Begins (Runs ticket)) }
-        requires nodes { All (λ l. IsNode self.old.cluster l.node) self.old.links.links }
+        requires nodes { nodes ≡ length self.old.cluster.stores }
+        requires links { All (λ l. IsNode self.old.cluster l.node) self.old.links.links }
         ensures { Answers (state_of self.old) (event.Serve link verdict) result (state_of self.new) }
     {
-        let Some(place) = place_of(&self.commands, ticket) else {
+        let Some(place) = self.commands.place_of(ticket) else {
             return Err(WorldFault::NotNow);
         };
-        let part = self.commands[place].command.part().copy(self.alloc)?;
+        if !names_node(&verdict, nodes) {
+            return Err(WorldFault::NotNow);
+        }
+        let part = self.commands.at(place).command.part().copy(self.alloc)?;
         self.links.execute(
             &mut self.cluster,
             link as usize,
@@ -244,6 +223,9 @@ impl Machine {
     pub(crate) fn fetch(&mut self, link: u64) -> Result<(), WorldFault>
         ensures { Answers (state_of self.old) (event.Fetch link) result (state_of self.new) }
     {
+        if !self.links.has_reply(link as usize) {
+            return Err(WorldFault::NotNow);
+        }
         self.downs.reserve(1)?;
         match self.links.fetch(link as usize) {
             Ok(Some(down)) => {
@@ -263,14 +245,14 @@ impl Machine {
             return Err(WorldFault::NotNow);
         };
         let ticket = self.downs[first].0;
-        let Some(place) = place_of(&self.commands, ticket) else {
+        let Some(place) = self.commands.place_of(ticket) else {
             return Err(WorldFault::NotNow);
         };
-        if !awaits(&self.commands[place].command) {
+        if !awaits(&self.commands.at(place).command) {
             return Err(WorldFault::NotNow);
         }
         let (_, told) = self.downs.remove(first);
-        self.commands[place].command.told(told);
+        self.commands.told(place, told);
         Ok(())
     }
 
@@ -283,15 +265,10 @@ impl Machine {
         let ticket = Ticket {
             worker: (client % u32::from(self.workers)) as u16,
             client,
-            part: count_of(&self.commands, client) as u64,
+            part: self.commands.count_of(client) as u64,
         };
-        let command = Command::new(ticket, part.copy(self.alloc)?);
-        self.commands.reserve(1)?;
-        self.commands.push_reserved(Arrival {
-            command,
-            arrived: self.moment,
-            answered: false,
-        });
+        self.commands
+            .add(ticket, part.copy(self.alloc)?, self.moment)?;
         Ok(())
     }
 
@@ -303,24 +280,24 @@ impl Machine {
         if node.number() >= nodes {
             return Err(WorldFault::NotNow);
         }
-        let Some(place) = place_of(&self.commands, ticket) else {
+        let Some(place) = self.commands.place_of(ticket) else {
             return Err(WorldFault::NotNow);
         };
-        if !may_post(&self.commands[place].command, node) {
+        let command = &self.commands.at(place).command;
+        if !may_post(command, node) {
             return Err(WorldFault::NotNow);
         }
-        if !turn_has_come(&self.commands[..place], &self.commands[place]) {
+        if !self.commands.turn_has_come(place) {
             return Err(WorldFault::NotNow);
         }
-        self.ups.reserve(1)?;
-        let asking = asks(&self.commands[place].command);
-        let ticket = self.commands[place].command.ticket();
-        self.commands[place].command.posted(node);
-        self.ups.push_reserved(Posted {
-            ticket,
+        let posted = Posted {
+            ticket: command.ticket(),
             node,
-            asking,
-        });
+            asking: asks(command),
+        };
+        self.ups.reserve(1)?;
+        self.commands.posted(place, node);
+        self.ups.push_reserved(posted);
         Ok(())
     }
 
@@ -328,23 +305,22 @@ impl Machine {
     pub(crate) fn answer(&mut self, client: u32) -> Result<(), WorldFault>
         ensures { Answers (state_of self.old) (event.Answer client) result (state_of self.new) }
     {
-        let Some(place) = first_unanswered(&self.commands, client) else {
+        let Some(place) = self.commands.first_unanswered(client) else {
             return Err(WorldFault::NotNow);
         };
-        let Some(end) = self.commands[place].command.end() else {
+        let arrival = self.commands.at(place);
+        let Some(end) = arrival.command.end() else {
             return Err(WorldFault::NotNow);
         };
-        let ended = end.copy(self.alloc)?;
-        self.answers.reserve(1)?;
-        let ticket = self.commands[place].command.ticket();
-        let arrived = self.commands[place].arrived;
-        self.commands[place].answered = true;
-        self.answers.push_reserved(Answer {
-            ticket,
-            ended,
-            arrived,
+        let answer = Answer {
+            ticket: arrival.command.ticket(),
+            ended: end.copy(self.alloc)?,
+            arrived: arrival.arrived,
             answered: self.moment,
-        });
+        };
+        self.answers.reserve(1)?;
+        self.commands.answered(client, place);
+        self.answers.push_reserved(answer);
         Ok(())
     }
 

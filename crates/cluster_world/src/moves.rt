@@ -30,7 +30,7 @@ impl Machine {
 
     // Whether no command for the slot that ASK sent to the node is on its way.
     fn none_asks(&self, slot: Slot, node: NodeId) -> bool
-        ensures { IsTrue result ↔ All (λ c. slot_for c.command.part ≡ slot → Rests (state_of self.now) node c.command.ticket) self.now.commands.items }
+        ensures { IsTrue result ↔ All (λ c. slot_for c.command.part ≡ slot → Rests (state_of self.now) node c.command.ticket) self.now.commands }
     {
         self.asks_not(node) || self.slot_rests(slot, node)
     }
@@ -40,7 +40,7 @@ impl Machine {
     fn asks_not(&self, node: NodeId) -> bool
         ensures { IsTrue result → (ticket : Ticket) → Rests (state_of self.now) node ticket }
     {
-        commands_ask_not(&self.commands, node)
+        commands_ask_not(self.commands.as_slice(), node)
             && batches_ask_not(&self.ups, node)
             && self.links.ask_not(node)
             && downs_ask_not(&self.downs, node)
@@ -48,9 +48,9 @@ impl Machine {
 
     // The same of each command for the slot.
     fn slot_rests(&self, slot: Slot, node: NodeId) -> bool
-        ensures { IsTrue result ↔ All (λ c. slot_for c.command.part ≡ slot → Rests (state_of self.now) node c.command.ticket) self.now.commands.items }
+        ensures { IsTrue result ↔ All (λ c. slot_for c.command.part ≡ slot → Rests (state_of self.now) node c.command.ticket) self.now.commands }
     {
-        self.commands.iter().all(|arrival| {
+        self.commands.as_slice().iter().all(|arrival| {
             arrival.command.slot() != slot || self.rests(node, arrival.command.ticket())
         })
     }
@@ -60,7 +60,7 @@ impl Machine {
     fn rests(&self, node: NodeId, ticket: Ticket) -> bool
         ensures { IsTrue result ↔ Rests (state_of self.now) node ticket }
     {
-        commands_rest(&self.commands, node, ticket)
+        commands_rest(self.commands.as_slice(), node, ticket)
             && batches_rest(&self.ups, node, ticket)
             && self.links.rest(node, ticket)
             && downs_rest(&self.downs, node, ticket)

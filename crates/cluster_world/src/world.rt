@@ -8,7 +8,7 @@ ghost use Rattle.cluster_world.specs.Steps.{Runs, Starts, Steps};
 
 use crate::fault::{RunFault, WorldFault};
 use crate::machine::Machine;
-use crate::owners::taken_over;
+use crate::owners::{has_owners, taken_over};
 use node_model::{Cluster, ClusterFault};
 use slot_map::SlotMap;
 use std::alloc::Global;
@@ -52,6 +52,9 @@ impl World {
         requires { (1 ≤ workers) × (workers ≤ 64) }
         ensures { (ops : List MapOp) → Shows owners.now ops → Starts nodes workers (node_after ops) result }
     {
+        if !has_owners(nodes, owners) {
+            return Err(ClusterFault::BadOwners);
+        }
         let Ok(owners) = taken_over(alloc, owners) else {
             return Err(ClusterFault::NoMemory);
         };

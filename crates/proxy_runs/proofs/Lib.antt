@@ -10,3 +10,15 @@ pub mod Foreseeing
 pub mod Twice
 pub mod Noted
 pub mod Opened
+pub mod Addressed
+pub mod Told
+pub mod Answering
+pub mod Wishing
+pub mod Fronting
+pub mod Asking
+pub mod Telling
+pub mod Finding
+pub mod Replaying
+pub mod Indexing
+pub mod Judging
+pub mod Reporting

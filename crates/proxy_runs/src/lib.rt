@@ -12,14 +12,40 @@
 //! the slot, its source holds none of the command's keys.
 #![tactic(auto)]
 
+mod addresses;
+mod answer;
 mod asked;
+mod clients;
+mod cluster;
+mod dial;
+mod ends;
+mod example;
 mod foresight;
+mod held;
+mod judge;
 pub mod laws;
 mod local;
+mod local_fault;
 mod moves;
+mod node_server;
 mod notes;
+mod port;
+mod record;
+mod replay;
+mod seat;
+mod socket;
 mod step;
+mod wanted;
+mod wire_fault;
 
 pub use asked::Asked;
+pub use cluster::LocalCluster;
+pub use dial::LocalDial;
+pub use example::three_nodes;
 pub use local::LocalState;
+pub use local_fault::LocalFault;
+pub use node_server::{Answer, Call, Caller, Connection, run_nodes};
+pub use port::LocalPort;
+pub use socket::Socket;
 pub use step::MoveStep;
+pub use wire_fault::WireRunFault;

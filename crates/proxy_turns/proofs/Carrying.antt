@@ -1,5 +1,5 @@
 -- One event of the carrier's, or none, and one after another.
-use Rattle.std.proofs.Common.{◌≡◌, ◌≢◌, ◌||◌, ◌∙◌, ◌<◌, ◌≤◌, ◌⊎◌, inl, inr, ℕ, zero, suc, List, [], ◌∷◌, ◌++◌, length, Bool, true, false, Option, Some, None, Result, Ok, Err, refl, sym, ap, subst}
+use Rattle.std.proofs.Common.{◌≡◌, ◌||◌, ◌∙◌, ◌<◌, inl, inr, ℕ, zero, suc, List, [], ◌∷◌, ◌++◌, length, Bool, true, false, Option, Some, None, Result, Ok, Err, refl, sym, ap, subst}
 use Rattle.std.specs.Prelude.{IfSome, slice_get, slice_set, slice_index_or}
 use Rattle.std.specs.List.{FoldsTo, list_any}
 use Rattle.std.proofs.lemmas.List.Folds.{list_any-append}
@@ -14,13 +14,13 @@ use Rattle.proxy_lanes.specs.declared.ends.lane_ends.LaneEnds.{LaneEnds}
 use Rattle.proxy_turns.specs.declared.hand.Hand.{Hand}
 use Rattle.proxy_turns.specs.declared.line.Line.{Line}
 use Rattle.proxy_turns.specs.declared.step.Step.{Step}
-use Rattle.proxy_turns.specs.Line.{LineDoes, LineTurns, Starves, fresh_link, is_line_move, is_unanswered}
+use Rattle.proxy_turns.specs.Line.{LineDoes, Starves, is_line_move, is_unanswered}
 use Rattle.proxy_turns.specs.Links.{DialOutcome, IsUnreached, SendOutcome}
 use Rattle.proxy_turns.specs.declared.line.Dialled.TheVariants as dialled
 use Rattle.key_split.specs.declared.travel.Ticket.{Ticket}
 use Rattle.proxy_turns.specs.Hands.{GiveOutcome, TellOutcome, TakeOutcome, goal_of}
 use Rattle.proxy_turns.specs.Carriage.{Carriage, Event, Does, Goes, Turns, is_move, side_of}
-use Rattle.proxy_turns.specs.Carriage.Event.{AtLine, Starved, Seated, Lined, Looked, Took, Opened, Refused, Missed, Greeted, Sent, Gave, GaveUnsent}
+use Rattle.proxy_turns.specs.Carriage.Event.{AtLine, Starved, Looked, Took, Opened, Refused, Missed, Greeted, Sent, Gave, GaveUnsent}
 
 pub at-place : {X : Type 0} (xs : List X) (i : ℕ) (x : X) → i < length xs → x ≡ slice_index_or xs i x → slice_get xs i ≡ Some x
 at-place xs i x lt e = slice_get_read xs (length xs) i x refl lt e

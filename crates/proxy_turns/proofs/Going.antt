@@ -1,33 +1,28 @@
 -- One event of a client's turn, or none, or some after others.
-use Rattle.std.proofs.Common.{◌≡◌, ◌||◌, ◌<◌, ◌≤◌, ◌⊎◌, inl, inr, Bool, ℕ, List, [], ◌∷◌, ◌++◌, Option, Some, None, true, false, length, length-take-le, take, drop, is_some, nat_lt, Result, Ok, Err, refl, sym, ap, subst, ◌∙◌}
+use Rattle.std.proofs.Common.{◌≡◌, ◌||◌, ◌≤◌, ◌⊎◌, inl, inr, Bool, ℕ, List, [], ◌∷◌, ◌++◌, Option, Some, None, true, false, length, length-take-le, take, drop, is_some, nat_lt, Result, Ok, Err, refl, sym, ap, subst, ◌∙◌}
 use Rattle.std.specs.List.{FoldsTo, list_any}
-use Rattle.std.specs.FinMap.{FinMap, get, remove}
-use Rattle.std.specs.Ordering.{nat_cmp}
 use Rattle.std.proofs.lemmas.Bool.{false≢true}
 use Rattle.std.proofs.Math.ListN.{take-append-drop}
 use Rattle.std.proofs.lemmas.List.Folds.{list_any-append}
-use Rattle.slot_hash.specs.Slot.{slot_of}
 use Rattle.slot_map.specs.declared.ops.MapOp.{MapOp}
 use Rattle.resp_wire.specs.declared.fault.NoMemory.{NoMemory}
 use Rattle.key_split.specs.Command.{Command as Part}
 use Rattle.key_split.specs.declared.travel.Batch.{Batch}
 use Rattle.key_split.specs.declared.travel.Ticket.{Ticket}
-use Rattle.key_split.specs.declared.travel.Ended.{Ended}
 use Rattle.command_future.specs.Progress.{Progress, fresh}
-use Rattle.command_future.specs.declared.stage.Stage.TheVariants.{Awaits}
 use Rattle.session_order.specs.Held.{Held}
 use Rattle.session_order.specs.declared.fault.SessionFault.{SessionFault}
 use Rattle.session_order.specs.declared.fault.SessionFault.TheVariants as fault
 use Rattle.session_order.specs.Replies.{DrainOutcome}
-use Rattle.session_order.specs.Steps.{IsOut, FeedOutcome, ReadOutcome, ReadyOutcome, EndOutcome}
+use Rattle.session_order.specs.Steps.{IsOut, FeedOutcome, ReadOutcome, ReadyOutcome}
 use Rattle.proxy_lanes.specs.declared.map_view.NotEntered.{NotEntered}
 use Rattle.proxy_lanes.specs.declared.ring.Outlet.{Outlet}
 use Rattle.proxy_lanes.specs.Lane.{Posts}
 use Rattle.proxy_turns.specs.Port.{Moves}
-use Rattle.proxy_turns.specs.Commands.{Commanded, Drops, HasEnd, Looks, PostsOne, PostsResult, Takes, with_command as holding}
+use Rattle.proxy_turns.specs.Commands.{Commanded, Drops, Looks, PostsOne, PostsResult, Takes, with_command as holding}
 use Rattle.proxy_turns.specs.Talk.{Talk, IsSound, Takings, read_answer}
 use Rattle.proxy_turns.specs.Turn.{Desk, Event, Does, Goes, Turns, is_move, left_of}
-use Rattle.proxy_turns.specs.Turn.Event.{Pulled, Fed, Read, HandedOut, Looked, CameBack, Posted, Noted, Finished, Drained, Pushed, Tried, Parted, Dropped}
+use Rattle.proxy_turns.specs.Turn.Event.{Pulled, Fed, Read, HandedOut, Looked, CameBack, Posted, Drained, Pushed, Tried, Parted, Dropped}
 
 pub or_false : (b : Bool) → (b || false) ≡ b
 or_false true = refl
@@ -76,6 +71,20 @@ module _ {C : Type 0} (moves : Moves C) where
   err_turn old new moved e result is goes =
       let P : Result Bool NoMemory → Type 0 = λ r. Turns moves old r new in subst P (sym is) (moved, goes)
 
+  -- the same where a value changed that is not seen
+  pub goes_over : (t mid mid' new new' : Talk C) (o o' : Outlet Batch) (v v' : List MapOp) (first next : Bool) → Goes moves (at t o v) first (at mid o v)
+      → mid' ≡ mid → Goes moves (at mid' o v) next (at new o' v') → new' ≡ new → Goes moves (at t o v) (first || next) (at new' o' v')
+  goes_over t mid mid' new new' o o' v v' first next goes same then is =
+      let P : Talk C → Type 0 = λ x. Goes moves (at x o v) next (at new o' v') in
+      let Q : Talk C → Type 0 = λ x. Goes moves (at t o v) (first || next) (at x o' v') in
+      subst Q (sym is) (goes_then (at t o v) first (at mid o v) next (at new o' v') goes (subst P same then))
+
+  pub err_over : (t mid mid' new : Talk C) (o o' : Outlet Batch) (v v' : List MapOp) (first : Bool) (e e' : NoMemory) (result : Result Bool NoMemory)
+      → Goes moves (at t o v) first (at mid o v) → mid' ≡ mid → Turns moves (at mid' o v) (Err e) (at new o' v') → result ≡ Err e' → Turns moves (at t o v) result (at new o' v')
+  err_over t mid mid' new o o' v v' first e e' result goes same (moved, more) is =
+      let P : Talk C → Type 0 = λ x. Goes moves (at x o v) moved (at new o' v') in
+      turns_err (at t o v) first (at mid o v) (at new o' v') e e' result goes (moved, subst P same more) is
+
   -- whatever a call answered, it did some events
   pub goes_anyhow : (old : Desk C) (result : Result Bool NoMemory) (new : Desk C) → Turns moves old result new → (moved : Bool) × Goes moves old moved new
   goes_anyhow old (Ok moved) new goes = (moved, goes)
@@ -109,17 +118,6 @@ module _ {C : Type 0} (moves : Moves C) where
     handed session ticket part commands none ready begun =
         let with_commands : Commanded → Desk C = λ cs. at (record t { session = session; commands = cs }) o v in
         by (at t o v) (HandedOut ticket part) (with_commands commands) true refl (none, ready, ap with_commands begun)
-
-    pub noted : (port : C) (ticket : Ticket) (end : Ended) → HasEnd t.commands ticket.part ticket end → moves t.port [] [] ((ticket, end) ∷ []) port
-        → Goes moves (at t o v) true (at (record t { port = port }) o v)
-    noted port ticket end has m = by (at t o v) (Noted ticket end) _ true refl (has, m, refl)
-
-    pub finished : (session : Held) (ticket : Ticket) (end : Ended) (commands : Commanded) → HasEnd t.commands ticket.part ticket end → EndOutcome t.session ticket end session
-        → commands ≡ record t.commands { posted = remove t.commands.posted ticket.part }
-        → Goes moves (at t o v) true (at (record t { session = session; commands = commands }) o v)
-    finished session ticket end commands has ends left =
-        let with_commands : Commanded → Desk C = λ cs. at (record t { session = session; commands = cs }) o v in
-        by (at t o v) (Finished ticket end) (with_commands commands) true refl (has, ends, ap with_commands left)
 
     pub drained : (session : Held) (n : ℕ) (unpushed : List ℕ) (moved : Bool) → DrainOutcome t.session t.unpushed (Ok n) session unpushed
         → moved ≡ nat_lt 0 n → Goes moves (at t o v) moved (at (record t { session = session; unpushed = unpushed }) o v)

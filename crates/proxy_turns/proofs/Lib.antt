@@ -1,8 +1,11 @@
 pub mod Tables
 pub mod Posting
 pub mod Going
+pub mod Ending
 pub mod Sound
 pub mod Lifting
+pub mod Polling
 pub mod Lines
 pub mod Delivery
 pub mod Carrying
+pub mod Counting

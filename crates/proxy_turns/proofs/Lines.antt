@@ -1,5 +1,5 @@
 -- What tests and faults say of a line.
-use Rattle.std.proofs.Common.{◌≡◌, ◌≢◌, ℕ, List, Bool, true, false, Option, Some, None, Result, Ok, Err, is_some, refl, ap}
+use Rattle.std.proofs.Common.{◌≡◌, ◌≢◌, List, false, Option, Some, None, Result, Ok, Err, is_some, refl, ap}
 use Rattle.std.proofs.lemmas.Bool.{false≢true}
 use Rattle.std.specs.Prelude.{IsTrue, IsSome}
 use Rattle.slot_map.specs.declared.fault.MapFault.{MapFault}

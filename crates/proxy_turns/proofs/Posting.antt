@@ -1,8 +1,7 @@
 -- One command of a client's is posted, told, or ends.
 use Rattle.std.proofs.Common.{◌≡◌, ◌⊎◌, ℕ, nat_eq, Bool, true, false, List, Option, is_some, Some, None, Result, Ok, Err, inl, inr, refl, sym, ap, ◌∙◌, subst}
 use Rattle.std.specs.Prelude.{IfOk, OnErr}
-use Rattle.std.specs.FinMap.{FinMap, get, insert}
-use Rattle.std.specs.Ordering.{nat_cmp}
+use Rattle.std.specs.FinMap.{get, insert}
 use Rattle.std.specs.Map.{lookup}
 use Rattle.std.proofs.lemmas.Bool.{false≢true}
 use Rattle.slot_hash.specs.Slot.{slot_of}
@@ -13,11 +12,11 @@ use Rattle.key_split.specs.declared.travel.Ticket.{Ticket}
 use Rattle.key_split.specs.declared.travel.Told.{Told}
 use Rattle.command_future.specs.declared.stage.Stage.{Stage}
 use Rattle.command_future.specs.declared.stage.Stage.TheVariants.{Wants, WantsAsking, Awaits, Over}
-use Rattle.command_future.specs.Progress.{Progress, progress_told, batch_of}
+use Rattle.command_future.specs.Progress.{Progress, batch_of}
 use Rattle.proxy_lanes.specs.declared.map_view.NotEntered.{NotEntered}
 use Rattle.proxy_lanes.specs.declared.ring.Outlet.{Outlet}
 use Rattle.proxy_lanes.specs.Lane.{Posts}
-use Rattle.proxy_turns.specs.Commands.{Commanded, Drops, commanded, in_table, AwaitsIn, PostsOne, with_command, Hears, HearsOne, GoesTo, HandsIn, Looks, PostOutcome, PostsResult, Tries}
+use Rattle.proxy_turns.specs.Commands.{Drops, commanded, in_table, AwaitsIn, PostsOne, Hears, HearsOne, GoesTo, Looks, PostOutcome, PostsResult}
 use Rattle.proxy_turns.proofs.Tables.{put_again, at_number, none_some}
 
 pub some_same : {A : Type 0} (x y : A) → Some x ≡ Some y → x ≡ y

@@ -12,7 +12,6 @@ use Rattle.key_split.specs.declared.travel.Batch.{Batch}
 use Rattle.key_split.specs.declared.travel.Ticket.{Ticket}
 use Rattle.key_split.specs.declared.travel.Told.{Told}
 use Rattle.key_split.specs.declared.travel.Ended.{Ended}
-use Rattle.command_future.specs.declared.stage.Stage.TheVariants.{Awaits}
 use Rattle.command_future.specs.Progress.{Progress, fresh, progress_told}
 use Rattle.session_order.specs.Held.{Held}
 use Rattle.session_order.specs.Steps.{IsOut, IsHandedOut, KeepsOut}

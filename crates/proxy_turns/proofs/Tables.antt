@@ -1,10 +1,12 @@
 -- The finite map that the entries of a hash map stand for, by numbers.
-use Rattle.std.proofs.Common.{◌≡◌, ℕ, nat_eq, Bool, List, [], ◌∷◌, length, arith, cond, Option, Some, None, true, false, eqb→eq, refl, sym, ap, ◌∙◌, subst}
+use Rattle.std.proofs.Common.{◌≡◌, ℕ, nat_eq, Bool, Bor, List, [], ◌∷◌, length, arith, cond, Option, is_some, Some, None, true, false, eqb→eq, refl, sym, ap, ◌∙◌, subst}
 use Rattle.std.specs.Ordering.{nat_cmp, eq_by_cmp}
 use Rattle.std.specs.Cmp.{nat_cmp_total, unsigned_ties, eq_by_cmp_equiv}
 use Rattle.std.specs.FinMap.{FinMap, empty, get, get-empty, insert, remove, from_entries, find, get-from_entries, get-insert, get-remove, same_map, nat_cmp-IsAntisymmetric}
-use Rattle.std.specs.Map.{lookup}
+use Rattle.std.specs.Map.{lookup, keys_of}
+use Rattle.std.specs.Option.{MatchOption, option_copied}
 use Rattle.std.specs.Prelude.{T}
+use Rattle.std.proofs.lemmas.Bool.{false≢true}
 
 turned : (k q : ℕ) → nat_eq k q ≡ eq_by_cmp nat_cmp q k
 turned k q = unsigned_ties k q ∙ (eq_by_cmp_equiv nat_cmp_total).symm k q
@@ -15,6 +17,14 @@ none_some {A} x e = subst there e tt
     there : Option A → Type 0
     there None = Unit {0}
     there (Some y) = ⊥
+
+pub is_some_some : {A : Type 0} (o : Option A) → is_some o ≡ true → (x : A) × (o ≡ Some x)
+is_some_some None e = absurd (false≢true e)
+is_some_some (Some x) e = (x, refl)
+
+abbrev head_or : ℕ → List ℕ → ℕ
+head_or other [] = other
+head_or other (x ∷ xs) = x
 
 module _ {X : Type 0} where
   find-lookup : (q : ℕ) (es : List (ℕ × X)) → lookup (nat_eq q) es ≡ find nat_cmp q es
@@ -71,3 +81,17 @@ module _ {X : Type 0} where
       let here : get (insert (from_entries {R = nat_cmp} es) x.0 x.1) x.0 ≡ Some x.1 =
       get-insert nat_cmp_total (from_entries es) x.0 x.1 x.0 ∙ ap (λ b. cond b (Some x.1) (get (from_entries {R = nat_cmp} es) x.0)) ((eq_by_cmp_equiv nat_cmp_total).refl x.0) in
       absurd (none_some x.1 (sym (get-empty nat_cmp x.0) ∙ ap (λ (m : FinMap nat_cmp X). get m x.0) (sym e) ∙ here))
+
+  here : (e : ℕ × X) (es : List (ℕ × X)) → get (from_entries {R = nat_cmp} (e ∷ es)) e.0 ≡ Some e.1
+  here e es = get-insert nat_cmp_total (from_entries es) e.0 e.1 e.0 ∙ ap (λ b. cond b (Some e.1) (get (from_entries {R = nat_cmp} es) e.0)) ((eq_by_cmp_equiv nat_cmp_total).refl e.0)
+
+  -- the first of the numbers, where there is one, has a value
+  pub first_there : (entries : List (ℕ × X)) (numbers rest : List ℕ) (given : Option (Bor ℕ)) → numbers ≡ keys_of entries
+      → MatchOption given ((numbers ≡ []) × (rest ≡ [])) (λ k. numbers ≡ k.now ∷ rest)
+      → MatchOption (option_copied given) (entries ≡ []) (λ number. (x : X) × (get (from_entries {R = nat_cmp} entries) number ≡ Some x))
+  first_there [] numbers rest None are none = refl
+  first_there (e ∷ es) numbers rest None are none = absurd (omega (arith, ap length (sym are ∙ none.0)))
+  first_there [] numbers rest (Some k) are there = absurd (omega (arith, ap length (sym are ∙ there)))
+  first_there (e ∷ es) numbers rest (Some k) are there =
+      let first : e.0 ≡ k.now = ap (head_or 0) (sym are ∙ there) in
+      (e.1, subst (λ n. get (from_entries {R = nat_cmp} (e ∷ es)) n ≡ Some e.1) first (here e es))

@@ -1,16 +1,12 @@
 -- What the carrier does between the workers' lanes and the nodes: a list of events.
-use Rattle.std.specs.Prelude.{◌≡◌, ◌++◌, ◌∷◌, [], ◌⊎◌, ◌<◌, ◌≤◌, ℕ, List, Bool, true, false, Option, Some, None, Result, Ok, Err, length, slice_get, slice_set}
+use Rattle.std.specs.Prelude.{◌≡◌, ◌++◌, ◌∷◌, [], ◌⊎◌, ◌<◌, ℕ, List, Bool, true, false, Some, None, Result, Ok, Err, length, slice_get, slice_set}
 use Rattle.std.specs.List.{FoldsTo, list_any}
 use Rattle.resp_wire.specs.declared.fault.NoMemory.{NoMemory}
 use Rattle.resp_wire.specs.declared.value.Value.{Value}
 use Rattle.key_split.specs.declared.travel.Batch.{Batch}
-use Rattle.key_split.specs.declared.travel.Ticket.{Ticket}
-use Rattle.key_split.specs.declared.travel.Told.{Told}
-use Rattle.key_split.specs.declared.travel.Told.TheVariants.{Unsent}
-use Rattle.key_split.specs.Requests.{Request, requests_of}
+use Rattle.key_split.specs.Requests.{Request}
 use Rattle.slot_map.specs.Table.{Endpoint}
 use Rattle.slot_map.specs.declared.ops.MapOp.{MapOp}
-use Rattle.node_link.specs.State.{Connection}
 use Rattle.proxy_lanes.specs.declared.ends.lane_ends.LaneEnds.{LaneEnds}
 use Rattle.proxy_lanes.specs.declared.ends.CarrierEnds.{CarrierEnds}
 use Rattle.proxy_lanes.specs.Carrier.{lanes_of}
@@ -18,7 +14,7 @@ use Rattle.proxy_turns.specs.declared.carrier.Carrier.{Carrier}
 use Rattle.proxy_turns.specs.declared.hand.Hand.{Hand}
 use Rattle.proxy_turns.specs.declared.line.Line.{Line}
 use Rattle.proxy_turns.specs.declared.step.Step.{Step}
-use Rattle.proxy_turns.specs.Line.{Side, LineDoes, Starves, GoesOut, idle_line, fresh_link, is_line_move, is_unanswered}
+use Rattle.proxy_turns.specs.Line.{Side, LineDoes, Starves, idle_line, fresh_link, is_line_move, is_unanswered}
 use Rattle.proxy_turns.specs.Links.{IsUnreached, SendOutcome}
 use Rattle.proxy_turns.specs.Hands.{empty_hand, GiveOutcome, TellOutcome, TakeOutcome}
 

@@ -1,5 +1,5 @@
 -- The commands of one client, and how they are posted.
-use Rattle.std.specs.Prelude.{◌≡◌, ◌⊎◌, ℕ, List, Bool, true, false, Option, Some, None, Result, Ok, Err, IsSomeAnd}
+use Rattle.std.specs.Prelude.{◌≡◌, ◌⊎◌, ℕ, List, Bool, true, false, Option, Some, None, Result, Ok, Err}
 use Rattle.std.specs.Ordering.{nat_cmp}
 use Rattle.std.specs.FinMap.{FinMap, get, insert, from_entries}
 use mathlib.Core.List.{IsPrefix}
@@ -7,7 +7,6 @@ use Rattle.slot_hash.specs.Slot.{slot_of}
 use Rattle.slot_map.specs.declared.ops.MapOp.{MapOp}
 use Rattle.slot_map.specs.Map.{node_after}
 use Rattle.resp_wire.specs.declared.fault.NoMemory.{NoMemory}
-use Rattle.key_split.specs.Command.{Command as Part}
 use Rattle.key_split.specs.declared.travel.Batch.{Batch}
 use Rattle.key_split.specs.declared.travel.Ticket.{Ticket}
 use Rattle.key_split.specs.declared.travel.Told.{Told}

@@ -3,6 +3,8 @@ pub mod Commands
 pub mod Talk
 pub mod Turn
 pub mod Floor
+pub mod Tables
+pub mod Seats
 pub mod Room
 pub mod Worker
 pub mod Dialling
@@ -10,3 +12,6 @@ pub mod Line
 pub mod Links
 pub mod Hands
 pub mod Carriage
+pub mod Owing
+pub mod Received
+pub mod Script

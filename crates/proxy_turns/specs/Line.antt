@@ -1,13 +1,12 @@
 -- What the carrier does at its line to one node, step by step: Redis Cluster specification, "MOVED Redirection" and
 -- "CLUSTER SLOTS".
-use Rattle.std.specs.Prelude.{◌≡◌, ◌≢◌, ◌++◌, ◌∷◌, [], ◌⊎◌, ◌&&◌, ◌<◌, ◌≤◌, ℕ, List, Bool, true, false, Option, Some, None, Result, Ok, Err, IsSome, is_none, length}
+use Rattle.std.specs.Prelude.{◌≡◌, ◌≢◌, ◌++◌, ◌∷◌, [], ◌⊎◌, ◌&&◌, ℕ, List, Bool, true, false, Option, Some, None, Result, Ok, Err, IsSome, is_none}
 use Rattle.resp_wire.specs.declared.fault.NoMemory.{NoMemory}
 use Rattle.resp_wire.specs.declared.value.Value.{Value}
-use Rattle.key_split.specs.declared.travel.Batch.{Batch}
 use Rattle.key_split.specs.declared.travel.Ticket.{Ticket}
 use Rattle.key_split.specs.declared.travel.Told.{Told}
 use Rattle.key_split.specs.declared.travel.Told.TheVariants.{Reply, Moved, Ask, TryAgain, ClusterDown, Unclear, Lost, Unsent}
-use Rattle.key_split.specs.Requests.{Request, Slots, requests_of}
+use Rattle.key_split.specs.Requests.{Request, Slots}
 use Rattle.slot_map.specs.Table.{Endpoint}
 use Rattle.slot_map.specs.Slots.{read_slots, Reading}
 use Rattle.slot_map.specs.declared.ops.MapOp.{MapOp}

@@ -1,5 +1,5 @@
 -- One client of a worker.
-use Rattle.std.specs.Prelude.{◌≡◌, ◌≢◌, ◌⊎◌, ◌≤◌, ℕ, List, [], Bool, true, false, Option, Some, None, Result, Ok, Err, length}
+use Rattle.std.specs.Prelude.{◌≡◌, ◌≢◌, ◌⊎◌, ℕ, List, [], Bool, true, false, Some, None, Result, Ok, Err, length}
 use Rattle.std.specs.FinMap.{empty, get}
 use Rattle.resp_wire.specs.Bounds.{Bounds}
 use Rattle.resp_wire.specs.declared.fault.NoMemory.{NoMemory}
@@ -41,11 +41,17 @@ begun worker number bounds port = record {
   gone = false;
 }
 
--- Nothing is left to do for it: its session is finished and all its bytes were pushed, or it is gone and no command is left.
+-- its session is finished, and all its bytes were pushed
+abbrev pub IsServed : {C : Type 0} → Talk C → Type 0
+IsServed talk = IsFinished talk.session × (talk.unpushed ≡ [])
+
+-- it is gone, and no command is left
+abbrev pub IsLeft : {C : Type 0} → Talk C → Type 0
+IsLeft talk = (talk.gone ≡ true) × (talk.commands ≡ record { fresh = None; posted = empty })
+
+-- nothing is left to do for it
 abbrev pub IsDone : {C : Type 0} → Talk C → Type 0
-IsDone talk =
-    (IsFinished talk.session × (talk.unpushed ≡ []))
-    ⊎ ((talk.gone ≡ true) × (talk.commands ≡ record { fresh = None; posted = empty }))
+IsDone talk = IsServed talk ⊎ IsLeft talk
 
 -- bytes are pulled where none were waiting to be fed
 abbrev pub Takings : {C : Type 0} → Moves C → C → Result Flow NoMemory → C → List ℕ → Type 0

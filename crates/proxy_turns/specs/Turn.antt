@@ -1,5 +1,5 @@
 -- What happens to one client in a worker's turn, at the lane into which the worker posts, and at its view of the slot map.
-use Rattle.std.specs.Prelude.{◌≡◌, ◌⊎◌, ◌++◌, ◌∷◌, [], ℕ, List, Bool, true, false, Option, Some, None, Result, Ok, Err, length, drop, nat_lt}
+use Rattle.std.specs.Prelude.{◌≡◌, ◌↔◌, ◌++◌, ◌∷◌, [], ℕ, List, Bool, true, false, IsTrue, Option, Some, None, Result, Ok, Err, length, drop, nat_lt}
 use Rattle.std.specs.List.{FoldsTo, list_any}
 use Rattle.std.specs.FinMap.{remove}
 use Rattle.slot_hash.specs.Slot.{slot_of}
@@ -18,8 +18,11 @@ use Rattle.proxy_lanes.specs.declared.map_view.NotEntered.{NotEntered}
 use Rattle.proxy_lanes.specs.declared.ring.Outlet.{Outlet}
 use Rattle.proxy_lanes.specs.Lane.{Posts}
 use Rattle.proxy_turns.specs.Port.{Moves}
-use Rattle.proxy_turns.specs.Commands.{Commanded, Takes, with_command, HasEnd, Looks, GoesTo}
-use Rattle.proxy_turns.specs.Talk.{Talk}
+use Rattle.proxy_turns.specs.Commands.{Commanded, Takes, with_command, EndsAt, HasEnd, Looks, GoesTo}
+use Rattle.proxy_turns.specs.declared.turned.Turned.{Turned}
+use Rattle.proxy_turns.specs.declared.turned.Settled.{Settled}
+use Rattle.proxy_turns.specs.declared.turned.Settled.TheVariants as settled
+use Rattle.proxy_turns.specs.Talk.{Talk, IsDone}
 
 pub record Desk (C : Type 0) : Type 0 where
   pub talk : Talk C
@@ -34,8 +37,6 @@ pub data Event : Type 0 where
   Looked : ℕ → Event
   CameBack : Batch → Event
   Posted : Batch → Event
-  Noted : Ticket → Ended → Event
-  Finished : Ticket → Ended → Event
   Drained : ℕ → Event
   Pushed : List ℕ → Event
   Tried : Event
@@ -53,8 +54,6 @@ is_move (HandedOut ticket part) = true
 is_move (Looked slot) = false
 is_move (CameBack batch) = false
 is_move (Posted batch) = true
-is_move (Noted ticket end) = true
-is_move (Finished ticket end) = true
 is_move (Drained n) = nat_lt 0 n
 is_move (Pushed bytes) = nat_lt 0 (length bytes)
 is_move Tried = false
@@ -103,16 +102,6 @@ module _ {C : Type 0} where
         × (batch ≡ batch_of c batch.node)
         × Posts old.outlet new.outlet batch (Ok tt)
         × (new ≡ record { talk = record old.talk { commands = with_command rest number (record c { stage = Awaits }) }; outlet = new.outlet; view = new.view })
-    -- the end of a command is noted
-    Does old (Noted ticket end) new =
-        HasEnd old.talk.commands ticket.part ticket end
-        × moves old.talk.port [] [] ((ticket, end) ∷ []) new.talk.port
-        × (new ≡ with_talk old (record old.talk { port = new.talk.port }))
-    -- a command that has ended leaves, and its session learns the end
-    Does old (Finished ticket end) new =
-        HasEnd old.talk.commands ticket.part ticket end
-        × EndOutcome old.talk.session ticket end new.talk.session
-        × (new ≡ with_talk old (record old.talk { session = new.talk.session; commands = record old.talk.commands { posted = remove old.talk.commands.posted ticket.part } }))
     -- the session drains the replies that are next in order
     Does old (Drained n) new =
         DrainOutcome old.talk.session old.talk.unpushed (Ok n) new.talk.session new.talk.unpushed
@@ -140,7 +129,42 @@ module _ {C : Type 0} where
     Turns old (Ok moved) new = Goes old moved new
     Turns old (Err refused) new = (moved : Bool) × Goes old moved new
 
+    -- the same for a client's turn, which also says whether nothing is left to do for the client
+    abbrev pub TurnOutcome : Desk C → Result Turned NoMemory → Desk C → Type 0
+    TurnOutcome old (Ok turned) new = Goes old turned.moved new × (IsTrue turned.done ↔ IsDone new.talk)
+    TurnOutcome old (Err refused) new = (moved : Bool) × Goes old moved new
+
     -- the same for a call that touches the client alone
     abbrev pub TurnsTalk : Talk C → Result Bool NoMemory → Talk C → Type 0
     TurnsTalk old result new = (outlet : Outlet Batch) (view : List MapOp)
         → Turns (record { talk = old; outlet = outlet; view = view }) result (record { talk = new; outlet = outlet; view = view })
+
+    -- A command has ended: in one step the port notes the end, the session learns it, and the command leaves.
+    abbrev pub Finishes : Talk C → Ticket → Ended → Talk C → Type 0
+    Finishes old ticket end new =
+        HasEnd old.commands ticket.part ticket end
+        × moves old.port [] [] ((ticket, end) ∷ []) new.port
+        × EndOutcome old.session ticket end new.session
+        × (new ≡ record old { port = new.port; session = new.session; commands = record old.commands { posted = remove old.commands.posted ticket.part } })
+
+    -- the command for the part of this number, where it has ended; where the port finds no memory for the end nothing happens
+    abbrev pub FinishOutcome : Talk C → ℕ → Result Bool NoMemory → Talk C → Type 0
+    FinishOutcome old number (Ok true) new = (ticket : Ticket) × (end : Ended) × (ticket.part ≡ number) × Finishes old ticket end new
+    FinishOutcome old number (Ok false) new = (EndsAt old.commands number → ⊥) × (new ≡ old)
+    FinishOutcome old number (Err refused) new = moves old.port [] [] [] new.port × (new ≡ record old { port = new.port })
+
+    -- the command for the part of this number ends, or is posted again, or neither
+    abbrev pub SettleOutcome : Desk C → ℕ → Result Settled NoMemory → Desk C → Type 0
+    SettleOutcome old number (Ok settled.Finished) new =
+        (ticket : Ticket) × (end : Ended) × (ticket.part ≡ number) × Finishes old.talk ticket end new.talk × (new ≡ with_talk old new.talk)
+    SettleOutcome old number (Ok settled.Posted) new = Goes old true new
+    SettleOutcome old number (Ok settled.Held) new = Goes old false new
+    SettleOutcome old number (Ok settled.Nothing) new = Goes old false new
+    SettleOutcome old number (Err refused) new = (moved : Bool) × Goes old moved new
+
+-- whether it moved something
+abbrev pub is_settled : Settled → Bool
+is_settled settled.Finished = true
+is_settled settled.Posted = true
+is_settled settled.Held = false
+is_settled settled.Nothing = false

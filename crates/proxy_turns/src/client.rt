@@ -1,11 +1,12 @@
 //! One client of a worker.
 
-ghost use Rattle.std.specs.Prelude.{◌≡◌, ◌≤◌, [], ℕ, List, Result, Ok, drop, false, length, take, IsTrue, None};
+ghost use Rattle.std.specs.Prelude.{◌≡◌, ◌≤◌, ◌↔◌, [], ℕ, List, Result, Ok, drop, false, length, take, IsTrue, None};
 ghost use Rattle.std.specs.FinMap as map;
 ghost use Rattle.proxy_turns.specs.Talk.{Takings, read_answer};
 
 use crate::commands::Commands;
 use crate::port::ClientPort;
+use crate::turned::{Settled, Turned};
 use key_split::{Batch, Ended, Ticket, Told};
 use node_link::Flow;
 use proxy_lanes::{LANE_PLACES, MapView, Naming, Outlet};
@@ -17,6 +18,8 @@ use std::mem;
 
 /// How many bytes are pulled in one call.
 const PIECE: usize = 16 * 1024;
+/// While so many bytes wait to be pushed, no more are drained.
+const MAX_UNPUSHED: usize = 64 * 1024;
 /// How many requests are read in one turn.
 const MAX_READS: usize = 1024;
 
@@ -31,6 +34,8 @@ pub(crate) struct Client<C: ClientPort + Drop> {
     unpushed: Vec<u8>,
     port: C,
     gone: bool,
+    // Its turns move nothing until bytes are pulled or a command ends.
+    at_rest: bool,
 }
 
 impl<C: ClientPort + Drop> Model for Client<C> {
@@ -58,7 +63,7 @@ impl<C: ClientPort + Drop> Model for Client<C> {
 impl<C: ClientPort + Drop> Client<C> {
     ghost use Rattle.proxy_turns.specs.Commands.{Hears};
     ghost use Rattle.proxy_turns.specs.Talk.{begun, IsDone};
-    ghost use Rattle.proxy_turns.specs.Turn.{Desk, Turns, TurnsTalk};
+    ghost use Rattle.proxy_turns.specs.Turn.{Desk, SettleOutcome, TurnOutcome};
 
     #[tactic(auto, using(crate::proofs::Sound::sound_begun))]
     pub(crate) fn new(alloc: Global, worker: u16, number: u32, limits: Limits, port: C) -> Client<C>
@@ -71,22 +76,22 @@ impl<C: ClientPort + Drop> Client<C> {
             unpushed: Vec::new(alloc),
             port,
             gone: false,
+            at_rest: false,
         }
     }
 
-    /// What a worker does for this client in a turn, beside telling its commands what came for them.
+    /// What a worker does for this client in a turn, beside what became of its commands.
     pub(crate) fn turn<J: Naming>(
         &mut self,
         outlet: &mut Outlet<Batch>,
         view: &mut MapView<J>,
         piece: &mut Vec<u8>,
-    ) -> Result<bool, NoMemory>
-        ensures { Turns C.moves (record { talk = self.old; outlet = outlet.old; view = view.old }) result (record { talk = self.new; outlet = outlet.new; view = view.new }) }
+    ) -> Result<Turned, NoMemory>
+        ensures { TurnOutcome C.moves (record { talk = self.old; outlet = outlet.old; view = view.old }) result (record { talk = self.new; outlet = outlet.new; view = view.new }) }
     {
-        let taken = self.take_in(piece)?;
-        let sent = self.send(outlet, view)?;
-        let written = self.write()?;
-        Ok(taken | sent | written)
+        let moved = self.serve(outlet, view, piece)?;
+        let done = self.is_done();
+        Ok(Turned { moved, done })
     }
 
     /// Ends the command for the part of this number, or posts it again, as it wants.
@@ -95,12 +100,19 @@ impl<C: ClientPort + Drop> Client<C> {
         number: u64,
         outlet: &mut Outlet<Batch>,
         view: &mut MapView<J>,
-    ) -> Result<bool, NoMemory>
-        ensures { Turns C.moves (record { talk = self.old; outlet = outlet.old; view = view.old }) result (record { talk = self.new; outlet = outlet.new; view = view.new }) }
+    ) -> Result<Settled, NoMemory>
+        ensures { SettleOutcome C.moves (record { talk = self.old; outlet = outlet.old; view = view.old }) number result (record { talk = self.new; outlet = outlet.new; view = view.new }) }
     {
-        let ended = self.end(number)?;
-        let posted = self.post_again(number, outlet, view)?;
-        Ok(ended | posted)
+        if self.end(number)? {
+            return Ok(Settled::Finished);
+        }
+        if self.post_again(number, outlet, view)? {
+            return Ok(Settled::Posted);
+        }
+        if self.commands.wants_post(number) {
+            return Ok(Settled::Held);
+        }
+        Ok(Settled::Nothing)
     }
 
     /// Tells the command of this ticket what came, where it awaits that. True where it does.
@@ -111,19 +123,11 @@ impl<C: ClientPort + Drop> Client<C> {
         self.commands.hear(ticket, told)
     }
 
-    /// Whether the command for the part of this number wants to be posted.
-    pub(crate) fn wants_post(&self, number: u64) -> bool {
-        self.commands.wants_post(number)
-    }
-
     /// Whether nothing is left to do for this client.
     pub(crate) fn is_done(&self) -> bool
-        ensures { IsTrue result → IsDone self.now }
+        ensures { IsTrue result ↔ IsDone self.now }
     {
-        if self.gone {
-            return self.commands.has_none_posted() && !self.commands.has_fresh();
-        }
-        self.session.finished() && self.unpushed.is_empty()
+        self.is_served() || self.is_left()
     }
 
     pub(crate) fn into_port(self) -> C
@@ -136,22 +140,80 @@ impl<C: ClientPort + Drop> Client<C> {
             unpushed: _,
             port,
             gone: _,
+            at_rest: _,
         } = self;
         port
     }
 }
 
 impl<C: ClientPort + Drop> Client<C> {
-    ghost use Rattle.proxy_turns.specs.Turn.{Desk, Turns, TurnsTalk};
+    ghost use Rattle.proxy_turns.specs.Talk.{IsServed, IsLeft};
+    ghost use Rattle.proxy_turns.specs.Turn.{Desk, FinishOutcome, Turns, TurnsTalk};
 
-    // Pulls, feeds and reads what the client asks for.
-    fn take_in(&mut self, piece: &mut Vec<u8>) -> Result<bool, NoMemory>
-        ensures { TurnsTalk C.moves self.old result self.new }
+    // Whether its session is finished and it has all its bytes.
+    fn is_served(&self) -> bool
+        ensures { IsTrue result ↔ IsServed self.now }
+    {
+        self.session.finished() && self.unpushed.is_empty()
+    }
+
+    // Whether it is gone, and no command of it is left.
+    fn is_left(&self) -> bool
+        ensures { IsTrue result ↔ IsLeft self.now }
+    {
+        self.gone && self.commands.is_empty()
+    }
+
+    // Pulls bytes, and does what there is to do. Of a client at rest nothing more is asked where none came.
+    fn serve<J: Naming>(
+        &mut self,
+        outlet: &mut Outlet<Batch>,
+        view: &mut MapView<J>,
+        piece: &mut Vec<u8>,
+    ) -> Result<bool, NoMemory>
+        ensures { Turns C.moves (record { talk = self.old; outlet = outlet.old; view = view.old }) result (record { talk = self.new; outlet = outlet.new; view = view.new }) }
     {
         let pulled = self.pull(piece)?;
+        if self.stays_at_rest(pulled) {
+            return Ok(pulled);
+        }
+        self.wake();
+        let worked = self.work(outlet, view, piece)?;
+        self.rest(pulled | worked);
+        Ok(pulled | worked)
+    }
+
+    // Takes in what the client asks for, sends it, and writes what is ready.
+    fn work<J: Naming>(
+        &mut self,
+        outlet: &mut Outlet<Batch>,
+        view: &mut MapView<J>,
+        piece: &mut Vec<u8>,
+    ) -> Result<bool, NoMemory>
+        ensures { Turns C.moves (record { talk = self.old; outlet = outlet.old; view = view.old }) result (record { talk = self.new; outlet = outlet.new; view = view.new }) }
+    {
         let fed = self.feed(piece)?;
         let read = self.read_all()?;
-        Ok(pulled | fed | read)
+        let sent = self.send(outlet, view)?;
+        let written = self.write()?;
+        Ok(fed | read | sent | written)
+    }
+
+    fn wake(&mut self)
+        ensures { self.new ≡ self.old }
+    {
+        self.at_rest = false;
+    }
+
+    fn stays_at_rest(&self, pulled: bool) -> bool {
+        self.at_rest && !pulled
+    }
+
+    // It rests where nothing moved, and nothing waits for a place in the lane or at the client.
+    fn rest(&mut self, moved: bool)
+        ensures { self.new ≡ self.old }
+    {
+        self.at_rest = !moved && self.unpushed.is_empty() && !self.commands.has_fresh();
     }
 
     // Pulls bytes where none are waiting to be fed.
@@ -287,7 +349,7 @@ impl<C: ClientPort + Drop> Client<C> {
 
     // Notes the end of the command for the part of this number, where it has one, and tells the session.
     fn end(&mut self, number: u64) -> Result<bool, NoMemory>
-        ensures { TurnsTalk C.moves self.old result self.new }
+        ensures { FinishOutcome C.moves self.old number result self.new }
     {
         let Some((ticket, end)) = self.commands.end_of(number) else {
             return Ok(false);
@@ -295,6 +357,7 @@ impl<C: ClientPort + Drop> Client<C> {
         self.port.note(ticket, end)?;
         let (ticket, end) = self.commands.finish(number);
         self.session.ended(ticket, end);
+        self.at_rest = false;
         Ok(true)
     }
 
@@ -307,10 +370,15 @@ impl<C: ClientPort + Drop> Client<C> {
         Ok(drained | pushed)
     }
 
+    // Whether the client is there, and takes its bytes. A client that does not read is asked for no more.
+    fn may_drain(&self) -> bool {
+        !self.gone && self.unpushed.len() < MAX_UNPUSHED
+    }
+
     fn drain(&mut self) -> Result<bool, NoMemory>
         ensures { TurnsTalk C.moves self.old result self.new }
     {
-        if self.gone {
+        if !self.may_drain() {
             return Ok(false);
         }
         let count = self.session.drain(&mut self.unpushed)?;

@@ -59,11 +59,11 @@ impl Commands {
         self.fresh.is_some()
     }
 
-    /// Whether no command that was posted is left.
-    pub(crate) fn has_none_posted(&self) -> bool
-        ensures { IsTrue result ↔ (self.now.posted ≡ map.empty) }
+    /// Whether no command is left.
+    pub(crate) fn is_empty(&self) -> bool
+        ensures { IsTrue result ↔ (self.now ≡ record { fresh = None; posted = map.empty }) }
     {
-        self.posted.is_empty()
+        self.fresh.is_none() && self.posted.is_empty()
     }
 
     /// The command of a part that was handed out begins.
@@ -138,7 +138,7 @@ impl Commands {
 
     /// The ticket and the end of the command for the part of this number, where it has ended.
     pub(crate) fn end_of(&self, number: u64) -> Option<(Ticket, &Ended)>
-        ensures { IfSome result (λ (ticket, end). HasEnd self.now number ticket end.now) }
+        ensures { MatchOption result (EndsAt self.now number → ⊥) (λ (ticket, end). HasEnd self.now number ticket end.now) }
     {
         let command = self.posted.get(&number)?;
         Some((command.ticket(), command.end()?))

@@ -1,10 +1,20 @@
 //! Who lets a worker go on.
 
-/// Asked before each turn of a worker, and told of turns that moved nothing.
+ghost use Rattle.std.specs.Prelude.{ℕ, Bool, ⊤};
+
+/// Asked before each turn of a worker and once after the last, and told of turns that moved nothing.
 pub trait Gate {
+    /// It answered so to the worker of this number, of whose parts so many had ended.
+    ghost says: { Self → ℕ → ℕ → Bool → Type 0 } = { λ _ _ _ _. ⊤ };
+
+    /// It was told that a turn moved nothing.
+    ghost rests: { Self → Type 0 } = { λ _. ⊤ };
+
     /// Whether the worker goes on. `answered` counts the parts that have ended so far.
-    fn pass(&self, worker: u16, answered: u64) -> bool;
+    fn pass(&self, worker: u16, answered: u64) -> bool
+        ensures asked { says self.now worker answered result };
 
     /// The last turn moved nothing.
-    fn idle(&self);
+    fn idle(&self)
+        ensures rested { rests self.now };
 }

@@ -1,6 +1,6 @@
 //! A client, as a worker sees it.
 
-ghost use Rattle.std.specs.Prelude.{List, ℕ};
+ghost use Rattle.std.specs.Prelude.{List, [], ℕ};
 ghost use Rattle.key_split.specs.declared.travel.Ticket.{Ticket as TicketOf};
 ghost use Rattle.key_split.specs.declared.travel.Ended.{Ended as EndedAs};
 ghost use Rattle.proxy_turns.specs.Port.{PullOutcome, PushOutcome, NoteOutcome};
@@ -25,4 +25,8 @@ pub trait ClientPort {
     /// Notes how a part of the client ended.
     fn note(&mut self, ticket: Ticket, end: &Ended) -> Result<(), NoMemory>
         ensures noted { NoteOutcome moves self.old (ticket, end.now) result self.new };
+
+    /// The client is let go: nothing more is pulled, pushed or noted. Called once.
+    fn close(&mut self)
+        ensures closed { moves self.old [] [] [] self.new };
 }

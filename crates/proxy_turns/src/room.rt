@@ -1,54 +1,76 @@
 //! The clients of a worker, between them and the carrier the lanes.
 
-ghost use Rattle.std.specs.Prelude.{◌≡◌, ◌<◌, [], IsTrue, MatchOption, OnOk, OnErr, None, vec_len, vec_capacity};
+ghost use Rattle.std.specs.Prelude.{◌≡◌, ◌<◌, ◌≤◌, ◌+◌, [], ◌∷◌, ◌++◌, ℕ, List, IsTrue, ◌↔◌, OnOk, Ok, Some, length, vec_len, vec_capacity};
 ghost use Rattle.std.specs.FinMap.{empty, insert};
 ghost use Rattle.std.specs.HashMap.{spare};
-ghost use Rattle.proxy_turns.specs.Floor.{PutsNew, TurnsAll, clients_in, floor};
-ghost use mathlib.Core.List.{IsPrefix};
-ghost use Rattle.proxy_turns.specs.Room.{floor_of};
+ghost use Rattle.proxy_turns.specs.Floor.{GivesBack, IsServed, Learns, OneCame, TurnsAll, clients_in, with_port};
+ghost use Rattle.proxy_turns.specs.Seats.{AreToCome, PutsNew, counted_by, settled_in, turned_in};
 
 use crate::client::Client;
 use crate::newcomer::Newcomer;
 use crate::port::ClientPort;
-use crate::table::{Table, serve, settle, take_done, tell, wants_post};
+use crate::table::{Table, serve, settle, take_any, take_done, tell};
+use crate::turned::{Settled, Turned};
+use crate::worker_end::{WorkerEnd, WorkerOutcome};
 use key_split::{Batch, Ticket, Told};
-use proxy_lanes::{Front, Inlet, LANE_PLACES, MapView, Naming, Newcomers, Outlet};
+use proxy_lanes::{Front, Inlet, LANE_PLACES, MapView, Naming, Newcomers, Outlet, WorkerEnds};
 use resp_wire::{Limits, NoMemory};
 use std::alloc::{AllocFailed, Global};
 use std::collections::{HashMap, VecDeque};
+use std::mem;
 
 /// The clients of a worker with its ends of the lanes.
 #[derive(Drop)]
 pub(crate) struct Room<C: ClientPort + Drop, J: Naming> {
     alloc: Global,
+    worker: u16,
     clients: Table<C>,
+    newcomers: Newcomers<Newcomer<C, J>>,
+    // How many are still to come; `None` without end.
+    left: Option<u32>,
     outlet: Outlet<Batch>,
     view: MapView<J>,
     inlet: Inlet<(Ticket, Told)>,
-    // The ports of the clients that were let go.
+    // How many parts have ended.
+    answered: u64,
+    // The ports of the clients that were let go, where they are kept.
     ports: Vec<C>,
     // The numbers of the clients, in the order of their turns.
     order: Vec<u32>,
     // The parts whose commands have ended or are to be posted again, the oldest first.
     due: VecDeque<Ticket>,
     piece: Vec<u8>,
+    ghost seats: { length ports.items + length clients.entries ≤ vec_capacity ports },
 }
 
 impl<C: ClientPort + Drop, J: Naming> Room<C, J> {
+    ghost use Rattle.proxy_turns.specs.Room.{floor_of};
+    ghost use Rattle.proxy_turns.specs.Worker.{HandsBack, begun_over};
+
     pub(crate) fn new(
         alloc: Global,
-        outlet: Outlet<Batch>,
-        view: MapView<J>,
-        inlet: Inlet<(Ticket, Told)>,
+        ends: WorkerEnds<Newcomer<C, J>, J>,
+        left: Option<u32>,
     ) -> Room<C, J>
-        ensures { floor_of result ≡ floor empty outlet view inlet [] }
+        ensures { floor_of result ≡ begun_over ends left }
     {
+        let WorkerEnds {
+            worker,
+            outlet,
+            inlet,
+            newcomers,
+            view,
+        } = ends;
         Room {
             alloc,
+            worker,
             clients: HashMap::new(alloc),
+            newcomers,
+            left,
             outlet,
             view,
             inlet,
+            answered: 0,
             ports: Vec::new(alloc),
             order: Vec::new(alloc),
             due: VecDeque::new(alloc),
@@ -56,16 +78,79 @@ impl<C: ClientPort + Drop, J: Naming> Room<C, J> {
         }
     }
 
-    /// Takes a client that was handed over, for the worker of this number. True where there was one.
-    pub(crate) fn admit(
-        &mut self,
-        newcomers: &mut Newcomers<Newcomer<C, J>>,
-        worker: u16,
-    ) -> Result<bool, NoMemory>
+    /// Takes new clients, tells the commands what came, gives each client its turn, and lets go those that are done.
+    pub(crate) fn turn(&mut self) -> Result<bool, NoMemory>
         ensures { TurnsAll C.moves (floor_of self.old) result (floor_of self.new) }
     {
+        let came = self.admit_all()?;
+        let told = self.take_told()?;
+        let settled = self.settle_due()?;
+        let served = self.serve_all()?;
+        Ok(came | told | settled | served)
+    }
+
+    /// Whether all clients that were to come came, and none is left.
+    pub(crate) fn is_served(&self) -> bool
+        ensures { IsTrue result ↔ IsServed (floor_of self.now) }
+    {
+        is_none_to_come(self.left) && self.clients.is_empty()
+    }
+
+    pub(crate) fn worker(&self) -> u16
+        ensures { result ≡ self.now.worker }
+    {
+        self.worker
+    }
+
+    /// How many parts have ended.
+    pub(crate) fn answered(&self) -> u64
+        ensures { result ≡ self.now.answered }
+    {
+        self.answered
+    }
+
+    /// Gives all ports back.
+    pub(crate) fn end(&mut self, outcome: WorkerOutcome) -> WorkerEnd<C>
+        ensures outcome { result.outcome ≡ outcome }
+        ensures back { HandsBack (floor_of self.old) result }
+    {
+        let clients = mem::replace(&mut self.clients, HashMap::new(self.alloc));
+        let ports = mem::replace(&mut self.ports, Vec::new(self.alloc));
+        WorkerEnd {
+            worker: self.worker,
+            ports: give_back(clients, ports),
+            outcome,
+        }
+    }
+}
+
+impl<C: ClientPort + Drop, J: Naming> Room<C, J> {
+    ghost use Rattle.proxy_turns.specs.Room.{floor_of};
+
+    // Takes the clients that are handed over, while any are to come.
+    fn admit_all(&mut self) -> Result<bool, NoMemory>
+        ensures { TurnsAll C.moves (floor_of self.old) result (floor_of self.new) }
+    {
+        let mut moved = false;
+        for _ in 0..LANE_PLACES {
+            let came = self.admit()?;
+            moved |= came;
+            if !came {
+                return Ok(moved);
+            }
+        }
+        Ok(moved)
+    }
+
+    // Takes the next new client, where there is one and any are to come.
+    fn admit(&mut self) -> Result<bool, NoMemory>
+        ensures { TurnsAll C.moves (floor_of self.old) result (floor_of self.new) }
+    {
+        if !are_to_come(self.left) {
+            return Ok(false);
+        }
         make_room(&mut self.clients, &mut self.order, &mut self.ports)?;
-        let Some(newcomer) = newcomers.take() else {
+        let Some(newcomer) = self.newcomers.take() else {
             return Ok(false);
         };
         let Newcomer {
@@ -74,25 +159,17 @@ impl<C: ClientPort + Drop, J: Naming> Room<C, J> {
             front,
         } = newcomer;
         learn(&mut self.view, front);
-        let client = Client::new(self.alloc, worker, number, Limits::full(), port);
+        let client = Client::new(self.alloc, self.worker, number, Limits::full(), port);
         put_new(
             &mut self.clients,
             &mut self.order,
             &mut self.ports,
+            self.left,
             number,
             client,
         );
+        self.left = one_fewer(self.left);
         Ok(true)
-    }
-
-    /// Tells the commands what came, gives each client its turn, and lets go those that are done.
-    pub(crate) fn turn(&mut self) -> Result<bool, NoMemory>
-        ensures { TurnsAll C.moves (floor_of self.old) result (floor_of self.new) }
-    {
-        let told = self.take_told()?;
-        let settled = self.settle_due()?;
-        let served = self.serve_all()?;
-        Ok(told | settled | served)
     }
 
     // Takes what came down the lane, and tells it.
@@ -131,8 +208,9 @@ impl<C: ClientPort + Drop, J: Naming> Room<C, J> {
             let Some(ticket) = first(&self.due) else {
                 return Ok(moved);
             };
-            moved |= self.settle_one(ticket)?;
-            if wants_post(&self.clients, ticket) {
+            let settled = self.settle_one(ticket)?;
+            moved |= settled.is_move();
+            if settled.is_held() {
                 return Ok(moved);
             }
             drop_first(&mut self.due);
@@ -140,10 +218,12 @@ impl<C: ClientPort + Drop, J: Naming> Room<C, J> {
         Ok(moved)
     }
 
-    fn settle_one(&mut self, ticket: Ticket) -> Result<bool, NoMemory>
-        ensures { TurnsAll C.moves (floor_of self.old) result (floor_of self.new) }
+    fn settle_one(&mut self, ticket: Ticket) -> Result<Settled, NoMemory>
+        ensures { TurnsAll C.moves (floor_of self.old) (settled_in result) (floor_of self.new) }
     {
-        settle(&mut self.clients, ticket, &mut self.outlet, &mut self.view)
+        let settled = settle(&mut self.clients, ticket, &mut self.outlet, &mut self.view)?;
+        self.answered = counted(self.answered, settled);
+        Ok(settled)
     }
 
     // Gives each client its turn, and lets it go where it is done.
@@ -155,14 +235,25 @@ impl<C: ClientPort + Drop, J: Naming> Room<C, J> {
             let Some(number) = nth(&self.order, i) else {
                 return Ok(moved);
             };
-            moved |= self.serve_one(number)?;
-            moved |= self.let_go(number, i)?;
+            moved |= self.serve_nth(number, i)?;
         }
         Ok(moved)
     }
 
-    fn serve_one(&mut self, number: u32) -> Result<bool, NoMemory>
+    // Gives the client of this number, which is the i-th, its turn.
+    fn serve_nth(&mut self, number: u32, i: usize) -> Result<bool, NoMemory>
         ensures { TurnsAll C.moves (floor_of self.old) result (floor_of self.new) }
+    {
+        let turned = self.serve_one(number)?;
+        if !turned.done {
+            return Ok(turned.moved);
+        }
+        let left = self.let_go(number, i);
+        Ok(turned.moved | left)
+    }
+
+    fn serve_one(&mut self, number: u32) -> Result<Turned, NoMemory>
+        ensures { TurnsAll C.moves (floor_of self.old) (turned_in result) (floor_of self.new) }
     {
         serve(
             &mut self.clients,
@@ -173,46 +264,76 @@ impl<C: ClientPort + Drop, J: Naming> Room<C, J> {
         )
     }
 
-    // Lets the client of this number go, which is the i-th, where it is done.
-    fn let_go(&mut self, number: u32, i: usize) -> Result<bool, NoMemory>
-        ensures { TurnsAll C.moves (floor_of self.old) result (floor_of self.new) }
+    // Lets the client of this number go, which is the i-th, where it is done. Its port is closed.
+    fn let_go(&mut self, number: u32, i: usize) -> bool
+        ensures { TurnsAll C.moves (floor_of self.old) (Ok result) (floor_of self.new) }
     {
-        self.ports.reserve(1)?;
         let Some(port) = take_done(&mut self.clients, number) else {
-            return Ok(false);
+            return false;
         };
-        self.ports.push_reserved(port);
+        put_away(&mut self.ports, self.left, closed(port));
         drop_nth(&mut self.order, i);
-        Ok(true)
+        true
     }
 }
 
-// Makes room for one more client.
+// Makes room for one more client, and for its port beside those of all others.
 fn make_room<C: ClientPort + Drop>(
     clients: &mut Table<C>,
     order: &mut Vec<u32>,
     ports: &mut Vec<C>,
 ) -> Result<(), NoMemory>
     ensures clients { clients_in clients.new.entries ≡ clients_in clients.old.entries }
+    ensures len { length clients.new.entries ≡ length clients.old.entries }
     ensures ports { ports.new.items ≡ ports.old.items }
+    ensures capacity { vec_capacity ports.old ≤ vec_capacity ports.new }
     ensures clients_room { OnOk result (0 < spare clients.new) }
     ensures order_room { OnOk result (vec_len order.new < vec_capacity order.new) }
-    ensures ports_room { OnOk result (vec_len ports.new < vec_capacity ports.new) }
+    ensures ports_room { OnOk result (length ports.new.items + length clients.new.entries < vec_capacity ports.new) }
 {
     order.reserve(1)?;
-    ports.reserve(1)?;
+    ports.reserve(clients.len() + 1)?;
     clients.reserve(1)?;
     Ok(())
 }
 
 // What was published is known to the view from now on, as far as the front goes.
-#[tactic(auto, using(crate::proofs::Lifting::same_prefix))]
 fn learn<J: Naming>(view: &mut MapView<J>, front: Option<Front<J>>)
-    ensures { IsPrefix view.old view.new }
+    ensures { Learns view.old front view.new }
 {
     match front {
         Some(front) => view.learn(front),
         None => {}
+    }
+}
+
+// Whether any clients are to come.
+fn are_to_come(left: Option<u32>) -> bool
+    ensures { IsTrue result ↔ AreToCome left }
+{
+    match left {
+        Some(left) => left > 0,
+        None => true,
+    }
+}
+
+fn is_none_to_come(left: Option<u32>) -> bool
+    ensures { IsTrue result ↔ (left ≡ Some 0) }
+{
+    match left {
+        Some(left) => left == 0,
+        None => false,
+    }
+}
+
+// How many are to come after one came.
+fn one_fewer(left: Option<u32>) -> Option<u32>
+    requires { AreToCome left }
+    ensures { OneCame left result }
+{
+    match left {
+        Some(left) => Some(left - 1),
+        None => None,
     }
 }
 
@@ -221,16 +342,18 @@ fn put_new<C: ClientPort + Drop>(
     clients: &mut Table<C>,
     order: &mut Vec<u32>,
     ports: &mut Vec<C>,
+    left: Option<u32>,
     number: u32,
     client: Client<C>,
 )
-    requires clients_room { 0 < spare clients.old }
-    requires order_room { vec_len order.old < vec_capacity order.old }
-    requires ports_room { vec_len ports.old < vec_capacity ports.old }
-    ensures { PutsNew (clients_in clients.old.entries) ports.old.items number client (clients_in clients.new.entries) ports.new.items }
+    requires clients { 0 < spare clients.old }
+    requires order { vec_len order.old < vec_capacity order.old }
+    requires ports { length ports.old.items + length clients.old.entries < vec_capacity ports.old }
+    ensures puts { PutsNew C.moves (clients_in clients.old.entries) ports.old.items left number client (clients_in clients.new.entries) ports.new.items }
+    ensures seats { length ports.new.items + length clients.new.entries ≤ vec_capacity ports.new }
 {
     if clients.contains_key(&number) {
-        ports.push_reserved(client.into_port());
+        put_away(ports, left, closed(client.into_port()));
         return;
     }
     order.push_reserved(number);
@@ -239,12 +362,60 @@ fn put_new<C: ClientPort + Drop>(
 
 fn put_ready<C: ClientPort + Drop>(clients: &mut Table<C>, number: u32, client: Client<C>)
     requires { 0 < spare clients.old }
-    ensures { clients_in clients.new.entries ≡ insert (clients_in clients.old.entries) number client }
+    ensures puts { clients_in clients.new.entries ≡ insert (clients_in clients.old.entries) number client }
+    ensures len { length clients.new.entries ≤ length clients.old.entries + 1 }
 {
     let put: Result<Option<Client<C>>, AllocFailed<(u32, Client<C>)>> = clients.insert(
         number, client,
     );
     put.unwrap();
+}
+
+// The port of a client that is let go.
+fn closed<C: ClientPort>(port: C) -> C
+    ensures { C.moves port [] [] [] result }
+{
+    let mut port = port;
+    port.close();
+    port
+}
+
+// Keeps the port, where clients do not come without end. There is room.
+fn put_away<C: Drop>(ports: &mut Vec<C>, left: Option<u32>, port: C)
+    requires { length ports.old.items < vec_capacity ports.old }
+    ensures ports { ports.new.items ≡ with_port left ports.old.items port }
+    ensures len { length ports.new.items ≤ length ports.old.items + 1 }
+    ensures capacity { vec_capacity ports.new ≡ vec_capacity ports.old }
+{
+    match left {
+        Some(_) => ports.push_reserved(port),
+        None => drop(port),
+    }
+}
+
+// Gives the ports back, and behind them those of the clients. There is room.
+fn give_back<C: ClientPort + Drop>(clients: Table<C>, ports: Vec<C>) -> Vec<C>
+    requires { length ports.items + length clients.entries ≤ vec_capacity ports }
+    ensures { (numbers : List ℕ) × GivesBack (clients_in clients.entries) ports.items numbers result.items }
+{
+    let mut clients = clients;
+    let mut ports = ports;
+    while let Some(port) = take_any(&mut clients) {
+        ports.push_reserved(port);
+    }
+    ports
+}
+
+// How many parts have ended, after a step of a command.
+fn counted(answered: u64, settled: Settled) -> u64
+    ensures { result ≡ counted_by settled answered }
+{
+    match settled {
+        Settled::Finished => answered.saturating_add(1),
+        Settled::Posted => answered,
+        Settled::Held => answered,
+        Settled::Nothing => answered,
+    }
 }
 
 // Notes that the command of this ticket may have something to do.

@@ -1,12 +1,14 @@
 //! The clients of a worker by their numbers.
 
-ghost use Rattle.std.specs.Prelude.{◌≡◌, IsTrue, Some};
+ghost use Rattle.std.specs.Prelude.{◌≡◌, ◌↔◌, ◌+◌, [], IsTrue, IfSome, MatchOption, Ok, Some, length, false};
 ghost use Rattle.std.specs.FinMap.{get};
-ghost use Rattle.proxy_turns.specs.Talk.{IsDone, Talk};
-ghost use Rattle.proxy_turns.specs.Floor.{LeavesOne, Tells, TurnsClients, clients_in};
+ghost use Rattle.proxy_turns.specs.Turn.{SettleOutcome, TurnOutcome};
+ghost use Rattle.proxy_turns.specs.Tables.{AtClient, IsDoneAt, TakesAny};
+ghost use Rattle.proxy_turns.specs.Floor.{LeavesOne, Tells, clients_in};
 
 use crate::client::Client;
 use crate::port::ClientPort;
+use crate::turned::{Settled, Turned};
 use key_split::{Batch, Ticket, Told};
 use proxy_lanes::{MapView, Naming, Outlet};
 use resp_wire::NoMemory;
@@ -17,7 +19,8 @@ pub(crate) type Table<C> = HashMap<u32, Client<C>>;
 
 /// Tells the command of this ticket what came, where one awaits that. True where one does.
 pub(crate) fn tell<C: ClientPort + Drop>(clients: &mut Table<C>, ticket: Ticket, told: Told) -> bool
-    ensures { Tells (clients_in clients.old.entries) ticket told result (clients_in clients.new.entries) }
+    ensures tells { Tells (clients_in clients.old.entries) ticket told result (clients_in clients.new.entries) }
+    ensures len { length clients.new.entries ≡ length clients.old.entries }
 {
     let Some(client) = clients.get_mut(&ticket.client) else {
         return false;
@@ -32,11 +35,17 @@ pub(crate) fn serve<C: ClientPort + Drop, J: Naming>(
     outlet: &mut Outlet<Batch>,
     view: &mut MapView<J>,
     piece: &mut Vec<u8>,
-) -> Result<bool, NoMemory>
-    ensures { TurnsClients C.moves (clients_in clients.old.entries) outlet.old view.old result (clients_in clients.new.entries) outlet.new view.new }
+) -> Result<Turned, NoMemory>
+    ensures serves { AtClient (record { clients = clients_in clients.old.entries; outlet = outlet.old; view = view.old }) number
+        (λ old new. TurnOutcome C.moves old result new) (result ≡ Ok (record { moved = false; done = false }))
+        (record { clients = clients_in clients.new.entries; outlet = outlet.new; view = view.new }) }
+    ensures len { length clients.new.entries ≡ length clients.old.entries }
 {
     let Some(client) = clients.get_mut(&number) else {
-        return Ok(false);
+        return Ok(Turned {
+            moved: false,
+            done: false,
+        });
     };
     client.turn(outlet, view, piece)
 }
@@ -47,26 +56,22 @@ pub(crate) fn settle<C: ClientPort + Drop, J: Naming>(
     ticket: Ticket,
     outlet: &mut Outlet<Batch>,
     view: &mut MapView<J>,
-) -> Result<bool, NoMemory>
-    ensures { TurnsClients C.moves (clients_in clients.old.entries) outlet.old view.old result (clients_in clients.new.entries) outlet.new view.new }
+) -> Result<Settled, NoMemory>
+    ensures settles { AtClient (record { clients = clients_in clients.old.entries; outlet = outlet.old; view = view.old }) ticket.client
+        (λ old new. SettleOutcome C.moves old ticket.part result new) (result ≡ Ok Settled.Nothing)
+        (record { clients = clients_in clients.new.entries; outlet = outlet.new; view = view.new }) }
+    ensures len { length clients.new.entries ≡ length clients.old.entries }
 {
     let Some(client) = clients.get_mut(&ticket.client) else {
-        return Ok(false);
+        return Ok(Settled::Nothing);
     };
     client.settle(ticket.part, outlet, view)
 }
 
-/// Whether the command of this ticket wants to be posted.
-pub(crate) fn wants_post<C: ClientPort + Drop>(clients: &Table<C>, ticket: Ticket) -> bool {
-    match clients.get(&ticket.client) {
-        Some(client) => client.wants_post(ticket.part),
-        None => false,
-    }
-}
-
 /// Takes off the client of this number, where nothing is left to do for it.
 pub(crate) fn take_done<C: ClientPort + Drop>(clients: &mut Table<C>, number: u32) -> Option<C>
-    ensures { LeavesOne (clients_in clients.old.entries) number result (clients_in clients.new.entries) }
+    ensures leaves { LeavesOne (clients_in clients.old.entries) number result (clients_in clients.new.entries) }
+    ensures len { MatchOption result (length clients.new.entries ≡ length clients.old.entries) (λ _. length clients.new.entries + 1 ≡ length clients.old.entries) }
 {
     if !is_done(clients, number) {
         return None;
@@ -76,10 +81,27 @@ pub(crate) fn take_done<C: ClientPort + Drop>(clients: &mut Table<C>, number: u3
 }
 
 fn is_done<C: ClientPort + Drop>(clients: &Table<C>, number: u32) -> bool
-    ensures { IsTrue result → (talk : Talk C) × (get (clients_in clients.now.entries) number ≡ Some talk) × IsDone talk }
+    ensures { IsTrue result ↔ IsDoneAt (clients_in clients.now.entries) number }
 {
     match clients.get(&number) {
         Some(client) => client.is_done(),
         None => false,
     }
+}
+
+/// Takes off one of the clients, where there is one.
+pub(crate) fn take_any<C: ClientPort + Drop>(clients: &mut Table<C>) -> Option<C>
+    ensures takes { TakesAny (clients_in clients.old.entries) result (clients_in clients.new.entries) }
+    ensures len { IfSome result (λ _. length clients.new.entries + 1 ≡ length clients.old.entries) }
+{
+    let number = first_number(clients)?;
+    let client = clients.remove(&number)?;
+    Some(client.into_port())
+}
+
+// The number of one of them.
+fn first_number<C: ClientPort + Drop>(clients: &Table<C>) -> Option<u32>
+    ensures { MatchOption result (clients.now.entries ≡ []) (λ number. (client : _) × (get (clients_in clients.now.entries) number ≡ Some client)) }
+{
+    clients.keys().next().copied()
 }

@@ -1,15 +1,19 @@
-//! A worker.
+//! A worker, as a future: each poll is one pass of its gate and one turn.
 
-ghost use Rattle.std.specs.Prelude.{◌≡◌, []};
-ghost use Rattle.std.specs.FinMap.{empty};
-ghost use Rattle.proxy_turns.specs.Floor.{TurnsAll, floor};
-ghost use Rattle.proxy_turns.specs.Worker.{floor_under};
+ghost use Rattle.std.specs.Prelude.{◌≡◌, false, true, ⊤};
+ghost use Rattle.futures.specs.Task.{Covers, Keeps};
+ghost use Rattle.futures.specs.Poll.{IfReady, OnPending};
+ghost use Rattle.proxy_turns.specs.Floor.{TurnsAll};
+ghost use Rattle.proxy_turns.specs.Worker.{Gives, HandsBack, IsRunning, PollOutcome, StepOutcome, begun_over, floor_under};
 
 use crate::gate::Gate;
 use crate::newcomer::Newcomer;
 use crate::port::ClientPort;
 use crate::room::Room;
-use proxy_lanes::{LANE_PLACES, Naming, Newcomers, WorkerEnds};
+use crate::worker_end::{WorkerEnd, WorkerOutcome};
+use futures::Future;
+use futures::task::{Context, Poll};
+use proxy_lanes::{Naming, WorkerEnds};
 use resp_wire::NoMemory;
 use std::alloc::Global;
 
@@ -17,85 +21,98 @@ use std::alloc::Global;
 #[derive(Drop)]
 pub struct Worker<'g, C: ClientPort + Drop, J: Naming, G: Gate> {
     gate: &'g G,
-    number: u16,
     room: Room<C, J>,
-    newcomers: Newcomers<Newcomer<C, J>>,
-    // How many are still to come; `None` without end.
-    left: Option<u32>,
+    over: bool,
 }
 
 impl<'g, C: ClientPort + Drop, J: Naming, G: Gate> Worker<'g, C, J, G> {
-    /// A worker with no client yet. It is to take so many new clients, or clients without end.
+    /// A worker with no client yet. It is to take so many new clients, or clients without end; then it keeps no port of a
+    /// client that it has let go.
     pub fn new(
         alloc: Global,
         ends: WorkerEnds<Newcomer<C, J>, J>,
         gate: &'g G,
         clients: Option<u32>,
     ) -> Worker<'g, C, J, G>
-        ensures { floor_under result ≡ floor empty ends.outlet ends.view ends.inlet [] }
+        ensures floor { floor_under result ≡ begun_over ends clients }
+        ensures gate { result.gate.now ≡ gate.now }
+        ensures can_poll { ⟦<Worker<'g, C, J, G> as Future>⟧.can_poll result }
     {
-        let WorkerEnds {
-            worker,
-            outlet,
-            inlet,
-            newcomers,
-            view,
-        } = ends;
         Worker {
             gate,
-            number: worker,
-            room: Room::new(alloc, outlet, view, inlet),
-            newcomers,
-            left: clients,
+            room: Room::new(alloc, ends, clients),
+            over: false,
         }
     }
 
     /// One turn: takes new clients, tells the commands what came, and serves each client. True where something moved.
     pub fn turn(&mut self) -> Result<bool, NoMemory>
-        ensures { TurnsAll C.moves (floor_under self.old) result (floor_under self.new) }
-    {
-        let came = self.admit_all()?;
-        let went = self.serve()?;
-        Ok(came | went)
-    }
-
-    fn serve(&mut self) -> Result<bool, NoMemory>
-        ensures { TurnsAll C.moves (floor_under self.old) result (floor_under self.new) }
+        ensures turns { TurnsAll C.moves (floor_under self.old) result (floor_under self.new) }
+        ensures runs { IsRunning self.old → IsRunning self.new }
     {
         self.room.turn()
     }
 
-    // Takes the clients that are handed to this worker, while it is to take any.
-    fn admit_all(&mut self) -> Result<bool, NoMemory>
-        ensures { TurnsAll C.moves (floor_under self.old) result (floor_under self.new) }
+    // One pass of the gate, and one turn where it lets the worker go on. What ends the worker, where something does.
+    fn step(&mut self) -> Option<WorkerOutcome>
+        ensures does { StepOutcome C.moves (G.says self.old.gate.now) (G.rests self.old.gate.now) (floor_under self.old) result (floor_under self.new) }
+        ensures runs { IsRunning self.old → IsRunning self.new }
     {
-        let mut moved = false;
-        for _ in 0..LANE_PLACES {
-            let came = self.admit_one()?;
-            moved |= came;
-            if !came {
-                return Ok(moved);
-            }
+        if !self.pass() {
+            return Some(WorkerOutcome::Stopped);
         }
-        Ok(moved)
+        let moved = match self.room.turn() {
+            Ok(moved) => moved,
+            Err(NoMemory) => {
+                self.pass();
+                return Some(WorkerOutcome::NoMemory);
+            }
+        };
+        if self.room.is_served() {
+            self.pass();
+            return Some(WorkerOutcome::Served);
+        }
+        if !moved {
+            self.gate.idle();
+        }
+        None
     }
 
-    fn admit_one(&mut self) -> Result<bool, NoMemory>
-        ensures { TurnsAll C.moves (floor_under self.old) result (floor_under self.new) }
+    fn pass(&self) -> bool
+        ensures { G.says self.now.gate.now self.now.room.worker self.now.room.answered result }
     {
-        if self.left == Some(0) {
-            return Ok(false);
-        }
-        let came = self.room.admit(&mut self.newcomers, self.number)?;
-        self.left = left_after(self.left, came);
-        Ok(came)
+        self.gate.pass(self.room.worker(), self.room.answered())
     }
 }
 
-// How many are still to come, after one came or none.
-fn left_after(left: Option<u32>, came: bool) -> Option<u32> {
-    match left {
-        Some(left) if came => Some(left.saturating_sub(1)),
-        _ => left,
+impl<'g, C: ClientPort + Drop, J: Naming, G: Gate> Future for Worker<'g, C, J, G> {
+    type Output = WorkerEnd<C>;
+
+    ghost can_poll = { IsRunning };
+
+    // No source wakes it: each pending poll asks for the next.
+    ghost needs = { λ _ _. ⊤ };
+
+    ghost gives = { λ worker end. Gives C.moves (floor_under worker) end };
+
+    fn poll(&mut self, cx: &mut Context<'_>) -> Poll<WorkerEnd<C>>
+        requires { IsRunning self.old }
+        ensures value { IfReady result (Gives C.moves (floor_under self.old)) }
+        ensures again { OnPending result (IsRunning self.new) }
+        ensures same { OnPending result ((end : _) → Gives C.moves (floor_under self.new) end → Gives C.moves (floor_under self.old) end) }
+        ensures registered { OnPending result (Covers cx.new (λ _. ⊤)) }
+        ensures kept { Keeps cx.old cx.new }
+
+        // Beside what a future owes: what one poll did, and a pending one has asked for the next.
+        ensures polled { PollOutcome C.moves (G.says self.old.gate.now) (G.rests self.old.gate.now) (floor_under self.old) result (floor_under self.new) }
+        ensures woken { OnPending result (cx.new.is_woken ≡ true) }
+    {
+        match self.step() {
+            Some(outcome) => {
+                self.over = true;
+                Poll::Ready(self.room.end(outcome))
+            }
+            None => cx.yield_now(),
+        }
     }
 }

@@ -1,4 +1,4 @@
-use Rattle.std.proofs.Common.{◌∙◌, ◌≡◌, nat_eq, ap, sym, subst, Some, Ok, Result}
+use Rattle.std.proofs.Common.{◌∙◌, ◌≡◌, nat_eq, ap, subst, Some, Ok, Result}
 use Rattle.std.specs.Result.{OnOk}
 use Rattle.std.specs.HashMap.{Updates}
 use Rattle.std.specs.FinMap.{insert}

@@ -1,4 +1,4 @@
-use Rattle.std.proofs.Common.{◌∙◌, ◌≡◌, ap, sym}
+use Rattle.std.proofs.Common.{◌∙◌, ap, sym}
 use Rattle.std.specs.Prelude.{is_some}
 use Rattle.proxy_turns.proofs.Tables.{at_number, taken_at}
 use Rattle.proxy_turns.proofs.commands.take_at.Goals as goal

@@ -1,9 +1,8 @@
-use Rattle.std.proofs.Common.{◌∙◌, ◌≡◌, ap, sym, refl, subst, Some, None}
+use Rattle.std.proofs.Common.{◌∙◌, ap, sym, refl}
 use Rattle.std.specs.Prelude.{is_some}
 use Rattle.std.specs.Option.{option_copied_mut}
-use Rattle.std.specs.Map.{lookup}
-use Rattle.proxy_turns.specs.Commands.{commanded, in_table}
-use Rattle.proxy_turns.proofs.Tables.{at_number, wrote}
+use Rattle.proxy_turns.specs.Commands.{commanded}
+use Rattle.proxy_turns.proofs.Tables.{wrote}
 use Rattle.proxy_turns.proofs.Posting.{hears_at, silent}
 use Rattle.proxy_turns.proofs.commands.tell_at.Goals as goal
 

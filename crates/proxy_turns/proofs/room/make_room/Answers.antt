@@ -1,4 +1,3 @@
-use Rattle.std.proofs.Common.{◌≡◌, ap}
 use Rattle.proxy_turns.proofs.Tables.{same_look-ups}
 use Rattle.proxy_turns.proofs.room.make_room.Goals as goal
 

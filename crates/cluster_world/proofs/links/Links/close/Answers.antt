@@ -1,11 +1,13 @@
-use Rattle.std.proofs.Common.{◌≡◌, ◌++◌, List, [], Some, true, false, refl, sym, ap, ◌∙◌}
-use Rattle.std.specs.Prelude.{slice_get, slice_set}
+use Rattle.std.proofs.Common.{rules, subst, Err, ◌≡◌, ◌++◌, List, [], Some, true, false, refl, sym, ap, ◌∙◌}
+use Rattle.std.specs.Prelude.{slice_get, slice_set, Result}
 use Rattle.key_split.specs.declared.travel.Ticket.{Ticket}
 use Rattle.key_split.specs.declared.travel.Told.{Told}
 use Rattle.node_model.specs.History.{Entry as Executed}
 use Rattle.world_laws.specs.State.{Link, sent_of, waiting}
 use Rattle.cluster_world.specs.Kept.{Line, shown}
-use Rattle.cluster_world.specs.Links.{Linked, linked, with_link, IsOpen}
+use Rattle.cluster_world.specs.Links.{Linked, linked, with_link, Closes, IsOpen}
+use Rattle.cluster_world.specs.declared.fault.WorldFault.{WorldFault}
+use Rattle.cluster_world.specs.declared.fault.WorldFault.TheVariants.{NoMemory}
 use Rattle.cluster_world.specs.Lost.{each_lost}
 use Rattle.cluster_world.proofs.Lookups.{at-place}
 use Rattle.cluster_world.proofs.Shown.{there, none-there, set-linked, set-same, answered-shown}
@@ -21,6 +23,26 @@ returns-then-not-is_open c =
       set-same ls h c.args.at l l at refl ∙ c.self.view_is,
       refl,
     )
+
+pub returns-in_err-lost : goal.returns-in_err-lost
+returns-in_err-lost c =
+    let ls : List Line = c.self.inside.links.items in
+    let h : List Executed = c.self.inside.history.items in
+    let l : Line = c.in-Some.link.now in
+    let at : slice_get ls c.args.at ≡ Some l = at-place ls c.args.at l c.in-Some.ensures.item.3.0 c.in-Some.ensures.value in
+    let is : c.from_residual.result ≡ Err NoMemory = search rules in
+    subst (λ (r : Result Unit WorldFault). Closes c.args.self.now c.args.at c.args.downs.now.items r (linked (slice_set ls c.args.at l) h) c.args.downs.now.items) (sym is)
+    (there ls h c.args.self.now c.self.view_is c.args.at l at (λ k. IsOpen) (sym c.if-not-is_open.ensures), set-same ls h c.args.at l l at refl ∙ c.self.view_is, refl)
+
+pub returns-in_err-append : goal.returns-in_err-append
+returns-in_err-append c =
+    let ls : List Line = c.self.inside.links.items in
+    let h : List Executed = c.self.inside.history.items in
+    let l : Line = c.in-Some.link.now in
+    let at : slice_get ls c.args.at ≡ Some l = at-place ls c.args.at l c.in-Some.ensures.item.3.0 c.in-Some.ensures.value in
+    let is : c.from_residual-in_err-append.result ≡ Err NoMemory = search rules in
+    subst (λ (r : Result Unit WorldFault). Closes c.args.self.now c.args.at c.args.downs.now.items r (linked (slice_set ls c.args.at l) h) c.append.new.self.items) (sym is)
+    (there ls h c.args.self.now c.self.view_is c.args.at l at (λ k. IsOpen) (sym c.if-not-is_open.ensures), set-same ls h c.args.at l l at refl ∙ c.self.view_is, c.in_err-append.ensures.items)
 
 pub returns : goal.returns
 returns c =

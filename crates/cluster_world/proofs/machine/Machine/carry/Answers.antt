@@ -1,5 +1,5 @@
-use Rattle.std.proofs.Common.{ℕ, ◌==◌, List, Bool, Err, sym, ap, ◌∙◌, subst}
-use Rattle.std.specs.Prelude.{position}
+use Rattle.std.proofs.Common.{ℕ, ◌==◌, List, Bool, Err, refl, sym, ap, ◌∙◌, subst}
+use Rattle.std.specs.Prelude.{position, remove}
 use Rattle.world_laws.specs.State.{World}
 use Rattle.world_laws.specs.World.{IsFirst}
 use Rattle.world_laws.specs.declared.state.Posted.{Posted}
@@ -16,7 +16,8 @@ refused : (w : World) (lane link i : ℕ) (b : Posted) (fault : WorldFault) (k :
     → Carries {U = Unit {0}} (record { links = w.links; history = w.history }) link b (Err fault) k → Answers {U = Unit {0}} w (event.Carry lane link) (Err fault) (record w { links = k.links; history = k.history })
 refused w lane link i b NotNow k first h =
     ((λ v d. h.0 d.2 (subst (λ (x : Posted). GoesOver w.links link x d.2) (first-same (λ (x : Posted). x.ticket.worker == lane) w.ups d.0 i d.1 b d.3 first).1 d.4)), ap (λ (x : Linked). record w { links = x.links; history = x.history }) h.1)
-refused w lane link i b NoMemory k first h = ap (λ (x : Linked). record w { links = x.links; history = x.history }) h
+refused w lane link i b NoMemory k first h =
+    ((record w { ups = remove w.ups i; links = h.0.0 }, (i, b, h.0.0, first, h.0.1, refl)), ap (λ (x : Linked). record w { links = x.links; history = x.history }) h.1)
 
 pub returns-in-Err : goal.returns-in-Err
 returns-in-Err c =

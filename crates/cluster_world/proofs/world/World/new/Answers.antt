@@ -1,4 +1,4 @@
-use Rattle.std.proofs.Common.{ℕ, ◌<◌, List, [], length, Ok, refl, sym, ap, ◌∙◌, subst, arith}
+use Rattle.std.proofs.Common.{◌≡◌, true, false, ℕ, ◌<◌, List, [], length, Ok, refl, sym, ap, ◌∙◌, subst, arith}
 use Rattle.slot_map.specs.Map.{node_after}
 use Rattle.slot_map.specs.declared.ops.MapOp.{MapOp}
 use Rattle.node_model.specs.Nodes.{Opens}
@@ -6,6 +6,12 @@ use Rattle.world_laws.specs.Headline.{IsReached}
 use Rattle.world_laws.specs.State.{World}
 use Rattle.cluster_world.proofs.Taking.{opens-new, opens-same, starts-fault}
 use Rattle.cluster_world.proofs.world.World.new.Goals as goal
+
+pub returns-then-not-has_owners : goal.returns-then-not-has_owners
+returns-then-not-has_owners c = λ ops shows good. (let e : false ≡ true = (c.if-not-has_owners.ensures ops shows).1 good in absurd (cc))
+
+pub returns-in_default : goal.returns-in_default
+returns-in_default c = λ ops shows. (c.if-not-has_owners.ensures ops shows).0 refl
 
 pub invariant_of-result : goal.invariant_of-result
 invariant_of-result c =

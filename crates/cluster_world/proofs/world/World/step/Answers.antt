@@ -35,7 +35,8 @@ invariant_of-self-in-Err c =
 
 pub returns-in-Err : goal.returns-in-Err
 returns-in-Err c =
-    let w : World = state_of c.self.inside.machine in (
-      subst (λ (v : World). RefusedFor v c.args.event.now c.in-Err.fault) c.self.view_is (refused-for Unit w (state_of c.happen.new.self) c.args.event.now c.in-Err.fault c.in-Err.ensures),
+    let w : World = state_of c.self.inside.machine in
+    let lt : w.moment < last_moment = search rules in (
+      subst (λ (v : World). RefusedFor v c.args.event.now c.in-Err.fault) c.self.view_is (refused-for Unit w (state_of c.happen.new.self) c.args.event.now c.in-Err.fault lt c.in-Err.ensures),
       undone Unit w (state_of c.happen.new.self) c.args.event.now c.in-Err.fault c.in-Err.ensures ∙ c.self.view_is,
     )

@@ -1,8 +1,5 @@
-use Rattle.std.proofs.Common.{◌≡◌, ◌∙◌, ◌<◌, sym, ap, subst, arith, length, Some, None, refl}
-use Rattle.std.specs.Prelude.{slice_get, slice_set}
 use Rattle.std.proofs.lemmas.Result.{err_from_is_err_and}
-use Rattle.proxy_turns.specs.Carriage.{carriage_of, Goes, Turns}
-use Rattle.proxy_turns.proofs.Carrying.{at-place, set-itself, same-item, stays, goes_by, goes_then, turns_err, err_stays, served, starved, gave, told, took, sent, not_sent, opened, undialled, refused, greeted, missed}
+use Rattle.proxy_turns.proofs.Carrying.{stays, goes_then, turns_err}
 use Rattle.proxy_turns.proofs.carrier.Carrier+H+Publisher+J+R+D+P.serve_lanes.Goals as goal
 
 pub loop-worker-init : goal.loop-worker-init

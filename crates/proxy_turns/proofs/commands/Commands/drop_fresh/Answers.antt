@@ -1,4 +1,4 @@
-use Rattle.std.proofs.Common.{◌≡◌, ◌∙◌, ap, is_some}
+use Rattle.std.proofs.Common.{◌∙◌, ap, is_some}
 use Rattle.proxy_turns.proofs.Posting.{drops_by}
 use Rattle.proxy_turns.proofs.commands.Commands.drop_fresh.Goals as goal
 

@@ -1,4 +1,4 @@
-use Rattle.std.proofs.Common.{◌∙◌, ◌≡◌, ap, sym, refl, inl, Some, None}
+use Rattle.std.proofs.Common.{◌∙◌, sym, refl, inl}
 use Rattle.proxy_turns.proofs.Tables.{same_look-ups}
 use Rattle.proxy_turns.proofs.Posting.{keeps_fresh, posts_fresh, same_commands}
 use Rattle.proxy_turns.proofs.commands.Commands.post_fresh.Goals as goal

@@ -1,4 +1,4 @@
-use Rattle.std.proofs.Common.{◌≡◌, inr, refl}
+use Rattle.std.proofs.Common.{inr, refl}
 use Rattle.key_split.specs.declared.travel.Told.TheVariants.{Unsent}
 use Rattle.proxy_turns.proofs.hand.Hand.tell.Goals as goal
 

@@ -7,10 +7,5 @@ returns-in_err-moved g c =
     let is : c.from_residual.result ≡ Err c.in_err-moved.field-0.0 = search rules in
     all_err g.C.ClientPort.moves _ _ _ _ _ _ _ c.loop-i.invariant c.in_err-moved.ensures is
 
-pub returns-in_err-moved-2 : goal.returns-in_err-moved-2
-returns-in_err-moved-2 g c =
-    let is : c.from_residual-in_err-moved-2.result ≡ Err c.in_err-moved-2.field-0.0 = search rules in
-    all_err g.C.ClientPort.moves _ _ _ _ _ _ _ (all_then g.C.ClientPort.moves _ _ _ _ _ c.loop-i.invariant c.in_ok-moved.ensures) c.in_err-moved-2.ensures is
-
 pub loop-i-preserved : goal.loop-i-preserved
-loop-i-preserved g c = all_then g.C.ClientPort.moves _ _ _ _ _ (all_then g.C.ClientPort.moves _ _ _ _ _ c.loop-i.invariant c.in_ok-moved.ensures) c.in_ok-moved-2.ensures
+loop-i-preserved g c = all_then g.C.ClientPort.moves _ _ _ _ _ c.loop-i.invariant c.in_ok-moved.ensures

@@ -1,6 +1,8 @@
-use Rattle.std.proofs.Common.{◌≡◌, ◌∙◌, ap, sym, refl, rules, Ok, Err}
-use Rattle.proxy_turns.proofs.Lifting.{all_err, all_then, found_none, has_left, stays_all, took}
+use Rattle.proxy_turns.specs.Floor.{clients_in}
+use Rattle.proxy_turns.specs.Room.{floor_of}
+use Rattle.proxy_turns.proofs.Lifting.{turned}
 use Rattle.proxy_turns.proofs.room.Room.serve_one.Goals as goal
 
 pub returns : goal.returns
-returns g c = c.serve.ensures _ _
+returns g c =
+    turned g.C.ClientPort.moves (floor_of c.args.self.now) c.args.number c.serve.result (record { clients = clients_in c.serve.new.clients.entries; outlet = c.serve.new.outlet; view = c.serve.new.view }) c.serve.ensures.serves

@@ -1,5 +1,5 @@
-use Rattle.std.proofs.Common.{◌≡◌, ◌∙◌, ap, sym, refl, rules, Ok, Err}
-use Rattle.proxy_turns.proofs.Lifting.{all_err, all_then, found_none, has_left, stays_all, took}
+use Rattle.std.proofs.Common.{◌≡◌, rules, Err}
+use Rattle.proxy_turns.proofs.Lifting.{all_err, all_then}
 use Rattle.proxy_turns.proofs.room.Room.take_told.Goals as goal
 
 pub returns-in_err-took : goal.returns-in_err-took

@@ -1,0 +1,237 @@
+"""Requests a second, 99th percentile, processor time and memory: one redis-server, nutcracker and the proxy, side by side."""
+
+import argparse
+import os
+import shutil
+import statistics
+import subprocess
+import sys
+import time
+
+sys.path.insert(0, os.path.join(os.path.dirname(os.path.abspath(__file__)), "..", "tests", "real"))
+
+from client import Client, request
+from cluster import Cluster, Proxy, Room, Server, does_answer, free_ports, wait_until
+from harness import Failed
+
+CLIENTS = 50
+GROUP = 8
+SIZES = {"3 B": 3, "1 KiB": 1024, "64 KiB": 65536}
+IDLE_SECONDS = 5.0
+
+
+class Row:
+    """One line of the table: a command with values of one size, at one depth of pipeline."""
+
+    def __init__(self, command, size, pipeline):
+        self.command, self.size, self.pipeline = command, size, pipeline
+        self.name = f"{command}{f' of {GROUP} keys' if command[0] == 'M' else ''}, {size}, pipeline {pipeline}"
+
+    def words(self):
+        key, value = "key:__rand_int__", "v" * SIZES[self.size]
+        one = {"GET": [key], "SET": [key, value], "MGET": [key] * GROUP, "MSET": [key, value] * GROUP}
+        return [self.command, *one[self.command]]
+
+    def keys(self):
+        """How many keys there are: fewer of big values."""
+        return 1000 if self.size == "64 KiB" else 10000
+
+
+def rows():
+    """Groups of big values are not pipelined: 50 clients with 32 of them would have 800 MB under way."""
+    for size in SIZES:
+        for command in ("GET", "SET", "MGET", "MSET"):
+            for pipeline in (1, 32):
+                if pipeline == 1 or command[0] != "M" or size != "64 KiB":
+                    yield Row(command, size, pipeline)
+
+
+class Target:
+    """What is measured: a port, and the process whose processor time and memory count."""
+
+    def __init__(self, name, port, process):
+        self.name, self.port, self.process = name, port, process
+        self.memory_before = memory(process, "VmRSS")
+
+    def fill(self, row):
+        """Puts every key, with values of the row's size."""
+        value = "v" * SIZES[row.size]
+        with Client(self.port, limit=60) as client:
+            for first in range(0, row.keys(), 100):
+                client.send(b"".join(request("SET", f"key:{number:012}", value) for number in range(first, first + 100)))
+                client.replies(100)
+
+    def measure(self, row, count):
+        """Requests a second, 99th percentile in milliseconds, processor seconds."""
+        before = processor_seconds(self.process)
+        words = ["redis-benchmark", "-h", "127.0.0.1", "-p", self.port, "-c", CLIENTS, "-P", row.pipeline, "-n", count]
+        words += ["-r", row.keys(), "--csv", *row.words()]
+        try:
+            ran = subprocess.run([str(it) for it in words], capture_output=True, timeout=120, check=True)
+        except (subprocess.CalledProcessError, subprocess.TimeoutExpired) as fault:
+            raise Failed(f"{row.name} at {self.name}: {(fault.stderr or b'no end').decode()[-200:].strip()}") from None
+        _, rate, _, _, _, _, percentile, _ = ran.stdout.decode().strip().splitlines()[-1].rsplit(",", 7)
+        return float(rate.strip('"')), float(percentile.strip('"')), processor_seconds(self.process) - before
+
+
+def processor_seconds(process):
+    """User and system time of /proc/PID/stat, ended threads included."""
+    with open(f"/proc/{process.pid}/stat", encoding="ascii") as stat:
+        fields = stat.read().rpartition(")")[2].split()
+    return (int(fields[11]) + int(fields[12])) / os.sysconf("SC_CLK_TCK")
+
+
+def memory(process, field):
+    """A field of /proc/PID/status, in MiB."""
+    with open(f"/proc/{process.pid}/status", encoding="ascii") as status:
+        return next(int(line.split()[1]) for line in status if line.startswith(f"{field}:")) / 1024
+
+
+def idle_percent(target):
+    """Of a core, with so many clients that say nothing."""
+    clients = [Client(target.port) for _ in range(CLIENTS)]
+    for client in clients:
+        client.ask("GET", "key:000000000000")
+    time.sleep(1)
+    before = processor_seconds(target.process)
+    time.sleep(IDLE_SECONDS)
+    spent = processor_seconds(target.process) - before
+    for client in clients:
+        client.close()
+    return 100 * spent / IDLE_SECONDS
+
+
+def start_nutcracker(room):
+    servers = [Server(room, f"nutcracker{number}") for number in range(3)]
+    port, stats = free_ports(2)
+    with open(f"{room.folder}/nutcracker.yml", "w", encoding="ascii") as conf:
+        conf.write(f"bench:\n  listen: 127.0.0.1:{port}\n  hash: fnv1a_64\n  distribution: ketama\n  redis: true\n  servers:\n")
+        conf.writelines(f"   - 127.0.0.1:{server.port}:1\n" for server in servers)
+    program = shutil.which("nutcracker") or "/usr/sbin/nutcracker"
+    words = [program, "-c", conf.name, "-s", str(stats), "-a", "127.0.0.1", "-p", f"{room.folder}/nutcracker.pid", "-v", "0"]
+    process = room.start([*words, "-o", f"{room.folder}/nutcracker.out"], "nutcracker.log")
+    wait_until(lambda: does_answer(port), "nutcracker to answer")
+    return Target("nutcracker", port, process)
+
+
+def start_targets(room, program):
+    plain = Server(room, "direct")
+    targets = [Target("direct", plain.port, plain.process), start_nutcracker(room)]
+    if os.access(program, os.X_OK):
+        proxy = Proxy(room, program, Cluster(room).nodes[0].port, workers=2)
+        targets.append(Target("serve", proxy.port, proxy.process))
+    else:
+        print(f"{program} is not there: measured without it", file=sys.stderr)
+    return targets
+
+
+class Measured:
+    """The rounds of one row at one target."""
+
+    def __init__(self, target, row, seconds):
+        self.target, self.row, self.rounds, self.spent, self.requests = target, row, [], 0.0, 0
+        self.has_failed, self.count = False, max(CLIENTS * row.pipeline * 2, 2000)
+        rate = self.measure()
+        self.count = max(CLIENTS * row.pipeline * 2, int(rate * seconds))
+        self.rounds, self.spent, self.requests = [], 0.0, 0
+
+    def measure(self):
+        """One round. An error reply ends redis-benchmark, and this row here."""
+        if self.has_failed:
+            return 0.0
+        try:
+            rate, percentile, spent = self.target.measure(self.row, self.count)
+        except Failed as fault:
+            print(fault, file=sys.stderr)
+            self.has_failed = True
+            return 0.0
+        self.rounds.append((rate, percentile))
+        self.spent, self.requests = self.spent + spent, self.requests + self.count
+        return rate
+
+    def rate(self):
+        return statistics.median(rate for rate, _ in self.rounds)
+
+    def shown(self, direct):
+        """Its cell of the table."""
+        if self.has_failed:
+            return "failed"
+        percentile = statistics.median(percentile for _, percentile in self.rounds)
+        return f"{self.rate():,.0f}; {self.rate() / direct:.2f}; {percentile:.2f}"
+
+    def processor_a_million(self):
+        return "failed" if self.has_failed else f"{self.spent / self.requests * 1e6:.1f}"
+
+
+def measure_row(targets, row, rounds, seconds):
+    """All targets in turn, round by round, after a warm-up of each, which also says how many requests fill a round."""
+    measured = [Measured(target, row, seconds) for target in targets]
+    for _ in range(rounds):
+        for it in measured:
+            it.measure()
+    print(f"{row.name}: " + ", ".join(f"{it.target.name} {it.shown(measured[0].rate())}" for it in measured), file=sys.stderr)
+    return measured
+
+
+def print_machine(rounds, seconds, load):
+    with open("/proc/cpuinfo", encoding="utf-8") as info:
+        model = next((line.split(":")[1].strip() for line in info if line.startswith("model name")), "unknown processor")
+    server = subprocess.run(["redis-server", "--version"], capture_output=True, text=True, check=True).stdout.partition("v=")[2].split()[0]
+    print(f"{os.cpu_count()} processors ({model}), Linux {os.uname().release}, redis-server {server}, load average before the run {load:.1f}.")
+    print(f"Medians of {rounds} rounds of about {seconds:g} seconds, {CLIENTS} clients, one thread of redis-benchmark.\n")
+
+
+def print_rates(table, names):
+    """Requests a second, the ratio to one server directly, and the 99th percentile."""
+    print("| requests a second; ratio to direct; 99th percentile, ms | " + " | ".join(names) + " |")
+    print("|---|" + "---:|" * len(names))
+    for measured in table:
+        cells = [it.shown(measured[0].rate()) for it in measured]
+        print(f"| {measured[0].row.name} | " + " | ".join(cells) + " |")
+
+
+def print_processor(table, names):
+    print("\n| processor seconds a million requests | " + " | ".join(names) + " |")
+    print("|---|" + "---:|" * len(names))
+    for measured in table:
+        print(f"| {measured[0].row.name} | " + " | ".join(it.processor_a_million() for it in measured) + " |")
+
+
+def print_memory(targets, idle):
+    print("\n| | resident before, MiB | most | after all clients left | idle, % of a core |")
+    print("|---|---:|---:|---:|---:|")
+    for target, percent in zip(targets, idle):
+        after, most = memory(target.process, "VmRSS"), memory(target.process, "VmHWM")
+        print(f"| {target.name} | {target.memory_before:.1f} | {most:.1f} | {after:.1f} | {percent:.1f} |")
+
+
+def main(folder, program, *words):
+    parser = argparse.ArgumentParser(prog="bench/run")
+    parser.add_argument("--quick", action="store_true")
+    parser.add_argument("--only", default="")
+    asked = parser.parse_args(words)
+    rounds, seconds = (2, 0.3) if asked.quick else (5, 1.0)
+    load, room = os.getloadavg()[0], Room(folder)
+    try:
+        targets = start_targets(room, program)
+        names, table, filled = [it.name for it in targets], [], None
+        idle = [idle_percent(it) for it in targets]
+        for row in rows():
+            if asked.only not in row.name:
+                continue
+            if row.size != filled:
+                filled = row.size
+                for target in targets:
+                    target.fill(row)
+            table.append(measure_row(targets, row, rounds, seconds))
+        print_machine(rounds, seconds, load)
+        print_rates(table, names)
+        print_processor(table, names)
+        time.sleep(2)
+        print_memory(targets, idle)
+    finally:
+        room.end_all()
+
+
+if __name__ == "__main__":
+    main(*sys.argv[1:])

@@ -1,0 +1,193 @@
+-- What is found first in what is left of a script.
+use Rattle.std.proofs.Common.{◌≡◌, ◌<◌, ◌≤◌, ◌+◌, ◌^◌, ◌∷◌, [], suc, List, ℕ, Bool, true, false, Option, Some, None, Result, Ok, Err, IfOk, length, refl, sym, ap, subst, ◌∙◌, cond, arith, rules, map, nat_eq, length-append, inl, inr}
+use Rattle.std.specs.Prelude.{nat_le, option_map, is_some}
+use Rattle.resp_wire.specs.Bounds.{Bounds, full}
+use Rattle.resp_wire.specs.Data.{Data, simple, error, integer, bulk, null_bulk, array, null_array, no_items, item, items_of}
+use Rattle.resp_wire.specs.Front.{Front, Whole, Partial, Faulty, front, Takes}
+use Rattle.resp_wire.specs.Input.{Input}
+use Rattle.resp_wire.specs.Laws.{FrontIsWhole}
+use Rattle.resp_wire.specs.Seen.{data_of}
+use Rattle.resp_wire.specs.Spelling.{Spells, BeginsLine}
+use Rattle.resp_wire.specs.Stream.{Begins}
+use Rattle.resp_wire.specs.Words.{words_of, bulks_of}
+use Rattle.resp_wire.specs.declared.fault.WireFault.{WireFault}
+use Rattle.resp_wire.specs.declared.fault.WireFault.TheVariants as wire
+use Rattle.resp_wire.specs.declared.fault.NoMemory.{NoMemory as Refusal}
+use Rattle.resp_wire.specs.declared.value.Value.{Value}
+use Rattle.key_split.specs.Command.{Command}
+use Rattle.key_split.specs.Join.{CanJoin}
+use Rattle.key_split.specs.Plan.{Answer, Plans}
+use Rattle.key_split.specs.Texts.{refusal_of}
+use Rattle.key_split.specs.declared.planned.Joining.{Joining}
+use Rattle.key_split.specs.declared.planned.Planned.{Planned}
+use Rattle.key_split.specs.declared.planned.Planned.TheVariants as planned
+use Rattle.key_split.specs.declared.planned.PlanFault.{PlanFault}
+use Rattle.key_split.specs.declared.planned.PlanFault.TheVariants as fault
+use Rattle.session_order.specs.Owed.{plan_for, ends_session, owed_by}
+use Rattle.session_order.specs.Requests.{Asked, Skipped, Refused, is_empty_array, asked_by, asked_of}
+use Rattle.proxy_runs.specs.Requests.{Request, First, Ends, Skips, Asks, Quits, first_as, first_of, first_in, request_first, parts_planned}
+use Rattle.proxy_runs.specs.Wanted.{IsOpen, Means, GoesOn, Leaves, Wants, Fits}
+use Rattle.proxy_runs.specs.declared.wanted.Wanted.{Wanted}
+use Rattle.proxy_runs.specs.declared.wanted.Wanted.TheVariants.{Nothing, Skip, Reply, Parts, Close}
+
+-- ---- a whole value leaves fewer bytes
+
+line-bytes : (l : Bounds) (kind : ℕ) (text bytes more : List ℕ) → BeginsLine l kind text bytes more → 0 < length bytes
+line-bytes l kind text bytes more line = let e = ap length line.are in omega (arith, e)
+
+spelled-bytes : (l : Bounds) (room : ℕ) (bytes : List ℕ) (value : Data) → Spells l room bytes value → 0 < length bytes
+spelled-bytes l room bytes (simple text) spells = line-bytes l _ text bytes _ spells
+spelled-bytes l room bytes (error text) spells = line-bytes l _ text bytes _ spells
+spelled-bytes l room bytes (integer z) spells = line-bytes l _ spells.0 bytes _ spells.2
+spelled-bytes l room bytes (bulk body) spells = line-bytes l _ spells.0 bytes _ spells.3
+spelled-bytes l room bytes null_bulk spells = line-bytes l _ _ bytes _ spells
+spelled-bytes l room bytes (array vs) spells = line-bytes l _ spells.0 bytes _ spells.6
+spelled-bytes l room bytes null_array spells = line-bytes l _ _ bytes _ spells
+
+shorter : (l : Bounds) (text after : List ℕ) (value : Data) → Begins l text value after → length after < length text
+shorter l text after value begun =
+    let some = spelled-bytes l l.depth begun.0 value begun.1 in
+    let whole = ap length begun.2 in
+    omega (arith, some, whole, length-append begun.0 after)
+
+-- ---- by what the reader answers
+
+leaves : (wanted : Wanted) (old new : Input) → GoesOn old new → Leaves wanted old new
+leaves (Nothing faulted) old new goes = tt
+leaves Skip old new goes = goes
+leaves (Reply value) old new goes = goes
+leaves (Parts how parts) old new goes = goes
+leaves Close old new goes = tt
+
+full-front : (old : Input) → IsOpen old → front full old.unread ≡ front old.bounds old.unread
+full-front old is_open = ap (λ (l : Bounds). front l old.unread) (sym is_open.0)
+
+pub first-is : (n : ℕ) (old : Input) (f : Front) → IsOpen old → front old.bounds old.unread ≡ f → first_in n old.unread ≡ first_of n f
+unfolding first_in
+first-is n old f is_open is = ap (first_of n) (full-front old is_open ∙ is)
+
+pub value-found : (n : ℕ) (old new : Input) (value : Value) (given : Result Wanted Refusal) → FrontIsWhole → IsOpen old → Takes old (Ok (Some value)) new
+    → IfOk given (λ wanted. (rest : List ℕ) → Means n (first_as n (asked_of (data_of value)) rest) wanted rest) → IfOk given (λ wanted. Wants n old wanted new)
+value-found n old new value (Err refused) law is_open takes means = means
+value-found n old new value (Ok wanted) law is_open takes means =
+    let P : First → Type 0 = λ f. Means n f wanted new.unread in
+    let begun = (law old.bounds old.unread new.unread (data_of value)).0 takes.1 in
+    let still : IsOpen new = (ap (λ i. i.bounds) takes.2 ∙ is_open.0, ap (λ i. i.fault) takes.2 ∙ is_open.1) in (
+      subst P (sym (first-is n old (Whole (data_of value) new.unread) is_open takes.1)) (means new.unread),
+      leaves wanted old new (still, shorter old.bounds old.unread new.unread (data_of value) begun),
+    )
+
+pub none-found : (n : ℕ) (old new : Input) → IsOpen old → Takes old (Ok None) new → first_in n old.unread ≡ Ends false
+none-found n old new is_open takes = first-is n old Partial is_open takes.1
+
+faulty : (old new : Input) (found : WireFault) → (found ≡ wire.NoMemory → ⊥) → old.fault ≡ None → Takes old (Err found) new → front old.bounds old.unread ≡ Faulty found
+faulty old new wire.NoMemory other none takes = absurd (other refl)
+faulty old new wire.BadType other none takes = elim takes.0 [ inl was ↦ absurd (cc) | inr found ↦ found.1 ]
+faulty old new wire.BadNumber other none takes = elim takes.0 [ inl was ↦ absurd (cc) | inr found ↦ found.1 ]
+faulty old new wire.TooLong other none takes = elim takes.0 [ inl was ↦ absurd (cc) | inr found ↦ found.1 ]
+faulty old new wire.TooMany other none takes = elim takes.0 [ inl was ↦ absurd (cc) | inr found ↦ found.1 ]
+faulty old new wire.TooDeep other none takes = elim takes.0 [ inl was ↦ absurd (cc) | inr found ↦ found.1 ]
+faulty old new wire.BadEnd other none takes = elim takes.0 [ inl was ↦ absurd (cc) | inr found ↦ found.1 ]
+
+pub fault-found : (n : ℕ) (old new : Input) (found : WireFault) → (found ≡ wire.NoMemory → ⊥) → IsOpen old → Takes old (Err found) new → first_in n old.unread ≡ Ends true
+fault-found n old new found other is_open takes = first-is n old (Faulty found) is_open (faulty old new found other is_open.1 takes)
+
+-- ---- by what a value asks
+
+pub array-is-empty : (value : Data) (items : List Data) (vs : List Value) → value ≡ array (items_of items) → map data_of vs ≡ items
+    → nat_eq (length vs) 0 ≡ is_empty_array value
+array-is-empty value items [] is same = rw (is, ← same) refl
+array-is-empty value items (v ∷ vs) is same = rw (is, ← same) (no-zero (length vs))
+  where
+    no-zero : (n : ℕ) → nat_eq (suc n) 0 ≡ false
+    no-zero n = search rules
+
+pub skips : (n : ℕ) (value : Data) (rest : List ℕ) → is_empty_array value ≡ true → first_as n (asked_of value) rest ≡ Skips rest
+skips n value rest is = ap (λ (b : Bool). first_as n (cond b Skipped (asked_by (words_of value))) rest) is
+
+no-words : (o : Option (List (List ℕ))) → is_some o ≡ false → asked_by o ≡ Refused
+no-words None is = refl
+no-words (Some words) is = absurd (cc)
+
+pub refuses : (n : ℕ) (value : Data) (rest : List ℕ) → is_empty_array value ≡ false → is_some (words_of value) ≡ false → first_as n (asked_of value) rest ≡ Ends true
+refuses n value rest full none =
+    ap (λ (b : Bool). first_as n (cond b Skipped (asked_by (words_of value))) rest) full ∙ ap (λ (a : Asked). first_as n a rest) (no-words (words_of value) none)
+
+pub asks-these : (n : ℕ) (value : Data) (words : Request) (rest : List ℕ) → is_empty_array value ≡ false → words_of value ≡ Some words
+    → first_as n (asked_of value) rest ≡ request_first n words rest
+asks-these n value words rest full are =
+    ap (λ (b : Bool). first_as n (cond b Skipped (asked_by (words_of value))) rest) full ∙ ap (λ (o : Option Request). first_as n (asked_by o) rest) are
+
+some-in : (first : List ℕ) (others : Option Request) (words : Request) → option_map (λ more. first ∷ more) others ≡ Some words → 0 < length words
+some-in first others [] is = elim others as (λ o. option_map (λ more. first ∷ more) o ≡ Some [] → 0 < 0) [ Some xs ↦ λ h. (let e : Some (first ∷ xs) ≡ Some [] = h in cc) | None ↦ λ h. (let e : None ≡ Some [] = h in cc) ] is
+some-in first others (w ∷ ws) is = omega arith
+
+-- a request that is no empty array has a word
+pub has-words : (value : Data) (words : Request) → is_empty_array value ≡ false → words_of value ≡ Some words → 0 < length words
+has-words (simple text) words some is = cc
+has-words (error text) words some is = cc
+has-words (integer n) words some is = cc
+has-words (bulk word) words some is = cc
+has-words null_bulk words some is = cc
+has-words null_array words some is = cc
+has-words (array no_items) words some is = cc
+has-words (array (item (bulk word) more)) words some is = some-in word (bulks_of more) words is
+has-words (array (item (simple text) more)) words some is = cc
+has-words (array (item (error text) more)) words some is = cc
+has-words (array (item (integer n) more)) words some is = cc
+has-words (array (item null_bulk more)) words some is = cc
+has-words (array (item (array ds) more)) words some is = cc
+has-words (array (item null_array more)) words some is = cc
+
+-- ---- by what words are planned as
+
+pub planned-as : (answer : Answer) (p : Planned) → Plans answer (Ok p) → answer ≡ Ok p
+planned-as (Err found) p e = absurd (let no : Ok p ≡ Err found = e in cc)
+planned-as (Ok q) p e = ap Ok (sym e)
+
+pub refused-as : (answer : Answer) (found : PlanFault) → (found ≡ fault.NoMemory → ⊥) → Plans answer (Err found) → answer ≡ Err found
+refused-as (Err other) found not e = sym e
+refused-as (Ok q) found not e = absurd (not e)
+
+within : (n m : ℕ) → n ≤ m → nat_le n m ≡ true
+within n m le = search rules
+
+beyond : (n m : ℕ) → m < n → nat_le n m ≡ false
+beyond n m lt = search rules
+
+by-plan : (n : ℕ) (words : Request) (rest : List ℕ) (plan : Answer) → plan_for words ≡ plan
+    → request_first n words rest ≡ cond (ends_session plan) (Quits words) (cond (nat_le (n + length (parts_planned plan)) (2 ^ 48)) (Asks words rest) (Ends true))
+by-plan n words rest plan is = ap (λ (p : Answer). cond (ends_session p) (Quits words) (cond (nat_le (n + length (parts_planned p)) (2 ^ 48)) (Asks words rest) (Ends true))) is
+
+asks-on : (n : ℕ) (words : Request) (rest : List ℕ) (plan : Answer) → plan_for words ≡ plan → ends_session plan ≡ false → n + length (parts_planned plan) ≤ 2 ^ 48
+    → request_first n words rest ≡ Asks words rest
+asks-on n words rest plan is stays le =
+    by-plan n words rest plan is ∙ ap (λ (b : Bool). cond b (Quits words) (cond (nat_le (n + length (parts_planned plan)) (2 ^ 48)) (Asks words rest) (Ends true))) stays
+    ∙ ap (λ (b : Bool). cond b (Asks words rest) (Ends true)) (within (n + length (parts_planned plan)) (2 ^ 48) le)
+
+too-many : (n : ℕ) (words : Request) (rest : List ℕ) (plan : Answer) → plan_for words ≡ plan → ends_session plan ≡ false → 2 ^ 48 < n + length (parts_planned plan)
+    → request_first n words rest ≡ Ends true
+too-many n words rest plan is stays lt =
+    by-plan n words rest plan is ∙ ap (λ (b : Bool). cond b (Quits words) (cond (nat_le (n + length (parts_planned plan)) (2 ^ 48)) (Asks words rest) (Ends true))) stays
+    ∙ ap (λ (b : Bool). cond b (Asks words rest) (Ends true)) (beyond (n + length (parts_planned plan)) (2 ^ 48) lt)
+
+pub local-means : (n : ℕ) (words : Request) (value : Value) → n ≤ 2 ^ 48 → plan_for words ≡ Ok (planned.Local value) → (rest : List ℕ) → Means n (request_first n words rest) (Reply value) rest
+local-means n words value le is rest = (words, asks-on n words rest (Ok (planned.Local value)) is refl (let none : n + 0 ≤ 2 ^ 48 = omega (arith, le) in none), ap owed_by is, ap parts_planned is)
+
+pub refused-means : (n : ℕ) (words : Request) (found : PlanFault) (value : Value) → n ≤ 2 ^ 48 → plan_for words ≡ Err found → value ≡ refusal_of found → (rest : List ℕ)
+    → Means n (request_first n words rest) (Reply value) rest
+refused-means n words found value le is says rest =
+    let P : Value → Type 0 = λ v. Means n (request_first n words rest) (Reply v) rest in
+    subst P (sym says) (words, asks-on n words rest (Err found) is refl (let none : n + 0 ≤ 2 ^ 48 = omega (arith, le) in none), ap owed_by is, ap parts_planned is)
+
+pub close-means : (n : ℕ) (words : Request) → plan_for words ≡ Ok planned.Close → (rest : List ℕ) → Means n (request_first n words rest) Close rest
+close-means n words is rest = (words, by-plan n words rest (Ok planned.Close) is, ap owed_by is, ap parts_planned is)
+
+pub parts-mean : (n : ℕ) (words : Request) (how : Joining) (parts : List Command) (wanted : Wanted) → plan_for words ≡ Ok (planned.Parts how parts) → CanJoin how (length parts)
+    → Fits n how parts wanted → (rest : List ℕ) → Means n (request_first n words rest) wanted rest
+parts-mean n words how parts wanted is can fits rest =
+    let P : Wanted → Type 0 = λ w. Means n (request_first n words rest) w rest in
+    elim fits [
+      | inl (e, le) ↦ subst P (sym e) (words, asks-on n words rest (Ok (planned.Parts how parts)) is refl le, ap owed_by is, ap parts_planned is, can, le)
+      | inr (e, lt) ↦ subst P (sym e) (too-many n words rest (Ok (planned.Parts how parts)) is refl lt)
+    ]

@@ -1,0 +1,5 @@
+//! Nodes and the proxy over sockets of this machine.
+#![tactic(auto)]
+
+#[cfg(test)]
+mod nodes;

@@ -1,0 +1,69 @@
+"""What an idle proxy costs, and how fast it wakes."""
+
+import statistics
+import time
+
+from client import request
+from cluster import processor_seconds, resident_mebibytes
+from harness import case, check, check_same
+
+SECONDS = 4.0
+# Aimed at is half a percent of a core; a shared machine's clock is not that exact.
+MOST_PERCENT = 2.0
+
+
+@case
+def idle_costs_nothing(world):
+    clients = [world.client() for _ in range(50)]
+    for client in clients:
+        check_same(client.ask("PING"), b"+PONG\r\n", "PING")
+        client.ask("GET", "a")
+    time.sleep(0.5)
+    before = processor_seconds(world.proxy.process)
+    time.sleep(SECONDS)
+    percent = 100 * (processor_seconds(world.proxy.process) - before) / SECONDS
+    for client in clients:
+        check_same(client.ask("PING"), b"+PONG\r\n", "PING after the pause")
+        client.close()
+    check(percent < MOST_PERCENT, f"{percent:.2f} % of a core with 50 idle clients")
+    return f"{percent:.3f} % of a core with 50 idle clients"
+
+
+@case
+def it_wakes_at_once(world):
+    """A request after a pause is answered as fast as one server answers it, within a few milliseconds."""
+
+    def times(client):
+        client.ask("SET", "a", "1")
+        taken = []
+        for _ in range(100):
+            time.sleep(0.01)
+            began = time.perf_counter()
+            client.ask("GET", "a")
+            taken.append(time.perf_counter() - began)
+        return statistics.median(taken) * 1e6
+
+    with world.client() as client, world.plain.client() as plain:
+        direct, through = times(plain), times(client)
+    check(through < 20000, f"{through:.0f} microseconds for a GET after a pause, {direct:.0f} directly")
+    return f"median {through:.0f} microseconds, directly {direct:.0f}"
+
+
+@case
+def memory_is_given_back(world):
+    """After 50 clients with pipelines of big values have left, what the proxy holds is printed, and bounded."""
+    before = resident_mebibytes(world.proxy.process)
+    clients = [world.client() for _ in range(50)]
+    clients[0].ask("SET", "big", "v" * 65536)
+    for client in clients:
+        client.send(request("GET", "big") * 20)
+    most = 0.0
+    for client in clients:
+        check_same(len(client.reply()), 65536 + 10, "length of a reply")
+        most = max(most, resident_mebibytes(world.proxy.process))
+        client.replies(19)
+        client.close()
+    time.sleep(0.5)
+    after = resident_mebibytes(world.proxy.process)
+    check(after < 256, f"resident {before:.0f} MiB before, {most:.0f} at most, {after:.0f} after")
+    return f"resident {before:.0f} MiB before, {most:.0f} at most, {after:.0f} after"

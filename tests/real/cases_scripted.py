@@ -1,0 +1,230 @@
+"""Nodes that answer by a script: what the proxy sends them is seen, and every refusal of a node is played exactly."""
+
+import itertools
+import threading
+import time
+
+from client import request
+from cluster import Proxy, slot_of
+from harness import case, check, check_same
+from scripted import DeafNode, ScriptedNode, bulk, slots_reply
+from writers import GAVE_UP, LOST
+
+TRYAGAIN = b"-TRYAGAIN Multiple keys request during rehashing of slot\r\n"
+
+
+class Scene:
+    """A proxy of its own before scripted nodes, the first of them the seed."""
+
+    def __init__(self, world, *nodes, workers=2):
+        self.nodes = nodes
+        self.proxy = Proxy(world.room, world.program, nodes[0].port, workers=workers, name="scene")
+
+    def __enter__(self):
+        return self.proxy
+
+    def __exit__(self, *_):
+        self.proxy.process.terminate()
+        self.proxy.process.wait(10)
+        for node in self.nodes:
+            node.close()
+
+
+def in_turn(replies, then):
+    """An answer that gives these replies one after another, and the last one from then on."""
+    left = iter(replies)
+    return lambda words: next(left, then)
+
+
+def moved(key, port, kind=b"MOVED", host=b"127.0.0.1"):
+    return b"-%s %d %s:%d\r\n" % (kind, slot_of(key), host, port)
+
+
+@case
+def moved_is_followed_and_remembered(world):
+    new = ScriptedNode(lambda words: b"+OK\r\n")
+    old = ScriptedNode(lambda words: moved(b"a", new.port))
+    with Scene(world, old, new) as proxy, proxy.client() as client:
+        check_same([client.ask("SET", "a", "1") for _ in range(3)], [b"+OK\r\n"] * 3, "SET by way of MOVED")
+        check_same(old.words_seen(), [[b"SET", b"a", b"1"]], "requests of the old node")
+        check_same(new.words_seen(), [[b"SET", b"a", b"1"]] * 3, "requests of the new node, without ASKING")
+        time.sleep(0.2)
+        check(old.asked_slots >= 2, "CLUSTER SLOTS is asked at the start and after MOVED")
+
+
+@case
+def moved_without_a_host(world):
+    """An empty host is the one that was asked."""
+    new = ScriptedNode(lambda words: b"+OK\r\n")
+    old = ScriptedNode(lambda words: moved(b"a", new.port, host=b""))
+    with Scene(world, old, new) as proxy, proxy.client() as client:
+        check_same(client.ask("SET", "a", "1"), b"+OK\r\n", "SET by way of MOVED without a host")
+
+
+@case
+def ask_is_followed_once(world):
+    """ASKING and the command go together over one connection; the next command goes to the old node again."""
+    new = ScriptedNode(lambda words: b"+OK\r\n" if words == [b"ASKING"] else b":7\r\n")
+    old = ScriptedNode(lambda words: moved(b"a", new.port, kind=b"ASK"))
+    with Scene(world, old, new) as proxy, proxy.client() as client:
+        check_same([client.ask("INCR", "a") for _ in range(3)], [b":7\r\n"] * 3, "INCR by way of ASK")
+        check_same(new.words_seen(), [[b"ASKING"], [b"INCR", b"a"]] * 3, "requests of the new node")
+        check_same(old.words_seen(), [[b"INCR", b"a"]] * 3, "requests of the old node")
+
+
+@case
+def asking_stands_before_its_command(world):
+    """Of many commands at once, each that ASK sent has its own ASKING just before it."""
+    new = ScriptedNode(lambda words: b"+OK\r\n")
+    old = ScriptedNode(lambda words: moved(b"a", new.port, kind=b"ASK"))
+    with Scene(world, old, new) as proxy:
+        clients = [proxy.client() for _ in range(10)]
+        for client in clients:
+            client.send(b"".join(request("SET", f"{{a}}{number}", "1") for number in range(50)))
+        for client in clients:
+            check_same(client.replies(50), [b"+OK\r\n"] * 50, "SETs by way of ASK")
+            client.close()
+        by_connection = {}
+        for number, words in new.seen:
+            by_connection.setdefault(number, []).append(words[0])
+        for order in by_connection.values():
+            check_same(order, [b"ASKING", b"SET"] * (len(order) // 2), "order on one connection")
+
+
+@case
+def sixteen_refusals_are_followed(world):
+    node = ScriptedNode(in_turn([TRYAGAIN] * 16, b"$1\r\n5\r\n"))
+    with Scene(world, node) as proxy, proxy.client() as client:
+        check_same(client.ask("GET", "a"), b"$1\r\n5\r\n", "GET after sixteen TRYAGAIN")
+        check_same(len(node.words_seen()), 17, "requests sent")
+
+
+@case
+def the_seventeenth_is_not(world):
+    unclear = [b"-MOVED nowhere\r\n", b"-ASK 1 127.0.0.1\r\n", b"-MOVED 99999 127.0.0.1:1\r\n", b"-MOVED 1 127.0.0.1:0\r\n"]
+    for refusal in [TRYAGAIN, b"-TRYAGAIN\r\n", b"-CLUSTERDOWN Hash slot not served\r\n", *unclear]:
+        node = ScriptedNode(lambda words: refusal)
+        with Scene(world, node) as proxy, proxy.client() as client:
+            check_same(client.ask("INCR", "a"), GAVE_UP, f"INCR with {refusal!r} without end")
+            check_same(len(node.words_seen()), 17, f"requests sent, each answered {refusal!r}")
+
+
+@case
+def a_lost_command_is_not_sent_again(world):
+    for reply in [None, b"?\r\n", b"$3\r\nab", b"+OK\n"]:
+        node = ScriptedNode(lambda words: reply)
+        with Scene(world, node) as proxy, proxy.client() as client:
+            if reply == b"$3\r\nab":
+                client.send(request("INCR", "a"))
+                time.sleep(0.3)
+                node.close()
+                check_same(client.reply(), LOST, "INCR whose reply was cut off")
+            else:
+                check_same(client.ask("INCR", "a"), LOST, f"INCR that was answered {reply!r}")
+            time.sleep(0.2)
+            check_same(node.words_seen(), [[b"INCR", b"a"]], "requests sent")
+
+
+@case
+def a_new_connection_after_a_lost_one(world):
+    node = ScriptedNode(in_turn([b":1\r\n", None], b":9\r\n"))
+    with Scene(world, node) as proxy, proxy.client() as client:
+        check_same([client.ask("INCR", "a") for _ in range(3)], [b":1\r\n", LOST, b":9\r\n"], "three INCRs, the second lost")
+
+
+@case
+def the_second_of_a_slot_waits_for_the_first(world):
+    """A client's commands of one slot are sent one after another, those of other slots at once; its replies keep their order."""
+    go_on = threading.Event()
+
+    def answer(words):
+        return bulk(words[1])
+
+    node = ScriptedNode(answer)
+    slow = ScriptedNode(lambda words: go_on.wait(10) and bulk(words[1]))
+    here, there = slot_of(b"a"), slot_of(b"b")
+    node.slots = lambda: slots_reply([(here, here, slow.port), (there, there, node.port)])
+    with Scene(world, node, slow) as proxy, proxy.client() as client:
+        time.sleep(0.2)
+        client.send(request("GET", "a") + request("GET", "{a}2") + request("GET", "b") + request("GET", "{b}2"))
+        time.sleep(0.4)
+        check_same(slow.words_seen(), [[b"GET", b"a"]], "requests of the slow node before its first reply")
+        check_same(node.words_seen(), [[b"GET", b"b"], [b"GET", b"{b}2"]], "requests of the other node")
+        go_on.set()
+        check_same(client.replies(4), [bulk(it) for it in (b"a", b"{a}2", b"b", b"{b}2")], "replies in order")
+
+
+@case
+def refused_commands_keep_their_turn(world):
+    """A node refuses every other request: a client's commands of one slot are still executed in the order in which it sent them."""
+    executed, refuse = [], itertools.cycle([True, False])
+
+    def answer(words):
+        if next(refuse):
+            return TRYAGAIN
+        executed.append(int(words[2]))
+        return b":%d\r\n" % len(executed)
+
+    node = ScriptedNode(answer)
+    with Scene(world, node) as proxy, proxy.client() as client:
+        client.send(b"".join(request("APPEND", f"{{a}}{number % 3}", number) for number in range(300)))
+        check_same(client.replies(300), [b":%d\r\n" % number for number in range(1, 301)], "replies in order")
+        check_same(executed, list(range(300)), "the order of execution")
+
+
+@case
+def groups_travel_as_one(world):
+    """Keys of one slot go to their node in one command, in the request's order."""
+    array = lambda keys: b"*%d\r\n" % len(keys) + b"".join(map(bulk, keys))
+    node = ScriptedNode(lambda words: array(words[1:]) if words[0] == b"MGET" else b":2\r\n")
+    with Scene(world, node, workers=1) as proxy, proxy.client() as client:
+        keys = ["{t}x", "b", "{t}y", "b", "{t}x"]
+        check_same(client.ask("MGET", *keys), array([it.encode() for it in keys]), "MGET of two slots")
+        check_same(sorted(node.words_seen()), [[b"MGET", b"b", b"b"], [b"MGET", b"{t}x", b"{t}y", b"{t}x"]], "requests for it")
+        check_same(client.ask("DEL", *keys), b":4\r\n", "the sum of two DELs")
+
+
+@case
+def other_errors_are_handed_on(world):
+    for error in [b"LOADING Redis is loading the dataset in memory", b"WRONGTYPE Operation against a key", b"", b"ERR MOVED 1 a:1"]:
+        error = b"-%s\r\n" % error
+        node = ScriptedNode(lambda words: error)
+        with Scene(world, node) as proxy, proxy.client() as client:
+            for words in [("GET", "a"), ("MGET", "a", "b"), ("MSET", "a", "1", "b", "2"), ("DEL", "a", "b")]:
+                check_same(client.ask(*words), error, words)
+
+
+@case
+def unfit_replies(world):
+    unexpected = b"-ERR proxy: unexpected reply\r\n"
+    rows = [
+        (("MGET", "a", "b"), b":1\r\n"),
+        (("MGET", "a", "{a}2"), b"*1\r\n$1\r\n1\r\n"),
+        (("MSET", "a", "1"), b"+FINE\r\n"),
+        (("DEL", "a", "b"), b"$1\r\n1\r\n"),
+        (("EXISTS", "a", "b"), b":9223372036854775807\r\n"),
+    ]
+    for words, reply in rows:
+        node = ScriptedNode(lambda _: reply)
+        with Scene(world, node) as proxy, proxy.client() as client:
+            check_same(client.ask(*words), unexpected, f"{words}, each part answered {reply!r}")
+
+
+@case
+def a_dial_that_hangs(world):
+    """A node that takes no connection holds up no other node's commands longer than a dial's two seconds."""
+    deaf = DeafNode()
+    node = ScriptedNode(lambda words: bulk(words[1]))
+    here, there = slot_of(b"a"), slot_of(b"b")
+    node.slots = lambda: slots_reply([(here, here, deaf.port), (there, there, node.port)])
+    with Scene(world, node, deaf) as proxy, proxy.client() as stuck, proxy.client() as client:
+        time.sleep(0.2)
+        check_same(client.ask("GET", "b"), bulk(b"b"), "GET before the dial")
+        stuck.send(request("GET", "a"))
+        slowest, count, until = 0.0, 0, time.monotonic() + 5
+        while time.monotonic() < until:
+            began = time.monotonic()
+            check_same(client.ask("GET", "b"), bulk(b"b"), "GET beside the dial")
+            slowest, count = max(slowest, time.monotonic() - began), count + 1
+        check(slowest < 2.5, f"a command of another node waited {slowest:.2f} seconds")
+    return f"{count} commands beside it, the slowest {1000 * slowest:.0f} ms"

@@ -1,0 +1,152 @@
+"""A client that sends bytes and gives back the exact bytes of each reply."""
+
+import socket
+
+# Seconds that a socket waits before a case fails.
+LIMIT = 15.0
+
+
+class Closed(Exception):
+    """The other side closed the connection."""
+
+
+class ReplyError(Exception):
+    """An error reply, where a value was wanted."""
+
+
+def request(*words):
+    """The bytes of one request."""
+    pieces = [b"*%d\r\n" % len(words)]
+    for word in words:
+        word = bytes_of(word)
+        pieces.append(b"$%d\r\n%s\r\n" % (len(word), word))
+    return b"".join(pieces)
+
+
+def bytes_of(word):
+    return word if isinstance(word, bytes) else str(word).encode()
+
+
+def end_of_reply(held, start):
+    """The place after the reply that begins at `start`, or None where it is not whole yet."""
+    line_end = held.find(b"\r\n", start)
+    if line_end < 0:
+        return None
+    kind, at = held[start : start + 1], line_end + 2
+    if kind in (b"+", b"-", b":"):
+        return at
+    count = int(held[start + 1 : line_end])
+    if kind == b"$":
+        at += count + 2 if count >= 0 else 0
+        return at if at <= len(held) else None
+    if kind != b"*":
+        raise ValueError(f"no reply begins with {held[start:line_end]!r}")
+    for _ in range(count):
+        at = end_of_reply(held, at)
+        if at is None:
+            return None
+    return at
+
+
+def value_of(reply):
+    """A reply's value: a number, bytes, None, a list, text after a plus sign, or a ReplyError."""
+    return read_value(reply, 0)[0]
+
+
+def read_value(held, start):
+    line_end = held.index(b"\r\n", start)
+    kind, text, at = held[start : start + 1], bytes(held[start + 1 : line_end]), line_end + 2
+    if kind == b"+":
+        return text.decode(), at
+    if kind == b"-":
+        return ReplyError(text.decode()), at
+    count = int(text)
+    if kind == b":":
+        return count, at
+    if count < 0:
+        return None, at
+    if kind == b"$":
+        return bytes(held[at : at + count]), at + count + 2
+    items = []
+    for _ in range(count):
+        item, at = read_value(held, at)
+        items.append(item)
+    return items, at
+
+
+class Client:
+    """One connection."""
+
+    def __init__(self, port, limit=LIMIT, receive_buffer=None):
+        self.socket = socket.socket()
+        self.socket.settimeout(limit)
+        if receive_buffer:
+            self.socket.setsockopt(socket.SOL_SOCKET, socket.SO_RCVBUF, receive_buffer)
+        self.socket.connect(("127.0.0.1", port))
+        self.socket.setsockopt(socket.IPPROTO_TCP, socket.TCP_NODELAY, 1)
+        self.held = bytearray()
+        self.taken = 0
+
+    def __enter__(self):
+        return self
+
+    def __exit__(self, *_):
+        self.close()
+
+    def send(self, data):
+        self.socket.sendall(data)
+
+    def fill(self):
+        try:
+            piece = self.socket.recv(1 << 18)
+        except TimeoutError:
+            had = bytes(self.held[self.taken :])[:80]
+            raise TimeoutError(f"nothing came for {self.socket.gettimeout():g} seconds, after {had!r}") from None
+        if not piece:
+            raise Closed(f"closed with {bytes(self.held[self.taken :])[:80]!r} unread")
+        if self.taken > 1 << 20:
+            del self.held[: self.taken]
+            self.taken = 0
+        self.held += piece
+
+    def reply(self):
+        """The bytes of the next reply."""
+        while True:
+            end = end_of_reply(self.held, self.taken)
+            if end is not None:
+                reply = bytes(self.held[self.taken : end])
+                self.taken = end
+                return reply
+            self.fill()
+
+    def replies(self, count):
+        return [self.reply() for _ in range(count)]
+
+    def ask(self, *words):
+        """One request and the bytes of its reply."""
+        self.send(request(*words))
+        return self.reply()
+
+    def value(self, *words):
+        """One request and the value of its reply, which must be no error."""
+        value = value_of(self.ask(*words))
+        if isinstance(value, ReplyError):
+            raise value
+        return value
+
+    def rest(self):
+        """All bytes up to the other side's end."""
+        try:
+            while True:
+                self.fill()
+        except (Closed, ConnectionResetError):
+            rest = bytes(self.held[self.taken :])
+            self.taken = len(self.held)
+            return rest
+
+    def end_sending(self):
+        """Closes this side for sending, and goes on reading."""
+        self.socket.shutdown(socket.SHUT_WR)
+
+    def close(self):
+        self.socket.close()

@@ -1,0 +1,66 @@
+"""Cases, checks, and many clients at once."""
+
+import threading
+
+CASES = []
+
+
+class Failed(Exception):
+    """What a case found wrong."""
+
+
+def case(function):
+    """Adds a case, named as its function. It may return a few words to print beside it."""
+    CASES.append(function)
+    return function
+
+
+def check(is_so, otherwise):
+    if not is_so:
+        raise Failed(otherwise)
+
+
+def check_same(found, wanted, where):
+    if found != wanted:
+        raise Failed(f"{where}: found {shown(found)}, wanted {shown(wanted)}")
+
+
+def shown(value):
+    text = repr(value)
+    return text if len(text) < 300 else f"{text[:200]} .. {text[-80:]} ({len(text)} characters)"
+
+
+def check_each_same(found, wanted, requests):
+    """Compares replies one by one, and names the first request whose reply differs."""
+    for place, (one, other, words) in enumerate(zip(found, wanted, requests)):
+        check_same(one, other, f"reply {place}, to {shown(words)}")
+    check_same(len(found), len(wanted), "count of replies")
+
+
+class Together:
+    """Threads that each run `work(number)`; the first fault of any of them is raised by `join`."""
+
+    def __init__(self, count, work):
+        self.faults, self.results = [], [None] * count
+        self.threads = [threading.Thread(target=self.run, args=(work, number), daemon=True) for number in range(count)]
+        for thread in self.threads:
+            thread.start()
+
+    def run(self, work, number):
+        try:
+            self.results[number] = work(number)
+        except Exception as fault:
+            self.faults.append(fault)
+
+    def join(self, limit=60.0):
+        for thread in self.threads:
+            thread.join(limit)
+            check(not thread.is_alive(), f"a client had not ended after {limit} seconds")
+        if self.faults:
+            raise self.faults[0]
+        return self.results
+
+
+def together(count, work):
+    """Runs `work(number)` in so many threads at once and gives their results."""
+    return Together(count, work).join()

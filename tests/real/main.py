@@ -1,0 +1,99 @@
+"""Runs the cases. Words: the folder of the run, the program, and the cases to run (none: all)."""
+
+import os
+import signal
+import sys
+import time
+import traceback
+
+# in the order in which they run
+import cases_commands
+import cases_texts
+import cases_pipelines
+import cases_crowd
+import cases_clients
+import cases_moves
+import cases_faults
+import cases_scripted
+import cases_idle
+import cases_program
+import cases_nodes
+from cluster import Cluster, Proxy, Room, Server
+from harness import CASES, Failed
+
+# Seconds that one case may take, as a last resort: each socket has a limit of its own.
+CASE_LIMIT = 60
+
+
+class World:
+    """What a case has at hand: a cluster, the proxy before it, and one plain server to compare with."""
+
+    def __init__(self, room, program):
+        self.room, self.program = room, program
+        self.plain = Server(room, "plain")
+        self.cluster = Cluster(room)
+        self.proxy = Proxy(room, program, self.cluster.nodes[0].port)
+
+    def client(self, **options):
+        return self.proxy.client(**options)
+
+    def tidy(self):
+        """No keys anywhere, and a proxy that runs."""
+        if self.proxy.has_ended():
+            self.proxy.start()
+        self.cluster.tidy()
+        self.plain.value("FLUSHALL")
+
+
+def stop(*_):
+    raise Failed(f"not done after {CASE_LIMIT} seconds")
+
+
+def place_of(fault):
+    """The last line of a case's file that the fault went through."""
+    frames = traceback.extract_tb(fault.__traceback__)
+    frame = next((it for it in reversed(frames) if "cases_" in it.filename), frames[-1])
+    return f"{os.path.basename(frame.filename)} line {frame.lineno}"
+
+
+def run_case(world, case):
+    """Runs a case, prints its line, and says whether it passed."""
+    began = time.monotonic()
+    signal.alarm(CASE_LIMIT)
+    try:
+        world.tidy()
+        note = case(world)
+        if world.proxy.has_ended():
+            raise Failed(f"the proxy ended: {world.proxy.said()}")
+        passed, note = True, f"  ({note})" if note else ""
+    except Failed as fault:
+        passed, note = False, f": {fault}"
+    except Exception as fault:
+        passed, note = False, f": {type(fault).__name__} {fault}, at {place_of(fault)}; proxy {world.proxy.said()}"
+    finally:
+        signal.alarm(0)
+    print(f"{'ok  ' if passed else 'FAIL'} {case.__name__} {time.monotonic() - began:.1f} s{note}", flush=True)
+    return passed
+
+
+def main(folder, program, *names):
+    signal.signal(signal.SIGALRM, stop)
+    for number in (signal.SIGTERM, signal.SIGINT):
+        signal.signal(number, lambda number, _: sys.exit(128 + number))
+    cases = [it for it in CASES if not names or any(name in f"{it.__module__} {it.__name__}" for name in names)]
+    room = Room(folder)
+    try:
+        world = World(room, program)
+        passed = sum(run_case(world, it) for it in cases)
+    except Failed as fault:
+        print(f"FAIL the servers: {fault}")
+        passed = 0
+    finally:
+        room.end_all()
+    failed = len(cases) - passed
+    print(f"{passed} passed, {failed} failed")
+    return 1 if failed or not cases else 0
+
+
+if __name__ == "__main__":
+    sys.exit(main(*sys.argv[1:]))

@@ -1,0 +1,112 @@
+"""A node that answers by a script: it shows exactly what the proxy sends, and when."""
+
+import queue
+import socket
+import threading
+
+from client import end_of_reply, value_of
+
+SLOTS_REQUEST = [b"CLUSTER", b"SLOTS"]
+
+
+def bulk(word):
+    return b"$%d\r\n%s\r\n" % (len(word), word)
+
+
+def slots_reply(ranges):
+    """CLUSTER SLOTS with entries (first, last, port)."""
+    entries = b"".join(b"*3\r\n:%d\r\n:%d\r\n*3\r\n$9\r\n127.0.0.1\r\n:%d\r\n$2\r\nid\r\n" % it for it in ranges)
+    return b"*%d\r\n%s" % (len(ranges), entries)
+
+
+class ScriptedNode:
+    """Listens on loopback. `answer(words)` gives the bytes of a reply, or None to close the connection.
+
+    `seen` has the words of every request but CLUSTER SLOTS, each with its connection's number, in order.
+    """
+
+    def __init__(self, answer, slots=None):
+        self.answer, self.slots, self.seen, self.asked_slots = answer, slots, [], 0
+        self.listener = socket.create_server(("127.0.0.1", 0))
+        self.port = self.listener.getsockname()[1]
+        self.connections, self.open, self.lock = 0, [], threading.Lock()
+        threading.Thread(target=self.accept, daemon=True).start()
+
+    def accept(self):
+        try:
+            while True:
+                connection, _ = self.listener.accept()
+                connection.setsockopt(socket.IPPROTO_TCP, socket.TCP_NODELAY, 1)
+                self.open.append(connection)
+                threading.Thread(target=self.serve, args=(connection, self.connections), daemon=True).start()
+                self.connections += 1
+        except OSError:
+            pass
+
+    def serve(self, connection, number):
+        """Notes each request when it comes, and has another thread answer them in order."""
+        held, coming = b"", queue.SimpleQueue()
+        threading.Thread(target=self.answer_all, args=(connection, coming), daemon=True).start()
+        try:
+            while piece := connection.recv(1 << 16):
+                held += piece
+                while (end := end_of_reply(held, 0)) is not None:
+                    words, held = value_of(held[:end]), held[end:]
+                    with self.lock:
+                        if words == SLOTS_REQUEST:
+                            self.asked_slots += 1
+                        else:
+                            self.seen.append((number, words))
+                    coming.put(words)
+        except OSError:
+            pass
+        coming.put(None)
+
+    def answer_all(self, connection, coming):
+        try:
+            while words := coming.get():
+                reply = self.reply(words)
+                if reply is None:
+                    connection.shutdown(socket.SHUT_RDWR)
+                    break
+                connection.sendall(reply)
+        except OSError:
+            pass
+        connection.close()
+
+    def reply(self, words):
+        if words != SLOTS_REQUEST:
+            return self.answer(words)
+        return self.slots() if self.slots else b"-ERR no slots here\r\n"
+
+    def words_seen(self):
+        with self.lock:
+            return [words for _, words in self.seen]
+
+    def close(self):
+        self.listener.close()
+        for connection in self.open:
+            try:
+                connection.shutdown(socket.SHUT_RDWR)
+            except OSError:
+                pass
+
+
+class DeafNode:
+    """A port whose queue of connections is full, so that a dial to it neither succeeds nor fails."""
+
+    def __init__(self):
+        self.listener = socket.socket()
+        self.listener.bind(("127.0.0.1", 0))
+        self.listener.listen(0)
+        self.port = self.listener.getsockname()[1]
+        self.waiting = []
+        for _ in range(4):
+            dial = socket.socket()
+            dial.setblocking(False)
+            dial.connect_ex(("127.0.0.1", self.port))
+            self.waiting.append(dial)
+
+    def close(self):
+        for it in [self.listener, *self.waiting]:
+            it.close()

@@ -1,0 +1,81 @@
+"""Clients that write without a pause while slots move or nodes fail, and what each of their requests ended with."""
+
+import time
+
+from client import Client, request, value_of
+from harness import Failed, Together, check
+
+LOST = b"-ERR proxy: connection lost, outcome unknown\r\n"
+GAVE_UP = b"-ERR proxy: gave up, not executed\r\n"
+
+
+class Writers:
+    """So many clients, each of which calls `turn(client, number, count)` again and again until the end of the `with`."""
+
+    def __init__(self, proxy, count, turn):
+        self.proxy, self.turn, self.stopped = proxy, turn, False
+        self.turns = [0] * count
+        self.together = Together(count, self.work)
+
+    def __enter__(self):
+        return self
+
+    def __exit__(self, kind, *_):
+        self.stopped = True
+        if kind is None:
+            self.together.join()
+
+    def work(self, number):
+        with Client(self.proxy.port) as client:
+            while not self.stopped:
+                self.turn(client, number, self.turns[number])
+                self.turns[number] += 1
+
+    def wait_for_turns(self, count=2, limit=15.0):
+        """Waits until each client has ended so many more turns, so that no request of before is under way."""
+        wanted = [turn + count for turn in self.turns]
+        end = time.monotonic() + limit
+        while any(turn < want for turn, want in zip(self.turns, wanted)):
+            if self.together.faults:
+                raise self.together.faults[0]
+            check(time.monotonic() < end, f"a client made no {count} turns in {limit} seconds: {self.turns}")
+            time.sleep(0.002)
+
+
+class Ends:
+    """How many requests ended in which way, and the answers that checks want."""
+
+    def __init__(self, count):
+        self.answered = [[] for _ in range(count)]
+        self.lost, self.gave_up = [], []
+
+    def add(self, number, what, reply):
+        if reply == LOST:
+            self.lost.append(what)
+        elif reply == GAVE_UP:
+            self.gave_up.append(what)
+        elif reply[:1] == b"-":
+            raise Failed(f"{what!r} was answered {reply!r}")
+        else:
+            self.answered[number].append((what, value_of(reply)))
+
+    def counts(self):
+        return f"{sum(map(len, self.answered))} answered, {len(self.lost)} lost, {len(self.gave_up)} given up"
+
+
+def appends(logs, ends, at_once):
+    """A turn that appends a token to each of some logs, so many times in one pipeline."""
+
+    def turn(client, number, count):
+        tokens = [(log, b"%d.%d.%d;" % (number, count, place)) for place in range(at_once) for log in logs]
+        client.send(b"".join(request("APPEND", log, token) for log, token in tokens))
+        for log, token in tokens:
+            ends.add(number, (log, token), client.reply())
+
+    return turn
+
+
+def log_of(ends, log):
+    """What `check_log` wants to know of one log."""
+    answered = [[(token, length) for (at, token), length in mine if at == log] for mine in ends.answered]
+    return answered, [token for at, token in ends.lost if at == log]
