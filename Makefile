@@ -1,6 +1,6 @@
 # The two commands of this repository. `rt` is Rattle's command, on the PATH of a machine that has the kit.
 
-.PHONY: run test
+.PHONY: run test bench
 
 # Builds the program, proofs first, and asks it for `GET a` on the empty store: it answers the null bulk, `$-1`.
 run:
@@ -9,3 +9,7 @@ run:
 # The gate: every proof from nothing, the edits that must be refused, every test, every program.
 test:
 	rt ci
+
+# Measures the program beside one server and beside another proxy.
+bench:
+	bench/run
