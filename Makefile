@@ -1,14 +1,25 @@
-# The two commands of this repository. `rt` is Rattle's command, on the PATH of a machine that has the kit.
+# The commands of this repository. `rt` is Rattle's command, on the PATH of a machine that has the kit.
 
 .PHONY: run test bench
 
-# Builds the program, proofs first, and asks it for `GET a` on the empty store: it answers the null bulk, `$-1`.
-run:
-	@cd crates/cluster_proxy && printf '*2\r\n$$3\r\nGET\r\n$$1\r\na\r\n' | rt run -- one
+program = crates/cluster_proxy/out/cluster_proxy
+sources = crates.txt $(shell find crates -name out -prune -o -name '*.rt' -print -o -name '*.antt' -print)
 
-# The gate: every proof from nothing, the edits that must be refused, every test, every program.
+# Builds the program, proofs first, and starts the whole example: three nodes and the proxy before them. Ctrl-C ends it.
+run: $(program)
+	@examples/run
+
+# (rt builds a program where it runs it: here on its stored request.)
+$(program): $(sources)
+	cd crates/cluster_proxy && rt run -- one <stdin >/dev/null
+	@touch $@
+
+# The gate: every proof from nothing, the edits that must be refused, every test, every program; then the program of that
+# build in the example, and before a real cluster.
 test:
 	rt ci
+	examples/run --once
+	tests/real/run
 
 # Measures the program beside one server and beside another proxy.
 bench:

@@ -3,6 +3,7 @@
 import argparse
 import os
 import shutil
+import signal
 import statistics
 import subprocess
 import sys
@@ -173,6 +174,32 @@ def measure_row(targets, row, rounds, seconds):
     return measured
 
 
+def system_calls(folder, target, row, count):
+    """How many calls of each name the measured process makes, as strace counts them, which slows it down."""
+    report = f"{folder}/calls"
+    words = ["strace", "-c", "-f", "-qq", "-o", report, "-p", str(target.process.pid)]
+    with subprocess.Popen(words, stdout=subprocess.DEVNULL, stderr=subprocess.DEVNULL) as tracer:
+        time.sleep(1)
+        target.measure(row, count)
+        tracer.send_signal(signal.SIGINT)
+    with open(report, encoding="utf-8") as lines:
+        fields = [line.split() for line in lines]
+    return {it[-1]: int(it[3]) for it in fields if len(it) > 4 and it[3].isdigit() and it[-1] != "total"}
+
+
+def print_calls(folder, targets, only):
+    """The calls for a hundred requests, those made at least once in that many."""
+    print("\n| system calls for 100 requests, under strace | " + " | ".join(it.name for it in targets) + " |")
+    print("|---|" + "---:|" * len(targets))
+    for row in (it for it in rows() if only in it.name and it.size == "3 B" and it.command == "GET"):
+        for target in targets:
+            target.fill(row)
+        count = 20000 * row.pipeline
+        calls = [system_calls(folder, target, row, count) for target in targets]
+        shares = [", ".join(f"{name} {100 * made / count:.1f}" for name, made in it.items() if made * 100 >= count) for it in calls]
+        print(f"| {row.name} | " + " | ".join(shares) + " |")
+
+
 def print_machine(rounds, seconds, load):
     with open("/proc/cpuinfo", encoding="utf-8") as info:
         model = next((line.split(":")[1].strip() for line in info if line.startswith("model name")), "unknown processor")
@@ -209,11 +236,15 @@ def main(folder, program, *words):
     parser = argparse.ArgumentParser(prog="bench/run")
     parser.add_argument("--quick", action="store_true")
     parser.add_argument("--only", default="")
+    parser.add_argument("--calls", action="store_true")
     asked = parser.parse_args(words)
     rounds, seconds = (2, 0.3) if asked.quick else (5, 1.0)
     load, room = os.getloadavg()[0], Room(folder)
     try:
         targets = start_targets(room, program)
+        if asked.calls:
+            print_calls(folder, targets, asked.only)
+            return
         names, table, filled = [it.name for it in targets], [], None
         idle = [idle_percent(it) for it in targets]
         for row in rows():

@@ -46,18 +46,18 @@ def unfinished_requests_are_dropped(world):
 
 @case
 def half_closed(world):
-    """A client that ends its sending gets a beginning of its replies, and the end."""
-    wanted = b"".join(b":%d\r\n" % number for number in range(1, 101))
-    with world.client() as client:
-        client.send(b"".join(request("INCR", "n") for _ in range(100)))
-        client.end_sending()
-        found = client.rest()
-    check(wanted.startswith(found), f"{found[-60:]!r} is no beginning of the replies")
-    check_prompt(world, "after a half-closed client")
-    with world.client() as client:
-        count = int(client.value("GET", "n") or 0)
-    check(found.count(b"\r\n") <= count <= 100, f"{found.count(b':')} answered, {count} executed")
-    return f"{found.count(b':')} of 100 replies, {count} executed"
+    """A client that ends its sending gets the replies that it is owed, and then the end; half a request is owed none."""
+    before = world.proxy.descriptors()
+    for more in [b"", b"*2\r\n$3\r\nGET"]:
+        for count in [0, 1, 100, 3000]:
+            with world.client() as client:
+                client.value("DEL", "n")
+                client.send(b"".join(request("INCR", "n") for _ in range(count)) + more)
+                client.end_sending()
+                wanted = b"".join(b":%d\r\n" % number for number in range(1, count + 1))
+                check_same(client.rest(), wanted, f"replies to {count} requests and the end of sending")
+    check_prompt(world, "after half-closed clients")
+    wait_until(lambda: world.proxy.descriptors() <= before + 10, "the proxy to close their descriptors", limit=5)
 
 
 @case

@@ -4,12 +4,14 @@ import statistics
 import time
 
 from client import request
-from cluster import processor_seconds, resident_mebibytes
+from cluster import Proxy, processor_seconds, resident_mebibytes
 from harness import case, check, check_same
 
 SECONDS = 4.0
 # Aimed at is half a percent of a core; a shared machine's clock is not that exact.
 MOST_PERCENT = 2.0
+# In mebibytes: what may stay after clients with big values have left.
+MOST_KEPT = 32
 
 
 @case
@@ -51,19 +53,24 @@ def it_wakes_at_once(world):
 
 @case
 def memory_is_given_back(world):
-    """After 50 clients with pipelines of big values have left, what the proxy holds is printed, and bounded."""
-    before = resident_mebibytes(world.proxy.process)
-    clients = [world.client() for _ in range(50)]
-    clients[0].ask("SET", "big", "v" * 65536)
-    for client in clients:
-        client.send(request("GET", "big") * 20)
-    most = 0.0
-    for client in clients:
-        check_same(len(client.reply()), 65536 + 10, "length of a reply")
-        most = max(most, resident_mebibytes(world.proxy.process))
-        client.replies(19)
-        client.close()
-    time.sleep(0.5)
-    after = resident_mebibytes(world.proxy.process)
-    check(after < 256, f"resident {before:.0f} MiB before, {most:.0f} at most, {after:.0f} after")
-    return f"resident {before:.0f} MiB before, {most:.0f} at most, {after:.0f} after"
+    """Of a proxy's own: 50 clients ask for 50 MiB in pipelines; after they left it holds a few megabytes more than before."""
+    proxy = Proxy(world.room, world.program, world.cluster.nodes[0].port, name="memory")
+    try:
+        with proxy.client() as client:
+            client.ask("SET", "big", "v" * 65536)
+        before = most = resident_mebibytes(proxy.process)
+        clients = [proxy.client() for _ in range(50)]
+        for client in clients:
+            client.send(request("GET", "big") * 16)
+        for client in clients:
+            check_same([len(it) for it in client.replies(16)], [65536 + 10] * 16, "lengths of replies")
+            most = max(most, resident_mebibytes(proxy.process))
+            client.close()
+        time.sleep(0.5)
+        after = resident_mebibytes(proxy.process)
+    finally:
+        proxy.process.terminate()
+        proxy.process.wait(10)
+    note = f"resident {before:.0f} MiB before, {most:.0f} at most, {after:.0f} after"
+    check(after < before + MOST_KEPT, note)
+    return note

@@ -211,20 +211,23 @@ def unfit_replies(world):
 
 
 @case
-def a_dial_that_hangs(world):
-    """A node that takes no connection holds up no other node's commands longer than a dial's two seconds."""
-    deaf = DeafNode()
+def dials_that_hang(world):
+    """Two nodes that take no connection: their commands end soon after a dial's two seconds, and hold up no other node's."""
+    deaf, deafer = DeafNode(), DeafNode()
     node = ScriptedNode(lambda words: bulk(words[1]))
-    here, there = slot_of(b"a"), slot_of(b"b")
-    node.slots = lambda: slots_reply([(here, here, deaf.port), (there, there, node.port)])
-    with Scene(world, node, deaf) as proxy, proxy.client() as stuck, proxy.client() as client:
+    slots = [slot_of(key) for key in (b"a", b"b", b"c")]
+    node.slots = lambda: slots_reply([(it, it, port) for it, port in zip(slots, (deaf.port, node.port, deafer.port))])
+    with Scene(world, node, deaf, deafer) as proxy, proxy.client() as stuck, proxy.client() as client:
         time.sleep(0.2)
-        check_same(client.ask("GET", "b"), bulk(b"b"), "GET before the dial")
-        stuck.send(request("GET", "a"))
-        slowest, count, until = 0.0, 0, time.monotonic() + 5
+        check_same(client.ask("GET", "b"), bulk(b"b"), "GET before the dials")
+        begun = time.monotonic()
+        stuck.send(request("GET", "a") + request("GET", "c"))
+        slowest, count, until = 0.0, 0, begun + 5
         while time.monotonic() < until:
             began = time.monotonic()
-            check_same(client.ask("GET", "b"), bulk(b"b"), "GET beside the dial")
+            check_same(client.ask("GET", "b"), bulk(b"b"), "GET beside the dials")
             slowest, count = max(slowest, time.monotonic() - began), count + 1
-        check(slowest < 2.5, f"a command of another node waited {slowest:.2f} seconds")
-    return f"{count} commands beside it, the slowest {1000 * slowest:.0f} ms"
+        check(slowest < 1.0, f"a command of another node waited {slowest:.2f} seconds")
+        for reply in stuck.replies(2):
+            check(reply in (LOST, GAVE_UP), f"GET at a node that takes no connection was answered {reply!r}")
+    return f"{count} commands beside them, the slowest {1000 * slowest:.0f} ms"

@@ -1,2 +1,4 @@
 mod Ends
 mod Openings
+mod Digits
+mod Colon

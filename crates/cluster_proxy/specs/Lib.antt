@@ -1,3 +1,4 @@
 pub mod Opening
 pub mod Looks
 pub mod One
+pub mod Asked

@@ -1,7 +1,10 @@
 //! What the words of the program ask for.
 
-use crate::nodes::{Ports, nodes_command, ports_in};
-use crate::serve::{Serving, is_sound, serve_command, serving_of};
+use crate::local::{Playing, local_command, playing_of};
+use crate::nodes::nodes_command;
+use crate::ports::{Ports, ports_in};
+use crate::serve::serve_command;
+use crate::serving::{Serving, serving_of};
 use clap::error::ErrorKind;
 use clap::{Command, Error};
 use std::alloc::{AllocError, Global};
@@ -13,12 +16,23 @@ pub enum Choice<'a> {
     One,
     /// Runs the events of standard input in a new world.
     Simulate,
+    /// Runs the scripts of standard input on a cluster in this process.
+    Local(Playing),
     /// Serves the example cluster.
     Nodes(Ports),
     /// Serves clients before a cluster.
     Serve(Serving<'a>),
 }
 
+/// What `local` takes.
+const WORKERS_WANTED: &str = "--workers takes a number from 1 to 64";
+/// What `nodes` takes.
+const PORTS_WANTED: &str = "--ports takes three ports from 1 to 65535, with a comma between them";
+/// What `serve` takes.
+const SERVING_WANTED: &str =
+    "--listen and --seed take HOST:PORT with a port from 1 to 65535, and --workers 1 to 64";
+
+/// The program's words.
 fn command<'a>(alloc: Global) -> Result<Command<'a>, AllocError> {
     Command::new(alloc, "cluster_proxy")
         .about("A proxy between plain Redis clients and a Redis Cluster")
@@ -30,6 +44,7 @@ fn command<'a>(alloc: Global) -> Result<Command<'a>, AllocError> {
         .subcommand(Command::new(alloc, "simulate").about(
             "Runs the events of standard input, one after another, and prints what was answered and executed",
         ))?
+        .subcommand(local_command(alloc)?)?
         .subcommand(nodes_command(alloc)?)?
         .subcommand(serve_command(alloc)?)
 }
@@ -41,20 +56,23 @@ pub fn choose<'a>(alloc: Global, words: &'a [String]) -> Result<Choice<'a>, Erro
     match matches.subcommand() {
         Some(("one", _)) => Ok(Choice::One),
         Some(("simulate", _)) => Ok(Choice::Simulate),
+        Some(("local", words)) => match playing_of(words) {
+            Some(playing) => Ok(Choice::Local(playing)),
+            None => refuse(alloc, WORKERS_WANTED),
+        },
         Some(("nodes", words)) => match ports_in(words) {
             Some(ports) => Ok(Choice::Nodes(ports)),
-            None => Err(command(alloc)?.error(
-                ErrorKind::ValueValidation,
-                "--ports takes three ports from 1 to 65535, with commas between them",
-            )?),
+            None => refuse(alloc, PORTS_WANTED),
         },
         Some(("serve", words)) => match serving_of(words) {
-            Some(serving) if is_sound(&serving) => Ok(Choice::Serve(serving)),
-            _ => Err(command(alloc)?.error(
-                ErrorKind::ValueValidation,
-                "HOST:PORT with a port from 1 to 65535, and 1 to 64 workers are asked for",
-            )?),
+            Some(serving) => Ok(Choice::Serve(serving)),
+            None => refuse(alloc, SERVING_WANTED),
         },
         _ => Err(command(alloc)?.error(ErrorKind::MissingSubcommand, "a subcommand is asked for")?),
     }
+}
+
+/// Refuses words, and says what is taken in their place.
+fn refuse<'a>(alloc: Global, wanted: &str) -> Result<Choice<'a>, Error> {
+    Err(command(alloc)?.error(ErrorKind::ValueValidation, wanted)?)
 }

@@ -1,6 +1,7 @@
 //! `nodes`: the example cluster, served on this machine.
 
-use clap::{Arg, ArgAction, ArgMatches, Command};
+use crate::ports::Ports;
+use clap::{Arg, ArgAction, Command};
 use mio::net::TcpListener;
 use proxy_runs::{LocalCluster, WireRunFault, run_nodes, three_nodes};
 use resp_wire::NoMemory;
@@ -10,12 +11,6 @@ use std::io;
 use std::net::{Net, SocketAddr};
 use std::sync::Wait;
 use thiserror::Error;
-
-/// The most digits of a port.
-const PORT_DIGITS: usize = 5;
-
-/// The ports of the three nodes.
-pub type Ports = [u16; 3];
 
 /// Why the nodes are not served.
 #[derive(Debug, Drop, Error)]
@@ -46,29 +41,6 @@ pub fn nodes_command<'a>(alloc: Global) -> Result<Command<'a>, AllocError> {
                 .required(true)
                 .action(ArgAction::Set),
         )
-}
-
-/// The ports that the subcommand's words give, if they are three.
-pub fn ports_in(words: &ArgMatches<'_>) -> Option<Ports> {
-    ports_of(words.get_str("ports")?)
-}
-
-/// Three ports with a comma between them.
-fn ports_of(text: &str) -> Option<Ports> {
-    let (first, rest) = text.split_once(',')?;
-    let (second, third) = rest.split_once(',')?;
-    Some([port_of(first)?, port_of(second)?, port_of(third)?])
-}
-
-/// A number from 1 to 65535.
-fn port_of(text: &str) -> Option<u16> {
-    if text.is_empty() || text.len() > PORT_DIGITS || !text.bytes().all(|b| b.is_ascii_digit()) {
-        return None;
-    }
-    match text.parse::<u16>() {
-        Ok(0) | Err(_) => None,
-        Ok(port) => Some(port),
-    }
 }
 
 /// Serves the example cluster at these ports of 127.0.0.1, without end.

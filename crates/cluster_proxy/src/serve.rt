@@ -1,41 +1,48 @@
 //! `serve`: the proxy before a cluster.
 
-ghost use Rattle.std.specs.Prelude.{◌<◌, ◌≤◌, IfSome, IsTrue, string_bytes};
-ghost use Rattle.resp_wire.specs.Text.{is_one_line as one_line};
-
-use clap::{Arg, ArgAction, ArgMatches, Command};
-use proxy_wire::{listen, run_wire};
-use resp_wire::is_one_line;
+use crate::address::Address;
+use crate::serving::Serving;
+use clap::{Arg, ArgAction, Command};
+use proxy_runs::{WireRunFault, listen, run_wire};
 use std::alloc::{AllocError, AllocGlobal, Global};
 use std::net::{Net, TcpListener, TcpStream};
 use std::random::RandomSource;
 use std::sync::Wait;
 use std::thread::Threads;
+use std::time::Clock;
+use thiserror::Error;
 
-/// A host and a port of it.
-#[derive(Clone, Copy, Debug, PartialEq, Eq)]
-pub struct Address<'a> {
-    pub host: &'a str,
-    pub port: u16,
+/// Why clients are not served.
+#[derive(Debug, Drop, Error)]
+pub enum ServeFault<'a> {
+    #[error("cannot listen on {0}")]
+    Listen(Address<'a>),
+    #[error("cannot serve clients: {0}")]
+    Run(WireRunFault),
 }
 
-/// Where the proxy listens, a node of its cluster, and how many workers it has.
-#[derive(Clone, Copy, Debug, PartialEq, Eq)]
-pub struct Serving<'a> {
-    pub listen: Address<'a>,
-    pub seed: Address<'a>,
-    pub workers: u16,
-}
-
-/// The words of `serve`.
+/// The subcommand and its words.
 pub fn serve_command<'a>(alloc: Global) -> Result<Command<'a>, AllocError> {
     Command::new(alloc, "serve")
-        .about("Serves clients before the cluster of a node")
-        .arg(word(alloc, "listen"))?
-        .arg(word(alloc, "seed"))?
-        .arg(word(alloc, "workers"))
+        .about("Serves clients before a Redis Cluster, without end")
+        .arg(
+            word(alloc, "listen")
+                .value_name("HOST:PORT")
+                .help("Where clients come in"),
+        )?
+        .arg(
+            word(alloc, "seed")
+                .value_name("HOST:PORT")
+                .help("A node of the cluster"),
+        )?
+        .arg(
+            word(alloc, "workers")
+                .value_name("N")
+                .help("How many workers serve the clients, 1 to 64"),
+        )
 }
 
+/// An option that takes a word, which has to be there.
 fn word<'a>(alloc: Global, name: &'static str) -> Arg<'a> {
     Arg::new(alloc, name)
         .long(name)
@@ -43,81 +50,28 @@ fn word<'a>(alloc: Global, name: &'static str) -> Arg<'a> {
         .action(ArgAction::Set)
 }
 
-/// What the words of `serve` ask for, where they can be read.
-pub fn serving_of<'a>(words: &ArgMatches<'a>) -> Option<Serving<'a>> {
-    Some(Serving {
-        listen: address_of(words.get_str("listen")?)?,
-        seed: address_of(words.get_str("seed")?)?,
-        workers: number_of(words.get_str("workers")?, 2)?,
-    })
-}
-
-/// A host and a port, cut at the last colon.
-fn address_of(text: &str) -> Option<Address<'_>> {
-    let (host, port) = text.rsplit_once(':')?;
-    if host.is_empty() {
-        return None;
-    }
-    let port = number_of(port, 5)?;
-    Some(Address { host, port })
-}
-
-/// A positive number of so many digits at most.
-fn number_of(text: &str, digits: usize) -> Option<u16> {
-    if text.len() > digits || !text.bytes().all(|byte| byte.is_ascii_digit()) {
-        return None;
-    }
-    let number = text.parse::<u16>().ok()?;
-    if number == 0 { None } else { Some(number) }
-}
-
-/// Whether the proxy can be run so: 1 to 64 workers, and no CR or LF in a host.
-pub fn is_sound(serving: &Serving<'_>) -> bool
-    ensures workers { IsTrue result → (0 < serving.now.workers) × (serving.now.workers ≤ 64) }
-    ensures host { IsTrue result → IsTrue (one_line serving.now.seed.host.now) }
-{
-    if serving.workers == 0 || serving.workers > 64 {
-        return false;
-    }
-    is_one_line(serving.seed.host.as_bytes()) && is_one_line(serving.listen.host.as_bytes())
-}
-
-/// Runs the proxy, and gives the status: 1 with a line on standard error where it can't.
-pub fn run_serve<R>(rt: &R, serving: Serving<'_>) -> u8
+/// Runs the proxy, without end.
+pub fn serve_clients<'a, R>(rt: &R, serving: Serving<'a>) -> Result<(), ServeFault<'a>>
 where
     R: Threads
         + Wait
         + RandomSource
+        + Clock
         + AllocGlobal
         + Net<Listener = TcpListener, Stream = TcpStream>
-        + Eprint
         + Sync,
 {
-    if !is_sound(&serving) {
-        return 1;
-    }
     let Serving {
         listen: at,
         seed,
         workers,
     } = serving;
-    let ended = match listen(rt, at.host, at.port) {
-        Ok(listener) => run_wire(
-            rt,
-            rt.alloc(),
-            listener,
-            seed.host.as_bytes(),
-            seed.port,
-            workers,
-            None,
-        ),
-        Err(fault) => Err(fault),
+    let Ok(listener) = listen(rt, at.host, at.port) else {
+        return Err(ServeFault::Listen(at));
     };
-    match ended {
-        Ok(()) => 0,
-        Err(fault) => {
-            let _ = eprintln!(rt; "cluster_proxy: {}:{}: {fault}", at.host, at.port);
-            1
-        }
+    let host = seed.host.as_bytes();
+    match run_wire(rt, rt.alloc(), listener, host, seed.port, workers, None) {
+        Ok(()) => Ok(()),
+        Err(fault) => Err(ServeFault::Run(fault)),
     }
 }

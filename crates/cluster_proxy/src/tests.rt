@@ -1,6 +1,7 @@
-//! `run_one` over memory.
+//! `run_one` over memory, and the words of the program.
 
 mod redis_replies;
+mod words;
 
 use crate::one::run_one;
 use redis_replies::{REPLIES, REQUESTS};

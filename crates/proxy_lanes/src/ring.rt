@@ -50,7 +50,7 @@ pub struct Note<T: Drop> {
 
 impl<T: Drop> Outlet<T> {
     ghost use Rattle.std.specs.Prelude.{IfSome};
-    ghost use Rattle.proxy_lanes.specs.Lane.{Posts, FinishesAs};
+    ghost use Rattle.proxy_lanes.specs.Lane.{Posts, FinishesAs, posted};
 
     /// Puts the item behind all that was posted. It comes back where no place is known to be free, or no number is left.
     pub fn post(&mut self, item: T) -> Result<(), T>
@@ -70,6 +70,13 @@ impl<T: Drop> Outlet<T> {
                 Err(item)
             }
         }
+    }
+
+    /// How many items were posted.
+    pub fn posted(&self) -> u64
+        ensures { result ≡ length (posted self.now) }
+    {
+        self.next
     }
 
     /// Nothing more is posted. `None` where the other end is gone.

@@ -1,14 +1,11 @@
 -- What is found first in what is left of a script.
-use Rattle.std.proofs.Common.{◌≡◌, ◌<◌, ◌≤◌, ◌+◌, ◌^◌, ◌∷◌, [], suc, List, ℕ, Bool, true, false, Option, Some, None, Result, Ok, Err, IfOk, length, refl, sym, ap, subst, ◌∙◌, cond, arith, rules, map, nat_eq, length-append, inl, inr}
+use Rattle.std.proofs.Common.{◌≡◌, ◌<◌, ◌≤◌, ◌+◌, ◌^◌, ◌∷◌, [], suc, List, ℕ, Bool, true, false, Option, Some, None, Result, Ok, Err, IfOk, length, refl, sym, ap, subst, ◌∙◌, cond, arith, rules, map, nat_eq, inl, inr}
 use Rattle.std.specs.Prelude.{nat_le, option_map, is_some}
-use Rattle.resp_wire.specs.Bounds.{Bounds, full}
 use Rattle.resp_wire.specs.Data.{Data, simple, error, integer, bulk, null_bulk, array, null_array, no_items, item, items_of}
 use Rattle.resp_wire.specs.Front.{Front, Whole, Partial, Faulty, front, Takes}
 use Rattle.resp_wire.specs.Input.{Input}
 use Rattle.resp_wire.specs.Laws.{FrontIsWhole}
 use Rattle.resp_wire.specs.Seen.{data_of}
-use Rattle.resp_wire.specs.Spelling.{Spells, BeginsLine}
-use Rattle.resp_wire.specs.Stream.{Begins}
 use Rattle.resp_wire.specs.Words.{words_of, bulks_of}
 use Rattle.resp_wire.specs.declared.fault.WireFault.{WireFault}
 use Rattle.resp_wire.specs.declared.fault.WireFault.TheVariants as wire
@@ -25,30 +22,11 @@ use Rattle.key_split.specs.declared.planned.PlanFault.{PlanFault}
 use Rattle.key_split.specs.declared.planned.PlanFault.TheVariants as fault
 use Rattle.session_order.specs.Owed.{plan_for, ends_session, owed_by}
 use Rattle.session_order.specs.Requests.{Asked, Skipped, Refused, is_empty_array, asked_by, asked_of}
+use Rattle.proxy_runs.proofs.Fronts.{faulty, full-front, goes-on}
 use Rattle.proxy_runs.specs.Requests.{Request, First, Ends, Skips, Asks, Quits, first_as, first_of, first_in, request_first, parts_planned}
 use Rattle.proxy_runs.specs.Wanted.{IsOpen, Means, GoesOn, Leaves, Wants, Fits}
 use Rattle.proxy_runs.specs.declared.wanted.Wanted.{Wanted}
 use Rattle.proxy_runs.specs.declared.wanted.Wanted.TheVariants.{Nothing, Skip, Reply, Parts, Close}
-
--- ---- a whole value leaves fewer bytes
-
-line-bytes : (l : Bounds) (kind : ℕ) (text bytes more : List ℕ) → BeginsLine l kind text bytes more → 0 < length bytes
-line-bytes l kind text bytes more line = let e = ap length line.are in omega (arith, e)
-
-spelled-bytes : (l : Bounds) (room : ℕ) (bytes : List ℕ) (value : Data) → Spells l room bytes value → 0 < length bytes
-spelled-bytes l room bytes (simple text) spells = line-bytes l _ text bytes _ spells
-spelled-bytes l room bytes (error text) spells = line-bytes l _ text bytes _ spells
-spelled-bytes l room bytes (integer z) spells = line-bytes l _ spells.0 bytes _ spells.2
-spelled-bytes l room bytes (bulk body) spells = line-bytes l _ spells.0 bytes _ spells.3
-spelled-bytes l room bytes null_bulk spells = line-bytes l _ _ bytes _ spells
-spelled-bytes l room bytes (array vs) spells = line-bytes l _ spells.0 bytes _ spells.6
-spelled-bytes l room bytes null_array spells = line-bytes l _ _ bytes _ spells
-
-shorter : (l : Bounds) (text after : List ℕ) (value : Data) → Begins l text value after → length after < length text
-shorter l text after value begun =
-    let some = spelled-bytes l l.depth begun.0 value begun.1 in
-    let whole = ap length begun.2 in
-    omega (arith, some, whole, length-append begun.0 after)
 
 -- ---- by what the reader answers
 
@@ -59,9 +37,6 @@ leaves (Reply value) old new goes = goes
 leaves (Parts how parts) old new goes = goes
 leaves Close old new goes = tt
 
-full-front : (old : Input) → IsOpen old → front full old.unread ≡ front old.bounds old.unread
-full-front old is_open = ap (λ (l : Bounds). front l old.unread) (sym is_open.0)
-
 pub first-is : (n : ℕ) (old : Input) (f : Front) → IsOpen old → front old.bounds old.unread ≡ f → first_in n old.unread ≡ first_of n f
 unfolding first_in
 first-is n old f is_open is = ap (first_of n) (full-front old is_open ∙ is)
@@ -70,24 +45,13 @@ pub value-found : (n : ℕ) (old new : Input) (value : Value) (given : Result Wa
     → IfOk given (λ wanted. (rest : List ℕ) → Means n (first_as n (asked_of (data_of value)) rest) wanted rest) → IfOk given (λ wanted. Wants n old wanted new)
 value-found n old new value (Err refused) law is_open takes means = means
 value-found n old new value (Ok wanted) law is_open takes means =
-    let P : First → Type 0 = λ f. Means n f wanted new.unread in
-    let begun = (law old.bounds old.unread new.unread (data_of value)).0 takes.1 in
-    let still : IsOpen new = (ap (λ i. i.bounds) takes.2 ∙ is_open.0, ap (λ i. i.fault) takes.2 ∙ is_open.1) in (
+    let P : First → Type 0 = λ f. Means n f wanted new.unread in (
       subst P (sym (first-is n old (Whole (data_of value) new.unread) is_open takes.1)) (means new.unread),
-      leaves wanted old new (still, shorter old.bounds old.unread new.unread (data_of value) begun),
+      leaves wanted old new (goes-on old new value law is_open takes),
     )
 
 pub none-found : (n : ℕ) (old new : Input) → IsOpen old → Takes old (Ok None) new → first_in n old.unread ≡ Ends false
 none-found n old new is_open takes = first-is n old Partial is_open takes.1
-
-faulty : (old new : Input) (found : WireFault) → (found ≡ wire.NoMemory → ⊥) → old.fault ≡ None → Takes old (Err found) new → front old.bounds old.unread ≡ Faulty found
-faulty old new wire.NoMemory other none takes = absurd (other refl)
-faulty old new wire.BadType other none takes = elim takes.0 [ inl was ↦ absurd (cc) | inr found ↦ found.1 ]
-faulty old new wire.BadNumber other none takes = elim takes.0 [ inl was ↦ absurd (cc) | inr found ↦ found.1 ]
-faulty old new wire.TooLong other none takes = elim takes.0 [ inl was ↦ absurd (cc) | inr found ↦ found.1 ]
-faulty old new wire.TooMany other none takes = elim takes.0 [ inl was ↦ absurd (cc) | inr found ↦ found.1 ]
-faulty old new wire.TooDeep other none takes = elim takes.0 [ inl was ↦ absurd (cc) | inr found ↦ found.1 ]
-faulty old new wire.BadEnd other none takes = elim takes.0 [ inl was ↦ absurd (cc) | inr found ↦ found.1 ]
 
 pub fault-found : (n : ℕ) (old new : Input) (found : WireFault) → (found ≡ wire.NoMemory → ⊥) → IsOpen old → Takes old (Err found) new → first_in n old.unread ≡ Ends true
 fault-found n old new found other is_open takes = first-is n old (Faulty found) is_open (faulty old new found other is_open.1 takes)

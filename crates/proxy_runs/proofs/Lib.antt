@@ -22,3 +22,9 @@ pub mod Replaying
 pub mod Indexing
 pub mod Judging
 pub mod Reporting
+pub mod InTurn
+pub mod Fronts
+pub mod Narrow
+pub mod Saying
+pub mod Texting
+mod Gathering

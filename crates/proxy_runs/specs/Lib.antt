@@ -19,3 +19,8 @@ pub mod Judged
 pub mod Wanted
 pub mod Ends
 pub mod Replayed
+pub mod Mover
+pub mod ReplyText
+pub mod Scripts
+pub mod Gathering
+pub mod RunText

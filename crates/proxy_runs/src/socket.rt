@@ -15,6 +15,8 @@ use std::net::Shutdown;
 pub struct Socket {
     stream: TcpStream,
     failures: u64,
+    /// The other end sends no more.
+    ended: bool,
 }
 
 impl Socket {
@@ -28,6 +30,7 @@ impl Socket {
         Ok(Socket {
             stream,
             failures: 0,
+            ended: false,
         })
     }
 
@@ -40,6 +43,16 @@ impl Socket {
             token,
             Interest::READABLE | Interest::WRITABLE,
         )
+    }
+
+    /// Whether the other end sends no more, as far as reads have shown.
+    pub(crate) fn has_ended(&self) -> bool {
+        self.ended
+    }
+
+    /// Whether the connection is made.
+    pub(crate) fn is_made(&self) -> bool {
+        self.stream.peer_addr().is_ok()
     }
 
     /// Ends the connection both ways, as far as the system goes along.
@@ -64,7 +77,10 @@ impl Stream for Socket {
 
     fn read(&mut self, buffer: &mut [u8]) -> Flow {
         match self.stream.read(buffer) {
-            Ok(0) => self.fail(),
+            Ok(0) => {
+                self.ended = true;
+                self.fail()
+            }
             Ok(count) => Flow::Bytes(count),
             Err(error) if is_wait(&error) => Flow::Nothing,
             Err(_) => self.fail(),
@@ -85,8 +101,8 @@ impl Socket {
     ghost use Rattle.node_link.specs.Port.{Rose};
     ghost use Rattle.node_link.specs.declared.stream.Flow.TheVariants as flow;
 
-    // One failure more.
-    fn fail(&mut self) -> Flow
+    /// Counts one failure more.
+    pub(crate) fn fail(&mut self) -> Flow
         ensures gone { result ≡ flow.Gone }
         ensures rose { Rose self.old.failures self.new.failures }
         ensures count { self.old.failures ≤ self.new.failures }

@@ -1,5 +1,7 @@
 //! Why a run over sockets ended.
 
+use resp_wire::NoMemory;
+use std::alloc::AllocError;
 use thiserror::Error;
 
 /// Why a run over sockets ended before its time.
@@ -14,4 +16,16 @@ pub enum WireRunFault {
     /// The port can't be listened on.
     #[error("the port can't be listened on")]
     Listen,
+}
+
+impl From<NoMemory> for WireRunFault {
+    fn from(_: NoMemory) -> WireRunFault {
+        WireRunFault::NoMemory
+    }
+}
+
+impl From<AllocError> for WireRunFault {
+    fn from(_: AllocError) -> WireRunFault {
+        WireRunFault::NoMemory
+    }
 }

@@ -20,14 +20,8 @@ enum Duty {
     Give,
 }
 
-// What the carrier holds goes on first, then one reply is taken, which goes on in the same turn where it can.
-const ROUND: [Duty; 11] = [
-    Duty::At(Task::Publish),
-    Duty::At(Task::Ask),
-    Duty::At(Task::Read),
-    Duty::At(Task::Renew),
-    Duty::Give,
-    Duty::At(Task::Fetch),
+// How what a line holds goes on.
+const ONWARD: [Duty; 5] = [
     Duty::At(Task::Publish),
     Duty::At(Task::Ask),
     Duty::At(Task::Read),
@@ -256,15 +250,42 @@ where
         }
     }
 
-    // A line's turn.
-    fn serve_line(&mut self, at: usize) -> Result<bool, NoMemory>
+    // What a line holds goes on, where it holds anything.
+    fn go_on(&mut self, at: usize) -> Result<bool, NoMemory>
+        ensures { Turns P.failures P.is_garbled P.exchange (carriage_of D.failures self.old) result (carriage_of D.failures self.new) }
+    {
+        if !self.is_busy(at) {
+            return Ok(false);
+        }
+        self.go_round(at)
+    }
+
+    // Does at a line what leads on.
+    fn go_round(&mut self, at: usize) -> Result<bool, NoMemory>
         ensures { Turns P.failures P.is_garbled P.exchange (carriage_of D.failures self.old) result (carriage_of D.failures self.new) }
     {
         let mut moved = false;
-        for i in 0..ROUND.len() {
-            moved |= self.fulfil(at, ROUND[i])?;
+        for i in 0..ONWARD.len() {
+            moved |= self.fulfil(at, ONWARD[i])?;
         }
         Ok(moved)
+    }
+
+    fn is_busy(&self, at: usize) -> bool {
+        match self.lines.get(at) {
+            Some(line) => line.is_busy(),
+            None => false,
+        }
+    }
+
+    // A line's turn: what it holds goes on first, then one reply is taken, which goes on in the same turn where it can.
+    fn serve_line(&mut self, at: usize) -> Result<bool, NoMemory>
+        ensures { Turns P.failures P.is_garbled P.exchange (carriage_of D.failures self.old) result (carriage_of D.failures self.new) }
+    {
+        let before = self.go_on(at)?;
+        let fetched = self.serve(at, Task::Fetch)?;
+        let after = self.go_on(at)?;
+        Ok(before | fetched | after)
     }
 
     fn serve_lines(&mut self) -> Result<bool, NoMemory>

@@ -223,6 +223,7 @@ impl<C: ClientPort + Drop> Client<C> {
         if !self.may_pull() {
             return Ok(false);
         }
+        self.port.owes(self.may_owe());
         match pull_into(&mut self.port, &mut self.unfed, piece)? {
             Flow::Bytes(count) => Ok(count > 0),
             Flow::Nothing => Ok(false),
@@ -238,6 +239,11 @@ impl<C: ClientPort + Drop> Client<C> {
         ensures { IsTrue result → (self.now.gone ≡ false) × (self.now.unfed ≡ []) }
     {
         !self.gone && self.unfed.is_empty()
+    }
+
+    // Whether more may be pushed: something moved in its last turn, or waits, or a command of it is under way.
+    fn may_owe(&self) -> bool {
+        !self.at_rest || !self.commands.is_empty()
     }
 
     // Feeds the session what was pulled.

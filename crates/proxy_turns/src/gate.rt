@@ -14,6 +14,9 @@ pub trait Gate {
     fn pass(&self, worker: u16, answered: u64) -> bool
         ensures asked { says self.now worker answered result };
 
+    /// So many batches the worker has posted so far. Told after each turn that was not its last.
+    fn posted(&self, _count: u64) {}
+
     /// The last turn moved nothing.
     fn idle(&self)
         ensures rested { rests self.now };

@@ -347,6 +347,11 @@ impl<P: NodePort + Drop> Line<P> {
         Ok(Step::Renewed)
     }
 
+    /// Whether it holds anything that is to go on.
+    pub(crate) fn is_busy(&self) -> bool {
+        self.owed.is_some() || self.answer.is_some() || self.changes.is_some() || self.to_ask
+    }
+
     /// Whether CLUSTER SLOTS was asked for over an open link, and the answer did not come yet.
     pub(crate) fn is_unanswered(&self) -> bool
         ensures { result ≡ is_unanswered self.now }

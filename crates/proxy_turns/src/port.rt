@@ -14,6 +14,9 @@ pub trait ClientPort {
     /// From the first state to the second these bytes were pulled, these were pushed, and these ends were noted, each in order.
     ghost moves: { Self → List ℕ → List ℕ → List (TicketOf × EndedAs) → Self → Type 0 };
 
+    /// Told before each pull: whether more may be pushed. One that has ended its sending is not gone while that is so.
+    fn owes(&self, _more: bool) {}
+
     /// Pulls some bytes to the front of the buffer.
     fn pull(&mut self, buffer: &mut [u8]) -> Result<Flow, NoMemory>
         ensures pulled { PullOutcome moves self.old buffer.new result self.new };

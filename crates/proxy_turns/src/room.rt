@@ -109,6 +109,11 @@ impl<C: ClientPort + Drop, J: Naming> Room<C, J> {
         self.answered
     }
 
+    /// How many batches were posted.
+    pub(crate) fn posted(&self) -> u64 {
+        self.outlet.posted()
+    }
+
     /// Gives all ports back.
     pub(crate) fn end(&mut self, outcome: WorkerOutcome) -> WorkerEnd<C>
         ensures outcome { result.outcome ≡ outcome }

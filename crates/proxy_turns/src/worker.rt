@@ -72,6 +72,7 @@ impl<'g, C: ClientPort + Drop, J: Naming, G: Gate> Worker<'g, C, J, G> {
             self.pass();
             return Some(WorkerOutcome::Served);
         }
+        self.gate.posted(self.room.posted());
         if !moved {
             self.gate.idle();
         }

@@ -4,7 +4,7 @@ ghost use Rattle.std.specs.Prelude.{◌≡◌, ◌≤◌, ◌+◌, ◌-◌, ◌+
 ghost use Rattle.std.specs.List.{list_all};
 ghost use Rattle.session_order.specs.Turn.{is_done};
 ghost use Rattle.key_split.specs.Join.{CanJoin};
-ghost use Rattle.session_order.specs.Replies.{HasParts, joined, ReplyOutcome, parts_of, AreJoinable, bytes_of, replies, replied, lines_owed};
+ghost use Rattle.session_order.specs.Replies.{HasParts, joined, ReplyOutcome, parts_of, AreJoinable, bytes_of, replies, replied, lines_owed, spelling};
 
 use crate::queue::Queue;
 use crate::step::protocol_error;
@@ -104,11 +104,34 @@ fn write_reply(
             if !queue.are_done(from, *count) {
                 return Ok(None);
             }
-            let value = join_ends(alloc, how, ends, from, *count)?;
-            write_value(out, &value)?;
+            write_joined(alloc, how, ends, from, *count, out)?;
             Ok(Some(*count))
         }
     }
+}
+
+#[tactic(auto, unfolding(crate::specs::Replies::joined, crate::specs::Replies::spelling))]
+// Writes the reply that the ends of a request's parts make. These begin behind so many others. The value that the one part
+// of a request was answered with is written as it stands.
+fn write_joined(
+    alloc: Global,
+    how: &Joining,
+    ends: &mut VecDeque<Ended>,
+    from: usize,
+    count: usize,
+    out: &mut Vec<u8>,
+) -> Result<(), NoMemory>
+    requires fits { from + count ≤ length ends.old.items }
+    requires joinable { CanJoin how.now count }
+    ensures ends { ends.new.items ≡ ends.old.items }
+    ensures ok { OnOk result (out.new.items ≡ out.old.items ++ spelling (joined how.now (take count (drop from ends.old.items)))) }
+    ensures err { OnErr result (out.new.items ≡ out.old.items) }
+{
+    if let (Joining::One, Some(Ended::Answered(value))) = (how, ends.get(from)) {
+        return write_value(out, value);
+    }
+    let value = join_ends(alloc, how, ends, from, count)?;
+    write_value(out, &value)
 }
 
 #[tactic(auto, unfolding(crate::specs::Replies::joined))]

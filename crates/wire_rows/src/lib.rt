@@ -2,4 +2,14 @@
 #![tactic(auto)]
 
 #[cfg(test)]
+mod crowd;
+#[cfg(test)]
+mod doors;
+#[cfg(test)]
 mod nodes;
+#[cfg(test)]
+mod served;
+#[cfg(test)]
+mod serving;
+#[cfg(test)]
+mod talk;

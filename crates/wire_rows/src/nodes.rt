@@ -1,61 +1,18 @@
 //! Plain connections to the nodes of the example cluster.
 
-use mio::net::TcpListener;
+use crate::doors::{Doors, open};
+use crate::talk::{Talk, converse};
 use proxy_runs::{LocalCluster, run_nodes, three_nodes};
-use slot_map::NodeTable;
 use std::alloc::Global;
-use std::io::{Read, Write};
-use std::net::{self, Net, SocketAddr, TcpStream};
+use std::net::{Net, TcpListener, TcpStream};
 use std::sync::Wait;
 use std::test::Fail;
 use std::thread::{self, Threads};
 
-/// Three free ports, listened on.
-#[derive(Drop)]
-struct Doors {
-    listeners: Vec<TcpListener>,
-    table: NodeTable,
-    ports: Vec<u16>,
-}
-
-fn loopback(port: u16) -> SocketAddr {
-    SocketAddr::from(([127, 0, 0, 1], port))
-}
-
-fn open<R: Net>(rt: &R, alloc: Global) -> Result<Doors, Fail> {
-    let mut doors = Doors {
-        listeners: Vec::new(alloc),
-        table: NodeTable::new(alloc),
-        ports: Vec::new(alloc),
-    };
-    for _ in 0..3 {
-        let listener = TcpListener::bind(rt, loopback(0))?;
-        let port = listener.local_addr()?.port();
-        doors.table.intern(b"127.0.0.1", port)?;
-        doors.ports.push(port)?;
-        doors.listeners.push(listener)?;
-    }
-    Ok(doors)
-}
-
-/// All that is answered to these bytes, up to the end of the connection.
-fn converse<R: Net<Stream = TcpStream>>(
-    rt: &R,
-    alloc: Global,
-    port: u16,
-    sent: &[u8],
-) -> Option<Vec<u8>> {
-    let mut stream = TcpStream::connect(rt, loopback(port)).ok()?;
-    stream.write_all(sent).ok()?;
-    let mut answered = Vec::new(alloc);
-    stream.read_to_end(&mut answered).ok()?;
-    Some(answered)
-}
-
 /// All that the node of this place answers to these bytes, and the port of the last node.
 fn answers<R>(rt: &R, alloc: Global, node: usize, sent: &[u8]) -> Result<(Vec<u8>, u16), Fail>
 where
-    R: Threads + Wait + Net<Listener = net::TcpListener, Stream = TcpStream> + Sync,
+    R: Threads + Wait + Net<Listener = TcpListener, Stream = TcpStream> + Sync,
 {
     let doors = open(rt, alloc)?;
     let port = *doors.ports.get(node).ok_or("no such node")?;
@@ -67,7 +24,9 @@ where
         ..
     } = doors;
     let answered = thread::scope(thread::scope_env(), rt, |scope| -> Option<Vec<u8>> {
-        let client = scope.spawn(move || converse(rt, alloc, port, sent)).ok()?;
+        let client = scope
+            .spawn(move || converse(rt, alloc, port, Talk::of(sent)))
+            .ok()?;
         run_nodes(rt, alloc, listeners, cluster, &table, Some(1)).ok()?;
         client.join(rt)
     });

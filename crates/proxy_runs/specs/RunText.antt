@@ -1,0 +1,47 @@
+-- What a run of scripts writes.
+use Rattle.std.specs.Prelude.{◌≡◌, ◌⊎◌, ◌≤◌, ◌++◌, ℕ, List, length, Result, Ok, Err, codes}
+use Rattle.cluster_world.specs.Report.{bad_line, line}
+use Rattle.cluster_world.specs.Script.{lines_of}
+use Rattle.cluster_world.specs.Simulate.{too_long_text, read_failed_text}
+use Rattle.cluster_world.specs.declared.input.Input.{Input}
+use Rattle.cluster_world.specs.declared.input.Input.TheVariants.{Whole, TooLong, Failed}
+use Rattle.cluster_world.specs.declared.run_report.RunReport.{RunReport}
+use Rattle.proxy_runs.specs.ReplyText.{RepliesText}
+use Rattle.proxy_runs.specs.Run.{IsRunOf}
+use Rattle.proxy_runs.specs.Scripts.{Task, nothing, task_from}
+
+abbrev pub lawful_text : List ℕ
+lawful_text = line (codes "audit ok")
+
+abbrev pub unlawful_text : List ℕ
+unlawful_text = line (codes "audit failed")
+
+-- the replies of a report, and then that it is a lawful run of the scripts, or that it is none
+abbrev pub WritesReport : List (List ℕ) → ℕ → ℕ → List ℕ → Type 0
+WritesReport scripts workers status text =
+    (report : RunReport) × (replies : List ℕ) × RepliesText 0 report.replies.items replies
+    × ((IsRunOf scripts workers report × (status ≡ 0) × (text ≡ replies ++ lawful_text))
+    ⊎ ((IsRunOf scripts workers report → ⊥) × (status ≡ 1) × (text ≡ replies ++ unlawful_text)))
+
+-- the status and the text for what the lines say, or for the first of them that does not fit
+abbrev pub WritesTask : ℕ → Result Task ℕ → ℕ → List ℕ → Type 0
+WritesTask workers (Ok task) status text = WritesReport task.clients workers status text
+WritesTask workers (Err number) status text = (status ≡ 1) × (text ≡ bad_line number)
+
+-- the same for an input that was read whole
+abbrev pub Writes : ℕ → List ℕ → ℕ → List ℕ → Type 0
+Writes workers input status text = WritesTask workers (task_from 1 nothing (lines_of input)) status text
+
+-- the same for what was read
+abbrev pub WritesRead : ℕ → Input → ℕ → List ℕ → Type 0
+WritesRead workers (Whole input) status text = Writes workers input.items status text
+WritesRead workers TooLong status text = (status ≡ 1) × (text ≡ too_long_text)
+WritesRead workers Failed status text = (status ≡ 1) × (text ≡ read_failed_text)
+
+-- The same for an input of which so many bytes are read at most, in as many reads: one whose end has not come within them
+-- has at least so many bytes.
+abbrev pub WritesFor : ℕ → ℕ → List ℕ → ℕ → List ℕ → Type 0
+WritesFor limit workers input status text =
+    ((length input ≤ limit) × Writes workers input status text)
+    ⊎ (((limit ≤ length input) × (status ≡ 1) × (text ≡ too_long_text))
+    ⊎ ((status ≡ 1) × (text ≡ read_failed_text)))
