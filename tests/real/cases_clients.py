@@ -123,7 +123,7 @@ def a_client_that_sends_without_end(world):
     """It sends for a second as fast as it can and reads what comes: others are served promptly."""
     with world.client() as client:
         stop = threading.Event()
-        piece = request("SET", "flood", "x" * 1000) * 100
+        piece = b"".join(request("SET", f"flood{number}", "x" * 1000) for number in range(100))
 
         def flood():
             while not stop.is_set():
@@ -139,7 +139,7 @@ def a_client_that_sends_without_end(world):
         stop.set()
         sender.join(10)
         client.end_sending()
-        reader.join(10)
+        reader.join(30)
         check(not reader.is_alive(), "a client that ended its sending was not let go")
 
 

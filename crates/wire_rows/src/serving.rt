@@ -1,9 +1,8 @@
 //! The example cluster and the proxy before it, which end once their clients have come and gone.
 
-ghost use Rattle.std.specs.Prelude.{◌<◌, ◌≤◌};
-
 use crate::doors::{Doors, open};
 use crate::talk::{Talk, converse_all};
+use mio::net::TcpListener as Door;
 use proxy_runs::{LocalCluster, listen, run_nodes, run_wire, three_nodes};
 use std::alloc::{AllocGlobal, Global};
 use std::net::{Net, TcpListener, TcpStream};
@@ -30,7 +29,6 @@ where
         + AllocGlobal
         + Net<Listener = TcpListener, Stream = TcpStream>
         + Sync,
-    requires { (0 < workers) × (workers ≤ 64) }
 {
     let doors = open(rt, alloc)?;
     let seed = *doors.ports.first().ok_or("no seed")?;
@@ -66,7 +64,6 @@ where
         + AllocGlobal
         + Net<Listener = TcpListener, Stream = TcpStream>
         + Sync,
-    requires { (0 < workers) × (workers ≤ 64) }
 {
     let door = listen(rt, "127.0.0.1", 0).ok()?;
     let port = door.local_addr().ok()?.port();
@@ -75,7 +72,32 @@ where
         let clients = scope
             .spawn(move || converse_all(rt, alloc, port, talks))
             .ok()?;
-        run_wire(rt, alloc, door, b"127.0.0.1", seed, workers, Some(count)).ok()?;
+        run_proxy(rt, alloc, door, seed, workers, count)?;
         clients.join(rt)
     })
+}
+
+/// The proxy before the node at this port, for so many clients.
+fn run_proxy<R>(
+    rt: &R,
+    alloc: Global,
+    door: Door,
+    seed: u16,
+    workers: u16,
+    clients: u32,
+) -> Option<()>
+where
+    R: Threads
+        + Wait
+        + RandomSource
+        + Clock
+        + AllocGlobal
+        + Net<Listener = TcpListener, Stream = TcpStream>
+        + Sync,
+{
+    if workers == 0 || workers > 64 {
+        return None;
+    }
+    let host = b"127.0.0.1";
+    run_wire(rt, alloc, door, host, seed, workers, Some(clients)).ok()
 }

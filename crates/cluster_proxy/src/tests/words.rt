@@ -93,7 +93,10 @@ fn help_that_is_asked_for_is_no_mistake(rt: HostRuntime) -> Result<(), Fail> {
 fn workers_are_taken(rt: HostRuntime) -> Result<(), Fail> {
     let words = words_of(rt.alloc(), "cluster_proxy local --workers 64")?;
     let chosen = choose(rt.alloc(), words.as_slice()).map_err(|_| "words were refused")?;
-    assert!(rt; matches!(chosen, Choice::Local(playing) if playing.workers == 64));
+    let Choice::Local(playing) = chosen else {
+        return Err(Fail::from("another choice"));
+    };
+    assert_eq!(rt; playing.workers, 64);
     Ok(())
 }
 
@@ -101,7 +104,10 @@ fn workers_are_taken(rt: HostRuntime) -> Result<(), Fail> {
 fn ports_are_taken_in_order(rt: HostRuntime) -> Result<(), Fail> {
     let words = words_of(rt.alloc(), "cluster_proxy nodes --ports 7001,07002,65535")?;
     let chosen = choose(rt.alloc(), words.as_slice()).map_err(|_| "words were refused")?;
-    assert!(rt; matches!(chosen, Choice::Nodes([7001, 7002, 65535])));
+    let Choice::Nodes(ports) = chosen else {
+        return Err(Fail::from("another choice"));
+    };
+    assert_eq!(rt; ports, [7001, 7002, 65535]);
     Ok(())
 }
 
