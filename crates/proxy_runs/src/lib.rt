@@ -1,4 +1,5 @@
-//! Runs over a cluster in one process.
+//! What runs in threads: scripts of clients over a cluster in one process, that cluster behind sockets, and the proxy over
+//! sockets.
 //!
 //! ```text
 //! let mut state = LocalState::new(alloc, cluster);
@@ -10,6 +11,13 @@
 //! the state keeps at each moment what `IsSound` says there: no key is at two nodes, the history is one legal history of one
 //! store, that store is what the nodes hold together, and where the target of an ASK that may still be followed is importing
 //! the slot, its source holds none of the command's keys.
+//!
+//! Promise: lawful runs. Where `run_local` answers Ok, its report is lawful and one of these scripts, and its history is that
+//! of the state that is handed back (`RunOutcome` of `specs/Judged.antt`).
+//!
+//! `run_wire` may wait, and says what its faults mean. The workers and the carrier that it runs keep the promises of
+//! `proxy_turns`, `proxy_lanes` and `node_link`; what is held back of a node's requests goes out once, whole and in order; of
+//! the threads, the sockets and the waking nothing is proved but that the code is safe.
 #![tactic(auto)]
 
 mod addresses;
