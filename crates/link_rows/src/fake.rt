@@ -12,9 +12,10 @@ pub struct FakeStream {
     taken: Vec<u8>,
     /// The most bytes that one call moves.
     at_once: usize,
-    /// Each second call would have to wait.
+    /// Each second read and each second write would have to wait.
     waits: bool,
-    waited: bool,
+    read_waited: bool,
+    write_waited: bool,
     /// So many bytes are taken before the stream fails.
     room: usize,
     reads: u32,
@@ -30,7 +31,8 @@ impl FakeStream {
             taken: Vec::new(alloc),
             at_once: usize::MAX,
             waits: false,
-            waited: false,
+            read_waited: false,
+            write_waited: false,
             room: usize::MAX,
             reads: 0,
             writes: 0,
@@ -67,10 +69,16 @@ impl FakeStream {
         self.writes
     }
 
-    /// Whether this call would have to wait.
-    fn must_wait(&mut self) -> bool {
-        self.waited = self.waits && !self.waited;
-        self.waited
+    /// Whether this read would have to wait.
+    fn read_must_wait(&mut self) -> bool {
+        self.read_waited = self.waits && !self.read_waited;
+        self.read_waited
+    }
+
+    /// Whether this write would have to wait.
+    fn write_must_wait(&mut self) -> bool {
+        self.write_waited = self.waits && !self.write_waited;
+        self.write_waited
     }
 }
 
@@ -86,7 +94,7 @@ impl Stream for FakeStream {
 
     fn read(&mut self, buffer: &mut [u8]) -> Flow {
         self.reads = self.reads.saturating_add(1);
-        if self.must_wait() {
+        if self.read_must_wait() {
             return Flow::Nothing;
         }
         let left = self.coming.len().saturating_sub(self.given);
@@ -101,7 +109,7 @@ impl Stream for FakeStream {
 
     fn write(&mut self, bytes: &[u8]) -> Flow {
         self.writes = self.writes.saturating_add(1);
-        if self.must_wait() {
+        if self.write_must_wait() {
             return Flow::Nothing;
         }
         let count = bytes.len().min(self.at_once).min(self.room);

@@ -6,7 +6,7 @@ use crate::links::{
     table_of_one, taken,
 };
 use key_split::Told;
-use node_link::{Got, LinkFault};
+use node_link::{Got, LinkFault, PATIENCE};
 use resp_wire::Value;
 use slot_map::NodeTable;
 use std::alloc::Global;
@@ -44,10 +44,10 @@ fn see_next(link: &mut FakeLink, table: &mut NodeTable) -> Result<Option<Seen>, 
     }
 }
 
-/// All that is received in 100 calls.
+/// All that is received in 200 calls.
 fn see_all(alloc: Global, link: &mut FakeLink, table: &mut NodeTable) -> Result<Vec<Seen>, Fail> {
     let mut all = Vec::new(alloc);
-    for _ in 0..100 {
+    for _ in 0..200 {
         if let Some(seen) = see_next(link, table)? {
             all.push(seen)?;
         }
@@ -106,12 +106,13 @@ struct Remains {
     lost: Vec<u64>,
 }
 
-/// Sends, asks and receives, whatever the answers.
+/// Sends, asks and receives until two writes were tried, whatever the answers.
 fn try_all(alloc: Global, link: &mut FakeLink, table: &mut NodeTable) -> Result<(), Fail> {
     let _ = send_set(alloc, link, 1, true)?;
     let _ = link.ask_slots();
-    let _ = fault_of_next(link, table)?;
-    let _ = fault_of_next(link, table)?;
+    for _ in 0..PATIENCE + 2 {
+        let _ = fault_of_next(link, table)?;
+    }
     Ok(())
 }
 
@@ -218,6 +219,14 @@ fn send_thousand(alloc: Global, link: &mut FakeLink) -> Result<(), Fail> {
     Ok(())
 }
 
+/// Receives until what waits was written.
+fn wait_out(link: &mut FakeLink, table: &mut NodeTable) -> Result<(), Fail> {
+    for _ in 0..PATIENCE + 1 {
+        see_next(link, table)?;
+    }
+    Ok(())
+}
+
 /// How many status lines come, for the parts in order.
 fn count_in_order(link: &mut FakeLink, table: &mut NodeTable) -> Result<u64, Fail> {
     for part in 0..1000u64 {
@@ -246,6 +255,7 @@ fn send_and_receive(
 ) -> Result<Course, Fail> {
     send_thousand(alloc, link)?;
     let answered = count_in_order(link, table)?;
+    wait_out(link, table)?;
     let stream = link.port().stream();
     Ok(Course {
         answered,
@@ -261,33 +271,33 @@ fn thousand(alloc: Global, answers: Vec<u8>) -> Result<Course, Fail> {
     send_and_receive(alloc, &mut link, &mut table)
 }
 
-/// How many bytes a link wrote after each of three commands, and after the first call that finds no value.
-fn written_step_by_step(
+/// How many calls a link waits before it writes two commands that nothing comes behind.
+fn calls_before_write(
     alloc: Global,
     link: &mut FakeLink,
     table: &mut NodeTable,
-) -> Result<[usize; 4], Fail> {
-    let mut written = [0; 4];
-    for part in 0..3usize {
-        send_set(alloc, link, part as u64, false)??;
-        written[part] = taken(link).len();
-    }
+) -> Result<u32, Fail> {
+    send_set(alloc, link, 0, false)??;
     see_next(link, table)?;
-    written[3] = taken(link).len();
-    Ok(written)
+    send_set(alloc, link, 1, false)??;
+    for calls in 0..100u32 {
+        if !taken(link).is_empty() {
+            return Ok(calls);
+        }
+        see_next(link, table)?;
+    }
+    Err(Fail::from("nothing was written"))
 }
 
-/// A link that waits for nothing writes its first command with the next call; those behind it wait for more.
+/// What is sent waits for more until a number of calls found nothing; what was sent in between waits with it.
 #[test]
-fn an_idle_link_holds_nothing_back(rt: HostRuntime) -> Result<(), Fail> {
+fn commands_wait_for_more(rt: HostRuntime) -> Result<(), Fail> {
     let (mut table, node) = table_of_one(rt.alloc())?;
     let stream = FakeStream::new(rt.alloc(), Vec::new(rt.alloc()));
     let mut link = link_over(rt.alloc(), stream, node);
-    let size = SET.len();
-    let first = written_step_by_step(rt.alloc(), &mut link, &mut table)?;
-    assert_eq!(rt; first, [0, size, size, 3 * size]);
-    let second = written_step_by_step(rt.alloc(), &mut link, &mut table)?;
-    assert_eq!(rt; second, [3 * size, 4 * size, 4 * size, 6 * size]);
+    let calls = calls_before_write(rt.alloc(), &mut link, &mut table)?;
+    assert_eq!(rt; calls, PATIENCE + 1);
+    assert_eq!(rt; taken(&link).len(), 2 * SET.len());
     Ok(())
 }
 

@@ -1,5 +1,5 @@
 -- One move after another.
-use Rattle.std.proofs.Common.{◌≡◌, ◌≤◌, ◌<◌, ◌-◌, ◌^◌, ◌++◌, [], List, ℕ, ◌⊎◌, inl, inr, arith, append_assoc, sym, ◌∙◌, ap, refl}
+use Rattle.std.proofs.Common.{◌≡◌, ◌≤◌, ◌++◌, [], List, ℕ, inl, inr, arith, append_assoc, sym, ◌∙◌, ap, refl, subst}
 use Rattle.std.proofs.lemmas.List.{append-nil}
 use Rattle.std.specs.Prelude.{Option, Some, None, Result, Ok, Err}
 use Rattle.resp_wire.specs.declared.value.Value.{Value}
@@ -17,10 +17,6 @@ rose_later a b c ab bc (inr last) = grind arith
 -- what is appended stands behind what is still to be written
 pub appended : (old written rest last new : List ℕ) → old ≡ written ++ rest → new ≡ rest ++ last → old ++ last ≡ written ++ new
 appended old written rest last new o n = rw (o, n) (append_assoc written rest last)
-
--- two writes, one after the other
-pub written_twice : (old first rest second new : List ℕ) → old ≡ first ++ rest → rest ≡ second ++ new → old ++ [] ≡ (first ++ second) ++ new
-written_twice old first rest second new o r = rw (append-nil, o, r) (sym (append_assoc first second new))
 
 -- what was read stays where nothing more is read
 pub kept_unread : (old taken room last : Incoming) → (input_of taken).unread ≡ (input_of old).unread → last ≡ room → room ≡ taken
@@ -46,6 +42,9 @@ pub filled_bounds : (old taken room last : Incoming) → (input_of taken).bounds
 filled_bounds old taken room last bounds l r = ap (λ (i : Input). i.bounds) (l ∙ ap (λ (i : Incoming). i.fed) r) ∙ bounds
 
 module _ {S : Type 0} (failures : S → ℕ) (moved : S → List ℕ → List ℕ → S → Type 0) where
+  abbrev made : S → List ℕ → Input → Pipe S
+  made stream unsent input = record { stream = stream; unsent = unsent; input = input }
+
   -- what a port gives after these bytes were moved, by what was taken of the unread bytes
   pub next_outcome : (old new : Pipe S) (written read : List ℕ) (mid : Input) (result : Result (Option Value) PortFault)
       → moved old.stream written read new.stream → old.unsent ++ [] ≡ written ++ new.unsent
@@ -58,3 +57,11 @@ module _ {S : Type 0} (failures : S → ℕ) (moved : S → List ℕ → List �
   next_outcome old new written read mid (Err NoMemory) m u b l t = (written, read, m, u, sym (t.0 ∙ b), t.1 ∙ l)
   next_outcome old new written read mid (Err BadWire) m u b l t = ((t.2, t.3), (written, read, m, u, sym (t.0 ∙ b), t.1 ∙ l))
   next_outcome old new written read mid (Err Failed) m u b l t = absurd t
+
+  -- what a port gives where nothing was moved
+  pub taken_unmoved : (stream : S) (unsent : List ℕ) (before after : Input) (old : Pipe S) (result : Result (Option Value) PortFault)
+      → moved stream [] [] stream → made stream unsent before ≡ old → TakeOutcome before result after
+      → NextOutcome (λ (p : Pipe S). failures p.stream) IsGarbled (Exchanges moved) old result (made stream unsent after)
+  taken_unmoved stream unsent before after old result still is t =
+      subst (λ (p : Pipe S). NextOutcome (λ (p : Pipe S). failures p.stream) IsGarbled (Exchanges moved) p result (made stream unsent after)) is
+      (next_outcome (made stream unsent before) (made stream unsent after) [] [] before result still (append-nil unsent) (sym (append-nil before.unread)) refl t)

@@ -1,11 +1,12 @@
 -- The spelling of words, piece by piece.
-use Rattle.std.proofs.Common.{◌≡◌, ◌++◌, ◌∷◌, [], ◌+◌, ◌*◌, List, ℕ, length, map, refl, ap, sym, ◌∙◌, arith, append_assoc, length-append}
+use Rattle.std.proofs.Common.{◌≡◌, ◌<◌, ◌++◌, ◌∷◌, [], ◌+◌, ◌*◌, List, ℕ, length, map, refl, ap, sym, ◌∙◌, arith, append_assoc, length-append}
 use Rattle.std.proofs.lemmas.Grind.{flat_map-append}
+use Rattle.std.proofs.lemmas.Fmt.{decimal_digit}
 use Rattle.std.specs.Prelude.{Result, Ok, Err, OnOk}
 use Rattle.std.specs.Prelude.{decimal}
 use Rattle.std.specs.List.{flat_map}
-use Rattle.resp_wire.specs.Canonical.{canonical, canonical_all}
-use Rattle.resp_wire.specs.Data.{bulk, array, items_of}
+use Rattle.resp_wire.specs.Canonical.{canonical_all}
+use Rattle.resp_wire.specs.Data.{bulk, items_of}
 use Rattle.resp_wire.specs.Spelling.{count_of}
 use Rattle.key_split.specs.declared.command.Op.{Op}
 use Rattle.key_split.specs.Command.{Command, Pair}
@@ -73,3 +74,7 @@ part_pieces part count d0 d1 d2 d3 d4 d5 e e1 e2 e3 e4 e5 = rw (e5, e4, e3, e2, 
 pub on_ok : {T E A B : Type 0} → (result : Result T E) → (A → B) → OnOk result A → OnOk result B
 on_ok (Ok x) f a = f a
 on_ok (Err e) f a = tt
+
+-- the line of a number of one digit
+pub short_head : (kind number : ℕ) → number < 10 → head kind number ≡ kind ∷ (48 + number) ∷ 13 ∷ 10 ∷ []
+short_head kind number small = ap (λ xs. kind ∷ (xs ++ 13 ∷ 10 ∷ [])) (decimal_digit number small)

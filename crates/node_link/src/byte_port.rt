@@ -1,7 +1,7 @@
 //! A port over a stream of bytes.
 
 ghost use Rattle.std.specs.Prelude.{◌≡◌, ◌≤◌, [], None};
-ghost use Rattle.node_link.specs.Bytes.{Exchanges, IsGarbled, PumpOutcome, TakeOutcome, input_of};
+ghost use Rattle.node_link.specs.Bytes.{Exchanges, IsGarbled, PumpOutcome};
 
 use crate::inbox::Inbox;
 use crate::outbox::Outbox;
@@ -13,9 +13,8 @@ use resp_wire::{Limits, NoMemory, Value};
 use std::alloc::Global;
 use std::marker::Model;
 
-/// A port over a stream that does not block. It holds what is sent until it has no whole value to give, or 16 KiB
-/// wait, so that under load one write and one read serve many commands. What the stream refused, and what was sent
-/// while nothing came, goes out with the next call of any kind.
+/// A port over a stream that does not block. It holds what is sent until `PATIENCE` reads came with nothing sent
+/// between them, or 16 KiB wait, so that under load one write and one read serve many commands.
 #[derive(Drop)]
 pub struct BytePort<S> {
     stream: S,
@@ -86,9 +85,6 @@ impl<S: Stream> NodePort for BytePort<S> {
     }
 
     fn next(&mut self) -> Result<Option<Value>, PortFault> {
-        if let Err(Gone) = self.outbox.go_on(&mut self.stream) {
-            return Err(PortFault::Failed);
-        }
         match self.inbox.take() {
             Ok(Some(value)) => return Ok(Some(value)),
             Ok(None) => {}
@@ -100,23 +96,11 @@ impl<S: Stream> NodePort for BytePort<S> {
         if let Err(Gone) = pump(&mut self.stream, &mut self.outbox, &mut self.inbox) {
             return Err(PortFault::Failed);
         }
-        take_or_be_idle(&mut self.inbox, &mut self.outbox)
+        self.inbox.take_more()
     }
 }
 
-// Takes the first value. Where none came, what is sent next goes out without waiting for more.
-fn take_or_be_idle(inbox: &mut Inbox, outbox: &mut Outbox) -> Result<Option<Value>, PortFault>
-    ensures taken { TakeOutcome (input_of inbox.old) result (input_of inbox.new) }
-    ensures outbox { outbox.new ≡ outbox.old }
-{
-    let taken = inbox.take();
-    if let Ok(None) = taken {
-        outbox.be_idle();
-    }
-    taken
-}
-
-// Writes some of what waits, and reads some bytes.
+// Writes some of what waits, where it is time, and reads some bytes.
 fn pump<S: Stream>(stream: &mut S, outbox: &mut Outbox, inbox: &mut Inbox) -> Result<(), Gone>
     requires empty { inbox.old.unfed ≡ [] }
     requires sound { inbox.old.fed.fault ≡ None }
@@ -124,7 +108,7 @@ fn pump<S: Stream>(stream: &mut S, outbox: &mut Outbox, inbox: &mut Inbox) -> Re
     ensures draft { outbox.new.draft ≡ outbox.old.draft }
     ensures count { S.failures stream.old ≤ S.failures stream.new }
 {
-    match outbox.flush(stream) {
+    match outbox.settle(stream) {
         Ok(()) => {}
         Err(Gone) => return Err(Gone),
     }

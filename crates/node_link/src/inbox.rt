@@ -10,7 +10,7 @@ use std::alloc::Global;
 use std::marker::Model;
 
 /// So many bytes are read at once, in bytes.
-const CHUNK: usize = 16384;
+const CHUNK: usize = 16 * 1024;
 
 /// Bytes that were read, as they come and as a reader holds them.
 #[derive(Drop)]
@@ -60,6 +60,16 @@ impl Inbox {
             Err(WireFault::NoMemory) => Err(PortFault::NoMemory),
             Err(_) => Err(PortFault::BadWire),
         }
+    }
+
+    /// The same, where bytes were read since.
+    pub fn take_more(&mut self) -> Result<Option<Value>, PortFault>
+        ensures { TakeOutcome (input_of self.old) result (input_of self.new) }
+    {
+        if self.filled == 0 {
+            return Ok(None);
+        }
+        self.take()
     }
 
     /// Makes room for what will be read.

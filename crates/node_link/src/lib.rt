@@ -27,6 +27,7 @@ pub use byte_port::BytePort;
 pub use fuse::Fuse;
 pub use laws::replies_match;
 pub use link::{Due, Failure, Got, Link, LinkFault};
+pub use outbox::PATIENCE;
 pub use port::{NodePort, PortFault};
 pub use stream::{Flow, Stream};
 pub use told::told_of;

@@ -9,7 +9,11 @@ use std::alloc::Global;
 use std::marker::Model;
 
 /// So many bytes are written without waiting for more, in bytes.
-const FULL: usize = 16384;
+const FULL: usize = 16 * 1024;
+/// What is sent waits for more until so many reads came with nothing sent between them.
+pub const PATIENCE: u32 = 4;
+/// A larger buffer is given back once all of it was written, in bytes.
+const LARGE: usize = 64 * 1024;
 
 /// Bytes that wait to be written, and behind them those of a request that is being spelled.
 #[derive(Drop)]
@@ -19,8 +23,8 @@ pub struct Outbox {
     written: usize,
     /// How many of the bytes are of whole requests.
     finished: usize,
-    /// What waits goes out with the next call of any kind: the stream refused it, or nothing came to wait for.
-    due: bool,
+    /// How many reads came since the last request was spelled.
+    quiet: u32,
 }
 
 impl Model for Outbox {
@@ -42,7 +46,7 @@ impl Outbox {
             bytes: Vec::new(alloc),
             written: 0,
             finished: 0,
-            due: true,
+            quiet: 0,
         }
     }
 
@@ -62,6 +66,7 @@ impl Outbox {
         ensures { self.new ≡ record { unsent = self.old.unsent ++ self.old.draft; draft = [] } }
     {
         self.finished = self.bytes.len();
+        self.quiet = 0;
     }
 
     /// Forgets the request that is being spelled.
@@ -71,28 +76,38 @@ impl Outbox {
         self.bytes.truncate(self.finished);
     }
 
-    /// Nothing came: what is sent from now on does not wait for more.
-    pub fn be_idle(&mut self)
-        ensures { self.new ≡ self.old }
-    {
-        self.due = true;
-    }
-
-    /// Writes what is due, or so much that it does not wait for more.
+    /// Writes what waits, where it is so much that it does not wait for more.
     pub fn go_on<S: Stream>(&mut self, stream: &mut S) -> Result<(), Gone>
         ensures written { FlushOutcome S.failures S.moved stream.old self.old.unsent result stream.new self.new.unsent }
         ensures draft { self.new.draft ≡ self.old.draft }
         ensures count { S.failures stream.old ≤ S.failures stream.new }
     {
-        if self.due || self.finished - self.written >= FULL {
+        if self.is_full() {
             self.flush(stream)
         } else {
             Ok(())
         }
     }
 
-    /// Writes some of what waits, by at most one call of the stream.
-    pub fn flush<S: Stream>(&mut self, stream: &mut S) -> Result<(), Gone>
+    /// Writes what waits, once it waited long enough or does not wait for more.
+    pub fn settle<S: Stream>(&mut self, stream: &mut S) -> Result<(), Gone>
+        ensures written { FlushOutcome S.failures S.moved stream.old self.old.unsent result stream.new self.new.unsent }
+        ensures draft { self.new.draft ≡ self.old.draft }
+        ensures count { S.failures stream.old ≤ S.failures stream.new }
+    {
+        if self.quiet < PATIENCE && !self.is_full() {
+            self.quiet += 1;
+            return Ok(());
+        }
+        self.flush(stream)
+    }
+
+    fn is_full(&self) -> bool {
+        self.finished - self.written >= FULL
+    }
+
+    // Writes some of what waits, by at most one call of the stream. What it refuses waits for no more.
+    fn flush<S: Stream>(&mut self, stream: &mut S) -> Result<(), Gone>
         ensures written { FlushOutcome S.failures S.moved stream.old self.old.unsent result stream.new self.new.unsent }
         ensures draft { self.new.draft ≡ self.old.draft }
         ensures count { S.failures stream.old ≤ S.failures stream.new }
@@ -100,15 +115,13 @@ impl Outbox {
         if self.written == self.finished {
             return Ok(());
         }
+        self.quiet = PATIENCE;
         match stream.write(&self.bytes[self.written..self.finished]) {
             Flow::Bytes(count) => {
                 self.leave(count);
                 Ok(())
             }
-            Flow::Nothing => {
-                self.due = true;
-                Ok(())
-            }
+            Flow::Nothing => Ok(()),
             Flow::Gone => Err(Gone),
         }
     }
@@ -119,7 +132,6 @@ impl Outbox {
         ensures { self.new ≡ record self.old { unsent = drop count self.old.unsent } }
     {
         self.written += count;
-        self.due = self.written < self.finished;
         forget_written(&mut self.bytes, &mut self.written, &mut self.finished);
     }
 }
@@ -133,9 +145,24 @@ fn forget_written(bytes: &mut Vec<u8>, written: &mut usize, finished: &mut usize
     ensures written { written.new ≤ finished.new }
     ensures finished { finished.new ≤ length bytes.new.items }
 {
-    if *written >= *finished - *written {
-        drop(bytes.drain(..*written));
-        *finished -= *written;
-        *written = 0;
+    if *written < *finished - *written {
+        return;
+    }
+    drop_front(bytes, *written);
+    *finished -= *written;
+    *written = 0;
+}
+
+fn drop_front(bytes: &mut Vec<u8>, count: usize)
+    requires { count ≤ length bytes.old.items }
+    ensures { bytes.new.items ≡ drop count bytes.old.items }
+{
+    if count < bytes.len() {
+        drop(bytes.drain(..count));
+        return;
+    }
+    bytes.clear();
+    if bytes.capacity() > LARGE {
+        bytes.shrink_to_fit();
     }
 }

@@ -164,6 +164,9 @@ fn push_head(out: &mut Outbox, kind: u8, number: u128) -> Result<(), NoMemory>
     ensures ok { OnOk result (out.new.draft ≡ out.old.draft ++ head kind number) }
     ensures kept { out.new.unsent ≡ out.old.unsent }
 {
+    if number < 10 {
+        return out.push(&[kind, b'0' + number as u8, b'\r', b'\n']);
+    }
     let mut buffer = Buffer::new();
     out.push(&[kind])?;
     out.push(buffer.format(number).as_bytes())?;

@@ -6,7 +6,7 @@ ghost use Rattle.rtrb.specs.Ring.{sent, known_free};
 mod make;
 
 pub use make::lane;
-use rtrb::{Consumer, Finished, Producer, Protocol, PushError};
+use rtrb::{Consumer, Finished, Producer, Protocol};
 use std::alloc::Global;
 
 /// How many items a lane has room for.
@@ -59,17 +59,13 @@ impl<T: Drop> Outlet<T> {
         if self.next == u64::MAX {
             return Err(item);
         }
-        let number = self.next;
-        match self.producer.push(Numbered { number, item }) {
-            Ok(()) => {
-                self.next = number + 1;
-                Ok(())
-            }
-            Err(PushError::Full(back)) => {
-                let Numbered { number: _, item } = back;
-                Err(item)
-            }
+        if self.producer.is_full() {
+            return Err(item);
         }
+        let number = self.next;
+        self.producer.push_reserved(Numbered { number, item });
+        self.next = number + 1;
+        Ok(())
     }
 
     /// How many items were posted.
@@ -96,7 +92,10 @@ impl<T: Drop> Inlet<T> {
     pub fn take(&mut self) -> Option<T>
         ensures { Takes self.old self.new result }
     {
-        let Numbered { number: _, item } = self.consumer.pop().ok()?;
+        if self.consumer.is_empty() {
+            return None;
+        }
+        let Numbered { number: _, item } = self.consumer.pop_known();
         Some(item)
     }
 

@@ -56,53 +56,6 @@ none-found n old new is_open takes = first-is n old Partial is_open takes.1
 pub fault-found : (n : ℕ) (old new : Input) (found : WireFault) → (found ≡ wire.NoMemory → ⊥) → IsOpen old → Takes old (Err found) new → first_in n old.unread ≡ Ends true
 fault-found n old new found other is_open takes = first-is n old (Faulty found) is_open (faulty old new found other is_open.1 takes)
 
--- ---- by what a value asks
-
-pub array-is-empty : (value : Data) (items : List Data) (vs : List Value) → value ≡ array (items_of items) → map data_of vs ≡ items
-    → nat_eq (length vs) 0 ≡ is_empty_array value
-array-is-empty value items [] is same = rw (is, ← same) refl
-array-is-empty value items (v ∷ vs) is same = rw (is, ← same) (no-zero (length vs))
-  where
-    no-zero : (n : ℕ) → nat_eq (suc n) 0 ≡ false
-    no-zero n = search rules
-
-pub skips : (n : ℕ) (value : Data) (rest : List ℕ) → is_empty_array value ≡ true → first_as n (asked_of value) rest ≡ Skips rest
-skips n value rest is = ap (λ (b : Bool). first_as n (cond b Skipped (asked_by (words_of value))) rest) is
-
-no-words : (o : Option (List (List ℕ))) → is_some o ≡ false → asked_by o ≡ Refused
-no-words None is = refl
-no-words (Some words) is = absurd (cc)
-
-pub refuses : (n : ℕ) (value : Data) (rest : List ℕ) → is_empty_array value ≡ false → is_some (words_of value) ≡ false → first_as n (asked_of value) rest ≡ Ends true
-refuses n value rest full none =
-    ap (λ (b : Bool). first_as n (cond b Skipped (asked_by (words_of value))) rest) full ∙ ap (λ (a : Asked). first_as n a rest) (no-words (words_of value) none)
-
-pub asks-these : (n : ℕ) (value : Data) (words : Request) (rest : List ℕ) → is_empty_array value ≡ false → words_of value ≡ Some words
-    → first_as n (asked_of value) rest ≡ request_first n words rest
-asks-these n value words rest full are =
-    ap (λ (b : Bool). first_as n (cond b Skipped (asked_by (words_of value))) rest) full ∙ ap (λ (o : Option Request). first_as n (asked_by o) rest) are
-
-some-in : (first : List ℕ) (others : Option Request) (words : Request) → option_map (λ more. first ∷ more) others ≡ Some words → 0 < length words
-some-in first others [] is = elim others as (λ o. option_map (λ more. first ∷ more) o ≡ Some [] → 0 < 0) [ Some xs ↦ λ h. (let e : Some (first ∷ xs) ≡ Some [] = h in cc) | None ↦ λ h. (let e : None ≡ Some [] = h in cc) ] is
-some-in first others (w ∷ ws) is = omega arith
-
--- a request that is no empty array has a word
-pub has-words : (value : Data) (words : Request) → is_empty_array value ≡ false → words_of value ≡ Some words → 0 < length words
-has-words (simple text) words some is = cc
-has-words (error text) words some is = cc
-has-words (integer n) words some is = cc
-has-words (bulk word) words some is = cc
-has-words null_bulk words some is = cc
-has-words null_array words some is = cc
-has-words (array no_items) words some is = cc
-has-words (array (item (bulk word) more)) words some is = some-in word (bulks_of more) words is
-has-words (array (item (simple text) more)) words some is = cc
-has-words (array (item (error text) more)) words some is = cc
-has-words (array (item (integer n) more)) words some is = cc
-has-words (array (item null_bulk more)) words some is = cc
-has-words (array (item (array ds) more)) words some is = cc
-has-words (array (item null_array more)) words some is = cc
-
 -- ---- by what words are planned as
 
 pub planned-as : (answer : Answer) (p : Planned) → Plans answer (Ok p) → answer ≡ Ok p

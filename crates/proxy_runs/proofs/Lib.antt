@@ -13,7 +13,6 @@ pub mod Opened
 pub mod Addressed
 pub mod Told
 pub mod Answering
-pub mod Wishing
 pub mod Fronting
 pub mod Asking
 pub mod Telling
@@ -27,4 +26,3 @@ pub mod Fronts
 pub mod Narrow
 pub mod Saying
 pub mod Texting
-mod Gathering

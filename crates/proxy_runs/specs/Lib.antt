@@ -9,7 +9,6 @@ pub mod Waiting
 pub mod Dialled
 pub mod NodeAnswers
 pub mod NodeSaying
-pub mod NodeIntake
 pub mod NodeConnections
 pub mod Example
 pub mod Requests
@@ -22,5 +21,4 @@ pub mod Replayed
 pub mod Mover
 pub mod ReplyText
 pub mod Scripts
-pub mod Gathering
 pub mod RunText

@@ -4,12 +4,13 @@ ghost use Rattle.std.specs.Prelude.{◌≡◌, ◌<◌, ◌≤◌, ◌+◌, ◌^
 ghost use Rattle.resp_wire.specs.Seen.{data_of};
 ghost use Rattle.key_split.specs.Join.{CanBeJoined};
 ghost use Rattle.session_order.specs.Owed.{goodbye, plan_for, protocol_error};
-ghost use Rattle.session_order.specs.Requests.{asked_of, is_empty_array};
+ghost use Rattle.session_order.specs.Requests.{asked_of};
 ghost use Rattle.proxy_runs.specs.Requests.{first_as, request_first};
 ghost use Rattle.proxy_runs.specs.Wanted.{Fits, IsOpen, Means, Wants};
 
 use key_split::{Joining, Parts, PlanFault, Planned, plan, refusal};
 use resp_wire::{Bytes, Line, NoMemory, Reader, Value, WireFault};
+use session_order::{Wish, wish_of};
 use std::alloc::Global;
 
 /// The most parts of one client.
@@ -54,25 +55,11 @@ fn wanted_by(alloc: Global, value: Value, number: u64) -> Result<Wanted, NoMemor
     requires { number ≤ 2 ^ 48 }
     ensures { IfOk result (λ wanted. (rest : List ℕ) → Means number (first_as number (asked_of (data_of value)) rest) wanted rest) }
 {
-    if is_empty_array(&value) {
-        return Ok(Wanted::Skip);
-    }
-    if !value.is_request() {
-        return Ok(Wanted::Nothing(true));
-    }
-    match value.into_words(alloc) {
-        Ok(words) => wanted_for(alloc, words.as_slice(), number),
-        Err(_value) => Err(NoMemory),
-    }
-}
-
-fn is_empty_array(value: &Value) -> bool
-    ensures { result ≡ is_empty_array (data_of value.now) }
-{
-    match value {
-        Value::Array(items) => items.as_slice().is_empty(),
-        Value::NullArray => true,
-        _ => false,
+    match wish_of(alloc, value) {
+        Ok(Wish::Words(words)) => wanted_for(alloc, words.as_slice(), number),
+        Ok(Wish::Nothing) => Ok(Wanted::Skip),
+        Ok(Wish::Refused) => Ok(Wanted::Nothing(true)),
+        Err(_) => Err(NoMemory),
     }
 }
 

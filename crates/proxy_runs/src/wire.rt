@@ -9,7 +9,6 @@ mod dial;
 mod door;
 mod furnish;
 mod gate;
-mod gathered;
 mod hall;
 mod plant;
 mod run;

@@ -1,34 +1,23 @@
 -- Replies that are owed, and replies that are held.
-use Rattle.std.proofs.Common.{◌≡◌, ◌⊎◌, ◌<◌, ◌≤◌, ◌+◌, ◌-◌, ◌++◌, ◌∷◌, [], ℕ, suc, zero, List, Bool, true, false, Option, Some, None, Result, Ok, Err, refl, ap, sym, subst, ◌∙◌, inl, inr, arith, rules, length, map, nat_eq, take, drop, IsTrue, ◌↔◌, IfOk}
+use Rattle.std.proofs.Common.{◌≡◌, ◌⊎◌, ◌<◌, ◌≤◌, ◌+◌, ◌-◌, ◌++◌, [], ℕ, suc, zero, List, Bool, true, false, Option, Some, None, Result, Ok, Err, refl, ap, sym, subst, ◌∙◌, inl, inr, arith, length, take, drop, IsTrue, ◌↔◌, IfOk}
 use Rattle.std.proofs.lemmas.Bool.{false≢true}
 use Rattle.std.proofs.lemmas.List.{append-nil, drop-drop, take-append-drop, take_all, length-drop}
 use Rattle.std.proofs.Math.Seq.{take-add}
 use Rattle.key_split.specs.declared.travel.Ticket.{Ticket}
 use Rattle.key_split.specs.declared.travel.Ended.{Ended}
 use Rattle.resp_wire.specs.Bounds.{Bounds, full}
-use Rattle.resp_wire.specs.Data.{Data, array, items_of}
-use Rattle.resp_wire.specs.Seen.{data_of}
+use Rattle.resp_wire.specs.Data.{Data}
 use Rattle.resp_wire.specs.Front.{Front, front, Whole, Partial, Faulty}
 use Rattle.resp_wire.specs.Input.{Input}
 use Rattle.resp_wire.specs.Laws.{FrontKeepsValue, FrontKeepsFault}
-use Rattle.resp_wire.specs.declared.value.Value.{Value}
 use Rattle.resp_wire.specs.declared.fault.NoMemory.{NoMemory}
 use Rattle.resp_wire.specs.declared.fault.WireFault.{WireFault}
-use Rattle.session_order.specs.Requests.{asked_of, is_empty_array}
+use Rattle.session_order.specs.Requests.{asked_of}
 use Rattle.proxy_turns.specs.declared.owing.Effect.{Effect}
 use Rattle.proxy_turns.specs.declared.owing.Effect.TheVariants.{Skips, Asks, Ends}
 use Rattle.proxy_turns.specs.Owing.{Owes, unfinished, garbled, ended, skipped, asked, effect_of, Reads, Holds, RestIs, IsCounted, Took, EndsAt}
 use Rattle.proxy_turns.specs.Script.{Plays}
 use Rattle.proxy_turns.specs.Received.{FeedOutcome, TakeOutcome, CountOutcome, IsStuck}
-
-eqb-no : (a b : ℕ) → (a ≡ b → ⊥) → nat_eq a b ≡ false
-eqb-no a b apart = elim (nat_eq a b) as (λ t. nat_eq a b ≡ t → nat_eq a b ≡ false) [ true ↦ λ is. absurd (apart (search rules)) | false ↦ λ is. is ] refl
-
--- an array is empty exactly where it has no item
-pub array_is_empty : (value : Data) (items : List Data) (vs : List Value) → value ≡ array (items_of items) → map data_of vs ≡ items
-    → nat_eq (length vs) 0 ≡ is_empty_array value
-array_is_empty value items [] is same = rw (is, ← same) refl
-array_is_empty value items (v ∷ vs) is same = rw (is, ← same) (eqb-no (length (v ∷ vs)) 0 (λ none. omega (arith, none)))
 
 -- ---- what is owed is one number
 

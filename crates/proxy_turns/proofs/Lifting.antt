@@ -19,9 +19,9 @@ use Rattle.proxy_turns.specs.declared.turned.Settled.{Settled}
 use Rattle.proxy_turns.specs.declared.turned.Settled.TheVariants as settled
 use Rattle.proxy_turns.specs.Port.{Moves}
 use Rattle.proxy_turns.specs.Commands.{AwaitsIn, Hears}
-use Rattle.proxy_turns.specs.Talk.{Talk, begun}
+use Rattle.proxy_turns.specs.Talk.{Talk, IsDone, begun}
 use Rattle.proxy_turns.specs.Turn.{Desk, Event, Does, Goes, SettleOutcome, TurnOutcome, is_move, is_settled}
-use Rattle.proxy_turns.specs.Tables.{AtClient, Desks}
+use Rattle.proxy_turns.specs.Tables.{AtClient, AtPlace, Desks}
 use Rattle.proxy_turns.specs.Floor.{Floor, GivesBack, GoesAll, Happening, Happens, Learns, Leaves, OneCame, Tells, TurnsAll, clients_in, moves_on, with_port}
 use Rattle.proxy_turns.specs.Floor.Happening.{Came, Did, Finished, FoundNobody, FoundNone, Left, Took, TurnedAway}
 use Rattle.proxy_turns.specs.Seats.{PutsNew, counted_by, settled_in, turned_in}
@@ -132,13 +132,13 @@ module _ {C J : Type 0} (moves : Moves C) where
   unmoved base new same = stays_all base (with_desks base new) (λ i. with_desks base (same i))
 
   -- a client's turn is the worker's
-  pub turned : (base : Floor C J) (k : ℕ) (result : Result Turned NoMemory) (new : Desks C)
-      → AtClient (desks_of base) k (λ a b. TurnOutcome moves a result b) (result ≡ Ok (record { moved = false; done = false })) new
+  pub turned : (base : Floor C J) (result : Result Turned NoMemory) (new : Desks C)
+      → (entries : List (ℕ × Talk C)) (place : ℕ) → AtPlace entries place (desks_of base) (λ a b. TurnOutcome moves a result b) (result ≡ Ok (record { moved = false; done = false })) new
       → TurnsAll moves base (turned_in result) (with_desks base new)
-  turned base k result new (inl (absent, is, same)) =
+  turned base result new entries place (inl (is, same, none)) =
       let P : Result Turned NoMemory → Type 0 = λ r. TurnsAll moves base (turned_in r) (with_desks base new) in subst P (sym is) (unmoved base new same)
-  turned base k (Ok t) new (inr (talk, talk', there, done, put)) = goes_at k base talk talk' new t.moved there put done.0
-  turned base k (Err e) new (inr (talk, talk', there, (moved, goes), put)) = (moved, goes_at k base talk talk' new moved there put goes)
+  turned base (Ok t) new entries place (inr (k, talk, talk', there, done, put, stands)) = goes_at k base talk talk' new t.moved there put done.0
+  turned base (Err e) new entries place (inr (k, talk, talk', there, (moved, goes), put, stands)) = (moved, goes_at k base talk talk' new moved there put goes)
 
   counts : (base : Floor C J) (new : Desks C) (moved : Bool) (answered : ℕ) → answered ≡ base.answered → GoesAll moves base moved (with_desks base new)
       → GoesAll moves base moved (record (with_desks base new) { answered = answered })
@@ -232,3 +232,12 @@ leaves_too {C} clients clients' ports ports' number talk port numbers all there 
     let P : FinMap nat_cmp (Talk C) → Type 0 = λ cs. GivesBack cs ports' numbers all in
     let Q : List C → Type 0 = λ ps. GivesBack (remove clients number) ps numbers all in
     (talk, there, subst Q (pushed ∙ ap (λ p. ports ++ p ∷ []) is) (subst P put given))
+
+-- the client at a place, with which nothing is left to do, leaves
+pub leaves_at : {C : Type 0} (clients clients' : FinMap nat_cmp (Talk C)) (number number' : ℕ) (talk talk' : Talk C) (port : C)
+    → get clients number ≡ Some talk → IsDone talk → ◌≡◌ {A = ℕ × Talk C} (number, talk) (number', talk') → port ≡ talk'.port → clients' ≡ remove clients number'
+    → (k : ℕ) × Leaves clients k port clients'
+leaves_at {C} clients clients' number number' talk talk' port there done one is left =
+    let P : ℕ × Talk C → Type 0 = λ e. (get clients e.0 ≡ Some e.1) × IsDone e.1 in
+    let now = subst P one (there, done) in
+    (number', (talk', now.0, now.1, is, left))

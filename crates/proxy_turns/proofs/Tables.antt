@@ -1,9 +1,11 @@
 -- The finite map that the entries of a hash map stand for, by numbers.
-use Rattle.std.proofs.Common.{◌≡◌, ℕ, nat_eq, Bool, Bor, List, [], ◌∷◌, length, arith, cond, Option, is_some, Some, None, true, false, eqb→eq, refl, sym, ap, ◌∙◌, subst}
+use Rattle.std.proofs.Common.{◌≡◌, ℕ, zero, suc, slice_get, nat_eq, Bool, Bor, List, [], ◌∷◌, length, arith, cond, Option, is_some, Some, None, true, false, eqb→eq, refl, sym, ap, ◌∙◌, subst}
 use Rattle.std.specs.Ordering.{nat_cmp, eq_by_cmp}
-use Rattle.std.specs.Cmp.{nat_cmp_total, unsigned_ties, eq_by_cmp_equiv}
+use Rattle.std.specs.Cmp.{nat_cmp_total, unsigned_ties, eq_by_cmp_equiv, nat_eq_equiv}
+use Rattle.indexmap.specs.IndexMap.{IndexMap, IsUnique, set_value_at, values}
+use Rattle.indexmap.proofs.CallerLemmas.{updates-with_value_at}
 use Rattle.std.specs.FinMap.{FinMap, empty, get, get-empty, insert, remove, from_entries, find, get-from_entries, get-insert, get-remove, same_map, nat_cmp-IsAntisymmetric}
-use Rattle.std.specs.Map.{lookup, keys_of}
+use Rattle.std.specs.Map.{lookup, keys_of, values_of}
 use Rattle.std.specs.Option.{MatchOption, option_copied}
 use Rattle.std.specs.Prelude.{T}
 use Rattle.std.proofs.lemmas.Bool.{false≢true}
@@ -95,3 +97,46 @@ module _ {X : Type 0} where
   first_there (e ∷ es) numbers rest (Some k) are there =
       let first : e.0 ≡ k.now = ap (head_or 0) (sym are ∙ there) in
       (e.1, subst (λ n. get (from_entries {R = nat_cmp} (e ∷ es)) n ≡ Some e.1) first (here e es))
+
+  value_or : X → Option X → X
+  value_or other None = other
+  value_or other (Some x) = x
+
+  pair_value : X → Option (ℕ × X) → X
+  pair_value other None = other
+  pair_value other (Some e) = e.1
+
+  -- none is there where no value is
+  pub none_at : (es : List (ℕ × X)) (i : ℕ) → slice_get (values_of es) i ≡ None → slice_get es i ≡ None
+  none_at [] i at = refl
+  none_at (e ∷ es) zero at = absurd (none_some e.1 (sym at))
+  none_at (e ∷ es) (suc i) at = none_at es i at
+
+  -- the number of the client at a place
+  number_at : (es : List (ℕ × X)) (i : ℕ) (c : X) → slice_get (values_of es) i ≡ Some c → (k : ℕ) × (slice_get es i ≡ Some (k, c))
+  unfolding value_or
+  number_at [] i c at = absurd (none_some c at)
+  number_at (e ∷ es) zero c at = (e.0, λ j. Some (e.0, ap (value_or c) at j))
+  number_at (e ∷ es) (suc i) c at = number_at es i c at
+
+  same_again : (es : List (ℕ × X)) (i k : ℕ) (c : X) → slice_get es i ≡ Some (k, c) → set_value_at es i c ≡ es
+  unfolding pair_value
+  same_again [] i k c at = refl
+  same_again (e ∷ es) zero k c at = λ j. (e.0, ap (pair_value c) (sym at) j) ∷ es
+  same_again (e ∷ es) (suc i) k c at = ap (λ l. e ∷ l) (same_again es i k c at)
+
+  module _ {S : Type 0} (m : IndexMap ℕ X S) (i : ℕ) (c c' : X) where
+    -- what is written at a place is put at its number
+    pub wrote_at : slice_get (values m) i ≡ Some c → IsUnique nat_eq m
+        → (k : ℕ) × (get (from_entries {R = nat_cmp} m.entries) k ≡ Some c) × (from_entries {R = nat_cmp} (set_value_at m.entries i c') ≡ insert (from_entries {R = nat_cmp} m.entries) k c')
+        × (slice_get m.entries i ≡ Some (k, c))
+    wrote_at at unique =
+        let place = number_at m.entries i c at in
+        let k = place.0 in
+        let there = updates-with_value_at m i c nat_eq_equiv unique k c place.1 in
+        let new = updates-with_value_at m i c' nat_eq_equiv unique k c place.1 in (
+          k,
+          sym (at_number k m.entries) ∙ ap (lookup (nat_eq k)) (sym (same_again m.entries i k c place.1)) ∙ there.1,
+          put_at k c' m.entries (set_value_at m.entries i c') new.0,
+          place.1,
+        )

@@ -71,11 +71,6 @@ abbrev pub Leaves : {C : Type 0} → FinMap nat_cmp (Talk C) → ℕ → C → F
 Leaves {C} old number port new =
     (talk : Talk C) × (get old number ≡ Some talk) × IsDone talk × (port ≡ talk.port) × (new ≡ remove old number)
 
--- it leaves where it is done, and only there
-abbrev pub LeavesOne : {C : Type 0} → FinMap nat_cmp (Talk C) → ℕ → Option C → FinMap nat_cmp (Talk C) → Type 0
-LeavesOne {C} old number None new = ((talk : Talk C) → get old number ≡ Some talk → IsDone talk → ⊥) × (new ≡ old)
-LeavesOne old number (Some port) new = Leaves old number port new
-
 -- one more part has ended; the count stays at the last value of 64 bits
 abbrev pub one_more : ℕ → ℕ
 one_more answered = min (answered + 1) (2 ^ 64 - 1)

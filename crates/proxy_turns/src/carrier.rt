@@ -12,22 +12,8 @@ use slot_map::{NodeId, NodeTable};
 use std::alloc::Global;
 use std::sync::Wait;
 
-// What is done at a line in a turn.
-#[derive(Clone, Copy)]
-enum Duty {
-    At(Task),
-    // Give what is owed to its worker.
-    Give,
-}
-
-// How what a line holds goes on.
-const ONWARD: [Duty; 5] = [
-    Duty::At(Task::Publish),
-    Duty::At(Task::Ask),
-    Duty::At(Task::Read),
-    Duty::At(Task::Renew),
-    Duty::Give,
-];
+// How what a line holds of the slot map goes on.
+const ONWARD: [Task; 4] = [Task::Publish, Task::Ask, Task::Read, Task::Renew];
 
 /// Carries batches from the workers' lanes to the nodes, and what the nodes reply back, and renews the slot map.
 #[derive(Drop)]
@@ -96,6 +82,17 @@ where
         }
         let unanswered = any_unanswered(&self.lines);
         let step = self.lines[at].serve(task, unanswered, &mut self.nodes, &mut self.ends.map)?;
+        Ok(step.is_move())
+    }
+
+    // Takes what came over a line.
+    fn fetch(&mut self, at: usize) -> Result<bool, NoMemory>
+        ensures { Turns P.failures P.is_garbled P.exchange (carriage_of D.failures self.old) result (carriage_of D.failures self.new) }
+    {
+        if at >= self.lines.len() {
+            return Ok(false);
+        }
+        let step = self.lines[at].fetch(&mut self.nodes)?;
         Ok(step.is_move())
     }
 
@@ -241,20 +238,11 @@ where
         }
     }
 
-    fn fulfil(&mut self, at: usize, duty: Duty) -> Result<bool, NoMemory>
+    // What a line holds of the slot map goes on, where it holds anything.
+    fn renew(&mut self, at: usize) -> Result<bool, NoMemory>
         ensures { Turns P.failures P.is_garbled P.exchange (carriage_of D.failures self.old) result (carriage_of D.failures self.new) }
     {
-        match duty {
-            Duty::At(task) => self.serve(at, task),
-            Duty::Give => Ok(self.give(at)),
-        }
-    }
-
-    // What a line holds goes on, where it holds anything.
-    fn go_on(&mut self, at: usize) -> Result<bool, NoMemory>
-        ensures { Turns P.failures P.is_garbled P.exchange (carriage_of D.failures self.old) result (carriage_of D.failures self.new) }
-    {
-        if !self.is_busy(at) {
+        if !self.has_news(at) {
             return Ok(false);
         }
         self.go_round(at)
@@ -266,26 +254,27 @@ where
     {
         let mut moved = false;
         for i in 0..ONWARD.len() {
-            moved |= self.fulfil(at, ONWARD[i])?;
+            moved |= self.serve(at, ONWARD[i])?;
         }
         Ok(moved)
     }
 
-    fn is_busy(&self, at: usize) -> bool {
+    fn has_news(&self, at: usize) -> bool {
         match self.lines.get(at) {
-            Some(line) => line.is_busy(),
+            Some(line) => line.has_news(),
             None => false,
         }
     }
 
-    // A line's turn: what it holds goes on first, then one reply is taken, which goes on in the same turn where it can.
+    // A line's turn: what it holds of the slot map goes on, then one reply is taken, and given where nothing of it is to be
+    // published first.
     fn serve_line(&mut self, at: usize) -> Result<bool, NoMemory>
         ensures { Turns P.failures P.is_garbled P.exchange (carriage_of D.failures self.old) result (carriage_of D.failures self.new) }
     {
-        let before = self.go_on(at)?;
-        let fetched = self.serve(at, Task::Fetch)?;
-        let after = self.go_on(at)?;
-        Ok(before | fetched | after)
+        let renewed = self.renew(at)?;
+        let fetched = self.fetch(at)?;
+        let gave = self.give(at);
+        Ok(renewed | fetched | gave)
     }
 
     fn serve_lines(&mut self) -> Result<bool, NoMemory>
@@ -298,8 +287,8 @@ where
         Ok(moved)
     }
 
-    // A line for the node of the batch in a hand.
-    fn prepare(&mut self, worker: usize) -> Result<bool, NoMemory>
+    // Opens the way of the batch that is still in a hand.
+    fn open_way(&mut self, worker: usize) -> Result<bool, NoMemory>
         ensures { Turns P.failures P.is_garbled P.exchange (carriage_of D.failures self.old) result (carriage_of D.failures self.new) }
     {
         if worker >= self.hands.len() {
@@ -308,7 +297,9 @@ where
         let Some(node) = self.hands[worker].goal() else {
             return Ok(false);
         };
-        self.reach(node)
+        let reached = self.reach(node)?;
+        let dialled = self.dial(worker)?;
+        Ok(reached | dialled)
     }
 
     // The turn of a worker's lanes.
@@ -317,10 +308,9 @@ where
     {
         let told = self.tell(worker);
         let took = self.take(worker);
-        let prepared = self.prepare(worker)?;
-        let dialled = self.dial(worker)?;
         let sent = self.send(worker)?;
-        Ok(told | took | prepared | dialled | sent)
+        let opened = self.open_way(worker)?;
+        Ok(told | took | sent | opened)
     }
 
     fn serve_lanes(&mut self) -> Result<bool, NoMemory>
@@ -348,6 +338,9 @@ where
     fn greet_seed(&mut self) -> Result<bool, NoMemory>
         ensures { Turns P.failures P.is_garbled P.exchange (carriage_of D.failures self.old) result (carriage_of D.failures self.new) }
     {
+        if !self.greets {
+            return Ok(false);
+        }
         let Some(seed) = NodeId::new(0) else {
             return Ok(false);
         };

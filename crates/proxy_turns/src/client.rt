@@ -16,10 +16,16 @@ use std::alloc::Global;
 use std::marker::Model;
 use std::mem;
 
-/// How many bytes are pulled in one call.
-const PIECE: usize = 16 * 1024;
+/// The fewest bytes that a call asks for.
+const SMALLEST_PIECE: usize = 4 * 1024;
+/// The most bytes that a call asks for, where the buffer is not larger.
+const LARGEST_PIECE: usize = 64 * 1024;
+/// While so many bytes were pulled since all was answered, no more are pulled.
+const MAX_ASKED: usize = 256 * 1024;
 /// While so many bytes wait to be pushed, no more are drained.
 const MAX_UNPUSHED: usize = 64 * 1024;
+/// A buffer that is larger is given back where it is empty.
+const KEPT: usize = 256 * 1024;
 /// How many requests are read in one turn.
 const MAX_READS: usize = 1024;
 
@@ -36,6 +42,10 @@ pub(crate) struct Client<C: ClientPort + Drop> {
     gone: bool,
     // Its turns move nothing until bytes are pulled or a command ends.
     at_rest: bool,
+    // How many bytes the next call asks for.
+    piece: usize,
+    // How many bytes were pulled since all was answered.
+    asked: usize,
 }
 
 impl<C: ClientPort + Drop> Model for Client<C> {
@@ -77,6 +87,8 @@ impl<C: ClientPort + Drop> Client<C> {
             port,
             gone: false,
             at_rest: false,
+            piece: SMALLEST_PIECE,
+            asked: 0,
         }
     }
 
@@ -141,6 +153,8 @@ impl<C: ClientPort + Drop> Client<C> {
             port,
             gone: _,
             at_rest: _,
+            piece: _,
+            asked: _,
         } = self;
         port
     }
@@ -213,6 +227,10 @@ impl<C: ClientPort + Drop> Client<C> {
     fn rest(&mut self, moved: bool)
         ensures { self.new ≡ self.old }
     {
+        let is_answered = self.unpushed.is_empty() && self.commands.is_empty();
+        if is_answered {
+            self.asked = 0;
+        }
         self.at_rest = !moved && self.unpushed.is_empty() && !self.commands.has_fresh();
     }
 
@@ -224,8 +242,12 @@ impl<C: ClientPort + Drop> Client<C> {
             return Ok(false);
         }
         self.port.owes(self.may_owe());
-        match pull_into(&mut self.port, &mut self.unfed, piece)? {
-            Flow::Bytes(count) => Ok(count > 0),
+        match pull_into(&mut self.port, &mut self.unfed, piece, self.piece)? {
+            Flow::Bytes(count) => {
+                self.piece = piece_after(self.piece, count);
+                self.asked = self.asked.saturating_add(count);
+                Ok(count > 0)
+            }
             Flow::Nothing => Ok(false),
             Flow::Gone => {
                 self.gone = true;
@@ -234,11 +256,11 @@ impl<C: ClientPort + Drop> Client<C> {
         }
     }
 
-    // Whether the client is there, and nothing that was pulled is left.
+    // Whether the client is there, nothing that was pulled is left, and not too much is unanswered.
     fn may_pull(&self) -> bool
         ensures { IsTrue result → (self.now.gone ≡ false) × (self.now.unfed ≡ []) }
     {
-        !self.gone && self.unfed.is_empty()
+        !self.gone && self.unfed.is_empty() && self.asked < MAX_ASKED
     }
 
     // Whether more may be pushed: something moved in its last turn, or waits, or a command of it is under way.
@@ -407,6 +429,7 @@ impl<C: ClientPort + Drop> Client<C> {
         match self.port.push(self.unpushed.as_slice())? {
             Flow::Bytes(count) => {
                 drop_front(&mut self.unpushed, count);
+                give_back(&mut self.unpushed);
                 Ok(count > 0)
             }
             Flow::Nothing => Ok(false),
@@ -430,16 +453,27 @@ fn has_read(given: Result<bool, SessionFault>) -> Result<bool, NoMemory>
     }
 }
 
-// Pulls bytes. The buffer changes hands with them.
+// How many bytes the next call asks for: twice as many after one that got all, and an eighth fewer after any other.
+fn piece_after(piece: usize, count: usize) -> usize {
+    if count < piece {
+        return (piece - piece / 8).max(SMALLEST_PIECE);
+    }
+    piece.saturating_mul(2).min(LARGEST_PIECE)
+}
+
+// Asks for so many bytes or more. The buffer changes hands with them.
 fn pull_into<C: ClientPort>(
     port: &mut C,
     unfed: &mut Vec<u8>,
     piece: &mut Vec<u8>,
+    least: usize,
 ) -> Result<Flow, NoMemory>
     requires { unfed.old.items ≡ [] }
     ensures { Takings C.moves port.old result port.new unfed.new.items }
 {
-    piece.resize(PIECE, 0)?;
+    if piece.len() < least {
+        piece.resize(least, 0)?;
+    }
     let flow = port.pull(piece.as_mut_slice())?;
     if let Flow::Bytes(count) = flow {
         piece.truncate(count);
@@ -464,5 +498,16 @@ fn drop_front(bytes: &mut Vec<u8>, count: usize)
     requires { count ≤ length bytes.old.items }
     ensures { bytes.new.items ≡ drop count bytes.old.items }
 {
-    drop(bytes.drain(..count));
+    let len = bytes.len();
+    bytes.copy_within(count..len, 0);
+    bytes.truncate(len - count);
+}
+
+// A large buffer that is empty is freed.
+fn give_back(bytes: &mut Vec<u8>)
+    ensures { bytes.new.items ≡ bytes.old.items }
+{
+    if bytes.is_empty() && bytes.capacity() > KEPT {
+        bytes.shrink_to_fit();
+    }
 }

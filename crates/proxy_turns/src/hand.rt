@@ -80,13 +80,8 @@ impl Hand {
         if self.batch.is_some() || self.refused.is_some() {
             return false;
         }
-        match ends.take(worker) {
-            Some(batch) => {
-                self.batch = Some(batch);
-                true
-            }
-            None => false,
-        }
+        self.batch = ends.take(worker);
+        self.batch.is_some()
     }
 
     /// Tells the ticket of a batch whose dial failed that it is unsent. True where there was one, and its lane took it.

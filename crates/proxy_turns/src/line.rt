@@ -11,7 +11,6 @@ ghost use Rattle.proxy_turns.specs.Hands.{GiveOutcome};
 ghost use Rattle.slot_map.specs.declared.ops.MapOp.{MapOp};
 
 use crate::dial::{Dial, DialFault};
-use crate::hand::deliver;
 use crate::step::Step;
 use key_split::{Batch, Ticket, Told};
 use node_link::{Got, Link, LinkFault, NodePort};
@@ -98,7 +97,7 @@ pub(crate) enum Dialled {
     Unreached,
 }
 
-/// What the carrier does at a line beside the lanes, one thing at a time.
+/// What the carrier does at a line for the slot map, one thing at a time.
 #[derive(Clone, Copy)]
 pub(crate) enum Task {
     /// Publish the slot of a MOVED.
@@ -109,8 +108,6 @@ pub(crate) enum Task {
     Read,
     /// Publish what CLUSTER SLOTS said.
     Renew,
-    /// Take a reply, or a lost ticket, off the link.
-    Fetch,
 }
 
 /// The carrier's line to one node: the link to it, and what the carrier holds of what came over it.
@@ -347,9 +344,13 @@ impl<P: NodePort + Drop> Line<P> {
         Ok(Step::Renewed)
     }
 
-    /// Whether it holds anything that is to go on.
-    pub(crate) fn is_busy(&self) -> bool {
-        self.owed.is_some() || self.answer.is_some() || self.changes.is_some() || self.to_ask
+    /// Whether it holds anything of the slot map that is to go on.
+    pub(crate) fn has_news(&self) -> bool {
+        let unpublished = match &self.owed {
+            Some(owed) => owed.change.is_some(),
+            None => false,
+        };
+        unpublished || self.answer.is_some() || self.changes.is_some() || self.to_ask
     }
 
     /// Whether CLUSTER SLOTS was asked for over an open link, and the answer did not come yet.
@@ -362,19 +363,27 @@ impl<P: NodePort + Drop> Line<P> {
         }
     }
 
-    /// Gives what is owed to its worker, where nothing of it is still to be published. True where the lane took it.
+    /// Gives what is owed to its worker, where nothing of it is still to be published. What is owed to a worker that does not
+    /// exist is dropped. True where it is owed no more.
     pub(crate) fn give<H: Drop, M: Drop>(&mut self, ends: &mut CarrierEnds<H, M>) -> bool
         ensures gives { GiveOutcome self.old (lanes_of ends.old) result self.new (lanes_of ends.new) }
         ensures map { ends.new.map ≡ ends.old.map }
     {
-        let Some(owed) = self.owed.take() else {
+        let Some(owed) = &self.owed else {
             return false;
         };
         if owed.change.is_some() {
-            self.owed = Some(owed);
             return false;
         }
-        match deliver(ends, owed.ticket, owed.told) {
+        let worker = owed.ticket.worker;
+        if usize::from(worker) >= ends.workers() {
+            self.owed = None;
+            return true;
+        }
+        let Some(owed) = self.owed.take() else {
+            return false;
+        };
+        match ends.give(worker, owed.ticket, owed.told) {
             Ok(()) => true,
             Err((ticket, told)) => {
                 self.owed = Some(Owed {
@@ -404,7 +413,6 @@ impl<P: NodePort + Drop> Line<P> {
             Task::Ask => self.ask(unanswered),
             Task::Read => self.read(nodes),
             Task::Renew => self.renew(map),
-            Task::Fetch => self.fetch(nodes),
         }
     }
 }

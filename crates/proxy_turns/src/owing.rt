@@ -4,12 +4,13 @@ ghost use Rattle.std.specs.Prelude.{◌≡◌, ◌<◌, ◌≤◌, ◌+◌, ◌^
 ghost use Rattle.resp_wire.specs.Bounds.{full};
 ghost use Rattle.resp_wire.specs.Seen.{data_of};
 ghost use Rattle.session_order.specs.Owed.{plan_for};
-ghost use Rattle.session_order.specs.Requests.{asked_of, is_empty_array};
+ghost use Rattle.session_order.specs.Requests.{asked_of};
 ghost use Rattle.proxy_turns.specs.Owing.{numbering, effect_by, effect_of, Owes, NextOutcome};
 
 use key_split::{PlanFault, Planned, plan};
 use resp_wire::laws::front_is_whole;
 use resp_wire::{Bytes, Limits, NoMemory, Reader, Value, WireFault};
+use session_order::{Wish, wish_of};
 use std::alloc::Global;
 
 /// How many parts a session numbers.
@@ -84,14 +85,10 @@ fn effect_of(alloc: Global, value: Value, numbered: u64) -> Result<Effect, NoMem
     requires { numbered ≤ 2 ^ 48 }
     ensures { IfOk result (λ effect. effect ≡ effect_of numbered (asked_of (data_of value))) }
 {
-    if is_empty_array(&value) {
-        return Ok(Effect::Skips);
-    }
-    if !value.is_request() {
-        return Ok(Effect::Ends);
-    }
-    match value.into_words(alloc) {
-        Ok(words) => effect_by(alloc, words.as_slice(), numbered),
+    match wish_of(alloc, value) {
+        Ok(Wish::Words(words)) => effect_by(alloc, words.as_slice(), numbered),
+        Ok(Wish::Nothing) => Ok(Effect::Skips),
+        Ok(Wish::Refused) => Ok(Effect::Ends),
         Err(_) => Err(NoMemory),
     }
 }
@@ -119,15 +116,4 @@ fn numbering(numbered: u64, parts: usize) -> Effect
         return Effect::Ends;
     }
     Effect::Asks(numbered + parts as u64)
-}
-
-// Whether it is an empty or a null array.
-fn is_empty_array(value: &Value) -> bool
-    ensures { result ≡ is_empty_array (data_of value.now) }
-{
-    match value {
-        Value::Array(items) => items.as_slice().is_empty(),
-        Value::NullArray => true,
-        _ => false,
-    }
 }

@@ -1,6 +1,6 @@
 //! The clients of a worker, between them and the carrier the lanes.
 
-ghost use Rattle.std.specs.Prelude.{◌≡◌, ◌<◌, ◌≤◌, ◌+◌, [], ◌∷◌, ◌++◌, ℕ, List, IsTrue, ◌↔◌, OnOk, Ok, Some, length, vec_len, vec_capacity};
+ghost use Rattle.std.specs.Prelude.{◌≡◌, ◌<◌, ◌≤◌, ◌+◌, [], ◌∷◌, ◌++◌, ℕ, List, IsTrue, ◌↔◌, OnOk, Ok, Some, length, vec_capacity};
 ghost use Rattle.std.specs.FinMap.{empty, insert};
 ghost use Rattle.std.specs.HashMap.{spare};
 ghost use Rattle.proxy_turns.specs.Floor.{GivesBack, IsServed, Learns, OneCame, TurnsAll, clients_in, with_port};
@@ -12,11 +12,12 @@ use crate::port::ClientPort;
 use crate::table::{Table, serve, settle, take_any, take_done, tell};
 use crate::turned::{Settled, Turned};
 use crate::worker_end::{WorkerEnd, WorkerOutcome};
+use indexmap::IndexMap;
 use key_split::{Batch, Ticket, Told};
 use proxy_lanes::{Front, Inlet, LANE_PLACES, MapView, Naming, Newcomers, Outlet, WorkerEnds};
 use resp_wire::{Limits, NoMemory};
 use std::alloc::{AllocFailed, Global};
-use std::collections::{HashMap, VecDeque};
+use std::collections::VecDeque;
 use std::mem;
 
 /// The clients of a worker with its ends of the lanes.
@@ -35,8 +36,6 @@ pub(crate) struct Room<C: ClientPort + Drop, J: Naming> {
     answered: u64,
     // The ports of the clients that were let go, where they are kept.
     ports: Vec<C>,
-    // The numbers of the clients, in the order of their turns.
-    order: Vec<u32>,
     // The parts whose commands have ended or are to be posted again, the oldest first.
     due: VecDeque<Ticket>,
     piece: Vec<u8>,
@@ -64,7 +63,7 @@ impl<C: ClientPort + Drop, J: Naming> Room<C, J> {
         Room {
             alloc,
             worker,
-            clients: HashMap::new(alloc),
+            clients: IndexMap::new(alloc),
             newcomers,
             left,
             outlet,
@@ -72,7 +71,6 @@ impl<C: ClientPort + Drop, J: Naming> Room<C, J> {
             inlet,
             answered: 0,
             ports: Vec::new(alloc),
-            order: Vec::new(alloc),
             due: VecDeque::new(alloc),
             piece: Vec::new(alloc),
         }
@@ -119,7 +117,7 @@ impl<C: ClientPort + Drop, J: Naming> Room<C, J> {
         ensures outcome { result.outcome ≡ outcome }
         ensures back { HandsBack (floor_of self.old) result }
     {
-        let clients = mem::replace(&mut self.clients, HashMap::new(self.alloc));
+        let clients = mem::replace(&mut self.clients, IndexMap::new(self.alloc));
         let ports = mem::replace(&mut self.ports, Vec::new(self.alloc));
         WorkerEnd {
             worker: self.worker,
@@ -154,7 +152,7 @@ impl<C: ClientPort + Drop, J: Naming> Room<C, J> {
         if !are_to_come(self.left) {
             return Ok(false);
         }
-        make_room(&mut self.clients, &mut self.order, &mut self.ports)?;
+        make_room(&mut self.clients, &mut self.ports)?;
         let Some(newcomer) = self.newcomers.take() else {
             return Ok(false);
         };
@@ -167,7 +165,6 @@ impl<C: ClientPort + Drop, J: Naming> Room<C, J> {
         let client = Client::new(self.alloc, self.worker, number, Limits::full(), port);
         put_new(
             &mut self.clients,
-            &mut self.order,
             &mut self.ports,
             self.left,
             number,
@@ -236,48 +233,44 @@ impl<C: ClientPort + Drop, J: Naming> Room<C, J> {
         ensures { TurnsAll C.moves (floor_of self.old) result (floor_of self.new) }
     {
         let mut moved = false;
-        for i in 0..self.order.len() {
-            let Some(number) = nth(&self.order, i) else {
-                return Ok(moved);
-            };
-            moved |= self.serve_nth(number, i)?;
+        for place in 0..self.clients.len() {
+            moved |= self.serve_at(place)?;
         }
         Ok(moved)
     }
 
-    // Gives the client of this number, which is the i-th, its turn.
-    fn serve_nth(&mut self, number: u32, i: usize) -> Result<bool, NoMemory>
+    // Gives the client at this place its turn, and lets it go where it is done.
+    fn serve_at(&mut self, place: usize) -> Result<bool, NoMemory>
         ensures { TurnsAll C.moves (floor_of self.old) result (floor_of self.new) }
     {
-        let turned = self.serve_one(number)?;
+        let turned = self.serve_one(place)?;
         if !turned.done {
             return Ok(turned.moved);
         }
-        let left = self.let_go(number, i);
+        let left = self.let_go(place);
         Ok(turned.moved | left)
     }
 
-    fn serve_one(&mut self, number: u32) -> Result<Turned, NoMemory>
+    fn serve_one(&mut self, place: usize) -> Result<Turned, NoMemory>
         ensures { TurnsAll C.moves (floor_of self.old) (turned_in result) (floor_of self.new) }
     {
         serve(
             &mut self.clients,
-            number,
+            place,
             &mut self.outlet,
             &mut self.view,
             &mut self.piece,
         )
     }
 
-    // Lets the client of this number go, which is the i-th, where it is done. Its port is closed.
-    fn let_go(&mut self, number: u32, i: usize) -> bool
+    // Lets the client at this place go, where it is done. Its port is closed.
+    fn let_go(&mut self, place: usize) -> bool
         ensures { TurnsAll C.moves (floor_of self.old) (Ok result) (floor_of self.new) }
     {
-        let Some(port) = take_done(&mut self.clients, number) else {
+        let Some(port) = take_done(&mut self.clients, place) else {
             return false;
         };
         put_away(&mut self.ports, self.left, closed(port));
-        drop_nth(&mut self.order, i);
         true
     }
 }
@@ -285,7 +278,6 @@ impl<C: ClientPort + Drop, J: Naming> Room<C, J> {
 // Makes room for one more client, and for its port beside those of all others.
 fn make_room<C: ClientPort + Drop>(
     clients: &mut Table<C>,
-    order: &mut Vec<u32>,
     ports: &mut Vec<C>,
 ) -> Result<(), NoMemory>
     ensures clients { clients_in clients.new.entries ≡ clients_in clients.old.entries }
@@ -293,10 +285,8 @@ fn make_room<C: ClientPort + Drop>(
     ensures ports { ports.new.items ≡ ports.old.items }
     ensures capacity { vec_capacity ports.old ≤ vec_capacity ports.new }
     ensures clients_room { OnOk result (0 < spare clients.new) }
-    ensures order_room { OnOk result (vec_len order.new < vec_capacity order.new) }
     ensures ports_room { OnOk result (length ports.new.items + length clients.new.entries < vec_capacity ports.new) }
 {
-    order.reserve(1)?;
     ports.reserve(clients.len() + 1)?;
     clients.reserve(1)?;
     Ok(())
@@ -345,14 +335,12 @@ fn one_fewer(left: Option<u32>) -> Option<u32>
 // Puts the client under its number, or lets it go where another has that number. There is room.
 fn put_new<C: ClientPort + Drop>(
     clients: &mut Table<C>,
-    order: &mut Vec<u32>,
     ports: &mut Vec<C>,
     left: Option<u32>,
     number: u32,
     client: Client<C>,
 )
     requires clients { 0 < spare clients.old }
-    requires order { vec_len order.old < vec_capacity order.old }
     requires ports { length ports.old.items + length clients.old.entries < vec_capacity ports.old }
     ensures puts { PutsNew C.moves (clients_in clients.old.entries) ports.old.items left number client (clients_in clients.new.entries) ports.new.items }
     ensures seats { length ports.new.items + length clients.new.entries ≤ vec_capacity ports.new }
@@ -361,7 +349,6 @@ fn put_new<C: ClientPort + Drop>(
         put_away(ports, left, closed(client.into_port()));
         return;
     }
-    order.push_reserved(number);
     put_ready(clients, number, client);
 }
 
@@ -436,14 +423,4 @@ fn first(due: &VecDeque<Ticket>) -> Option<Ticket> {
 
 fn drop_first(due: &mut VecDeque<Ticket>) {
     let _ = due.pop_front();
-}
-
-fn nth(order: &[u32], i: usize) -> Option<u32> {
-    order.get(i).copied()
-}
-
-fn drop_nth(order: &mut Vec<u32>, i: usize) {
-    if i < order.len() {
-        order.swap_remove(i);
-    }
 }

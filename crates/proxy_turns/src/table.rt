@@ -3,19 +3,19 @@
 ghost use Rattle.std.specs.Prelude.{◌≡◌, ◌↔◌, ◌+◌, [], IsTrue, IfSome, MatchOption, Ok, Some, length, false};
 ghost use Rattle.std.specs.FinMap.{get};
 ghost use Rattle.proxy_turns.specs.Turn.{SettleOutcome, TurnOutcome};
-ghost use Rattle.proxy_turns.specs.Tables.{AtClient, IsDoneAt, TakesAny};
-ghost use Rattle.proxy_turns.specs.Floor.{LeavesOne, Tells, clients_in};
+ghost use Rattle.proxy_turns.specs.Tables.{AtClient, AtPlace, IsDoneAt, LeavesAt, TakesAny};
+ghost use Rattle.proxy_turns.specs.Floor.{Tells, clients_in};
 
 use crate::client::Client;
 use crate::port::ClientPort;
 use crate::turned::{Settled, Turned};
+use indexmap::IndexMap;
 use key_split::{Batch, Ticket, Told};
 use proxy_lanes::{MapView, Naming, Outlet};
 use resp_wire::NoMemory;
-use std::collections::HashMap;
 
-/// The clients of a worker, by their numbers.
-pub(crate) type Table<C> = HashMap<u32, Client<C>>;
+/// The clients of a worker, by their numbers, in the order of their turns.
+pub(crate) type Table<C> = IndexMap<u32, Client<C>>;
 
 /// Tells the command of this ticket what came, where one awaits that. True where one does.
 pub(crate) fn tell<C: ClientPort + Drop>(clients: &mut Table<C>, ticket: Ticket, told: Told) -> bool
@@ -28,20 +28,20 @@ pub(crate) fn tell<C: ClientPort + Drop>(clients: &mut Table<C>, ticket: Ticket,
     client.hear(ticket, told)
 }
 
-/// Gives the client of this number its turn.
+/// Gives the client at this place its turn.
 pub(crate) fn serve<C: ClientPort + Drop, J: Naming>(
     clients: &mut Table<C>,
-    number: u32,
+    place: usize,
     outlet: &mut Outlet<Batch>,
     view: &mut MapView<J>,
     piece: &mut Vec<u8>,
 ) -> Result<Turned, NoMemory>
-    ensures serves { AtClient (record { clients = clients_in clients.old.entries; outlet = outlet.old; view = view.old }) number
+    ensures serves { AtPlace clients.old.entries place (record { clients = clients_in clients.old.entries; outlet = outlet.old; view = view.old })
         (λ old new. TurnOutcome C.moves old result new) (result ≡ Ok (record { moved = false; done = false }))
         (record { clients = clients_in clients.new.entries; outlet = outlet.new; view = view.new }) }
     ensures len { length clients.new.entries ≡ length clients.old.entries }
 {
-    let Some(client) = clients.get_mut(&number) else {
+    let Some(client) = clients.get_index_mut(place) else {
         return Ok(Turned {
             moved: false,
             done: false,
@@ -68,23 +68,23 @@ pub(crate) fn settle<C: ClientPort + Drop, J: Naming>(
     client.settle(ticket.part, outlet, view)
 }
 
-/// Takes off the client of this number, where nothing is left to do for it.
-pub(crate) fn take_done<C: ClientPort + Drop>(clients: &mut Table<C>, number: u32) -> Option<C>
-    ensures leaves { LeavesOne (clients_in clients.old.entries) number result (clients_in clients.new.entries) }
+/// Takes off the client at this place, where nothing is left to do for it. The last one takes its place.
+pub(crate) fn take_done<C: ClientPort + Drop>(clients: &mut Table<C>, place: usize) -> Option<C>
+    ensures leaves { LeavesAt clients.old.entries place result (clients_in clients.new.entries) }
     ensures len { MatchOption result (length clients.new.entries ≡ length clients.old.entries) (λ _. length clients.new.entries + 1 ≡ length clients.old.entries) }
 {
-    if !is_done(clients, number) {
+    if !is_done(clients, place) {
         return None;
     }
-    let client = clients.remove(&number)?;
+    let (_, client) = clients.swap_remove_index(place)?;
     Some(client.into_port())
 }
 
-fn is_done<C: ClientPort + Drop>(clients: &Table<C>, number: u32) -> bool
-    ensures { IsTrue result ↔ IsDoneAt (clients_in clients.now.entries) number }
+fn is_done<C: ClientPort + Drop>(clients: &Table<C>, place: usize) -> bool
+    ensures { IsTrue result ↔ IsDoneAt clients.now.entries place }
 {
-    match clients.get(&number) {
-        Some(client) => client.is_done(),
+    match clients.get_index(place) {
+        Some((_, client)) => client.is_done(),
         None => false,
     }
 }
@@ -95,7 +95,7 @@ pub(crate) fn take_any<C: ClientPort + Drop>(clients: &mut Table<C>) -> Option<C
     ensures len { IfSome result (λ _. length clients.new.entries + 1 ≡ length clients.old.entries) }
 {
     let number = first_number(clients)?;
-    let client = clients.remove(&number)?;
+    let client = clients.swap_remove(&number)?;
     Some(client.into_port())
 }
 

@@ -1,5 +1,5 @@
 -- What a reader's scan means for the rest.
-use Rattle.std.proofs.Common.{Bool, ◌≡◌, ◌≢◌, ℕ, ◌+◌, ◌-◌, ◌≤◌, List, [], ◌∷◌, ◌++◌, length, take, drop, Option, Some, None, Result, Ok, Err, refl, sym, ap, subst, ◌∙◌, arith, inr, inl, append_assoc}
+use Rattle.std.proofs.Common.{true, false, Bool, ◌≡◌, ◌≢◌, ℕ, ◌+◌, ◌-◌, ◌≤◌, List, [], ◌∷◌, ◌++◌, length, take, drop, Option, Some, None, Result, Ok, Err, refl, sym, ap, subst, ◌∙◌, arith, inr, inl, append_assoc}
 use Rattle.std.proofs.lemmas.List.{append-nil, take_all, drop_at, drop-drop, length-append, length-drop}
 use Rattle.resp_wire.specs.Data.{Data}
 use Rattle.resp_wire.specs.Bounds.{Bounds}
@@ -12,6 +12,8 @@ use Rattle.resp_wire.specs.Front.{Feeds, Takes, front}
 use Rattle.std.specs.Borrow.{Bor}
 use Rattle.resp_wire.specs.Gives.{Builds}
 use Rattle.resp_wire.specs.Seen.{data_of}
+use Rattle.resp_wire.specs.Taken.{TakesOff, AnswersAndTakes}
+use Rattle.resp_wire.proofs.PlaceLaws.{position_is}
 use Rattle.resp_wire.specs.Faults.{FirstFault, unknown_kind, bare_lf, bare_cr, long_line, bad_integer, bad_bulk_length, bad_array_length, long_bulk, too_deep, too_many, no_end, inside}
 use Rattle.resp_wire.specs.declared.value.Value.{Value}
 use Rattle.resp_wire.specs.declared.fault.WireFault.TheVariants.{NoMemory, BadType, BadNumber, TooLong, TooMany, TooDeep, BadEnd}
@@ -24,9 +26,8 @@ use Rattle.resp_wire.proofs.FrontLaws.{reads_begins, partial_none, faulty_is_fir
 abbrev pub input : Bounds → List ℕ → Option WireFault → Input
 input l rest fault = record { bounds = l; unread = rest; fault = fault }
 
--- what `next` ensures
 abbrev pub Gives : Input → Result (Option Value) WireFault → Input → Type 0
-Gives old result new = Answers old result new × Takes old result new
+Gives old result new = AnswersAndTakes old result new
 
 pub gave_none : (l : Bounds) (rest : List ℕ) (old new : Input) → input l rest None ≡ old → new ≡ input l rest None → value_at l l.depth rest ≡ partial → Gives old (Ok None) new
 gave_none l rest old new e f v =
@@ -78,24 +79,55 @@ unmade l rest left v new BadEnd e w b = absurd (let k = sym w ∙ b in cc)
 pub gave_memory : (l : Bounds) (rest left : List ℕ) (v : Data) (f : WireFault) (old new : Input) → input l rest None ≡ old → new ≡ input l rest None → value_at l l.depth rest ≡ whole v left → Builds data_of (Err f) (value_at l l.depth rest) → Gives old (Err f) new
 gave_memory l rest left v f old new e g w b = subst (λ (s : Input). Gives s (Err f) new) e (unmade l rest left v new f g w b)
 
-whole_same : (v w : Data) (p q : List ℕ) → whole v p ≡ whole w q → p ≡ q
-whole_same v w p q e = cc
+-- what is left behind a value stands at the end
+pub left_behind : (l : Bounds) (bytes left : List ℕ) (v : Data) → value_at l l.depth bytes ≡ whole v left → (length left ≤ length bytes) × (drop (length bytes - length left) bytes ≡ left)
+left_behind l bytes left v e =
+    let b = reads_begins l bytes left v e in
+    (omega (arith, ap (λ (u : List ℕ). length u) b.2, length-append b.0 left), position_is bytes b.0 left b.2)
 
-pub gave_built : (l : Bounds) (rest left after kept : List ℕ) (v : Data) (value : Value) (old new : Input) → input l rest None ≡ old → new ≡ input l kept None → kept ≡ left → value_at l l.depth rest ≡ whole v left → value_at l l.depth rest ≡ whole (data_of value) after → Gives old (Ok (Some value)) new
-gave_built l rest left after kept v value old new e f k w b =
-    let same : after ≡ left = whole_same (data_of value) v after left (sym b ∙ w) in
-    gave_value l rest left value old new e (f ∙ ap (λ (u : List ℕ). input l u None) k) (b ∙ ap (λ u. whole (data_of value) u) same)
+unfaulted : (old : Input) → old.fault ≡ None → input old.bounds old.unread None ≡ old
+unfaulted old n = λ i. record { bounds = old.bounds; unread = old.unread; fault = sym n i }
+
+pub gave_taken : (old new : Input) (value : Value) → old.fault ≡ None → TakesOff old (Ok (Some value)) new → Gives old (Ok (Some value)) new
+gave_taken old new value n t =
+    gave_value old.bounds old.unread new.unread value old new (unfaulted old n) (t.1 ∙ ap (λ f. input old.bounds new.unread f) n) t.0
 
 pub built_at : (l : Bounds) (room : ℕ) (bytes rest : List ℕ) (result : Result (Option (Value × Bor (List ℕ))) WireFault) → room ≡ l.depth → bytes ≡ rest → Builds data_of result (value_at l room bytes) → Builds data_of result (value_at l l.depth rest)
 built_at l room bytes rest result r e b = subst (λ (u : List ℕ). Builds data_of result (value_at l l.depth u)) e (subst (λ (n : ℕ). Builds data_of result (value_at l n bytes)) r b)
+
+pub took : (l : Bounds) (unread left kept : List ℕ) (fault : Option WireFault) (value : Value) (old : Input) → input l unread fault ≡ old → value_at l l.depth unread ≡ whole (data_of value) left → kept ≡ drop (length unread - length left) unread → TakesOff old (Ok (Some value)) (input l kept fault)
+took l unread left kept fault value old e w k =
+    let here : TakesOff (input l unread fault) (Ok (Some value)) (input l kept fault) = (w ∙ ap (λ (u : List ℕ). whole (data_of value) u) (sym (k ∙ (left_behind l unread left (data_of value) w).1)), refl) in
+    subst (λ (s : Input). TakesOff s (Ok (Some value)) (input l kept fault)) e here
+
+pub took_fault : (l : Bounds) (unread : List ℕ) (fault : Option WireFault) (f : WireFault) (old : Input) → input l unread fault ≡ old → Builds data_of (Err f) (value_at l l.depth unread) → TakesOff old (Err f) old
+took_fault l unread fault f old e b = subst (λ (s : Input). TakesOff s (Err f) s) e (b, refl)
+
+-- the value is known to be whole
+gave_whole : (old new : Input) (left : List ℕ) (v : Data) (result : Result (Option Value) WireFault) → old.fault ≡ None → value_at old.bounds old.bounds.depth old.unread ≡ whole v left → TakesOff old result new → Gives old result new
+gave_whole old new left v (Ok (Some value)) n w t = gave_taken old new value n t
+gave_whole old new left v (Ok None) n w t = absurd (let k = sym w ∙ t.0 in cc)
+gave_whole old new left v (Err f) n w t = gave_memory old.bounds old.unread left v f old new (unfaulted old n) (t.1 ∙ sym (unfaulted old n)) w t.0
 
 -- what was found of the bytes is found of those that the reader holds
 pub found_at : (l : Bounds) (unread bytes : List ℕ) (position : ℕ) (result : Result Bool WireFault) → bytes ≡ unread → Finds l bytes position result → Finds l unread position result
 found_at l unread bytes position result e f = subst (λ (u : List ℕ). Finds l u position result) e f
 
--- the value is whole, so it is made
-pub gave_missing : (l : Bounds) (rest left : List ℕ) (v : Data) (old new : Input) → value_at l l.depth rest ≡ whole v left → value_at l l.depth rest ≡ partial → Gives old (Ok None) new
-gave_missing l rest left v old new w b = absurd (let k = sym w ∙ b in cc)
+unfound : (l : Bounds) (unread : List ℕ) (fault : Option WireFault) (old : Input) → input l unread fault ≡ old → old.fault ≡ None → fault ≡ None
+unfound l unread fault old e n = ap (λ (s : Input). s.fault) e ∙ n
+
+pub read_whole : (l : Bounds) (unread : List ℕ) (position : ℕ) (fault : Option WireFault) (old new : Input) (result : Result (Option Value) WireFault) → input l unread fault ≡ old → old.fault ≡ None → Finds l unread position (Ok true) → TakesOff (input l unread fault) result new → Gives old result new
+read_whole l unread position fault old new result e n f t =
+    subst (λ (s : Input). Gives s result new) e (gave_whole (input l unread fault) new (drop position unread) f.0 result (unfound l unread fault old e n) f.1 t)
+
+pub read_partial : (l : Bounds) (unread : List ℕ) (position : ℕ) (fault : Option WireFault) (old : Input) → input l unread fault ≡ old → old.fault ≡ None → Finds l unread position (Ok false) → Gives old (Ok None) (input l unread fault)
+read_partial l unread position fault old e n f =
+    let none = ap (λ g. input l unread g) (unfound l unread fault old e n) in
+    gave_none l unread old (input l unread fault) (sym none ∙ e) none f
+
+pub read_faulty : (l : Bounds) (unread : List ℕ) (position : ℕ) (fault : Option WireFault) (f : WireFault) (old : Input) → input l unread fault ≡ old → old.fault ≡ None → Finds l unread position (Err f) → Gives old (Err f) (input l unread (Some f))
+read_faulty l unread position fault f old e n w =
+    gave_fault l unread f old (input l unread (Some f)) (ap (λ g. input l unread g) (sym (unfound l unread fault old e n)) ∙ e) refl w
 
 pub kept_fault : (l : Bounds) (rest : List ℕ) (f : WireFault) → value_at l l.depth rest ≡ faulty f → f ≢ NoMemory
 kept_fault l rest f v = no_memory l l.depth rest f (faulty_is_first l rest f v).1

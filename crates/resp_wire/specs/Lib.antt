@@ -1,3 +1,4 @@
+pub mod Held
 pub mod Data
 pub mod Stored
 pub mod Seen
@@ -15,6 +16,7 @@ pub mod Front
 pub mod Calls
 pub mod Stream
 pub mod Gives
+pub mod Taken
 pub mod Heads
 pub mod Resume
 pub mod Places

@@ -18,6 +18,9 @@ use crate::text::Line;
 use crate::value::{Value, Values};
 use std::alloc::Global;
 
+/// The bytes of the shortest value: an empty line of its kind.
+const LEAST_VALUE_BYTES: usize = 3;
+
 /// The value at the front, and what follows it, where so many arrays may still stand one inside another.
 #[cycle(build)]
 pub(crate) fn build<'a>(
@@ -121,7 +124,7 @@ fn build_array<'a>(
     }
 }
 
-/// So many values, one after another. Their room is made at once, since all of them are there where this is called.
+/// So many values, one after another. Their room is made at once, but for no more than the bytes can spell.
 #[cycle(build)]
 fn build_items<'a>(
     alloc: Global,
@@ -132,7 +135,8 @@ fn build_items<'a>(
 ) -> Result<Option<(Vec<Value>, &'a [u8])>, WireFault>
     ensures { Builds items_view result (items_at (value_at limits.now room) len bytes.now) }
 {
-    let Ok(mut items) = Vec::with_capacity(alloc, len) else {
+    let most = bytes.len() / LEAST_VALUE_BYTES;
+    let Ok(mut items) = Vec::with_capacity(alloc, len.min(most)) else {
         return Err(WireFault::NoMemory);
     };
     let mut rest = bytes;

@@ -9,42 +9,91 @@ ghost use Rattle.std.specs.Cmp.Lexicographic.{slice_cmp, pointwise, nat_list_cmp
 ghost use Rattle.std.specs.Ordering.{nat_cmp, as_partial_cmp};
 
 use crate::fault::NoMemory;
+use crate::short::Short;
 use std::alloc::Global;
 use std::cmp::Ordering;
+use std::fmt;
+use std::fmt::{Debug, Formatter, Write};
 use std::hash::{Hash, Hasher};
 use std::marker::Model;
+use std::sync::Arc;
 
 /// The bytes of a bulk string.
-#[derive(Debug, Drop)]
 pub struct Bytes {
-    bytes: Vec<u8>,
+    held: Held,
+}
+
+#[derive(Drop)]
+pub(crate) enum Held {
+    Short(Short),
+    /// What was made from a vector.
+    Owned(Vec<u8>),
+    /// Long ones, which lie once for all copies.
+    Shared(Arc<Vec<u8>, Global>),
+}
+
+// So that a caller's proof has one case where a value goes, and not one for each form.
+impl Drop for Bytes {
+    fn drop(self) {
+        let Bytes { held } = self;
+        drop(held);
+    }
 }
 
 impl Model for Bytes {
     ghost use Rattle.std.specs.Prelude.{List, ℕ};
+    ghost use Rattle.resp_wire.specs.Held.{bytes_of};
 
     ghost Value = { List ℕ };
 
-    ghost view = { λ a. a.bytes.items };
+    ghost view = { λ a. bytes_of a.held };
 }
 
 impl Bytes {
     pub fn new(bytes: Vec<u8>) -> Bytes
         ensures { result ≡ bytes.items }
     {
-        Bytes { bytes }
+        Bytes {
+            held: Held::Owned(bytes),
+        }
+    }
+
+    pub fn from_slice(alloc: Global, bytes: &[u8]) -> Result<Bytes, NoMemory>
+        ensures { IfOk result (λ copy. copy ≡ bytes.now) }
+    {
+        let held = match Short::new(bytes) {
+            Some(short) => Held::Short(short),
+            None => Held::Shared(Arc::new(alloc, Vec::from_slice(alloc, bytes)?)?),
+        };
+        Ok(Bytes { held })
+    }
+
+    /// The same bytes. Long ones lie in memory once, but for what was made from a vector.
+    pub fn copy(&self, alloc: Global) -> Result<Bytes, NoMemory>
+        ensures { IfOk result (λ copy. copy ≡ self.now) }
+    {
+        let held = match &self.held {
+            Held::Short(short) => Held::Short(short.copy()),
+            Held::Owned(bytes) => return Bytes::from_slice(alloc, bytes),
+            Held::Shared(bytes) => Held::Shared(Arc::try_clone(bytes)?),
+        };
+        Ok(Bytes { held })
     }
 
     pub fn as_slice(&self) -> &[u8]
         ensures { result.now ≡ self.now }
     {
-        self.bytes.as_slice()
+        match &self.held {
+            Held::Short(short) => short.as_slice(),
+            Held::Owned(bytes) => bytes.as_slice(),
+            Held::Shared(bytes) => bytes.as_slice(),
+        }
     }
 
     pub fn len(&self) -> i64
         ensures { result ≡ pos (length self.now) }
     {
-        self.bytes.len() as i64
+        self.as_slice().len() as i64
     }
 
     /// These bytes and then the others, in memory of their own.
@@ -53,30 +102,24 @@ impl Bytes {
     {
         let mut bytes = Vec::from_slice(alloc, self.as_slice())?;
         bytes.extend_from_slice(tail.as_slice())?;
-        Ok(Bytes { bytes })
+        Ok(Bytes::new(bytes))
     }
 
-    pub fn into_vec(self) -> Vec<u8>
-        ensures { result.items ≡ self }
+    /// What was made from a vector comes back without a copy.
+    pub fn into_vec(self, alloc: Global) -> Result<Vec<u8>, NoMemory>
+        ensures { IfOk result (λ bytes. bytes.items ≡ self) }
     {
-        self.bytes
+        let Bytes { held } = self;
+        match held {
+            Held::Owned(bytes) => Ok(bytes),
+            held => Ok(Vec::from_slice(alloc, Bytes { held }.as_slice())?),
+        }
     }
 }
 
-impl Bytes {
-    pub fn from_slice(alloc: Global, bytes: &[u8]) -> Result<Bytes, NoMemory>
-        ensures { IfOk result (λ copy. copy ≡ bytes.now) }
-    {
-        let bytes = Vec::from_slice(alloc, bytes)?;
-        Ok(Bytes { bytes })
-    }
-
-    /// The same bytes in memory of their own.
-    pub fn copy(&self, alloc: Global) -> Result<Bytes, NoMemory>
-        ensures { IfOk result (λ copy. copy ≡ self.now) }
-    {
-        let bytes = Vec::from_slice(alloc, self.as_slice())?;
-        Ok(Bytes { bytes })
+impl Debug for Bytes {
+    fn fmt<W: Write>(&self, f: &mut Formatter<W>) -> fmt::Result {
+        f.debug_tuple("Bytes").field(&self.as_slice()).finish()
     }
 }
 
@@ -86,7 +129,7 @@ impl PartialEq for Bytes {
     ghost laws = { Prim.search (comparing, rules) };
 
     fn eq(&self, other: &Bytes) -> bool {
-        self.bytes == other.bytes
+        self.as_slice() == other.as_slice()
     }
 }
 
@@ -100,7 +143,7 @@ impl Hash for Bytes {
     ghost respects_eq = { Prim.search (hashing, rules) };
 
     fn hash<H: Hasher>(&self, state: &mut H) {
-        self.bytes.hash(state);
+        self.as_slice().hash(state);
     }
 }
 
@@ -114,7 +157,7 @@ impl Ord for Bytes {
     ghost matches_eq = { Prim.search (comparing, rules) };
 
     fn cmp(&self, other: &Bytes) -> Ordering {
-        self.bytes.cmp(&other.bytes)
+        self.as_slice().cmp(other.as_slice())
     }
 }
 

@@ -22,6 +22,7 @@ mod number;
 mod place;
 mod reader;
 mod scan;
+mod short;
 mod text;
 mod unread;
 mod value;

@@ -32,10 +32,9 @@ impl Place {
         }
     }
 
-    pub(crate) fn position(&self) -> usize
-        ensures { result ≡ self.now.position }
-    {
-        self.position
+    /// Whether nothing was read, or too little to be worth keeping.
+    pub(crate) fn is_start(&self) -> bool {
+        self.position == 0 && self.plain == 0
     }
 
     /// Reads on as far as the bytes go: whether the value at the front is whole. It then ends at the position.

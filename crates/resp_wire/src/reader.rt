@@ -3,6 +3,7 @@
 ghost use Rattle.std.specs.Prelude.{◌≡◌, [], None};
 ghost use Rattle.resp_wire.specs.Stream.{Answers};
 ghost use Rattle.resp_wire.specs.Front.{Feeds, Takes};
+ghost use Rattle.resp_wire.specs.Taken.{TakesOff, TakesAtOnce, AnswersAndTakes};
 
 use crate::build::build;
 use crate::fault::{NoMemory, WireFault};
@@ -71,23 +72,51 @@ impl Reader {
         if let Some(fault) = self.fault {
             return Err(fault);
         }
+        match self.take_at_once() {
+            Some(value) => Ok(Some(value)),
+            None => self.read_on(),
+        }
+    }
+
+    /// Takes the value at the front off, where it is looked at for the first time and is whole.
+    fn take_at_once(&mut self) -> Option<Value>
+        ensures { TakesAtOnce self.old result self.new }
+    {
+        if !self.place.is_start() {
+            return None;
+        }
+        match self.take() {
+            Ok(Some(value)) => Some(value),
+            Ok(None) => None,
+            Err(_) => None,
+        }
+    }
+
+    /// Reads on from where reading stopped, and takes the value at the front off, where it is whole.
+    fn read_on(&mut self) -> Result<Option<Value>, WireFault>
+        requires { self.old.fault ≡ None }
+        ensures { AnswersAndTakes self.old result self.new }
+    {
         match self.place.read_on(&self.limits, self.unread.as_slice()) {
-            Ok(true) => {}
-            Ok(false) => return Ok(None),
+            Ok(true) => self.take(),
+            Ok(false) => Ok(None),
             Err(fault) => {
                 self.fault = Some(fault);
-                return Err(fault);
+                Err(fault)
             }
         }
+    }
+
+    /// Takes the value at the front off, where it is whole.
+    fn take(&mut self) -> Result<Option<Value>, WireFault>
+        ensures { TakesOff self.old result self.new }
+    {
+        let bytes = self.unread.as_slice();
         let alloc = self.unread.allocator();
-        match build(
-            alloc,
-            &self.limits,
-            self.limits.depth(),
-            self.unread.as_slice(),
-        ) {
-            Ok(Some((value, _))) => {
-                self.unread.skip(self.place.position());
+        match build(alloc, &self.limits, self.limits.depth(), bytes) {
+            Ok(Some((value, rest))) => {
+                let count = bytes.len() - rest.len();
+                self.unread.skip(count);
                 self.place = Place::start();
                 Ok(Some(value))
             }

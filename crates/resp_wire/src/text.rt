@@ -3,6 +3,7 @@
 ghost use Rattle.std.specs.Prelude.{◌≡◌, IsTrue, IsSome, IfSome, IfOk, ◌↔◌};
 ghost use Rattle.resp_wire.specs.Text.{is_one_line};
 
+use crate::bytes::Bytes;
 use crate::fault::NoMemory;
 use std::alloc::Global;
 use std::marker::Model;
@@ -10,7 +11,7 @@ use std::marker::Model;
 /// A text with no CR or LF in it.
 #[derive(Debug, Drop)]
 pub struct Line {
-    bytes: Vec<u8>,
+    bytes: Bytes,
 }
 
 impl Model for Line {
@@ -18,12 +19,12 @@ impl Model for Line {
 
     ghost Value = { List ℕ };
 
-    ghost view = { λ a. a.bytes.items };
+    ghost view = { λ a. a.bytes };
 
     ghost use Rattle.std.specs.Prelude.{IsTrue};
     ghost use Rattle.resp_wire.specs.Text.{is_one_line};
 
-    ghost invariant = { λ a. IsTrue (is_one_line a.bytes.items) };
+    ghost invariant = { λ a. IsTrue (is_one_line a.bytes) };
 }
 
 impl Line {
@@ -32,7 +33,7 @@ impl Line {
         requires { IsTrue (is_one_line text.now) }
         ensures { IfOk result (λ line. line ≡ text.now) }
     {
-        let bytes = Vec::from_slice(alloc, text)?;
+        let bytes = Bytes::from_slice(alloc, text)?;
         Ok(Line { bytes })
     }
 
@@ -41,17 +42,20 @@ impl Line {
         ensures value { IfSome result (λ line. line ≡ bytes.items) }
     {
         if is_one_line(&bytes) {
-            Some(Line { bytes })
+            Some(Line {
+                bytes: Bytes::new(bytes),
+            })
         } else {
             None
         }
     }
 
-    /// The same text in memory of its own.
+    /// The same text.
     pub fn copy(&self, alloc: Global) -> Result<Line, NoMemory>
         ensures { IfOk result (λ copy. copy ≡ self.now) }
     {
-        Line::from_text(alloc, self.bytes())
+        let bytes = self.bytes.copy(alloc)?;
+        Ok(Line { bytes })
     }
 
     pub fn bytes(&self) -> &[u8]

@@ -6,8 +6,11 @@ use crate::fault::NoMemory;
 use std::alloc::Global;
 use std::marker::Model;
 
-/// Bytes that come at the end and go at the front. Those that went are let go of once they are half of the buffer, so
-/// that each byte is moved a bounded number of times.
+/// How many bytes a buffer may have room for and be kept while nothing is in it.
+const MOST_KEPT_BYTES: usize = 65_536;
+
+/// Bytes that come at the end and go at the front. Those that went are let go of once they are more than half of the
+/// buffer, so that each byte is moved a bounded number of times.
 #[derive(Debug, Drop)]
 pub(crate) struct Unread {
     bytes: Vec<u8>,
@@ -50,7 +53,7 @@ impl Unread {
         ensures ok { OnOk result (self.new ≡ self.old ++ piece.now) }
         ensures err { OnErr result (self.new ≡ self.old) }
     {
-        if self.start >= self.bytes.len() / 2 {
+        if self.start > self.bytes.len() / 2 {
             let _ = self.bytes.drain(..self.start);
             self.start = 0;
         }
@@ -66,5 +69,20 @@ impl Unread {
         ensures { self.new ≡ drop count self.old }
     {
         self.start += count;
+        if self.start == self.bytes.len() {
+            self.clear();
+        }
+    }
+
+    /// Lets all go. A large buffer goes back to the allocator.
+    fn clear(&mut self)
+        ensures { self.new ≡ [] }
+    {
+        self.start = 0;
+        if self.bytes.capacity() > MOST_KEPT_BYTES {
+            self.bytes = Vec::new(self.allocator());
+        } else {
+            self.bytes.clear();
+        }
     }
 }

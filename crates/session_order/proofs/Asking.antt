@@ -5,16 +5,18 @@ use Rattle.resp_wire.specs.Data.{Data, simple, error, integer, bulk, null_bulk, 
 use Rattle.resp_wire.specs.Words.{words_of, bulks_of}
 use Rattle.resp_wire.specs.Seen.{data_of}
 use Rattle.resp_wire.specs.declared.value.Value.{Value}
-use Rattle.session_order.specs.declared.intake.Kind.{Kind}
-use Rattle.session_order.specs.declared.intake.Kind.TheVariants as kind
 use Rattle.session_order.proofs.Lists.{eqb-no}
-use Rattle.session_order.specs.Requests.{Asked, Words, Skipped, Refused, is_empty_array, asked_by, asked_of, IsKind}
+use Rattle.session_order.specs.Requests.{Words, Skipped, Refused, is_empty_array, asked_by, asked_of}
 
-pub kind_is : (empty : Bool) (words : Option (List (List ℕ))) (found : Kind) → found ≡ cond empty kind.Skipped (cond (is_some words) kind.Request kind.Refused)
-    → IsKind (cond empty Skipped (asked_by words)) found
-kind_is true words found is = rw is tt
-kind_is false None found is = rw is tt
-kind_is false (Some words) found is = rw is tt
+pub asks_nothing : (value : Data) → is_empty_array value ≡ true → asked_of value ≡ Skipped
+asks_nothing value is = ap (λ (b : Bool). cond b Skipped (asked_by (words_of value))) is
+
+no_words : (o : Option (List (List ℕ))) → is_some o ≡ false → asked_by o ≡ Refused
+no_words None is = refl
+no_words (Some words) is = absurd (cc)
+
+pub is_refused : (value : Data) → is_empty_array value ≡ false → is_some (words_of value) ≡ false → asked_of value ≡ Refused
+is_refused value full none = ap (λ (b : Bool). cond b Skipped (asked_by (words_of value))) full ∙ no_words (words_of value) none
 
 some_in : (first : List ℕ) (others : Option (List (List ℕ))) (words : List (List ℕ)) → option_map (λ more. first ∷ more) others ≡ Some words → 0 < length words
 some_in first others [] is = elim others as (λ o. option_map (λ more. first ∷ more) o ≡ Some [] → 0 < 0) [ Some xs ↦ λ h. (let e : Some (first ∷ xs) ≡ Some [] = h in cc) | None ↦ λ h. (let e : None ≡ Some [] = h in cc) ] is
@@ -37,22 +39,21 @@ has_words (array (item null_bulk more)) words some is = cc
 has_words (array (item (array ds) more)) words some is = cc
 has_words (array (item null_array more)) words some is = cc
 
-not_skipped : (empty : Bool) (asked : Asked) → IsKind (cond empty Skipped asked) kind.Request → empty ≡ false
-not_skipped true asked is = absurd is
-not_skipped false asked is = refl
-
--- the words of a value that is a request are those that it asks for, and there is one
-pub words_asked : (value : Data) (words : List (List ℕ)) → IsKind (asked_of value) kind.Request → words_of value ≡ Some words
+-- a value that is a request asks for its words, and there is one
+pub words_asked : (value : Data) (words : List (List ℕ)) → is_empty_array value ≡ false → words_of value ≡ Some words
     → (asked_of value ≡ Words words) × (0 < length words)
-words_asked value words is are =
-    let some : is_empty_array value ≡ false = not_skipped (is_empty_array value) (asked_by (words_of value)) is in
-    (ap (λ (b : Bool). cond b Skipped (asked_by (words_of value))) some ∙ ap asked_by are, has_words value words some are)
+words_asked value words full are =
+    (ap (λ (b : Bool). cond b Skipped (asked_by (words_of value))) full ∙ ap asked_by are, has_words value words full are)
 
--- a value that is a request asks for words
-pub asks_words : (asked : Asked) → IsKind asked kind.Request → (words : List (List ℕ)) × (asked ≡ Words words)
-asks_words (Words words) is = (words, refl)
-asks_words Skipped is = absurd is
-asks_words Refused is = absurd is
+some_words : (o : Option (List (List ℕ))) → is_some o ≡ true → (words : List (List ℕ)) × (asked_by o ≡ Words words)
+some_words None is = absurd (cc)
+some_words (Some words) is = (words, refl)
+
+-- so does one that is kept
+pub request_kept : (value : Data) → is_empty_array value ≡ false → is_some (words_of value) ≡ true → (words : List (List ℕ)) × (asked_of value ≡ Words words)
+request_kept value full some =
+    let asked = some_words (words_of value) some in
+    (asked.0, ap (λ (b : Bool). cond b Skipped (asked_by (words_of value))) full ∙ asked.1)
 
 -- an array is empty exactly where it has no item
 pub array_is_empty : (value : Data) (items : List Data) (vs : List Value) → value ≡ array (items_of items) → map data_of vs ≡ items

@@ -1,6 +1,7 @@
 pub mod Turn
 pub mod Tables
 pub mod Requests
+pub mod Wishes
 pub mod Ahead
 pub mod Incoming
 pub mod Owed

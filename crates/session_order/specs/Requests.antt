@@ -2,8 +2,6 @@
 use Rattle.std.specs.Prelude.{ℕ, List, Bool, true, false, Option, Some, None, if◌then◌else◌}
 use Rattle.resp_wire.specs.Data.{Data, simple, error, integer, bulk, null_bulk, array, null_array, no_items, item}
 use Rattle.resp_wire.specs.Words.{words_of}
-use Rattle.session_order.specs.declared.intake.Kind.{Kind}
-use Rattle.session_order.specs.declared.intake.Kind.TheVariants as kind
 
 -- A request with its words, nothing, or a value that is no request.
 pub data Asked : Type 0 where
@@ -29,15 +27,3 @@ asked_by (Some words) = Words words
 -- array is skipped.
 abbrev pub asked_of : Data → Asked
 asked_of value = if is_empty_array value then Skipped else asked_by (words_of value)
-
--- what is asked is of the kind
-abbrev pub IsKind : Asked → Kind → Type 0
-IsKind (Words words) kind.Request = Unit {0}
-IsKind (Words words) kind.Skipped = ⊥
-IsKind (Words words) kind.Refused = ⊥
-IsKind Skipped kind.Request = ⊥
-IsKind Skipped kind.Skipped = Unit {0}
-IsKind Skipped kind.Refused = ⊥
-IsKind Refused kind.Request = ⊥
-IsKind Refused kind.Skipped = ⊥
-IsKind Refused kind.Refused = Unit {0}

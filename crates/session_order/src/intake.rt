@@ -3,9 +3,9 @@
 ghost use Rattle.std.specs.Prelude.{◌≡◌, ◌<◌, [], None, Some, length};
 ghost use Rattle.resp_wire.specs.Seen.{data_of};
 ghost use Rattle.session_order.specs.Ahead.{GiveOutcome};
-ghost use Rattle.session_order.specs.Requests.{asked_of, is_empty_array, IsKind};
 
 use crate::fault::SessionFault;
+use crate::wish::{Wish, wish_of};
 use resp_wire::{Limits, Reader, Value, WireFault, Words};
 use std::alloc::Global;
 use std::marker::Model;
@@ -27,12 +27,6 @@ enum Ahead {
     Nothing,
     Value(Value),
     Words(Words),
-}
-
-enum Kind {
-    Request,
-    Skipped,
-    Refused,
 }
 
 /// Takes requests off a client's bytes.
@@ -109,37 +103,13 @@ fn give(alloc: Global, value: Value, ahead: &mut Ahead) -> Result<Next, SessionF
     requires { ahead.old ≡ Ahead.Nothing }
     ensures { GiveOutcome value result ahead.new }
 {
-    match kind_of(&value) {
-        Kind::Skipped => Ok(Next::Skipped),
-        Kind::Refused => Err(SessionFault::NotRequest),
-        Kind::Request => match value.into_words(alloc) {
-            Ok(words) => Ok(Next::Words(words)),
-            Err(value) => {
-                *ahead = Ahead::Value(value);
-                Err(SessionFault::NoMemory)
-            }
-        },
-    }
-}
-
-fn kind_of(value: &Value) -> Kind
-    ensures { IsKind (asked_of (data_of value.now)) result }
-{
-    if is_empty_array(value) {
-        Kind::Skipped
-    } else if value.is_request() {
-        Kind::Request
-    } else {
-        Kind::Refused
-    }
-}
-
-fn is_empty_array(value: &Value) -> bool
-    ensures { result ≡ is_empty_array (data_of value.now) }
-{
-    match value {
-        Value::Array(items) => items.as_slice().is_empty(),
-        Value::NullArray => true,
-        _ => false,
+    match wish_of(alloc, value) {
+        Ok(Wish::Words(words)) => Ok(Next::Words(words)),
+        Ok(Wish::Nothing) => Ok(Next::Skipped),
+        Ok(Wish::Refused) => Err(SessionFault::NotRequest),
+        Err(value) => {
+            *ahead = Ahead::Value(value);
+            Err(SessionFault::NoMemory)
+        }
     }
 }

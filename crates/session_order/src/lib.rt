@@ -19,7 +19,9 @@ mod queue;
 mod replies;
 mod session;
 mod step;
+mod wish;
 
 pub use fault::SessionFault;
 pub use laws::drains_output;
 pub use session::Session;
+pub use wish::{Wish, wish_of};

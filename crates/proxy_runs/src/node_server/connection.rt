@@ -8,11 +8,12 @@ ghost use Rattle.session_order.specs.Requests.{asked_of};
 use crate::local::LocalState;
 use crate::node_server::answer::{Answer, answer_request};
 use crate::node_server::caller::Caller;
-use crate::node_server::intake::{Front, Wish, feed, take_front, wish_of};
+use crate::node_server::intake::{Front, feed, take_front};
 use crate::node_server::saying::error_line;
 use crate::node_server::unsent::Unsent;
 use node_link::{Flow, Stream};
 use resp_wire::{Limits, NoMemory, Reader, Value, Words};
+use session_order::{Wish, wish_of};
 use slot_map::{NodeId, NodeTable};
 use std::alloc::Global;
 use std::marker::Model;
@@ -160,10 +161,11 @@ impl Connection {
         ensures answered { OnOk result (AnswersAsked table.now self.old state.old (asked_of (data_of value)) self.new state.new) }
         ensures unanswered { OnErr result (Unanswered table.now self.old state.old self.new state.new) }
     {
-        match wish_of(self.alloc, value)? {
-            Wish::Words(words) => self.answer_words(&words, state, table),
-            Wish::Nothing => Ok(()),
-            Wish::Refused => self.refuse(),
+        match wish_of(self.alloc, value) {
+            Ok(Wish::Words(words)) => self.answer_words(&words, state, table),
+            Ok(Wish::Nothing) => Ok(()),
+            Ok(Wish::Refused) => self.refuse(),
+            Err(_) => Err(NoMemory),
         }
     }
 

@@ -1,13 +1,9 @@
 //! What stands first of the bytes that came.
 
 ghost use Rattle.std.specs.Prelude.{◌≡◌, OnOk, OnErr};
-ghost use Rattle.resp_wire.specs.Seen.{data_of};
-ghost use Rattle.session_order.specs.Requests.{asked_of, is_empty_array};
 ghost use Rattle.proxy_runs.specs.NodeConnections.{fed_with, TakesFront};
-ghost use Rattle.proxy_runs.specs.NodeIntake.{Asks};
 
-use resp_wire::{NoMemory, Reader, Value, WireFault, Words};
-use std::alloc::Global;
+use resp_wire::{NoMemory, Reader, Value, WireFault};
 
 /// What stands first.
 #[derive(Drop)]
@@ -17,16 +13,6 @@ pub(crate) enum Front {
     Partial,
     /// The bytes are no value.
     Garbled,
-}
-
-/// What a value asks for.
-#[derive(Drop)]
-pub(crate) enum Wish {
-    Words(Words),
-    /// An empty or a null array, which asks for nothing.
-    Nothing,
-    /// A value that is no request.
-    Refused,
 }
 
 /// Takes what stands first.
@@ -43,32 +29,6 @@ pub(crate) fn take_front(reader: &mut Reader) -> Result<Front, NoMemory>
         Err(WireFault::TooMany) => Ok(Front::Garbled),
         Err(WireFault::TooDeep) => Ok(Front::Garbled),
         Err(WireFault::BadEnd) => Ok(Front::Garbled),
-    }
-}
-
-/// What a value asks for.
-pub(crate) fn wish_of(alloc: Global, value: Value) -> Result<Wish, NoMemory>
-    ensures { Asks (asked_of (data_of value)) result }
-{
-    if is_empty_array(&value) {
-        return Ok(Wish::Nothing);
-    }
-    if !value.is_request() {
-        return Ok(Wish::Refused);
-    }
-    match value.into_words(alloc) {
-        Ok(words) => Ok(Wish::Words(words)),
-        Err(_value) => Err(NoMemory),
-    }
-}
-
-fn is_empty_array(value: &Value) -> bool
-    ensures { result ≡ is_empty_array (data_of value.now) }
-{
-    match value {
-        Value::Array(items) => items.as_slice().is_empty(),
-        Value::NullArray => true,
-        _ => false,
     }
 }
 

@@ -145,7 +145,7 @@ fn add_request(alloc: Global, scripts: &mut Scripts, words: Words) -> Result<boo
     let Some(last) = scripts.clients.pop() else {
         return Ok(false);
     };
-    let mut bytes = last.into_vec();
+    let mut bytes = last.into_vec(alloc)?;
     let request = request_of(alloc, words)?;
     write_value(&mut bytes, &request)?;
     scripts.clients.push(Bytes::new(bytes))?;

@@ -5,11 +5,11 @@ ghost use Rattle.std.specs.Prelude.{◌<◌, length};
 use super::board::Board;
 use super::client::SocketClient;
 use super::dial::{NodeSocket, SocketDial};
-use super::gathered::QUIET;
 use super::hall::{Came, Entrant, Hall, Pace};
 use super::plant::Plant;
 use crate::wire_fault::WireRunFault;
 use mio::Registry;
+use node_link::PATIENCE;
 use proxy_lanes::{CarrierEnds, Naming, Publisher};
 use proxy_turns::{Carrier, Newcomer};
 use resp_wire::NoMemory;
@@ -22,7 +22,7 @@ use std::time::Clock;
 /// So many turns go by at most between two looks at the sockets.
 const ROUND: u32 = 64;
 /// After so many turns in a row that moved nothing, all that was to be written went out.
-const QUIET_TURNS: u32 = QUIET + 2;
+const QUIET_TURNS: u32 = PATIENCE + 2;
 /// So many clients are let in between two turns.
 const CALLERS: u32 = 16;
 

@@ -3,7 +3,6 @@
 use super::bed::SLEEP_MILLIS;
 use super::board::{Board, Seat};
 use super::connection::Connection;
-use super::gathered::Gathered;
 use mio::Registry;
 use node_link::BytePort;
 use proxy_turns::{Dial, DialFault};
@@ -24,7 +23,7 @@ const DIAL_MILLIS: u64 = 2000;
 const ADDRESSES: usize = 4;
 
 /// A port to a node over a socket.
-pub(crate) type NodeSocket = BytePort<Gathered<Connection>>;
+pub(crate) type NodeSocket = BytePort<Connection>;
 
 /// What came of a call.
 #[derive(Drop)]
@@ -134,11 +133,7 @@ impl<'b, R: Net<Listener = TcpListener, Stream = TcpStream>> Dial for SocketDial
             return Err(DialFault::NoMemory);
         }
         match self.reach(host, port) {
-            Some(connection) => Ok(BytePort::new(
-                self.alloc,
-                Gathered::new(self.alloc, connection),
-                Limits::full(),
-            )),
+            Some(connection) => Ok(BytePort::new(self.alloc, connection, Limits::full())),
             None => {
                 self.failures += 1;
                 Err(DialFault::Failed)

@@ -11,6 +11,6 @@ unfolding spelled
 returns c =
     added (task_of c.args.scripts.now) c.args.scripts.now.clients.items c.pop.new.self.items c.push.new.self.items c.in-Some.last (spelled c.args.words) c.new.result
     c.in-Some.ensures.items
-    (c.new.ensures ∙ c.in_ok-write_value.ensures.ok ∙ ap (λ (xs : List ℕ). xs ++ canonical (data_of c.in_ok-request.request)) c.into_vec-bytes.ensures
+    (c.new.ensures ∙ c.in_ok-write_value.ensures.ok ∙ ap (λ (xs : List ℕ). xs ++ canonical (data_of c.in_ok-request.request)) c.in_ok-bytes.ensures
     ∙ ap (λ (d : Data). c.in-Some.last ++ canonical d) c.in_ok-request.ensures)
     c.in_ok-push.ensures.items

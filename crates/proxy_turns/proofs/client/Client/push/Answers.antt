@@ -1,4 +1,4 @@
-use Rattle.std.proofs.Common.{◌≡◌, rules, true, false, Err}
+use Rattle.std.proofs.Common.{◌≡◌, ◌∙◌, rules, true, false, Err}
 use Rattle.proxy_turns.proofs.Going.{err_turn, front_left, front_moves, goes_then, parted, pushed, tried}
 use Rattle.proxy_turns.proofs.client.Client.push.Goals as goal
 
@@ -10,7 +10,7 @@ returns-in_err-count g c = λ outlet view.
 pub returns-in-Bytes : goal.returns-in-Bytes
 returns-in-Bytes g c = λ outlet view.
     let done = rw (c.in-Bytes.is, c.as_slice.ensures.value) at c.in_ok-count.ensures.pushed in
-    rw (← c.self.view_is) (pushed g.C.ClientPort.moves _ outlet view _ _ _ _ done.1 (front_left c.in-Bytes.count _ _ c.drop_front.ensures) (front_moves c.in-Bytes.count _ done.0))
+    rw (← c.self.view_is) (pushed g.C.ClientPort.moves _ outlet view _ _ _ _ done.1 (front_left c.in-Bytes.count _ _ (c.give_back.ensures ∙ c.drop_front.ensures)) (front_moves c.in-Bytes.count _ done.0))
 
 pub returns-in-Nothing : goal.returns-in-Nothing
 returns-in-Nothing g c = λ outlet view. rw (← c.self.view_is) (tried g.C.ClientPort.moves _ outlet view _ (rw c.in-Nothing.is at c.in_ok-count.ensures.pushed))

@@ -8,5 +8,5 @@ returns-in_default g c = stays_all g.C.ClientPort.moves _ _ (λ i. record (floor
 
 pub returns : goal.returns
 returns g c =
-    has_left g.C.ClientPort.moves (floor_of c.args.self.now) (clients_in c.take_done.new.clients.entries) c.put_away.new.ports.items c.args.number c.in-Some.port c.closed.result
-    c.in-Some.ensures.leaves c.closed.ensures c.put_away.ensures.ports
+    has_left g.C.ClientPort.moves (floor_of c.args.self.now) (clients_in c.take_done.new.clients.entries) c.put_away.new.ports.items c.in-Some.ensures.leaves.0 c.in-Some.port c.closed.result
+    c.in-Some.ensures.leaves.1 c.closed.ensures c.put_away.ensures.ports

@@ -5,4 +5,4 @@ use Rattle.proxy_turns.proofs.room.Room.serve_one.Goals as goal
 
 pub returns : goal.returns
 returns g c =
-    turned g.C.ClientPort.moves (floor_of c.args.self.now) c.args.number c.serve.result (record { clients = clients_in c.serve.new.clients.entries; outlet = c.serve.new.outlet; view = c.serve.new.view }) c.serve.ensures.serves
+    turned g.C.ClientPort.moves (floor_of c.args.self.now) c.serve.result (record { clients = clients_in c.serve.new.clients.entries; outlet = c.serve.new.outlet; view = c.serve.new.view }) c.args.self.now.clients.entries c.args.place c.serve.ensures.serves

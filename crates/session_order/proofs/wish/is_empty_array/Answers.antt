@@ -1,7 +1,7 @@
 use Rattle.std.proofs.Common.{ap, ◌∙◌}
 use Rattle.resp_wire.specs.Seen.{data_of}
-use Rattle.proxy_turns.proofs.Counting.{array_is_empty}
-use Rattle.proxy_turns.proofs.owing.is_empty_array.Goals as goal
+use Rattle.session_order.proofs.Asking.{array_is_empty}
+use Rattle.session_order.proofs.wish.is_empty_array.Goals as goal
 
 pub returns-in-Array : goal.returns-in-Array
 returns-in-Array c =

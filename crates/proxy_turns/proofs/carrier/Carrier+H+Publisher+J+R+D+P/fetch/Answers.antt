@@ -1,0 +1,23 @@
+use Rattle.std.proofs.Common.{◌≡◌, ◌<◌, arith, length, refl, Bool, Some}
+use Rattle.std.specs.Prelude.{slice_get}
+use Rattle.std.specs.List.{list_any}
+use Rattle.std.proofs.lemmas.Result.{err_from_is_err_and}
+use Rattle.proxy_turns.specs.Carriage.{carriage_of}
+use Rattle.proxy_turns.specs.Line.{is_unanswered}
+use Rattle.proxy_turns.proofs.Carrying.{at-place, served, starved}
+use Rattle.proxy_turns.proofs.carrier.Carrier+H+Publisher+J+R+D+P.fetch.Goals as goal
+
+pub returns-in_err-step : goal.returns-in_err-step
+returns-in_err-step g c =
+    let lt : c.args.at < length c.args.self.now.lines.items = omega (arith, c.len.ensures, c.if-at-len.false) in
+    let here : slice_get c.args.self.now.lines.items c.args.at ≡ Some c.index_mut.result.now = at-place c.args.self.now.lines.items c.args.at c.index_mut.result.now lt c.index_mut.ensures.value in
+    let unanswered : Bool = list_any is_unanswered c.args.self.now.lines.items in
+    starved g.P.NodePort.failures g.P.NodePort.is_garbled g.P.NodePort.exchange (carriage_of g.D.Dial.failures c.args.self.now) c.args.at c.index_mut.result.now c.fetch.new.self c.fetch.new.nodes c.args.self.now.ends.map _ c.from_residual.result here (c.in_err-step.ensures unanswered c.args.self.now.ends.map) (err_from_is_err_and c.from_residual.result c.from_residual.ensures.1).1
+
+pub returns : goal.returns
+returns g c =
+    let lt : c.args.at < length c.args.self.now.lines.items = omega (arith, c.len.ensures, c.if-at-len.false) in
+    let here : slice_get c.args.self.now.lines.items c.args.at ≡ Some c.index_mut.result.now = at-place c.args.self.now.lines.items c.args.at c.index_mut.result.now lt c.index_mut.ensures.value in
+    let unanswered : Bool = list_any is_unanswered c.args.self.now.lines.items in
+    served g.P.NodePort.failures g.P.NodePort.is_garbled g.P.NodePort.exchange (carriage_of g.D.Dial.failures c.args.self.now) c.args.at c.index_mut.result.now c.fetch.new.self c.fetch.new.nodes c.args.self.now.ends.map unanswered c.in_ok-step.step c.is_move.result here
+    refl (c.in_ok-step.ensures unanswered c.args.self.now.ends.map) c.is_move.ensures
