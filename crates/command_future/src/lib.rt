@@ -17,8 +17,6 @@ mod courier;
 pub mod laws;
 mod one_command;
 mod stage;
-#[cfg(test)]
-mod tests;
 
 pub use command::{Command, Step};
 pub use courier::{Courier, Posting};

@@ -37,5 +37,3 @@ pub use tellings::told_value;
 pub use travel::{Batch, Ended, Ticket, Told};
 pub use words::{op_name, words_of};
 
-#[cfg(test)]
-mod tests;

@@ -18,8 +18,6 @@ mod map_writer;
 mod ring;
 mod table;
 mod tables;
-#[cfg(test)]
-mod tests;
 
 pub use ends::{CarrierEnds, LaneEnds, Newcomers, WorkerEnds, lanes};
 pub use history::{Front, Naming, Opened};

@@ -236,8 +236,8 @@ leaves_too {C} clients clients' ports ports' number talk port numbers all there 
 -- the client at a place, with which nothing is left to do, leaves
 pub leaves_at : {C : Type 0} (clients clients' : FinMap nat_cmp (Talk C)) (number number' : ℕ) (talk talk' : Talk C) (port : C)
     → get clients number ≡ Some talk → IsDone talk → ◌≡◌ {A = ℕ × Talk C} (number, talk) (number', talk') → port ≡ talk'.port → clients' ≡ remove clients number'
-    → (k : ℕ) × Leaves clients k port clients'
+    → Leaves clients number' port clients'
 leaves_at {C} clients clients' number number' talk talk' port there done one is left =
     let P : ℕ × Talk C → Type 0 = λ e. (get clients e.0 ≡ Some e.1) × IsDone e.1 in
     let now = subst P one (there, done) in
-    (number', (talk', now.0, now.1, is, left))
+    (talk', now.0, now.1, is, left)

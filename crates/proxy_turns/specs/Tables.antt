@@ -39,7 +39,8 @@ IsDoneAt {C} entries place =
 -- a client with which nothing is left to do leaves with its port where that is so of the one at this place, and only there
 abbrev pub LeavesAt : {C : Type 0} → List (ℕ × Talk C) → ℕ → Option C → FinMap nat_cmp (Talk C) → Type 0
 LeavesAt entries place None new = (IsDoneAt entries place → ⊥) × (new ≡ clients_in entries)
-LeavesAt entries place (Some port) new = (number : ℕ) × Leaves (clients_in entries) number port new
+LeavesAt {C} entries place (Some port) new =
+    (number : ℕ) × Leaves (clients_in entries) number port new × ((talk : Talk C) × (slice_get entries place ≡ Some (number, talk)))
 
 -- one of the clients leaves as it is, with its port; `None` where there is none
 abbrev pub TakesAny : {C : Type 0} → FinMap nat_cmp (Talk C) → Option C → FinMap nat_cmp (Talk C) → Type 0

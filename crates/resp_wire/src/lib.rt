@@ -38,5 +38,3 @@ pub use value::{Value, Values};
 pub use words::Words;
 pub use write::write_value;
 
-#[cfg(test)]
-mod tests;

@@ -28,27 +28,39 @@ GET a
 recall 15495 0
 ";
 
-const CALLED_BACK_TEXT: &[u8] = b"reply 0 0 simple OK
+/// What it may write. While the target has forgotten the slot and the source still sends commands to it, each node refuses a
+/// command of the slot, so that one is given up where the mover rests there for sixteen refusals.
+const CALLED_BACK_TEXTS: &[&[u8]] = &[
+    b"reply 0 0 simple OK
 reply 0 1 bulk 1
 audit ok
-";
+",
+    b"reply 0 0 error ERR proxy: gave up, not executed
+reply 0 1 null
+audit ok
+",
+    b"reply 0 0 error ERR proxy: gave up, not executed
+reply 0 1 error ERR proxy: gave up, not executed
+audit ok
+",
+];
 
-/// Whether a script with so many workers writes this text, and gives the status 0.
-fn writes<R: Host>(rt: &R, script: &[u8], workers: u16, text: &[u8]) -> bool
+/// Whether a script with so many workers writes one of these texts, and gives the status 0.
+fn writes<R: Host>(rt: &R, script: &[u8], workers: u16, texts: &[&[u8]]) -> bool
     requires { (0 < workers) × (workers ≤ 64) }
 {
     let mut input = script;
     let mut written = Vec::new(rt.alloc());
-    run_scripts(rt, &mut input, &mut written, workers) == 0 && written.as_slice() == text
+    run_scripts(rt, &mut input, &mut written, workers) == 0 && texts.contains(&written.as_slice())
 }
 
-/// How many of so many runs of a script write another text.
-fn misses<R: Host>(rt: &R, script: &[u8], workers: u16, text: &[u8], runs: u32) -> u32
+/// How many of so many runs of a script write none of these texts.
+fn misses<R: Host>(rt: &R, script: &[u8], workers: u16, texts: &[&[u8]], runs: u32) -> u32
     requires { (0 < workers) × (workers ≤ 64) }
 {
     let mut misses = 0u32;
     for _ in 0..runs {
-        if !writes(rt, script, workers, text) {
+        if !writes(rt, script, workers, texts) {
             misses = misses.saturating_add(1);
         }
     }
@@ -57,22 +69,22 @@ fn misses<R: Host>(rt: &R, script: &[u8], workers: u16, text: &[u8], runs: u32) 
 
 #[test]
 fn two_clients_on_one_worker(rt: HostRuntime) {
-    assert_eq!(rt; misses(&rt, TWO_CLIENTS, 1, TWO_CLIENTS_TEXT, 200), 0);
+    assert_eq!(rt; misses(&rt, TWO_CLIENTS, 1, &[TWO_CLIENTS_TEXT], 200), 0);
 }
 
 #[test]
 fn two_clients_on_two_workers(rt: HostRuntime) {
-    assert_eq!(rt; misses(&rt, TWO_CLIENTS, 2, TWO_CLIENTS_TEXT, 200), 0);
+    assert_eq!(rt; misses(&rt, TWO_CLIENTS, 2, &[TWO_CLIENTS_TEXT], 200), 0);
 }
 
 #[test]
 fn two_clients_on_three_workers(rt: HostRuntime) {
-    assert_eq!(rt; misses(&rt, TWO_CLIENTS, 3, TWO_CLIENTS_TEXT, 200), 0);
+    assert_eq!(rt; misses(&rt, TWO_CLIENTS, 3, &[TWO_CLIENTS_TEXT], 200), 0);
 }
 
 #[test]
 fn a_move_called_back(rt: HostRuntime) {
-    assert_eq!(rt; misses(&rt, CALLED_BACK, 2, CALLED_BACK_TEXT, 200), 0);
+    assert_eq!(rt; misses(&rt, CALLED_BACK, 2, CALLED_BACK_TEXTS, 50), 0);
 }
 
 #[test]
@@ -114,19 +126,13 @@ reply 2 0 simple PONG
 reply 2 1 simple OK
 audit ok
 ";
-    assert!(rt; writes(&rt, script, 2, text));
+    assert!(rt; writes(&rt, script, 2, &[text.as_slice()]));
 }
 
 /// Nothing to run, and moves that can't be made: to the owner, and to a node that is not there.
 #[test]
 fn moves_without_clients(rt: HostRuntime) {
-    assert!(rt; writes(&rt, b"", 1, b"audit ok\n"));
-    assert!(rt;
-        writes(
-            &rt,
-            b"move 15495 2\nmove 15495 3\nmove 15495 1\n",
-            64,
-            b"audit ok\n"
-        )
-    );
+    let moves = b"move 15495 2\nmove 15495 3\nmove 15495 1\n";
+    assert!(rt; writes(&rt, b"", 1, &[b"audit ok\n"]));
+    assert!(rt; writes(&rt, moves, 64, &[b"audit ok\n"]));
 }

@@ -27,5 +27,3 @@ pub use ops::{MapOp, MapOps};
 pub use slots::ops_of;
 pub use table::NodeTable;
 
-#[cfg(test)]
-mod tests;

@@ -18,4 +18,5 @@ returns-clause-leaves g c =
     let done = c.is_done.ensures.0 c.if-not-is_done.false in
     let one = some_same (done.0, done.1) (c.in_ok-client.field-0-0, c.in_ok-client.client) (sym done.2 ∙ sym c.swap_remove_index.ensures.entry ∙ c.in_ok-client.was) in
     let taken = taken_at c.in_ok-client.field-0-0 c.args.clients.now.entries c.swap_remove_index.new.self.entries c.in_ok-client.ensures.updates.0 in
-    leaves_at _ _ done.0 c.in_ok-client.field-0-0 done.1 c.in_ok-client.client _ done.3 done.4 one c.into_port.ensures taken
+    let left = leaves_at _ _ done.0 c.in_ok-client.field-0-0 done.1 c.in_ok-client.client _ done.3 done.4 one c.into_port.ensures taken in
+    (c.in_ok-client.field-0-0, left, (c.in_ok-client.client, sym c.swap_remove_index.ensures.entry ∙ c.in_ok-client.was))
