@@ -36,4 +36,3 @@ pub use refusals::refusal;
 pub use tellings::told_value;
 pub use travel::{Batch, Ended, Ticket, Told};
 pub use words::{op_name, words_of};
-

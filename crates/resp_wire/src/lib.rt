@@ -37,4 +37,3 @@ pub use text::{Line, is_one_line};
 pub use value::{Value, Values};
 pub use words::Words;
 pub use write::write_value;
-

@@ -26,4 +26,3 @@ pub use node::{NODE_LIMIT, NodeId};
 pub use ops::{MapOp, MapOps};
 pub use slots::ops_of;
 pub use table::NodeTable;
-
