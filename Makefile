@@ -14,10 +14,13 @@ $(program): $(sources)
 	cd crates/cluster_proxy && rt run -- one <stdin >/dev/null
 	@touch $@
 
+# As many checks side by side as there are processors, and four at the most: each takes two to six gigabytes.
+checks = $(shell nproc | awk '{ print ($$1 < 4) ? $$1 : 4 }')
+
 # The gate: every proof from nothing, the edits that must be refused, every test, every program; then the program of that
 # build in the example, and before a real cluster.
 test:
-	rt ci
+	RT_JOBS=$(checks) rt ci
 	examples/run --once
 	tests/real/run
 

@@ -19,10 +19,10 @@ use Rattle.node_model.specs.Laws.{Among, MGetReads}
 use Rattle.node_model.specs.declared.role.Deed.TheVariants.{Executes, Says}
 use Rattle.node_model.specs.declared.role.Verdict.TheVariants.{Plain}
 use Rattle.proxy_runs.specs.Foresight.{reading, put_read, laid, items_in, items_told, foreseen, IsCopy, IsForeseen}
-use Rattle.proxy_runs.proofs.Nodes.{Executed, serves}
+use Rattle.world_laws.proofs.Nodes.{Executed, serves}
 use Rattle.proxy_runs.proofs.Served.{serves-plain}
 use Rattle.proxy_runs.proofs.Serving.{no-reply-said}
-use Rattle.proxy_runs.proofs.Stores.{answer-alike, get-put-same, get-put-other, key_tells}
+use Rattle.world_laws.proofs.Stores.{answer-alike, get-put-same, get-put-other, key_tells}
 
 -- one store's keys, laid into another
 

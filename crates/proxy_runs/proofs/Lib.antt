@@ -1,6 +1,3 @@
-pub mod Homes
-pub mod Stores
-pub mod Nodes
 pub mod Serving
 pub mod Moving
 pub mod Sound
@@ -23,6 +20,5 @@ pub mod Judging
 pub mod Reporting
 pub mod InTurn
 pub mod Fronts
-pub mod Narrow
 pub mod Saying
 pub mod Texting

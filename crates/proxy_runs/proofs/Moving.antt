@@ -18,11 +18,12 @@ use Rattle.proxy_runs.specs.declared.step.MoveStep.{MoveStep}
 use Rattle.proxy_runs.specs.declared.step.MoveStep.TheVariants.{Import, Migrate, MoveKey, MoveRest, Own, Release, Forget, Stay}
 use Rattle.proxy_runs.specs.declared.asked.Asked.{Asked}
 use Rattle.proxy_runs.specs.Local.{Local, MovesLocally, NoneAsked}
-use Rattle.proxy_runs.specs.Kept.{is_bad, slot_here, BadAsk, IsGood, IsHome, IsKept}
-use Rattle.proxy_runs.proofs.Stores.{all-among, key_tells}
-use Rattle.proxy_runs.proofs.Homes.{import-home, migrate-home, own-home, release-home, forget-home, stay-home, movekey-home}
+use Rattle.world_laws.specs.Homes.{is_bad, IsHome}
+use Rattle.proxy_runs.specs.Kept.{slot_here, BadAsk, IsGood, IsKept}
+use Rattle.world_laws.proofs.Stores.{all-among, key_tells}
+use Rattle.world_laws.proofs.Homes.{import-home, migrate-home, own-home, release-home, forget-home, stay-home, movekey-home}
 use Rattle.proxy_runs.proofs.Serving.{all-of, home-same}
-use Rattle.proxy_runs.proofs.Nodes.{pick-slot, with_key-hit, with_key-node, with_key-key, holder, size-with_store}
+use Rattle.world_laws.proofs.Nodes.{pick-slot, with_key-hit, with_key-node, with_key-key, holder, size-with_store}
 
 -- a slot's state changes
 module _ (s : Local) (kept : IsKept s) (slot : ℕ) (s' : Standing)

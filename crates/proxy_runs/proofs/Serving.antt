@@ -31,10 +31,11 @@ use Rattle.world_laws.specs.World.{IsNode}
 use Rattle.node_model.specs.Laws.{Among, Agree}
 use Rattle.proxy_runs.specs.declared.asked.Asked.{Asked}
 use Rattle.proxy_runs.specs.Local.{Local, is_ask_for, counts_as_asking, asks_of_others, asks_after, history_after}
-use Rattle.proxy_runs.specs.Kept.{home, home_in, is_bad, slot_here, BadAsk, IsGood, IsHome, IsKept}
-use Rattle.proxy_runs.proofs.Homes.{exec-home, executes-home, bad-says, if_says}
-use Rattle.proxy_runs.proofs.Nodes.{Executed, serves, store-hit, store-other, size-with_store}
-use Rattle.proxy_runs.proofs.Stores.{among, all-among, after-other, answer-alike, all-held, none-held}
+use Rattle.world_laws.specs.Homes.{home, home_in, is_bad, IsHome}
+use Rattle.proxy_runs.specs.Kept.{slot_here, BadAsk, IsGood, IsKept}
+use Rattle.world_laws.proofs.Homes.{exec-home, executes-home, bad-says, if_says}
+use Rattle.world_laws.proofs.Nodes.{Executed, serves, store-hit, store-other, size-with_store}
+use Rattle.world_laws.proofs.Stores.{among, all-among, after-other, answer-alike, all-held, none-held}
 
 -- the history, one entry longer
 

@@ -18,8 +18,9 @@ use Rattle.world_laws.specs.Headline.{IsNew}
 use Rattle.world_laws.specs.State.{slot_for}
 use Rattle.proxy_runs.specs.declared.asked.Asked.{Asked}
 use Rattle.proxy_runs.specs.Local.{Local, IsSound}
-use Rattle.proxy_runs.specs.Kept.{home, home_in, is_bad, slot_here, IsGood, IsHome, IsKept}
-use Rattle.proxy_runs.proofs.Stores.{all-among}
+use Rattle.world_laws.specs.Homes.{home, home_in, is_bad, IsHome}
+use Rattle.proxy_runs.specs.Kept.{slot_here, IsGood, IsKept}
+use Rattle.world_laws.proofs.Stores.{all-among}
 
 -- who imports is the target, and the source is that of the standing
 importer : (s : Standing) (n source : ℕ) → role_in s n ≡ Importing source → (s.target ≡ n) × (s.source ≡ source) × ((s.phase ≡ Imported) ⊎ ((s.phase ≡ Migrated) ⊎ (s.phase ≡ Released)))

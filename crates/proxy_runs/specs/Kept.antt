@@ -1,5 +1,5 @@
 -- What the state keeps at each moment, in full: at which node each key may be, and which ASKs may still be followed.
-use Rattle.std.specs.Prelude.{◌≡◌, ◌≢◌, ◌<◌, ℕ, Bool, true, false, List, length, All, Option, None, is_some}
+use Rattle.std.specs.Prelude.{◌≡◌, ◌≢◌, ◌<◌, ℕ, true, List, length, All, is_some}
 use Rattle.std.specs.FinMap.{empty, get}
 use Rattle.slot_hash.specs.Slot.{slot_of}
 use Rattle.key_split.specs.Command.{Command as Part, HasOneSlot, keys_of}
@@ -7,38 +7,11 @@ use Rattle.node_model.specs.History.{IsLegal, left_by}
 use Rattle.node_model.specs.Laws.{Among}
 use Rattle.node_model.specs.Nodes.{Nodes, at, standing_at}
 use Rattle.node_model.specs.Standings.{Standing}
-use Rattle.node_model.specs.declared.standing.Phase.{Phase}
-use Rattle.node_model.specs.declared.standing.Phase.TheVariants.{Settled, Imported, Migrated, Owned, Released, Forgotten}
+use Rattle.node_model.specs.declared.standing.Phase.TheVariants.{Settled}
 use Rattle.world_laws.specs.State.{slot_for}
+use Rattle.world_laws.specs.Homes.{is_bad, IsHome}
 use Rattle.proxy_runs.specs.declared.asked.Asked.{Asked}
 use Rattle.proxy_runs.specs.Local.{Local}
-
--- the node that may hold a key of the slot, by whether the source holds it
-abbrev pub home : Phase → ℕ → ℕ → Bool → ℕ
-home Settled source target held = target
-home Imported source target held = source
-home Migrated source target true = source
-home Migrated source target false = target
-home Owned source target held = target
-home Released source target held = target
-home Forgotten source target held = source
-
-abbrev pub home_in : Standing → (ℕ → Option (List ℕ)) → ℕ
-home_in s A = home s.phase s.source s.target (is_some (A s.source))
-
--- no other node holds it, and the home holds v
-pub record IsHome (s : Standing) (A : ℕ → Option (List ℕ)) (v : Option (List ℕ)) : Type 0 where
-  pub others : (m : ℕ) → m ≢ home_in s A → A m ≡ None
-  pub holds : v ≡ A (home_in s A)
-
--- an ASK to the target is out of date, or not yet true
-abbrev pub is_bad : Phase → Bool → Bool
-is_bad Imported held = true
-is_bad Migrated held = held
-is_bad Settled held = false
-is_bad Owned held = false
-is_bad Released held = false
-is_bad Forgotten held = false
 
 -- the slot of a part, and that an ASK to its target would be bad, for one of its keys
 abbrev pub slot_here : Nodes → Part → Standing

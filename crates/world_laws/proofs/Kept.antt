@@ -34,7 +34,7 @@ use Rattle.world_laws.proofs.Flow.{all_at, IsTidy, arrive-flow, post-flow, refus
 use Rattle.world_laws.proofs.Counted.{one_if, if_ran, if_awaits, if_ran_told, here, awaits, stray, ran, owned, stood, ticket-after_told, part-after_told}
 use Rattle.world_laws.proofs.Placed.{Placed, numbered_so, new-free}
 use Rattle.node_model.specs.Laws.{Among}
-use Rattle.world_laws.proofs.Homes.{IsHome, is_bad}
+use Rattle.world_laws.specs.Homes.{IsHome, is_bad}
 
 -- the slot of a part, and that an ASK to its target would be bad, for one of its keys
 abbrev pub slot_here : Nodes → Part → Standing

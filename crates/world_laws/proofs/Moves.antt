@@ -24,7 +24,8 @@ use Rattle.world_laws.proofs.Flow.{all_at}
 use Rattle.world_laws.proofs.Placed.{Placed}
 use Rattle.node_model.specs.Laws.{Among}
 use Rattle.world_laws.proofs.Stores.{all-among, key_tells}
-use Rattle.world_laws.proofs.Homes.{IsHome, is_bad, import-home, migrate-home, own-home, release-home, forget-home, stay-home, movekey-home}
+use Rattle.world_laws.specs.Homes.{IsHome, is_bad}
+use Rattle.world_laws.proofs.Homes.{import-home, migrate-home, own-home, release-home, forget-home, stay-home, movekey-home}
 use Rattle.world_laws.proofs.Kept.{Kept, IsAsked, BadAsk, slot_here, asking-kept, arrive-kept, post-kept, take-kept, answer-kept, carry-kept, refuse-kept, fetch-kept, discard-kept, drop-kept}
 use Rattle.world_laws.proofs.Serves.{home-same, all_from, command-kept}
 use Rattle.world_laws.proofs.There.{There}

@@ -20,7 +20,7 @@ use Rattle.world_laws.specs.declared.event.Event.{Event}
 use Rattle.world_laws.specs.declared.history.Answer.{Answer}
 use Rattle.world_laws.proofs.Counted.{if_ran, if_awaits}
 use Rattle.world_laws.proofs.Placed.{Placed, does-keeps, start-placed}
-use Rattle.world_laws.proofs.Homes.{home_in}
+use Rattle.world_laws.specs.Homes.{home_in}
 use Rattle.world_laws.proofs.Kept.{Kept}
 use Rattle.world_laws.proofs.Moves.{does-kept}
 use Rattle.world_laws.proofs.Lives.{Lists, does-lists, does-moment, once-each, no-entry, same_place}

@@ -32,7 +32,8 @@ use Rattle.world_laws.specs.World.{IsNode}
 use Rattle.world_laws.specs.World.{ServesCommand, recorded}
 use Rattle.world_laws.proofs.Flow.{all_at, if_open, serve-flow}
 use Rattle.world_laws.proofs.Placed.{Placed}
-use Rattle.world_laws.proofs.Homes.{IsHome, home, home_in, is_bad, exec-home, executes-home, bad-says, if_says}
+use Rattle.world_laws.specs.Homes.{IsHome, home, home_in, is_bad}
+use Rattle.world_laws.proofs.Homes.{exec-home, executes-home, bad-says, if_says}
 use Rattle.world_laws.proofs.Kept.{Kept, IsAsked, BadAsk, slot_here, unique, is-refl}
 use Rattle.node_model.specs.Laws.{Among, Agree}
 use Rattle.world_laws.proofs.There.{There}

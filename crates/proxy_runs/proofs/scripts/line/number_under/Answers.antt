@@ -1,5 +1,5 @@
 use Rattle.std.proofs.Common.{◌≤◌, ◌^◌, arith, ◌∙◌}
-use Rattle.proxy_runs.proofs.Narrow.{none_narrower, past_narrower, some_narrower}
+use Rattle.cluster_world.proofs.Narrow.{none_narrower, past_narrower, some_narrower}
 use Rattle.proxy_runs.proofs.scripts.line.number_under.Goals as goal
 
 pub returns-in_err-value-clause-value : goal.returns-in_err-value-clause-value
