@@ -18,9 +18,10 @@ $(program): $(sources)
 checks = $(shell nproc | awk '{ print ($$1 < 4) ? $$1 : 4 }')
 
 # The gate: every proof from nothing, the edits that must be refused, every test, every program; then the program of that
-# build in the example, and before a real cluster.
+# build on whole inputs, in the example, and before a real cluster.
 test:
 	RT_JOBS=$(checks) rt ci
+	tests/program/run
 	examples/run --once
 	tests/real/run
 

@@ -83,6 +83,3 @@ fn main(rt: HostRuntime) -> anyhow::Result<ExitCode> {
         }
     }
 }
-
-#[cfg(test)]
-mod tests;

@@ -1,0 +1,128 @@
+"""The words of the program: which are refused, which are taken, and what is said of faults."""
+
+import contextlib
+import signal
+import socket
+import subprocess
+import time
+
+from program import LIMIT, PROGRAM, Runs, run
+
+HINT = b"\n\nUsage: cluster_proxy <COMMAND>\n\nFor more information, try '--help'.\n"
+
+LOCAL_TAKES = b"error: --workers takes a number from 1 to 64" + HINT
+NODES_TAKES = b"error: --ports takes three ports from 1 to 65535, with a comma between them" + HINT
+SERVE_TAKES = b"error: --listen and --seed take HOST:PORT with a port from 1 to 65535, and --workers 1 to 64" + HINT
+
+
+def serving(listen="h:1", seed="h:2", workers="2"):
+    return ["serve", "--listen", listen, "--seed", seed, "--workers", workers]
+
+
+def free_ports(count):
+    """Numbers of ports of loopback that nobody listens on."""
+    sockets = [socket.create_server(("127.0.0.1", 0)) for _ in range(count)]
+    ports = [it.getsockname()[1] for it in sockets]
+    for it in sockets:
+        it.close()
+    return ports
+
+
+class Refused(Runs):
+    """Status 2, the text on standard error and nothing on standard output."""
+
+    def check_refused(self, words, text=None):
+        with self.subTest(words=words):
+            status, written, said = run(words)
+            self.assertEqual((status, written), (2, b""))
+            if text is None:
+                self.assertTrue(said.strip())
+            else:
+                self.assertEqual(said, text)
+
+    def test_no_subcommand(self):
+        self.check_refused([])
+        self.check_refused(["serving"])
+
+    def test_words_that_are_missing_or_too_many(self):
+        for words in [["local"], ["local", "--workers"], ["nodes"], serving()[:-2], [*serving(), "more"]]:
+            self.check_refused(words)
+
+    def test_workers_of_local(self):
+        for workers in ["0", "65", "two", "+2"]:
+            self.check_refused(["local", "--workers", workers], LOCAL_TAKES)
+
+    def test_ports_of_nodes(self):
+        for ports in ["1,2", "7001,7002", "7001,7002,7003,7004", "7001,,7003", "0,7002,7003", "7001,7002,65536", "7001,7002,+7003", "007001,7002,7003"]:
+            self.check_refused(["nodes", "--ports", ports], NODES_TAKES)
+
+    def test_words_of_serve(self):
+        for workers in ["0", "65", "two"]:
+            self.check_refused(serving(workers=workers), SERVE_TAKES)
+        for address in ["h", ":1", "h:", "h:0", "h:000080", "h\n:1", "\r:2"]:
+            self.check_refused(serving(listen=address), SERVE_TAKES)
+            self.check_refused(serving(seed=address), SERVE_TAKES)
+
+
+class Taken(Runs):
+    def test_help(self):
+        """It is no mistake: status 0, on standard output."""
+        status, written, said = run(["serve", "--help"])
+        self.assertEqual((status, said), (0, b""))
+        self.assertIn(b"--listen", written)
+
+    def test_the_most_workers(self):
+        self.check(["local", "--workers", "64"], b"", 0, b"audit ok\n")
+
+    def test_ports_in_their_order(self):
+        """Each node has its own port: it answers for its keys, and no other does."""
+        ports = free_ports(3)
+        with started(["nodes", "--ports", ",".join(map(str, ports))]):
+            for port, key in zip(ports, [b"b", b"c", b"a"]):
+                with connection(port) as client:
+                    client.sendall(b"*2\r\n$3\r\nGET\r\n$1\r\n%s\r\n" % key)
+                    self.assertEqual(client.recv(64), b"$-1\r\n")
+
+    def test_an_address_is_cut_at_its_last_colon(self):
+        """`::1` is a host."""
+        if not socket.has_dualstack_ipv6():
+            self.skipTest("this machine has no IPv6")
+        with socket.create_server(("::1", 0), family=socket.AF_INET6) as taken:
+            port = taken.getsockname()[1]
+            self.check_complaint(serving(listen=f"::1:{port}"), b"cluster_proxy: cannot listen on ::1:%d\n" % port)
+
+    def check_complaint(self, words, text):
+        """Status 1 and this line on standard error alone."""
+        self.assertEqual(run(words), (1, b"", text))
+
+    def test_a_port_that_is_taken(self):
+        with socket.create_server(("127.0.0.1", 0)) as taken:
+            port = taken.getsockname()[1]
+            self.check_complaint(serving(listen=f"127.0.0.1:{port}"), b"cluster_proxy: cannot listen on 127.0.0.1:%d\n" % port)
+            status, written, said = run(["nodes", "--ports", f"{port},{port},{port}"])
+            self.assertEqual((status, written), (1, b""))
+            self.assertTrue(said.startswith(b"cluster_proxy: cannot listen on 127.0.0.1:%d: " % port), said)
+
+
+@contextlib.contextmanager
+def started(words):
+    """A run that is ended by a signal when the block is left."""
+    with subprocess.Popen([PROGRAM, *words], stdin=subprocess.DEVNULL) as process:
+        try:
+            yield
+        finally:
+            process.send_signal(signal.SIGTERM)
+            process.wait(LIMIT)
+
+
+def connection(port):
+    """A connection to a server that may still be starting."""
+    end = time.monotonic() + LIMIT
+    while True:
+        try:
+            return socket.create_connection(("127.0.0.1", port), LIMIT)
+        except ConnectionRefusedError:
+            if time.monotonic() > end:
+                raise
+            time.sleep(0.01)
+
