@@ -88,4 +88,3 @@ class One(Runs):
 
     def start(self, stdin=subprocess.PIPE):
         return subprocess.Popen([PROGRAM, "one"], bufsize=0, stdin=stdin, stdout=subprocess.PIPE)
-

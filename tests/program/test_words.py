@@ -127,4 +127,3 @@ def connection(port):
             if time.monotonic() > end:
                 raise
             time.sleep(0.01)
-
