@@ -45,8 +45,18 @@ class Refused(Runs):
         self.check_refused(["serving"])
 
     def test_words_that_are_missing_or_too_many(self):
-        for words in [["local"], ["local", "--workers"], ["nodes"], serving()[:-2], [*serving(), "more"]]:
+        given = serving()
+        without_one = [given[:place] + given[place + 2 :] for place in range(1, len(given), 2)]
+        for words in [["local"], ["local", "--workers"], ["nodes"], *without_one, [*given, "more"]]:
             self.check_refused(words)
+
+    def test_empty_words(self):
+        for words in [["local", "--workers", ""], ["nodes", "--ports", ""], serving(listen=""), serving(seed=""), serving(workers="")]:
+            self.check_refused(words)
+
+    def test_a_number_with_a_dash(self):
+        """It looks like an option."""
+        self.check_refused(serving(workers="-1"))
 
     def test_workers_of_local(self):
         for workers in ["0", "65", "two", "+2"]:
@@ -59,7 +69,7 @@ class Refused(Runs):
     def test_words_of_serve(self):
         for workers in ["0", "65", "two"]:
             self.check_refused(serving(workers=workers), SERVE_TAKES)
-        for address in ["h", ":1", "h:", "h:0", "h:000080", "h\n:1", "\r:2"]:
+        for address in ["h", ":1", "h:", "h:0", "h:-1", "h:x", "h:65536", "h:000080", "h\n:1", "\r:2"]:
             self.check_refused(serving(listen=address), SERVE_TAKES)
             self.check_refused(serving(seed=address), SERVE_TAKES)
 
