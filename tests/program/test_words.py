@@ -63,7 +63,7 @@ class Refused(Runs):
             self.check_refused(["local", "--workers", workers], LOCAL_TAKES)
 
     def test_ports_of_nodes(self):
-        for ports in ["1,2", "7001,7002", "7001,7002,7003,7004", "7001,,7003", "0,7002,7003", "7001,7002,65536", "7001,7002,+7003", "007001,7002,7003"]:
+        for ports in ["1", "1,2", "1,2,x", "1 2 3", "1,2,-3", "7001,7002", "7001,7002,7003,7004", "7001,,7003", "0,7002,7003", "7001,7002,65536", "7001,7002,+7003", "007001,7002,7003"]:
             self.check_refused(["nodes", "--ports", ports], NODES_TAKES)
 
     def test_words_of_serve(self):

@@ -6,7 +6,6 @@ from client import Client, request
 from cases_pipelines import some_keys, some_requests, wanted_of
 from cluster import Cluster, Nodes, Proxy, slot_of
 from harness import case, check, check_each_same, check_same
-from cases_program import run
 
 
 class Example:
@@ -56,14 +55,3 @@ def the_proxy_before_nodes(world):
         client.send(b"".join(request(*words) for words in requests))
         check_each_same(client.replies(len(requests)), wanted_of(world, requests), requests)
         check(not example.proxy.has_ended(), "the proxy ended")
-
-
-@case
-def refused_words_of_nodes(world):
-    for ports in ["", "1", "1,2", "1,2,3,4", "1,2,x", "1,,3", "0,2,3", "1,2,65536", "1 2 3", "1,2,-3", "000001,2,3"]:
-        status, said, complained = run(world, "nodes", "--ports", ports)
-        check_same((status, said), (2, b""), f"status and output of nodes --ports {ports!r}")
-        check(complained.strip(), f"nodes --ports {ports!r}: nothing on standard error")
-    status, said, complained = run(world, "nodes", "--ports", f"{world.plain.port},{world.plain.port},{world.plain.port}")
-    found = (status, said, complained.count(b"\n"))
-    check_same(found, (1, b"", 1), f"a port that is taken: status, output and lines of complaint ({complained!r})")

@@ -39,6 +39,18 @@ tickets_of (due.Slots ∷ ds) = tickets_of ds
 abbrev pub Fails : {P : Type 0} → Connection P → Failure → Type 0 → Connection P → Type 0
 Fails old why now new = ((old.failure ≡ Some why) × (new ≡ old)) ⊎ ((old.failure ≡ None) × (new.failure ≡ Some why) × now)
 
+-- what a value does that is given to the request that is next
+abbrev pub Gives : {P : Type 0} → Value → Connection P → List Endpoint → Result (Option Got) LinkFault → Connection P → List Endpoint → Type 0
+Gives value old table (Ok (Some (got.Ticket ticket told))) new table' =
+    (old.due ≡ due.Command ticket ∷ new.due) × (told_by value old.node table ≡ (told, table')) × (new ≡ record old { due = new.due })
+Gives value old table (Ok (Some (got.Slots given))) new table' =
+    (given ≡ value) × (old.due ≡ due.Slots ∷ new.due) × (table' ≡ table) × (new ≡ record old { due = new.due })
+Gives value old table (Ok None) new table' = (old.due ≡ due.Asking ∷ new.due) × (table' ≡ table) × (new ≡ record old { due = new.due })
+Gives value old table (Err NoMemory) new table' = (table' ≡ table) × (new ≡ record old { kept = Some value })
+Gives value old table (Err Stray) new table' = (old.due ≡ []) × (table' ≡ table) × (new ≡ record old { failure = Some failure.Stray })
+Gives value old table (Err PortFailed) new table' = ⊥
+Gives value old table (Err BadWire) new table' = ⊥
+
 module _ {P : Type 0} (failures : P → ℕ) (is_garbled : P → Type 0) (exchange : P → List Request → List Value → P → Type 0) where
   -- what a call that sends requests does
   abbrev pub Sends : Connection P → List Request → Result (Unit {0}) LinkFault → Connection P → Type 0

@@ -4,7 +4,7 @@ ghost use Rattle.std.specs.Prelude.{◌≡◌, ◌<◌, ◌≤◌, ◌+◌, ◌+
 ghost use Rattle.std.specs.VecDeque.{deque_len, deque_capacity};
 ghost use Rattle.key_split.specs.Requests.{Slots, requests_of};
 ghost use Rattle.slot_map.specs.Table.{Grows};
-ghost use Rattle.node_link.specs.Connection.{due_of, tickets_of, fault_of, Sends, Receives};
+ghost use Rattle.node_link.specs.Connection.{due_of, tickets_of, fault_of, Sends, Gives, Receives};
 
 use crate::port::{NodePort, PortFault};
 use crate::told::told_of;
@@ -201,22 +201,29 @@ impl<P: NodePort> Link<P> {
         if let Some(failure) = self.failure {
             return Err(failure.fault());
         }
-        let value = match self.kept.take() {
-            Some(value) => value,
-            None => match self.port.next() {
-                Ok(Some(value)) => value,
-                Ok(None) => return Ok(None),
-                Err(PortFault::NoMemory) => return Err(LinkFault::NoMemory),
-                Err(PortFault::Failed) => {
-                    self.failure = Some(Failure::PortFailed);
-                    return Err(LinkFault::PortFailed);
-                }
-                Err(PortFault::BadWire) => {
-                    self.failure = Some(Failure::BadWire);
-                    return Err(LinkFault::BadWire);
-                }
-            },
-        };
+        if let Some(value) = self.kept.take() {
+            return self.give(value, table);
+        }
+        match self.port.next() {
+            Ok(Some(value)) => self.give(value, table),
+            Ok(None) => Ok(None),
+            Err(PortFault::NoMemory) => Err(LinkFault::NoMemory),
+            Err(PortFault::Failed) => {
+                self.failure = Some(Failure::PortFailed);
+                Err(LinkFault::PortFailed)
+            }
+            Err(PortFault::BadWire) => {
+                self.failure = Some(Failure::BadWire);
+                Err(LinkFault::BadWire)
+            }
+        }
+    }
+
+    // Gives a value to the request that it belongs to. One for which memory is wanting is kept.
+    fn give(&mut self, value: Value, table: &mut NodeTable) -> Result<Option<Got>, LinkFault>
+        requires { self.old.node < length table.old }
+        ensures { Gives value self.old table.old result self.new table.new }
+    {
         match self.due.pop_front() {
             None => {
                 self.failure = Some(Failure::Stray);

@@ -86,7 +86,9 @@ impl<T: Drop> Outlet<T> {
 }
 
 impl<T: Drop> Inlet<T> {
-    ghost use Rattle.proxy_lanes.specs.Lane.{IsNoteOf, Settles, Takes};
+    ghost use Rattle.std.specs.Prelude.{◌<◌, ◌∷◌, ◌++◌, []};
+    ghost use Rattle.rtrb.specs.Ring.{SameConsumer};
+    ghost use Rattle.proxy_lanes.specs.Lane.{IsNoteOf, Settles, Takes, held, numbered, taken};
 
     /// Takes the next item.
     pub fn take(&mut self) -> Option<T>
@@ -95,8 +97,18 @@ impl<T: Drop> Inlet<T> {
         if self.consumer.is_empty() {
             return None;
         }
+        Some(self.take_held())
+    }
+
+    // Takes the next item, which was seen in the lane.
+    fn take_held(&mut self) -> T
+        requires { 0 < length (held self.old) }
+        ensures ring { SameConsumer self.old.consumer self.new.consumer }
+        ensures taken { taken self.new ≡ taken self.old ++ numbered (length (taken self.old)) result ∷ [] }
+        ensures held { held self.old ≡ numbered (length (taken self.old)) result ∷ held self.new }
+    {
         let Numbered { number: _, item } = self.consumer.pop_known();
-        Some(item)
+        item
     }
 
     /// How many items are left. With those that were taken they are all that was ever posted, and the next takes give them.

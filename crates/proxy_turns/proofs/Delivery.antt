@@ -1,15 +1,13 @@
--- A pair that a lane hands back is the one that was given; what a line gives and a hand takes.
-use Rattle.std.proofs.Common.{◌≡◌, ◌∙◌, inl, inr, ℕ, Bool, true, false, List, Option, Some, None, Result, Ok, Err, is_some, refl, sym, ap, subst}
-use Rattle.key_split.specs.declared.travel.Batch.{Batch}
+-- A pair that a lane hands back is the one that was given; what a line gives.
+use Rattle.std.proofs.Common.{◌≡◌, ◌∙◌, inl, inr, true, false, List, Option, Some, None, Result, Ok, Err, is_some, sym, ap, subst}
 use Rattle.key_split.specs.declared.travel.Ticket.{Ticket}
 use Rattle.key_split.specs.declared.travel.Told.{Told}
 use Rattle.proxy_lanes.specs.declared.ring.Outlet.{Outlet}
 use Rattle.proxy_lanes.specs.declared.ends.lane_ends.LaneEnds.{LaneEnds}
-use Rattle.proxy_lanes.specs.Ends.{ChangesAt, Gives, GivesDown, TakesUp}
-use Rattle.proxy_turns.specs.declared.hand.Hand.{Hand}
+use Rattle.proxy_lanes.specs.Ends.{ChangesAt, Gives, GivesDown}
 use Rattle.proxy_turns.specs.declared.line.Line.{Line}
 use Rattle.proxy_turns.specs.declared.line.Owed.{Owed}
-use Rattle.proxy_turns.specs.Hands.{DeliverOutcome, GiveOutcome, TakeOutcome}
+use Rattle.proxy_turns.specs.Hands.{DeliverOutcome, GiveOutcome}
 use Rattle.proxy_turns.proofs.Lines.{none_where}
 
 comes_back : (old new : Option (Outlet (Ticket × Told))) (pair back : Ticket × Told) → Gives old new pair (Err back) → back ≡ pair
@@ -50,16 +48,3 @@ keeps line owed owed' lanes lanes' back is taken published changes =
     let put : Some (record { ticket = back.0; told = back.1; change = None }) ≡ line.owed = ap (λ (pair : Ticket × Told). Some (record { ticket = pair.0; told = pair.1; change = None })) comes.0
     ∙ ap (λ change. Some (record owed { change = change })) (sym (none_where owed.change published)) ∙ sym is in
     ((λ i. record line { owed = put i }), inr ((owed.ticket, owed.told), comes.1))
-
-pub takes : {H : Type 0} (worker : ℕ) (hand : Hand) (lanes lanes' : List (LaneEnds H)) (given : Option Batch) (took : Bool)
-    → is_some hand.batch ≡ false → is_some hand.refused ≡ false → took ≡ is_some given
-    → ChangesAt lanes worker lanes' (λ lane lane'. TakesUp lane lane' given)
-    → TakeOutcome worker hand lanes took (record hand { batch = given }) lanes'
-takes worker hand lanes lanes' given took no_batch no_ticket is changes =
-    let Q : Bool → Type 0 = λ b. TakeOutcome worker hand lanes b (record hand { batch = given }) lanes' in
-    subst Q (sym is) (by_case given changes)
-  where
-    by_case : (g : Option Batch) → ChangesAt lanes worker lanes' (λ lane lane'. TakesUp lane lane' g)
-        → TakeOutcome worker hand lanes (is_some g) (record hand { batch = g }) lanes'
-    by_case (Some batch) c = (batch, (λ i. record { batch = none_where hand.batch no_batch i; refused = none_where hand.refused no_ticket i }), refl, c)
-    by_case None c = ((λ i. record hand { batch = sym (none_where hand.batch no_batch) i }), inr c)

@@ -52,6 +52,11 @@ change_in Unsent = None
 abbrev pub owed_of : Ticket → Told → Owed
 owed_of ticket told = record { ticket = ticket; told = told; change = change_in told }
 
+-- what came over the link is held
+abbrev pub HoldOutcome : {P : Type 0} → Line P → Got → Step → Line P → Type 0
+HoldOutcome old (got.Ticket ticket told) step new = (step ≡ Fetched) × (new ≡ record old { owed = Some (owed_of ticket told) })
+HoldOutcome old (got.Slots value) step new = (step ≡ Answered) × (new ≡ record old { answer = Some value; asked = false })
+
 abbrev pub is_open : {P : Type 0} → Option (Connection P) → Bool
 is_open None = false
 is_open (Some link) = is_none link.failure

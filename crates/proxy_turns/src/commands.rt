@@ -90,23 +90,14 @@ impl Commands {
         ensures { PostsResult self.old outlet.old view.old result self.new outlet.new view.new }
     {
         self.posted.reserve(1)?;
-        let Some(mut command) = self.fresh.take() else {
+        let Some(command) = &mut self.fresh else {
             return Ok(false);
         };
-        match post_command(self.alloc, &mut command, outlet, view) {
-            Ok(true) => {
-                put_ready(&mut self.posted, command);
-                Ok(true)
-            }
-            Ok(false) => {
-                self.fresh = Some(command);
-                Ok(false)
-            }
-            Err(refused) => {
-                self.fresh = Some(command);
-                Err(refused)
-            }
+        if !post_command(self.alloc, command, outlet, view)? {
+            return Ok(false);
         }
+        keep_posted(&mut self.fresh, &mut self.posted);
+        Ok(true)
     }
 
     /// Posts the command for the part of this number again, where it wants that. True where it was posted.
@@ -153,6 +144,17 @@ impl Commands {
             Ok(ended) => ended,
             Err(_) => unreachable!(),
         }
+    }
+}
+
+// Puts the command that was posted for the first time among the others. There is room for it.
+fn keep_posted(fresh: &mut Option<Command>, posted: &mut HashMap<u64, Command>)
+    requires { 0 < spare posted.old }
+    ensures taken { fresh.new ≡ None }
+    ensures put { IfSome fresh.old (λ command. in_table posted.new.entries ≡ map.insert (in_table posted.old.entries) command.ticket.part command) }
+{
+    if let Some(command) = fresh.take() {
+        put_ready(posted, command);
     }
 }
 

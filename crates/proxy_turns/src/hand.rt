@@ -80,8 +80,23 @@ impl Hand {
         if self.batch.is_some() || self.refused.is_some() {
             return false;
         }
-        self.batch = ends.take(worker);
-        self.batch.is_some()
+        self.refill(worker, ends)
+    }
+
+    // Takes the next batch of the worker's lane into an empty hand.
+    fn refill<H: Drop, M: Drop>(&mut self, worker: u16, ends: &mut CarrierEnds<H, M>) -> bool
+        requires worker { worker < length (lanes_of ends.old) }
+        requires empty { self.old ≡ empty_hand }
+        ensures takes { TakeOutcome worker self.old (lanes_of ends.old) result self.new (lanes_of ends.new) }
+        ensures map { ends.new.map ≡ ends.old.map }
+    {
+        match ends.take(worker) {
+            Some(batch) => {
+                self.batch = Some(batch);
+                true
+            }
+            None => false,
+        }
     }
 
     /// Tells the ticket of a batch whose dial failed that it is unsent. True where there was one, and its lane took it.

@@ -126,7 +126,7 @@ pub struct Line<P> {
 }
 
 impl<P: NodePort + Drop> Line<P> {
-    ghost use Rattle.proxy_turns.specs.Line.{idle_line, LineDoes, LineTurns};
+    ghost use Rattle.proxy_turns.specs.Line.{idle_line, HoldOutcome, LineDoes, LineTurns};
     ghost use Rattle.proxy_turns.specs.Links.{DialOutcome, SendOutcome};
 
     pub(crate) fn new() -> Self
@@ -206,21 +206,30 @@ impl<P: NodePort + Drop> Line<P> {
             return Ok(Step::Idle);
         }
         match link.receive(nodes) {
-            Ok(Some(Got::Ticket(ticket, told))) => {
-                self.owed = Some(Owed::new(ticket, told));
-                Ok(Step::Fetched)
-            }
-            Ok(Some(Got::Slots(value))) => {
-                self.answer = Some(value);
-                self.asked = false;
-                Ok(Step::Answered)
-            }
+            Ok(Some(got)) => Ok(self.hold(got)),
             Ok(None) => Ok(Step::Waited),
             Err(fault) => {
                 if lacks_memory(fault) {
                     return Err(NoMemory);
                 }
                 Ok(Step::Broke)
+            }
+        }
+    }
+
+    // Holds what came over the link.
+    fn hold(&mut self, got: Got) -> Step
+        ensures { HoldOutcome self.old got result self.new }
+    {
+        match got {
+            Got::Ticket(ticket, told) => {
+                self.owed = Some(Owed::new(ticket, told));
+                Step::Fetched
+            }
+            Got::Slots(value) => {
+                self.answer = Some(value);
+                self.asked = false;
+                Step::Answered
             }
         }
     }

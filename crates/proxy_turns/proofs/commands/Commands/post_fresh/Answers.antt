@@ -1,4 +1,4 @@
-use Rattle.std.proofs.Common.{◌∙◌, sym, refl, inl}
+use Rattle.std.proofs.Common.{◌≡◌, ◌∙◌, Err, refl, inl, rules}
 use Rattle.proxy_turns.proofs.Tables.{same_look-ups}
 use Rattle.proxy_turns.proofs.Posting.{keeps_fresh, posts_fresh, same_commands}
 use Rattle.proxy_turns.proofs.commands.Commands.post_fresh.Goals as goal
@@ -6,22 +6,24 @@ use Rattle.proxy_turns.proofs.commands.Commands.post_fresh.Goals as goal
 pub returns-in_default : goal.returns-in_default
 returns-in_default g c =
     let same = same_look-ups c.self.inside.posted.entries c.reserve.new.self.entries c.reserve.ensures.entries.2 in
-    (same_commands c.self.inside.fresh c.take.new.self _ _ (c.take.ensures.after ∙ sym c.in_default.is ∙ c.take.ensures.value) same ∙ c.self.view_is, 0, (inl refl, inl refl))
+    (same_commands c.self.inside.fresh _ _ _ refl same ∙ c.self.view_is, 0, (inl refl, inl refl))
 
-pub returns-in-Ok-true : goal.returns-in-Ok-true
-returns-in-Ok-true g c =
+pub returns : goal.returns
+returns g c =
     let same = same_look-ups c.self.inside.posted.entries c.reserve.new.self.entries c.reserve.ensures.entries.2 in
     rw (← c.self.view_is) (posts_fresh c.self.inside.fresh c.self.inside.posted.entries c.reserve.new.self.entries c.in-Some.command c.post_command.new.command
-    (sym c.take.ensures.value ∙ c.in-Some.is) same c.args.outlet.now c.post_command.new.outlet c.args.view.now c.post_command.new.view c.take.new.self _ c.take.ensures.after c.put_ready.ensures (rw c.in-Ok-true.field-0-test at c.in-Ok-true.ensures.ok))
+    c.in-Some.is same c.args.outlet.now c.post_command.new.outlet c.args.view.now c.post_command.new.view c.keep_posted.new.fresh _ c.keep_posted.ensures.taken c.keep_posted.ensures.put
+    (rw c.if-not-branch.false at c.in_ok-post_command.ensures.ok))
 
-pub returns-in-Ok-false : goal.returns-in-Ok-false
-returns-in-Ok-false g c =
+pub returns-then-not-branch : goal.returns-then-not-branch
+returns-then-not-branch g c =
     let same = same_look-ups c.self.inside.posted.entries c.reserve.new.self.entries c.reserve.ensures.entries.2 in
     rw (← c.self.view_is) (keeps_fresh c.self.inside.fresh c.self.inside.posted.entries c.reserve.new.self.entries c.in-Some.command c.post_command.new.command
-    (sym c.take.ensures.value ∙ c.in-Some.is) same c.args.outlet.now c.post_command.new.outlet c.args.view.now c.post_command.new.view _ refl (rw c.in-Ok-false.field-0-test at c.in-Ok-false.ensures.ok))
+    c.in-Some.is same c.args.outlet.now c.post_command.new.outlet c.args.view.now c.post_command.new.view _ refl (rw c.if-not-branch.true at c.in_ok-post_command.ensures.ok))
 
-pub returns-in-Err : goal.returns-in-Err
-returns-in-Err g c =
+pub returns-in_err-post_command : goal.returns-in_err-post_command
+returns-in_err-post_command g c =
     let same = same_look-ups c.self.inside.posted.entries c.reserve.new.self.entries c.reserve.ensures.entries.2 in
-    rw (← c.self.view_is) (keeps_fresh c.self.inside.fresh c.self.inside.posted.entries c.reserve.new.self.entries c.in-Some.command c.post_command.new.command
-    (sym c.take.ensures.value ∙ c.in-Some.is) same c.args.outlet.now c.post_command.new.outlet c.args.view.now c.post_command.new.view _ refl c.in-Err.ensures.err)
+    let is : c.from_residual-in_err-post_command.result ≡ Err c.in_err-post_command.field-0.0 = search rules in
+    rw is (rw (← c.self.view_is) (keeps_fresh c.self.inside.fresh c.self.inside.posted.entries c.reserve.new.self.entries c.in-Some.command c.post_command.new.command
+    c.in-Some.is same c.args.outlet.now c.post_command.new.outlet c.args.view.now c.post_command.new.view _ refl c.in_err-post_command.ensures.err))

@@ -1,7 +1,7 @@
-use Rattle.std.proofs.Common.{◌∙◌, sym, subst, Option, Some, refl, inl, inr}
+use Rattle.std.proofs.Common.{◌∙◌, sym, subst, Option, refl, inl, inr}
 use Rattle.node_link.specs.State.{Connection}
 use Rattle.proxy_turns.specs.Line.{LineDoes}
-use Rattle.proxy_turns.proofs.Lines.{never, none_where}
+use Rattle.proxy_turns.proofs.Lines.{never, none_where, holds}
 use Rattle.proxy_turns.proofs.line.Line.fetch.Goals as goal
 
 pub returns-then-failed : goal.returns-then-failed
@@ -11,30 +11,11 @@ returns-then-failed g c = λ unanswered published.
     (record { line = c.give_up.new.self; nodes = c.args.nodes.now; published = published }) in
     subst P (sym c.in-Some.is) (c.give_up.ensures unanswered c.args.nodes.now published)
 
-pub returns-in-Ok-Some-Ticket : goal.returns-in-Ok-Some-Ticket
-returns-in-Ok-Some-Ticket g c = λ unanswered published. (
-  c.in-Some.link,
-  c.receive.new.self,
-  c.in-Ok-Some-Ticket.ticket,
-  c.in-Ok-Some-Ticket.told,
-  none_where _ (sym c.is_some.ensures ∙ c.if-is_some.false),
-  (c.in-Some.is, rw (c.in-Ok-Some-Ticket.field-0-is, c.in-Ok-Some-Ticket.field-0-0-is) at c.in-Ok-Some-Ticket.ensures.does),
-  λ i. record {
-    line = record c.args.self.now { link = Some c.receive.new.self; owed = Some (c.new.ensures i) };
-    nodes = c.receive.new.table;
-    published = published;
-  },
-)
-
-pub returns-in-Ok-Some-Slots : goal.returns-in-Ok-Some-Slots
-returns-in-Ok-Some-Slots g c = λ unanswered published. (
-  c.in-Some.link,
-  c.receive.new.self,
-  c.in-Ok-Some-Slots.value,
-  none_where _ (sym c.is_some-else-is_some.ensures ∙ c.if-is_some-2.false),
-  (c.in-Some.is, rw (c.in-Ok-Some-Slots.field-0-is, c.in-Ok-Some-Slots.field-0-0-is) at c.in-Ok-Some-Slots.ensures.does),
-  refl,
-)
+pub returns-in-Ok-Some : goal.returns-in-Ok-Some
+returns-in-Ok-Some g c = λ unanswered published. holds g.P.NodePort.failures g.P.NodePort.is_garbled g.P.NodePort.exchange unanswered
+    c.args.self.now _ c.in-Some.link c.receive.new.self c.args.nodes.now c.receive.new.table published c.in-Ok-Some.got _
+    c.in-Some.is (none_where _ (sym c.is_some.ensures ∙ c.if-is_some.false)) (none_where _ (sym c.is_some-else-is_some.ensures ∙ c.if-is_some-2.false))
+    (rw c.in-Ok-Some.field-0-is at c.in-Ok-Some.ensures.does) c.hold.ensures
 
 pub returns-in-Ok-None : goal.returns-in-Ok-None
 returns-in-Ok-None g c = λ unanswered published.
