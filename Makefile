@@ -14,13 +14,12 @@ $(program): $(sources)
 	cd crates/cluster_proxy && rt run -- one <stdin >/dev/null
 	@touch $@
 
-# As many checks side by side as there are processors, and four at the most: each takes two to six gigabytes.
-checks = $(shell nproc | awk '{ print ($$1 < 4) ? $$1 : 4 }')
-
-# The gate: every proof from nothing, the edits that must be refused, every test, every program; then the program of that
-# build on whole inputs, in the example, and before a real cluster.
+# The gate: every proof from nothing, every test and program, and the edits that must be refused; then rows of the layers, and
+# the program of that build on whole inputs, in the example, and before a real cluster.
 test:
-	RT_JOBS=$(checks) rt ci
+	tests/edits/run --itself
+	tests/edits/run
+	tests/rows/run
 	tests/program/run
 	examples/run --once
 	tests/real/run

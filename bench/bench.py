@@ -17,20 +17,23 @@ from harness import Failed
 
 CLIENTS = 50
 GROUP = 8
+# How many commands one client sends before it reads a reply.
+LONG = 20000
 SIZES = {"3 B": 3, "1 KiB": 1024, "64 KiB": 65536}
 IDLE_SECONDS = 5.0
 
 
 class Row:
-    """One line of the table: a command with values of one size, at one depth of pipeline."""
+    """One line of the table: a command with values of one size, at one depth of pipeline, by so many clients, on many keys or one."""
 
-    def __init__(self, command, size, pipeline):
-        self.command, self.size, self.pipeline = command, size, pipeline
-        self.name = f"{command}{f' of {GROUP} keys' if command[0] == 'M' else ''}, {size}, pipeline {pipeline}"
+    def __init__(self, command, size, pipeline, clients=CLIENTS, one_key=False):
+        self.command, self.size, self.pipeline, self.clients, self.one_key = command, size, pipeline, clients, one_key
+        group = f" of {GROUP} keys" if command[0] == "M" else ""
+        self.name = f"{command}{group}, {size}, pipeline {pipeline}{', one client' * (clients == 1)}{', one key' * one_key}"
 
     def words(self):
-        key, value = "key:__rand_int__", "v" * SIZES[self.size]
-        one = {"GET": [key], "SET": [key, value], "MGET": [key] * GROUP, "MSET": [key, value] * GROUP}
+        key, value = "key:000000000000" if self.one_key else "key:__rand_int__", "v" * SIZES[self.size]
+        one = {"GET": [key], "SET": [key, value], "INCR": ["counter"], "MGET": [key] * GROUP, "MSET": [key, value] * GROUP}
         return [self.command, *one[self.command]]
 
     def keys(self):
@@ -45,6 +48,17 @@ def rows():
             for pipeline in (1, 32):
                 if pipeline == 1 or command[0] != "M" or size != "64 KiB":
                     yield Row(command, size, pipeline)
+        if size == "3 B":
+            yield from few_rows(size)
+
+
+def few_rows(size):
+    """One client alone, and one key: a client's commands for one slot go one after another."""
+    for command in ("GET", "SET"):
+        yield Row(command, size, 1, clients=1)
+    for command in ("GET", "SET", "INCR"):
+        yield Row(command, size, 32, one_key=True)
+    yield Row("INCR", size, LONG, clients=1, one_key=True)
 
 
 class Target:
@@ -65,8 +79,8 @@ class Target:
     def measure(self, row, count):
         """Requests a second, 99th percentile in milliseconds, processor seconds."""
         before = processor_seconds(self.process)
-        words = ["redis-benchmark", "-h", "127.0.0.1", "-p", self.port, "-c", CLIENTS, "-P", row.pipeline, "-n", count]
-        words += ["-r", row.keys(), "--csv", *row.words()]
+        words = ["redis-benchmark", "-h", "127.0.0.1", "-p", self.port, "-c", row.clients, "-P", row.pipeline, "-n", count]
+        words += [*([] if row.one_key else ["-r", row.keys()]), "--csv", *row.words()]
         try:
             ran = subprocess.run([str(it) for it in words], capture_output=True, timeout=120, check=True)
         except (subprocess.CalledProcessError, subprocess.TimeoutExpired) as fault:
@@ -131,9 +145,10 @@ class Measured:
 
     def __init__(self, target, row, seconds):
         self.target, self.row, self.rounds, self.spent, self.requests = target, row, [], 0.0, 0
-        self.has_failed, self.count = False, max(CLIENTS * row.pipeline * 2, 2000)
+        least = row.clients * row.pipeline * 2
+        self.has_failed, self.count = False, max(least, 2000)
         rate = self.measure()
-        self.count = max(CLIENTS * row.pipeline * 2, int(rate * seconds))
+        self.count = max(least, int(rate * seconds))
         self.rounds, self.spent, self.requests = [], 0.0, 0
 
     def measure(self):
@@ -161,7 +176,15 @@ class Measured:
         return f"{self.rate():,.0f}; {self.rate() / direct:.2f}; {percentile:.2f}"
 
     def processor_a_million(self):
-        return "failed" if self.has_failed else f"{self.spent / self.requests * 1e6:.1f}"
+        """Processor seconds for a million requests."""
+        return self.spent / self.requests * 1e6
+
+    def shown_processor(self, other):
+        """The same as a cell of the table, with the ratio to another target's."""
+        if self.has_failed:
+            return "failed"
+        ratio = "" if other.has_failed else f"; {self.processor_a_million() / max(other.processor_a_million(), 0.1):.2f}"
+        return f"{self.processor_a_million():.1f}{ratio}"
 
 
 def measure_row(targets, row, rounds, seconds):
@@ -218,10 +241,11 @@ def print_rates(table, names):
 
 
 def print_processor(table, names):
-    print("\n| processor seconds a million requests | " + " | ".join(names) + " |")
+    """Processor seconds, and the ratio to nutcracker's."""
+    print("\n| processor seconds a million requests; ratio to nutcracker | " + " | ".join(names) + " |")
     print("|---|" + "---:|" * len(names))
     for measured in table:
-        print(f"| {measured[0].row.name} | " + " | ".join(it.processor_a_million() for it in measured) + " |")
+        print(f"| {measured[0].row.name} | " + " | ".join(it.shown_processor(measured[1]) for it in measured) + " |")
 
 
 def print_memory(targets, idle):

@@ -14,9 +14,10 @@ LIMIT = 60
 INPUT_LIMIT = 1_048_576
 
 
-def run(words, given=b""):
-    """Status, standard output and standard error of a run with these words and these bytes on standard input."""
-    ran = subprocess.run([PROGRAM, *words], input=given, capture_output=True, timeout=LIMIT, check=False)
+def run(words, given=b"", variables=None):
+    """Status, standard output and standard error of a run with these words, these bytes on standard input and these variables."""
+    environment = {**os.environ, **(variables or {})}
+    ran = subprocess.run([PROGRAM, *words], input=given, capture_output=True, timeout=LIMIT, check=False, env=environment)
     return ran.returncode, ran.stdout, ran.stderr
 
 

@@ -1,5 +1,7 @@
 """`local`: scripts of clients on a cluster in one process, with what is written in every order of the threads."""
 
+import random
+
 from program import INPUT_LIMIT, Runs, run
 
 # Two clients, and a slot of the first that moves meanwhile.
@@ -91,9 +93,39 @@ BAD_LINES = [
     (b"client\nSET a 1\nmove 15495 0\nrecall\nFOO  \n", 4),
 ]
 
+# Requests on keys of slots that move (a, b, c), of one whose move is called back (d), and of others, with their parts.
+CROWD = [
+    (b"SET a 5", 1),
+    (b"INCR a", 1),
+    (b"GET a", 1),
+    (b"APPEND b x", 1),
+    (b"STRLEN b", 1),
+    (b"INCR c", 1),
+    (b"MGET a b c", 3),
+    (b"GET d", 1),
+    (b"EXISTS d a", 2),
+    (b"MSET {a}y 1 {a}z 2", 1),
+    (b"MGET {a}y {a}z", 1),
+    (b"DEL {a}y", 1),
+    (b"INCR foo", 1),
+    (b"PING", 0),
+]
+
+# Three slots that move, and one that is called back.
+CROWD_MOVES = b"move 15495 0\nmove 3300 1\nrecall 11298 0\nmove 7365 2\n"
+
 
 def local(workers):
     return ["local", "--workers", str(workers)]
+
+
+def crowd(chance):
+    """Twenty clients with 500 requests each."""
+    return [chance.choices(CROWD, k=500) for _ in range(20)]
+
+
+def crowd_script(clients):
+    return b"".join(b"client\n" + b"".join(request + b"\n" for request, _ in client) for client in clients) + CROWD_MOVES
 
 
 class Local(Runs):
@@ -107,6 +139,27 @@ class Local(Runs):
             status, written, _ = run(local(2), CALLED_BACK)
             self.assertEqual(status, 0)
             self.assertIn(written, CALLED_BACK_TEXTS)
+
+    def test_twenty_clients_while_slots_move(self):
+        """Each request has its reply, a counter whose slot rests is counted up by one each time, and more than 9,000 parts
+        are answered."""
+        for start in range(20):
+            clients = crowd(random.Random(start))
+            status, written, _ = run(local(3), crowd_script(clients))
+            lines = written.splitlines()
+            self.assertEqual((status, lines.pop()), (0, b"audit ok"))
+            asked = [(b"reply %d %d " % (client, place), *it) for client, its in enumerate(clients) for place, it in enumerate(its)]
+            self.assertEqual(len(lines), len(asked))
+            answered, counted = 0, []
+            for line, (front, request, parts) in zip(lines, asked):
+                self.assertTrue(line.startswith(front), (line, front))
+                reply = line.removeprefix(front)
+                if not reply.startswith(b"error "):
+                    answered += parts
+                if request == b"INCR foo":
+                    counted.append(int(reply.removeprefix(b"integer ")))
+            self.assertGreater(answered, 9_000)
+            self.assertEqual(sorted(counted), list(range(1, len(counted) + 1)))
 
     def test_replies_of_every_kind(self):
         self.check(local(2), EVERY_KIND, 0, EVERY_KIND_TEXT)

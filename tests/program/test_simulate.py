@@ -4,6 +4,9 @@ from events import long_script
 from program import INPUT_LIMIT, Runs, rows_of, run
 from store import Store, read_entry
 
+# A command that ASK sends on while its slot moves, behind another worker's batch on the same link.
+MOVE_SCRIPT = "another_workers_batch_between_ask_and_its_pair"
+
 # What stands before each of the worked scripts.
 HEADER = b"nodes 3\nworkers 2\nowner 0 5460 0\nowner 5461 10922 1\nowner 10923 16383 2\n"
 
@@ -29,6 +32,52 @@ class Simulate(Runs):
 
     def test_a_write_that_fails(self):
         self.check_failed_write(["simulate"], HEADER + rows_of("simulate_scripts.txt")[0].given)
+
+    def test_a_drop_before_each_event_of_a_move(self):
+        """Each link of the move script drops before each event behind its opening; events that are refused then are taken out.
+        Each history is that of one store, and has each command at most once, and once with its reply where it was answered."""
+        script = next(row.given for row in rows_of("simulate_scripts.txt") if row.name == MOVE_SCRIPT).splitlines()
+        self.assertEqual(len(script), 25)
+        runs, taken_out = 0, 0
+        for link, first in [(0, 6), (1, 13)]:
+            self.assertEqual(script[first - 2].split()[0::2], [b"carry", b"%d" % link])
+            for event in range(first, len(script) + 1):
+                with self.subTest(link=link, event=event):
+                    events = script[: event - 1] + [b"drop %d" % link] + script[event - 1 :]
+                    lines, kept = self.run_of_allowed(events)
+                    self.assertIn(b"drop %d" % link, kept)
+                    self.check_history(lines)
+                    runs, taken_out = runs + 1, taken_out + len(events) - len(kept)
+        print(f"drops before each event of a move: {runs} runs, {taken_out} events taken out")
+        self.assertEqual(runs, 33)
+
+    def run_of_allowed(self, events):
+        """What is written where each event that is refused is taken out, and the events that are left."""
+        events = list(events)
+        while True:
+            status, written, _ = run(["simulate"], HEADER + b"".join(event + b"\n" for event in events))
+            lines = written.decode().splitlines()
+            if status == 0:
+                return lines, events
+            word, number, why = lines[-1].split()
+            self.assertEqual((status, word, why), (1, "refused", "NotNow"))
+            del events[int(number) - 1]
+
+    def check_history(self, lines):
+        entries, store = {}, Store()
+        for line in lines:
+            if line.startswith("entry "):
+                words, reply = read_entry(line)
+                ticket = line.split()[1]
+                self.assertNotIn(ticket, entries)
+                self.assertEqual(reply, store.apply(words), line)
+                entries[ticket] = reply
+        for line in lines:
+            if line.startswith("answer "):
+                _, ticket, end = line.split(" ", 2)
+                self.assertIn(ticket, ["0.0", "1.0"])
+                if end != "lost":
+                    self.assertEqual(entries.get(ticket), end, line)
 
     def test_a_long_history_is_that_of_one_store(self):
         """20,000 events: commands, groups, dropped links, moves and recalls of slots."""

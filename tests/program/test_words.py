@@ -1,12 +1,11 @@
 """The words of the program: which are refused, which are taken, and what is said of faults."""
 
-import contextlib
-import signal
+import os
+import re
 import socket
-import subprocess
-import time
 
-from program import LIMIT, PROGRAM, Runs, run
+from program import Runs, run
+from sockets import connection, free_ports, started
 
 HINT = b"\n\nUsage: cluster_proxy <COMMAND>\n\nFor more information, try '--help'.\n"
 
@@ -14,18 +13,15 @@ LOCAL_TAKES = b"error: --workers takes a number from 1 to 64" + HINT
 NODES_TAKES = b"error: --ports takes three ports from 1 to 65535, with a comma between them" + HINT
 SERVE_TAKES = b"error: --listen and --seed take HOST:PORT with a port from 1 to 65535, and --workers 1 to 64" + HINT
 
+# What the system says of a port that another program listens on.
+TAKEN = b"Address already in use (os error 98)"
+
+with open(os.path.join(os.path.dirname(os.path.abspath(__file__)), "..", "..", "README.md"), encoding="utf-8") as file:
+    README = file.read()
+
 
 def serving(listen="h:1", seed="h:2", workers="2"):
     return ["serve", "--listen", listen, "--seed", seed, "--workers", workers]
-
-
-def free_ports(count):
-    """Numbers of ports of loopback that nobody listens on."""
-    sockets = [socket.create_server(("127.0.0.1", 0)) for _ in range(count)]
-    ports = [it.getsockname()[1] for it in sockets]
-    for it in sockets:
-        it.close()
-    return ports
 
 
 class Refused(Runs):
@@ -73,6 +69,19 @@ class Refused(Runs):
             self.check_refused(serving(listen=address), SERVE_TAKES)
             self.check_refused(serving(seed=address), SERVE_TAKES)
 
+    def test_a_user_without_a_password(self):
+        """`serve` alone reads the environment."""
+        for variables in [{"CLUSTER_PROXY_USER": "someone"}, {"CLUSTER_PROXY_USER": "someone", "CLUSTER_PROXY_PASSWORD": ""}]:
+            said = b"cluster_proxy: CLUSTER_PROXY_USER is set, but CLUSTER_PROXY_PASSWORD is not\n"
+            self.assertEqual(run(serving(), variables=variables), (2, b"", said))
+            self.assertEqual(run(["local", "--workers", "1"], variables=variables)[0], 0)
+
+    def test_variables_that_are_no_text(self):
+        """The value is not repeated."""
+        for name in [b"CLUSTER_PROXY_USER", b"CLUSTER_PROXY_PASSWORD"]:
+            variables = {os.fsdecode(name): os.fsdecode(b"\xff")}
+            self.assertEqual(run(serving(), variables=variables), (2, b"", b"cluster_proxy: %s is not UTF-8\n" % name))
+
 
 class Taken(Runs):
     def test_help(self):
@@ -81,15 +90,30 @@ class Taken(Runs):
         self.assertEqual((status, said), (0, b""))
         self.assertIn(b"--listen", written)
 
+    def test_help_has_an_example(self):
+        """Its first line, with ports that are free, is taken."""
+        _, written, _ = run(["serve", "--help"])
+        example = written.decode().split("Example:\n")[1].splitlines()[0].split()
+        self.assertEqual(example[:2], ["cluster_proxy", "serve"])
+        self.assertEqual([it for it in example if it.startswith("--")], ["--listen", "--seed", "--workers"])
+
+    def test_version(self):
+        """The version, and the line of the kit, which the README has too."""
+        status, written, said = run(["--version"])
+        self.assertEqual((status, said), (0, b""))
+        kit = re.fullmatch(r"\S+ [0-9]+\.[0-9]+\.[0-9]+ \((rattle-kit-\S+ logic \S+)\)\n", written.decode())
+        self.assertIsNotNone(kit, written)
+        self.assertIn(kit[1], README)
+
     def test_the_most_workers(self):
         self.check(["local", "--workers", "64"], b"", 0, b"audit ok\n")
 
     def test_ports_in_their_order(self):
         """Each node has its own port: it answers for its keys, and no other does."""
         ports = free_ports(3)
-        with started(["nodes", "--ports", ",".join(map(str, ports))]):
+        with started(["nodes", "--ports", ",".join(map(str, ports))]) as server:
             for port, key in zip(ports, [b"b", b"c", b"a"]):
-                with connection(port) as client:
+                with connection(port, server) as client:
                     client.sendall(b"*2\r\n$3\r\nGET\r\n$1\r\n%s\r\n" % key)
                     self.assertEqual(client.recv(64), b"$-1\r\n")
 
@@ -101,7 +125,7 @@ class Taken(Runs):
             self.skipTest("this machine has no IPv6")
         with taken:
             port = taken.getsockname()[1]
-            self.check_complaint(serving(listen=f"::1:{port}"), b"cluster_proxy: cannot listen on ::1:%d\n" % port)
+            self.check_complaint(serving(listen=f"::1:{port}"), b"cluster_proxy: cannot listen on ::1:%d: %s\n" % (port, TAKEN))
 
     def check_complaint(self, words, text):
         """Status 1 and this line on standard error alone."""
@@ -110,30 +134,6 @@ class Taken(Runs):
     def test_a_port_that_is_taken(self):
         with socket.create_server(("127.0.0.1", 0)) as taken:
             port = taken.getsockname()[1]
-            self.check_complaint(serving(listen=f"127.0.0.1:{port}"), b"cluster_proxy: cannot listen on 127.0.0.1:%d\n" % port)
-            status, written, said = run(["nodes", "--ports", f"{port},{port},{port}"])
-            self.assertEqual((status, written), (1, b""))
-            self.assertTrue(said.startswith(b"cluster_proxy: cannot listen on 127.0.0.1:%d: " % port), said)
-
-
-@contextlib.contextmanager
-def started(words):
-    """A run that is ended by a signal when the block is left."""
-    with subprocess.Popen([PROGRAM, *words], stdin=subprocess.DEVNULL) as process:
-        try:
-            yield
-        finally:
-            process.send_signal(signal.SIGTERM)
-            process.wait(LIMIT)
-
-
-def connection(port):
-    """A connection to a server that may still be starting."""
-    end = time.monotonic() + LIMIT
-    while True:
-        try:
-            return socket.create_connection(("127.0.0.1", port), LIMIT)
-        except ConnectionRefusedError:
-            if time.monotonic() > end:
-                raise
-            time.sleep(0.01)
+            said = b"cluster_proxy: cannot listen on 127.0.0.1:%d: %s\n" % (port, TAKEN)
+            self.check_complaint(serving(listen=f"127.0.0.1:{port}"), said)
+            self.check_complaint(["nodes", "--ports", f"{port},{port},{port}"], said)

@@ -1,4 +1,4 @@
-"""Clients that do not behave: half requests, half-closed sockets, resets, and one that never reads."""
+"""Clients that do not behave: half requests, half-closed sockets, and resets."""
 
 import socket
 import struct
@@ -6,8 +6,8 @@ import threading
 import time
 
 from client import request
-from cluster import resident_mebibytes, wait_until
-from harness import case, check, check_same
+from cluster import is_within
+from harness import case, check, check_same, check_time
 
 PROMPT = 3.0  # seconds in which another client's reply must be there
 
@@ -20,7 +20,7 @@ def check_prompt(world, where):
             check_same(client.ask("SET", key, where), b"+OK\r\n", where)
             check_same(client.value("GET", key), where.encode(), where)
     took = time.monotonic() - began
-    check(took < PROMPT, f"{where}: another client waited {took:.2f} seconds")
+    check_time(took < PROMPT, f"{where}: another client waited {took:.2f} seconds")
 
 
 @case
@@ -57,7 +57,7 @@ def half_closed(world):
                 wanted = b"".join(b":%d\r\n" % number for number in range(1, count + 1))
                 check_same(client.rest(), wanted, f"replies to {count} requests and the end of sending")
     check_prompt(world, "after half-closed clients")
-    wait_until(lambda: world.proxy.descriptors() <= before + 10, "the proxy to close their descriptors", limit=5)
+    check_time(is_within(5, lambda: world.proxy.descriptors() <= before + 10), "their descriptors are open after five seconds")
 
 
 @case
@@ -91,31 +91,6 @@ def a_slow_reader(world):
             client.held += client.socket.recv(512)
             time.sleep(0.002)
         check_same(client.replies(100), [b"$20000\r\n" + b"v" * 20000 + b"\r\n"] * 100, "slowly read replies")
-
-
-@case
-def a_client_that_never_reads(world):
-    """It is owed 200 MB and reads nothing: others are served, and the proxy holds a bounded part of it."""
-    with world.client() as client:
-        client.ask("SET", "big", "v" * 10000)
-    before = resident_mebibytes(world.proxy.process)
-    silent = world.client(receive_buffer=4096)
-    silent.socket.settimeout(1.0)
-    sent = 0
-    try:
-        for _ in range(200):
-            silent.send(request("GET", "big") * 100)
-            sent += 100
-    except TimeoutError:
-        pass
-    most = resident_mebibytes(world.proxy.process)
-    check_prompt(world, "beside a client that never reads")
-    most = max(most, resident_mebibytes(world.proxy.process))
-    silent.close()
-    check_prompt(world, "after it left")
-    note = f"resident {before:.0f} MiB before, {most:.0f} at most, {sent} requests taken"
-    check(most < before + 100, note)
-    return note
 
 
 @case
@@ -160,7 +135,7 @@ def many_silent_clients(world):
     check_same(silent[-1].ask("PING"), b"+PONG\r\n", "the last of them")
     for client in silent:
         client.close()
-    wait_until(lambda: world.proxy.descriptors() <= before + 10, "the proxy to close their descriptors", limit=5)
+    check_time(is_within(5, lambda: world.proxy.descriptors() <= before + 10), "their descriptors are open after five seconds")
 
 
 @case

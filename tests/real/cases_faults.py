@@ -5,7 +5,7 @@ import time
 from client import request
 from cluster import Proxy, free_ports, slot_of, wait_until
 from cases_moves import key, tags_of_nodes
-from harness import Together, case, check, check_same, together
+from harness import Together, case, check, check_same, check_time, together
 from logs import check_log
 from writers import GAVE_UP, LOST, Ends, Writers, appends, log_of
 
@@ -137,7 +137,7 @@ def a_node_that_stops_for_a_while(world):
     given = sorted(reply for replies in waiting.join() for reply in replies)
     check_same(given, sorted(b":%d\r\n" % number for number in range(1, 101)), "INCRs that waited")
     slowest = max(slow for slow, _ in results)
-    check(slowest < 2.0, f"a command of another node waited {slowest:.2f} seconds")
+    check_time(slowest < 2.0, f"a command of another node waited {slowest:.2f} seconds")
     return f"others: {sum(count for _, count in results)} commands, the slowest {1000 * slowest:.0f} ms"
 
 
@@ -185,11 +185,15 @@ def a_node_that_dies_and_comes_back(world):
 def nobody_at_the_seed(world):
     """Commands are given up; what the proxy answers itself it answers."""
     alone = Proxy(world.room, world.program, free_ports(1)[0], name="alone")
-    try:
+    commands = [("GET", "a"), ("SET", "a", "1"), ("MGET", "a", "b", "c"), ("DEL", "a")]
+
+    def work(number):
         with alone.client() as client:
-            for words in [("GET", "a"), ("SET", "a", "1"), ("MGET", "a", "b", "c"), ("DEL", "a")]:
-                check_same(client.ask(*words), GAVE_UP, words)
+            check_same(client.ask(*commands[number]), GAVE_UP, commands[number])
             check_same(client.ask("PING"), b"+PONG\r\n", "PING")
+
+    try:
+        together(len(commands), work)
     finally:
         alone.process.terminate()
         alone.process.wait(10)

@@ -7,7 +7,7 @@ import random
 import threading
 import time
 
-from client import request, value_of
+from client import request
 from cluster import slot_of, tag_of_slot
 from cases_pipelines import some_requests
 from harness import case, check, check_each_same, check_same
@@ -59,7 +59,7 @@ def counters_in_moves(world):
             check(all(mine == sorted(mine) for mine in given), f"{counter}: a client's numbers went back")
             check_same(sorted(value for mine in given for value in mine), list(range(1, sum(map(len, given)) + 1)), f"numbers of {counter}")
             check_same(int(client.value("GET", counter)), sum(map(len, given)), counter)
-    check(not ends.lost, "no connection was lost, and yet an INCR ended so")
+    ends.check_all_answered()
     return f"{moves} moves, {ends.counts()}"
 
 
@@ -74,7 +74,7 @@ def logs_in_moves(world):
     with world.client() as client:
         for log in logs:
             check_log(client.value("GET", log), *log_of(ends, log))
-    check(not ends.lost, "no connection was lost, and yet an APPEND ended so")
+    ends.check_all_answered()
     return f"{moves} moves, {ends.counts()}"
 
 
@@ -82,36 +82,31 @@ def logs_in_moves(world):
 def groups_in_moves(world):
     """Writers put one mark into three keys of one slot, readers read all three: no reader sees two marks.
 
-    Refused is a group whose keys are at two nodes just then, where sixteen tries did not do.
+    A group whose keys are at two nodes just then waits; none is given up.
     """
     tags = tags_of_nodes(world.cluster)
-    refused, seen = [0], [0]
+    seen = [0]
 
     def turn(client, number, count):
         for tag in tags:
             keys = [key(tag, name) for name in (b"x", b"y", b"z")]
             if number < CLIENTS // 2:
-                reply = client.ask("MSET", *[word for it in keys for word in (it, b"%d.%d" % (number, count))])
-                check(reply in (b"+OK\r\n", GAVE_UP), f"MSET of a group was answered {reply!r}")
-                refused[0] += reply == GAVE_UP
+                mark = b"%d.%d" % (number, count)
+                check_same(client.ask("MSET", *[word for it in keys for word in (it, mark)]), b"+OK\r\n", "MSET of a group")
                 continue
-            reply = client.ask("MGET", *keys)
-            if reply == GAVE_UP:
-                refused[0] += 1
-                continue
-            values = value_of(reply)
+            values = client.value("MGET", *keys)
             check(len(values) == 3 and len(set(values)) == 1, f"half of a group was seen: {values}")
             seen[0] += 1
 
     with Writers(world.proxy, CLIENTS, turn) as writers:
         moves = move_round(world, writers, tags, rounds=9, seconds=5)
     check(seen[0] > 100, f"only {seen[0]} groups were read")
-    return f"{moves} moves, {seen[0]} groups read, {refused[0]} refused"
+    return f"{moves} moves, {seen[0]} groups read"
 
 
 @case
 def new_groups_in_moves(world):
-    """A group of keys that are nowhere yet is put whole or not at all while its slot moves."""
+    """Each group of keys that are nowhere yet is put whole while its slot moves."""
     tag = tags_of_nodes(world.cluster)[0]
     ends = Ends(CLIENTS)
 
@@ -123,11 +118,11 @@ def new_groups_in_moves(world):
         for target in (1, 2, 0):
             world.cluster.move(slot_of(tag), target, pause=0.01, at_once=100)
             writers.wait_for_turns()
-    answered = {what for mine in ends.answered for what, _ in mine}
+    ends.check_all_answered()
     with world.client() as client:
-        for number, count in answered | set(ends.gave_up):
+        for number, count in [what for mine in ends.answered for what, _ in mine]:
             values = client.value("MGET", *[key(tag, b"%s.%d.%d" % (name, number, count)) for name in (b"x", b"y")])
-            check_same(values, [b"1", b"1"] if (number, count) in answered else [None, None], f"the group of client {number}, turn {count}")
+            check_same(values, [b"1", b"1"], f"the group of client {number}, turn {count}")
     return ends.counts()
 
 
@@ -181,6 +176,7 @@ def moves_called_back(world):
     with world.client() as client:
         for counter in counters:
             check_same(int(client.value("GET", counter)), sum(what == counter for mine in ends.answered for what, _ in mine), counter)
+    ends.check_all_answered()
     return f"15 moves called back, {ends.counts()}"
 
 

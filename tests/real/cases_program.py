@@ -2,8 +2,8 @@
 
 import signal
 
-from cluster import Proxy
-from harness import case
+from cluster import Proxy, is_within
+from harness import case, check_time
 
 
 @case
@@ -14,4 +14,4 @@ def it_ends_at_a_signal(world):
         with proxy.client() as client:
             client.value("SET", "a", "1")
             proxy.process.send_signal(number)
-            proxy.process.wait(2)
+            check_time(is_within(2, proxy.has_ended), f"it runs two seconds after signal {number}")

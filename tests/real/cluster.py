@@ -31,6 +31,17 @@ def tag_of_slot(wanted):
     return next(b"%d" % number for number in range(1 << 20) if slot_of(b"%d" % number) in wanted)
 
 
+def keys_of_slots(first, last, count):
+    """So many keys, each of another slot of a range."""
+    keys = {}
+    for number in range(1 << 20):
+        slot = slot_of(b"%d" % number)
+        if first <= slot <= last:
+            keys.setdefault(slot, b"%d" % number)
+        if len(keys) == count:
+            return list(keys.values())
+
+
 def free_ports(count):
     """Ports of loopback that nobody listens on."""
     sockets = [socket.socket() for _ in range(count)]
@@ -42,16 +53,25 @@ def free_ports(count):
     return ports
 
 
-def wait_until(is_so, what, limit=20.0):
-    end = time.monotonic() + limit
+def is_within(seconds, is_so):
+    """Whether it is so before so many seconds are over."""
+    end = time.monotonic() + seconds
     while not is_so():
-        check(time.monotonic() < end, f"waited {limit} seconds for {what}")
+        if time.monotonic() > end:
+            return False
         time.sleep(0.02)
+    return True
 
 
-def does_answer(port):
+def wait_until(is_so, what, limit=20.0):
+    check(is_within(limit, is_so), f"waited {limit} seconds for {what}")
+
+
+def does_answer(port, password=None):
     try:
         with Client(port, limit=2.0) as client:
+            if password:
+                client.ask("AUTH", password)
             return client.ask("PING") == b"+PONG\r\n"
     except OSError:
         return False
@@ -71,10 +91,11 @@ class Room:
     def __init__(self, folder):
         self.folder, self.processes = folder, []
 
-    def start(self, words, said):
+    def start(self, words, said, variables=None):
         """Starts a program whose output goes to the file `said`, and notes its number for `run`, which ends what is left."""
         with open(f"{self.folder}/{said}", "ab") as output:
-            process = subprocess.Popen(words, stdin=subprocess.DEVNULL, stdout=output, stderr=output)
+            environment = {**os.environ, **(variables or {})}
+            process = subprocess.Popen(words, stdin=subprocess.DEVNULL, stdout=output, stderr=output, env=environment)
         with open(f"{self.folder}/started", "a", encoding="ascii") as started:
             started.write(f"{process.pid}\n")
         self.processes.append(process)
@@ -109,8 +130,9 @@ def resident_mebibytes(process):
 class Server:
     """One redis-server."""
 
-    def __init__(self, room, name, *options, port=None):
-        self.room, self.name, self.options = room, name, options
+    def __init__(self, room, name, *options, port=None, password=None):
+        self.room, self.name, self.password = room, name, password
+        self.options = [*options, "--requirepass", password] if password else options
         self.port = port or free_ports(1)[0]
         self.folder = f"{room.folder}/{name}"
         os.makedirs(self.folder, exist_ok=True)
@@ -121,10 +143,21 @@ class Server:
         words = ["redis-server", "--port", self.port, "--bind", "127.0.0.1", "--dir", self.folder]
         words += ["--save", "", "--appendonly", "no", "--daemonize", "no", *self.options]
         self.process = self.room.start([str(it) for it in words], f"{self.name}.log")
-        wait_until(lambda: does_answer(self.port), f"{self.name} to answer")
+        wait_until(lambda: does_answer(self.port, self.password), f"{self.name} to answer")
+
+    def is_running(self):
+        return self.process.poll() is None
+
+    def kill(self):
+        """Ends it at once: it says nothing to the others, and its port is closed."""
+        self.process.kill()
+        self.process.wait()
 
     def client(self):
-        return Client(self.port)
+        client = Client(self.port)
+        if self.password:
+            client.value("AUTH", self.password)
+        return client
 
     def value(self, *words):
         with self.client() as client:
@@ -138,17 +171,27 @@ class Server:
         self.process.send_signal(signal.SIGCONT)
 
 
-class Cluster:
-    """Three primaries, each with a third of the slots."""
+def cluster_nodes(room, name, password=None, patience=10000):
+    """Three nodes that know nobody yet, with the ports of their bus; one is lost for the others after `patience` milliseconds.
 
-    def __init__(self, room):
-        ports = free_ports(6)
-        ports, buses = ports[:3], ports[3:]
-        self.nodes = []
-        for number in range(3):
-            options = ["--cluster-enabled", "yes", "--cluster-port", buses[number], "--cluster-config-file", "nodes.conf"]
-            options += ["--cluster-require-full-coverage", "no", "--cluster-node-timeout", "10000", "--cluster-announce-ip", "127.0.0.1"]
-            self.nodes.append(Server(room, f"node{number}", *options, port=ports[number]))
+    A node that is lost takes only its own slots with it: full coverage is not required.
+    """
+    ports = free_ports(6)
+    ports, buses = ports[:3], ports[3:]
+    nodes = []
+    for number in range(3):
+        options = ["--cluster-enabled", "yes", "--cluster-port", buses[number], "--cluster-config-file", "nodes.conf"]
+        options += ["--cluster-require-full-coverage", "no", "--cluster-node-timeout", patience, "--cluster-announce-ip", "127.0.0.1"]
+        options += ["--repl-diskless-sync-delay", "0"]
+        nodes.append(Server(room, f"{name}{number}", *options, port=ports[number], password=password))
+    return nodes, buses
+
+
+class Cluster:
+    """Three primaries, each with a third of the slots, which want a password where one is given."""
+
+    def __init__(self, room, name="node", password=None, patience=10000):
+        self.nodes, buses = cluster_nodes(room, name, password, patience)
         for number, (node, (first, last)) in enumerate(zip(self.nodes, self.ranges())):
             node.value("CLUSTER", "SET-CONFIG-EPOCH", number + 1)
             node.value("CLUSTER", "ADDSLOTSRANGE", first, last)
@@ -235,14 +278,16 @@ class Cluster:
 class Proxy:
     """The program before a seed."""
 
-    def __init__(self, room, program, seed_port, workers=2, name="proxy"):
+    def __init__(self, room, program, seed_port, workers=2, name="proxy", variables=None, descriptors=None):
         self.room, self.program, self.seed_port, self.workers, self.name = room, program, seed_port, workers, name
+        self.variables, self.limit = variables, descriptors
         self.start()
 
     def start(self):
         self.port = free_ports(1)[0]
         words = [self.program, "serve", "--listen", f"127.0.0.1:{self.port}", "--seed", f"127.0.0.1:{self.seed_port}"]
-        self.process = self.room.start([*words, "--workers", str(self.workers)], f"{self.name}.log")
+        limited = ["sh", "-c", f'ulimit -n {self.limit}; exec "$@"', "sh"] if self.limit else []
+        self.process = self.room.start([*limited, *words, "--workers", str(self.workers)], f"{self.name}.log", self.variables)
         wait_until(lambda: self.has_ended() or does_answer(self.port), f"{self.name} to answer")
         check(not self.has_ended(), f"{self.name} ended at its start: {self.said()}")
 

@@ -9,6 +9,10 @@ class Failed(Exception):
     """What a case found wrong."""
 
 
+class Slow(Failed):
+    """What took longer than it may. A machine that had a pause of its own may be the reason, so the case is run again."""
+
+
 def case(function):
     """Adds a case, named as its function. It may return a few words to print beside it."""
     CASES.append(function)
@@ -18,6 +22,12 @@ def case(function):
 def check(is_so, otherwise):
     if not is_so:
         raise Failed(otherwise)
+
+
+def check_time(is_so, otherwise):
+    """A check of a time, of processor time, or of what the allocator gave back by then."""
+    if not is_so:
+        raise Slow(otherwise)
 
 
 def check_same(found, wanted, where):

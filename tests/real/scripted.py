@@ -25,9 +25,9 @@ class ScriptedNode:
     `seen` has the words of every request but CLUSTER SLOTS, each with its connection's number, in order.
     """
 
-    def __init__(self, answer, slots=None):
+    def __init__(self, answer, slots=None, listener=None):
         self.answer, self.slots, self.seen, self.asked_slots = answer, slots, [], 0
-        self.listener = socket.create_server(("127.0.0.1", 0))
+        self.listener = listener or socket.create_server(("127.0.0.1", 0))
         self.port = self.listener.getsockname()[1]
         self.connections, self.open, self.lock = 0, [], threading.Lock()
         threading.Thread(target=self.accept, daemon=True).start()

@@ -3,7 +3,7 @@
 import time
 
 from client import Client, request, value_of
-from harness import Failed, Together, check
+from harness import Failed, Together, check, check_same
 
 LOST = b"-ERR proxy: connection lost, outcome unknown\r\n"
 GAVE_UP = b"-ERR proxy: gave up, not executed\r\n"
@@ -25,19 +25,26 @@ class Writers:
         if kind is None:
             self.together.join()
 
+    def stop(self):
+        """Ends them before the end of the `with`."""
+        self.__exit__(None)
+
     def work(self, number):
         with Client(self.proxy.port) as client:
             while not self.stopped:
                 self.turn(client, number, self.turns[number])
                 self.turns[number] += 1
 
+    def check_faults(self):
+        if self.together.faults:
+            raise self.together.faults[0]
+
     def wait_for_turns(self, count=2, limit=15.0):
         """Waits until each client has ended so many more turns, so that no request of before is under way."""
         wanted = [turn + count for turn in self.turns]
         end = time.monotonic() + limit
         while any(turn < want for turn, want in zip(self.turns, wanted)):
-            if self.together.faults:
-                raise self.together.faults[0]
+            self.check_faults()
             check(time.monotonic() < end, f"a client made no {count} turns in {limit} seconds: {self.turns}")
             time.sleep(0.002)
 
@@ -58,6 +65,10 @@ class Ends:
             raise Failed(f"{what!r} was answered {reply!r}")
         else:
             self.answered[number].append((what, value_of(reply)))
+
+    def check_all_answered(self):
+        check_same(self.lost[:3], [], "requests that ended lost, though no connection did")
+        check_same(self.gave_up[:3], [], f"the first of {len(self.gave_up)} requests that were given up")
 
     def counts(self):
         return f"{sum(map(len, self.answered))} answered, {len(self.lost)} lost, {len(self.gave_up)} given up"

@@ -1,33 +1,28 @@
 //! A proxy between plain Redis clients and a Redis Cluster.
 //!
-//! The program reads its words (`choice`) and runs the subcommand that they name. `one` answers the first request of
-//! standard input from an empty store. The contract of `one::run_one` says exactly which bytes are written for which
-//! input; its definitions stand in `specs/Opening.antt` (what an input asks first) and `specs/One.antt` (what is
-//! answered). `simulate` runs a script of events: `cluster_world::run_simulate`, whose contract is as exact. `local` runs
-//! scripts of clients: `proxy_runs::run_scripts`, whose contract says what is written. What the words of `nodes` and
-//! `serve` ask for is said by `specs/Asked.antt`.
+//! The program reads its words (`program_words`) and runs the subcommand that they name: `one` by
+//! `first_request::run_one`, `simulate` by `cluster_world::run_simulate`, `local` by `script_runs::run_scripts`, `nodes` by
+//! `node_server::run_nodes`, and `serve` by `socket_proxy::run_wire`. The contract of each says what it promises.
 #![tactic(auto)]
 
-mod address;
-mod answer;
-mod choice;
-mod first;
-mod local;
+mod descriptors;
+mod environment;
+mod log_lines;
 mod nodes;
-mod number;
-mod one;
-mod ports;
 mod serve;
-mod serving;
 
-use choice::{Choice, choose};
 use cluster_world::run_simulate;
+use environment::credentials_of;
+use event_log::ErrorStream;
+use first_request::run_one;
 use nodes::serve_nodes;
-use one::run_one;
-use proxy_runs::run_scripts;
+use program_words::{Choice, Serving, choose};
+use script_runs::run_scripts;
 use serve::serve_clients;
+use std::env::Env;
 use std::fmt::Display;
 use std::net::{Net, TcpListener, TcpStream};
+use std::os::fd::AsFd;
 use std::process::ExitCode;
 use std::random::RandomSource;
 use std::sync::Wait;
@@ -35,7 +30,7 @@ use std::thread::Threads;
 use std::time::Clock;
 
 /// Runs what was chosen, and gives the status.
-fn run<R>(rt: &R, choice: Choice<'_>) -> u8
+fn run<R>(rt: &R, choice: Choice<'_>, log: &ErrorStream) -> u8
 where
     R: Input
         + Print
@@ -45,8 +40,12 @@ where
         + Wait
         + RandomSource
         + Clock
+        + Env
         + Net<Listener = TcpListener, Stream = TcpStream>
-        + Sync,
+        + Copy
+        + Send
+        + Sync
+        + 'static,
 {
     match choice {
         Choice::One => run_one(rt.alloc(), &mut rt.reader(), &mut std::io::writer(rt)),
@@ -58,7 +57,32 @@ where
             playing.workers,
         ),
         Choice::Nodes(ports) => status_of(rt, serve_nodes(rt, rt.alloc(), ports)),
-        Choice::Serve(serving) => status_of(rt, serve_clients(rt, serving)),
+        Choice::Serve(serving) => run_serve(rt, serving, log),
+    }
+}
+
+/// Serves clients, and gives the status: 2 where the environment is refused.
+fn run_serve<R>(rt: &R, serving: Serving<'_>, log: &ErrorStream) -> u8
+where
+    R: Eprint
+        + AllocGlobal
+        + Threads
+        + Wait
+        + RandomSource
+        + Clock
+        + Env
+        + Net<Listener = TcpListener, Stream = TcpStream>
+        + Copy
+        + Send
+        + Sync
+        + 'static,
+{
+    match credentials_of(rt) {
+        Ok(credentials) => status_of(rt, serve_clients(rt, serving, credentials, log)),
+        Err(fault) => {
+            let _ = eprintln!(rt; "cluster_proxy: {fault}");
+            2
+        }
     }
 }
 
@@ -74,9 +98,11 @@ fn status_of<R: Eprint, F: Display + Drop>(rt: &R, ended: Result<(), F>) -> u8 {
 }
 
 fn main(rt: HostRuntime) -> anyhow::Result<ExitCode> {
+    // before any file is opened, which would take the number of a standard error that is closed
+    let log = ErrorStream::new(rt.stderr().as_fd().try_clone_to_owned().ok());
     let words: Vec<String> = std::env::args(&rt)?.collect(rt.alloc())?;
     match choose(rt.alloc(), words.as_slice()) {
-        Ok(choice) => Ok(ExitCode::from(run(&rt, choice))),
+        Ok(choice) => Ok(ExitCode::from(run(&rt, choice, &log))),
         Err(error) => {
             error.print(&rt)?;
             Ok(ExitCode::from(u8::try_from(error.exit_code()).unwrap_or(2)))

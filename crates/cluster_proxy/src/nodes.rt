@@ -1,12 +1,12 @@
 //! `nodes`: the example cluster, served on this machine.
 
-use crate::ports::Ports;
-use clap::{Arg, ArgAction, Command};
+use local_cluster::{LocalState, three_nodes};
 use mio::net::TcpListener;
-use proxy_runs::{LocalCluster, WireRunFault, run_nodes, three_nodes};
-use resp_wire::NoMemory;
+use node_server::run_nodes;
+use program_words::Ports;
+use proxy_runtime::WireRunFault;
 use slot_map::NodeTable;
-use std::alloc::{AllocError, Global};
+use std::alloc::Global;
 use std::io;
 use std::net::{Net, SocketAddr};
 use std::sync::Wait;
@@ -23,26 +23,6 @@ pub enum NodesFault {
     Run(WireRunFault),
 }
 
-impl From<NoMemory> for NodesFault {
-    fn from(_: NoMemory) -> Self {
-        NodesFault::NoMemory
-    }
-}
-
-/// The subcommand and its words.
-pub fn nodes_command<'a>(alloc: Global) -> Result<Command<'a>, AllocError> {
-    Command::new(alloc, "nodes")
-        .about("Serves a cluster of three empty nodes on this machine, without end")
-        .arg(
-            Arg::new(alloc, "ports")
-                .long("ports")
-                .value_name("A,B,C")
-                .help("The ports of the nodes, on 127.0.0.1")
-                .required(true)
-                .action(ArgAction::Set),
-        )
-}
-
 /// Serves the example cluster at these ports of 127.0.0.1, without end.
 pub fn serve_nodes<R: Wait + Net>(rt: &R, alloc: Global, ports: Ports) -> Result<(), NodesFault> {
     let mut listeners = Vec::new(alloc);
@@ -54,11 +34,11 @@ pub fn serve_nodes<R: Wait + Net>(rt: &R, alloc: Global, ports: Ports) -> Result
             return Err(NodesFault::NoMemory);
         }
     }
-    let Ok(nodes) = three_nodes(alloc) else {
+    let Ok(cluster) = three_nodes(alloc) else {
         return Err(NodesFault::NoMemory);
     };
-    let cluster = LocalCluster::new(alloc, nodes)?;
-    run_nodes(rt, alloc, listeners, cluster, &table, None).map_err(NodesFault::Run)
+    let state = LocalState::new(alloc, cluster);
+    run_nodes(rt, alloc, listeners, state, &table, None).map_err(NodesFault::Run)
 }
 
 fn listen<R: Net>(rt: &R, port: u16) -> Result<TcpListener, NodesFault> {

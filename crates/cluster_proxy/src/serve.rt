@@ -1,10 +1,14 @@
 //! `serve`: the proxy before a cluster.
 
-use crate::address::Address;
-use crate::serving::Serving;
-use clap::{Arg, ArgAction, Command};
-use proxy_runs::{WireRunFault, listen, run_wire};
-use std::alloc::{AllocError, AllocGlobal, Global};
+use crate::descriptors::descriptor_limit;
+use crate::log_lines::{log_end, log_start};
+use event_log::ErrorStream;
+use node_dial::Credentials;
+use program_words::{Address, Serving};
+use proxy_runtime::WireRunFault;
+use socket_proxy::{Proxy, listen, run_wire};
+use std::alloc::AllocGlobal;
+use std::io;
 use std::net::{Net, TcpListener, TcpStream};
 use std::random::RandomSource;
 use std::sync::Wait;
@@ -15,43 +19,19 @@ use thiserror::Error;
 /// Why clients are not served.
 #[derive(Debug, Drop, Error)]
 pub enum ServeFault<'a> {
-    #[error("cannot listen on {0}")]
-    Listen(Address<'a>),
+    #[error("cannot listen on {0}: {1}")]
+    Listen(Address<'a>, io::Error),
     #[error("cannot serve clients: {0}")]
     Run(WireRunFault),
 }
 
-/// The subcommand and its words.
-pub fn serve_command<'a>(alloc: Global) -> Result<Command<'a>, AllocError> {
-    Command::new(alloc, "serve")
-        .about("Serves clients before a Redis Cluster, without end")
-        .arg(
-            word(alloc, "listen")
-                .value_name("HOST:PORT")
-                .help("Where clients come in"),
-        )?
-        .arg(
-            word(alloc, "seed")
-                .value_name("HOST:PORT")
-                .help("A node of the cluster"),
-        )?
-        .arg(
-            word(alloc, "workers")
-                .value_name("N")
-                .help("How many workers serve the clients, 1 to 64"),
-        )
-}
-
-/// An option that takes a word, which has to be there.
-fn word<'a>(alloc: Global, name: &'static str) -> Arg<'a> {
-    Arg::new(alloc, name)
-        .long(name)
-        .required(true)
-        .action(ArgAction::Set)
-}
-
-/// Runs the proxy, without end.
-pub fn serve_clients<'a, R>(rt: &R, serving: Serving<'a>) -> Result<(), ServeFault<'a>>
+/// Runs the proxy, without end, which names itself to the nodes so, and logs to this stream.
+pub fn serve_clients<'a, R>(
+    rt: &R,
+    serving: Serving<'a>,
+    credentials: Option<Credentials>,
+    log: &ErrorStream,
+) -> Result<(), ServeFault<'a>>
 where
     R: Threads
         + Wait
@@ -59,18 +39,34 @@ where
         + Clock
         + AllocGlobal
         + Net<Listener = TcpListener, Stream = TcpStream>
-        + Sync,
+        + Copy
+        + Send
+        + Sync
+        + 'static,
 {
     let Serving {
         listen: at,
         seed,
         workers,
     } = serving;
-    let Ok(listener) = listen(rt, at.host, at.port) else {
-        return Err(ServeFault::Listen(at));
+    let listener = match listen(rt, at.host, at.port) {
+        Ok(listener) => listener,
+        Err(error) => return Err(ServeFault::Listen(at, error)),
     };
-    let host = seed.host.as_bytes();
-    match run_wire(rt, rt.alloc(), listener, host, seed.port, workers, None) {
+    log_start(rt, rt.alloc(), serving, log);
+    let proxy = Proxy {
+        listener,
+        host: seed.host.as_bytes(),
+        port: seed.port,
+        workers,
+        clients: None,
+        descriptors: descriptor_limit(),
+        credentials,
+        log,
+    };
+    let ended = run_wire(rt, rt.alloc(), proxy);
+    log_end(rt, rt.alloc(), &ended, log);
+    match ended {
         Ok(()) => Ok(()),
         Err(fault) => Err(ServeFault::Run(fault)),
     }

@@ -4,7 +4,7 @@ use Rattle.std.specs.Prelude.{if◌then◌else◌, slice_get, slice_set, count_b
 use Rattle.std.proofs.lemmas.Bool.{cases_lt}
 use Rattle.std.proofs.lemmas.Bool.Decides.{nat_tests}
 use Rattle.std.proofs.lemmas.Option.{slice_get_within}
-use Rattle.command_future.specs.Progress.{WantsPost}
+use Rattle.command_future.specs.CommandModel.{WantsPost}
 use Rattle.world_laws.specs.State.{HasEnded, slot_for}
 use Rattle.world_laws.specs.World.{SameTurn}
 use Rattle.world_laws.specs.declared.state.Arrival.{Arrival}

@@ -9,9 +9,9 @@ use Rattle.std.proofs.lemmas.Option.{slice_get_within, slice_get-get_or}
 use Rattle.key_split.specs.declared.travel.Ticket.{Ticket}
 use Rattle.key_split.specs.declared.travel.Told.{Told}
 use Rattle.key_split.specs.declared.travel.Ended.{Ended}
-use Rattle.key_split.specs.Command.{Command as Part}
+use Rattle.key_split.specs.PartModel.{PartModel}
 use Rattle.key_split.specs.Same.{same_ticket, same_ticket-Decides}
-use Rattle.command_future.specs.Progress.{fresh, IsOver, MayPost, WantsPost}
+use Rattle.command_future.specs.CommandModel.{fresh, IsOver, MayPostTo, WantsPost}
 use Rattle.command_future.specs.declared.stage.Stage.{Stage}
 use Rattle.command_future.specs.declared.stage.Stage.TheVariants.{Wants, WantsAsking, Awaits, Over}
 use Rattle.world_laws.specs.State.{HasEnded, slot_for, awaiting, after_told}
@@ -59,8 +59,8 @@ awaits-not s a h = subst IsOver (sym h.1 ∙ a) tt
 awaits-no-post : (s : Stage) → s ≡ Awaits → WantsPost s → ⊥
 awaits-no-post s a h = subst WantsPost a h
 
-may-not : (s : Stage) (node : ℕ) → MayPost s node → (e : Ended) × (s ≡ Over e) → ⊥
-may-not s node m h = subst (λ (t : Stage). MayPost t node) h.1 m
+may-not : (s : Stage) (node : ℕ) → MayPostTo s node → (e : Ended) × (s ≡ Over e) → ⊥
+may-not s node m h = subst (λ (t : Stage). MayPostTo t node) h.1 m
 
 -- the tables of no commands
 pub find-start : (t : Tables) → SayNothing t → Find [] t
@@ -85,7 +85,7 @@ module _ (xs : List Arrival) (t : Tables) (f : Find xs t) where
       f
 
   -- one more comes
-  pub find-noted : (u : Tables) (ticket : Ticket) (part : Part) (moment : ℕ) → ticket.part ≡ count_for xs ticket.client → Noted ticket (turn_key_of (fresh ticket part)) (length xs) t u
+  pub find-noted : (u : Tables) (ticket : Ticket) (part : PartModel) (moment : ℕ) → ticket.part ≡ count_for xs ticket.client → Noted ticket (turn_key_of (fresh ticket part)) (length xs) t u
       → Find (xs ++ record { command = fresh ticket part; arrived = moment; answered = false } ∷ []) u
   find-noted u ticket part moment number noted =
       let c : Arrival = record { command = fresh ticket part; arrived = moment; answered = false } in
@@ -178,7 +178,7 @@ module _ (xs : List Arrival) (t : Tables) (f : Find xs t) where
     ]
 
     -- it is posted
-    pub find-posted : (y : Arrival) (node : ℕ) → y ≡ awaiting c → MayPost c.command.stage node → HasTurn xs i c → Find (slice_set xs i y) t
+    pub find-posted : (y : Arrival) (node : ℕ) → y ≡ awaiting c → MayPostTo c.command.stage node → HasTurn xs i c → Find (slice_set xs i y) t
     find-posted y node is may turn =
         let come' = come-turn.1 turn in
         subst (λ (z : Arrival). Find (slice_set xs i z) t) (sym is)

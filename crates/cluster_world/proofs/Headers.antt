@@ -3,9 +3,9 @@ use Rattle.std.proofs.Common.{◌≡◌, ◌≢◌, ℕ, zero, suc, ◌+◌, ◌
 use Rattle.std.proofs.lemmas.List.{append-nil, length-append}
 use Rattle.std.proofs.Math.Seq.{drop-nil}
 use Rattle.slot_map.specs.declared.ops.MapOp.{MapOp}
-use Rattle.slot_map.specs.Map.{Shows}
+use Rattle.slot_map.specs.Map.{MapShows}
 use Rattle.world_laws.specs.declared.event.Event.{Event}
-use Rattle.cluster_world.specs.Script.{Line, lines_of}
+use Rattle.cluster_world.specs.Script.{ScriptLine, lines_of}
 use Rattle.cluster_world.specs.Schedule.{HasHeader, IsBadAt, all_said, event_of, line_at, nodes_of, owner_of, put_before, said_first, said_with, workers_of}
 use Rattle.cluster_world.specs.Schedule.IsBadAt.{no_nodes, no_owner, no_workers}
 
@@ -19,7 +19,7 @@ drop-more zero xs = refl
 drop-more (suc n) [] = drop-nil (suc n + 1) ∙ sym (ap (drop 1) (drop-nil (suc n)) ∙ drop-nil 1)
 drop-more (suc n) (x ∷ xs) = let same : suc n + 1 ≡ suc (n + 1) = omega arith in ap (λ k. drop k (x ∷ xs)) same ∙ drop-more n xs
 
-next-drop : (lines rest : List Line) (line : Line) (more : List Line) (count : ℕ) → rest ≡ drop count lines → rest ≡ line ∷ more → more ≡ drop (count + 1) lines
+next-drop : (lines rest : List ScriptLine) (line : ScriptLine) (more : List ScriptLine) (count : ℕ) → rest ≡ drop count lines → rest ≡ line ∷ more → more ≡ drop (count + 1) lines
 next-drop lines rest line more count at is = sym (drop-more count lines ∙ ap (drop 1) (sym at ∙ is))
 
 -- Owners.
@@ -29,7 +29,7 @@ pub record Owned (lines rest : List ℕ) (count : ℕ) (old new : Table) : Type 
   pub said : List MapOp
   pub whole : said_first owner_of (lines_of lines) ≡ said ++ said_first owner_of (lines_of rest)
   pub number : count ≡ length said
-  pub shown : (ops : List MapOp) → Shows old ops → Shows new (ops ++ said)
+  pub shown : (ops : List MapOp) → MapShows old ops → MapShows new (ops ++ said)
   pub place : lines_of rest ≡ drop count (lines_of lines)
   pub within : count + length rest ≤ length lines
 
@@ -38,26 +38,26 @@ none_yet lines table = record {
   said = [];
   whole = refl;
   number = refl;
-  shown = λ ops shows. subst (Shows table) (sym (append-nil ops)) shows;
+  shown = λ ops shows. subst (MapShows table) (sym (append-nil ops)) shows;
   place = refl;
   within = omega arith;
 }
 
-pub one_owner : (lines rest more : List ℕ) (count : ℕ) (old mid new : Table) (line : Line) (op : MapOp) → Owned lines rest count old mid
-    → (lines_of rest ≡ line ∷ lines_of more) × (length more < length rest) → Some op ≡ owner_of line → ((ops : List MapOp) → Shows mid ops → Shows new (ops ++ op ∷ []))
+pub one_owner : (lines rest more : List ℕ) (count : ℕ) (old mid new : Table) (line : ScriptLine) (op : MapOp) → Owned lines rest count old mid
+    → (lines_of rest ≡ line ∷ lines_of more) × (length more < length rest) → Some op ≡ owner_of line → ((ops : List MapOp) → MapShows mid ops → MapShows new (ops ++ op ∷ []))
     → Owned lines more (count + 1) old new
 one_owner lines rest more count old mid new line op kept read is grown = record {
   said = kept.said ++ op ∷ [];
   whole = kept.whole ∙ ap (λ ls. kept.said ++ said_first owner_of ls) read.0 ∙ ap (λ o. kept.said ++ put_before o (said_first owner_of (lines_of more))) (sym is)
       ∙ sym (append_assoc kept.said (op ∷ []) (said_first owner_of (lines_of more)));
   number = (let size = length-append kept.said (op ∷ []) in let now = kept.number in omega (arith, size, now));
-  shown = λ ops shows. subst (Shows new) (append_assoc ops kept.said (op ∷ [])) (grown (ops ++ kept.said) (kept.shown ops shows));
+  shown = λ ops shows. subst (MapShows new) (append_assoc ops kept.said (op ∷ [])) (grown (ops ++ kept.said) (kept.shown ops shows));
   place = next-drop (lines_of lines) (lines_of rest) line (lines_of more) count kept.place read.0;
   within = (let fits = kept.within in let shorter = read.1 in omega (arith, fits, shorter));
 }
 
 pub record OwnersAre (lines rest : List ℕ) (count : ℕ) (old new : Table) : Type 0 where
-  pub map : (ops : List MapOp) → Shows old ops → Shows new (ops ++ said_first owner_of (lines_of lines))
+  pub map : (ops : List MapOp) → MapShows old ops → MapShows new (ops ++ said_first owner_of (lines_of lines))
   pub number : count ≡ length (said_first owner_of (lines_of lines))
   pub place : lines_of rest ≡ drop count (lines_of lines)
   pub within : count + length rest ≤ length lines
@@ -67,13 +67,13 @@ pub no_more_owners : (lines rest : List ℕ) (count : ℕ) (old new : Table) →
 no_more_owners lines rest count old new kept none =
     let all : said_first owner_of (lines_of lines) ≡ kept.said = kept.whole ∙ ap (λ ops. kept.said ++ ops) none ∙ append-nil kept.said in
     record {
-      map = λ ops shows. subst (λ said. Shows new (ops ++ said)) (sym all) (kept.shown ops shows);
+      map = λ ops shows. subst (λ said. MapShows new (ops ++ said)) (sym all) (kept.shown ops shows);
       number = kept.number ∙ ap length (sym all);
       place = kept.place;
       within = kept.within;
     }
 
-pub not_an_owner : (rest more : List ℕ) (line : Line) → lines_of rest ≡ line ∷ lines_of more → None ≡ owner_of line → said_first owner_of (lines_of rest) ≡ []
+pub not_an_owner : (rest more : List ℕ) (line : ScriptLine) → lines_of rest ≡ line ∷ lines_of more → None ≡ owner_of line → said_first owner_of (lines_of rest) ≡ []
 not_an_owner rest more line read none =
     ap (said_first owner_of) read ∙ ap (λ o. put_before o (said_first owner_of (lines_of more))) (sym none)
 
@@ -96,7 +96,7 @@ said-one : (events : List Event) (event : Event) (number : ℕ) (more : Result (
 said-one events event number (Ok more) = ap Ok (sym (append_assoc events (event ∷ []) more))
 said-one events event number (Err bad) = refl
 
-pub one_event : (workers number : ℕ) (whole : Result (List Event) ℕ) (rest more : List ℕ) (line : Line) (event : Event) (events grown : List Event)
+pub one_event : (workers number : ℕ) (whole : Result (List Event) ℕ) (rest more : List ℕ) (line : ScriptLine) (event : Event) (events grown : List Event)
     → whole ≡ continued events (all_said (event_of workers) number (lines_of rest)) → lines_of rest ≡ line ∷ lines_of more → Some event ≡ event_of workers line
     → grown ≡ events ++ event ∷ [] → whole ≡ continued grown (all_said (event_of workers) (number + 1) (lines_of more))
 one_event workers number whole rest more line event events grown kept read is added =
@@ -104,7 +104,7 @@ one_event workers number whole rest more line event events grown kept read is ad
     kept ∙ ap (λ ls. continued events (all_said (event_of workers) number ls)) read ∙ ap (λ o. continued events (said_with o number further)) (sym is)
     ∙ said-one events event number further ∙ ap (λ es. continued es further) (sym added)
 
-pub no_event_here : (workers number : ℕ) (whole : Result (List Event) ℕ) (rest more : List ℕ) (line : Line) (events : List Event)
+pub no_event_here : (workers number : ℕ) (whole : Result (List Event) ℕ) (rest more : List ℕ) (line : ScriptLine) (events : List Event)
     → whole ≡ continued events (all_said (event_of workers) number (lines_of rest)) → lines_of rest ≡ line ∷ lines_of more → None ≡ event_of workers line → whole ≡ Err number
 no_event_here workers number whole rest more line events kept read is =
     let further = all_said (event_of workers) (number + 1) (lines_of more) in
@@ -116,7 +116,7 @@ no_more_events workers number whole rest events kept none =
     kept ∙ ap (λ ls. continued events (all_said (event_of workers) number ls)) none ∙ ap Ok (append-nil events)
 
 -- what is no line of words says no event
-pub no_words_no_event : (workers : ℕ) (line : Line) → None ≡ line → None ≡ event_of workers line
+pub no_words_no_event : (workers : ℕ) (line : ScriptLine) → None ≡ line → None ≡ event_of workers line
 unfolding event_of
 no_words_no_event workers None none = refl
 no_words_no_event workers (Some words) none = absurd (cc)
@@ -131,28 +131,28 @@ workers-none : workers_of None ≡ None
 unfolding workers_of
 workers-none = refl
 
-pub no_first : (lines : List Line) → lines ≡ [] → IsBadAt lines 1
+pub no_first : (lines : List ScriptLine) → lines ≡ [] → IsBadAt lines 1
 no_first lines none = no_nodes lines (ap (λ ls. nodes_of (line_at ls 0)) none ∙ nodes-none)
 
-pub bad_first : (lines more : List Line) (line : Line) → lines ≡ line ∷ more → None ≡ nodes_of line → IsBadAt lines 1
+pub bad_first : (lines more : List ScriptLine) (line : ScriptLine) → lines ≡ line ∷ more → None ≡ nodes_of line → IsBadAt lines 1
 bad_first lines more line read none = no_nodes lines (ap (λ ls. nodes_of (line_at ls 0)) read ∙ sym none)
 
-pub no_second : (lines more : List Line) (line : Line) (nodes : ℕ) → lines ≡ line ∷ more → Some nodes ≡ nodes_of line → more ≡ [] → IsBadAt lines 2
+pub no_second : (lines more : List ScriptLine) (line : ScriptLine) (nodes : ℕ) → lines ≡ line ∷ more → Some nodes ≡ nodes_of line → more ≡ [] → IsBadAt lines 2
 no_second lines more line nodes read says none =
     no_workers lines nodes (ap (λ ls. nodes_of (line_at ls 0)) read ∙ sym says) (ap (λ ls. workers_of (line_at ls 1)) (read ∙ ap (λ ls. line ∷ ls) none) ∙ workers-none)
 
-pub bad_second : (lines more further : List Line) (line next : Line) (nodes : ℕ) → lines ≡ line ∷ more → Some nodes ≡ nodes_of line → more ≡ next ∷ further
+pub bad_second : (lines more further : List ScriptLine) (line next : ScriptLine) (nodes : ℕ) → lines ≡ line ∷ more → Some nodes ≡ nodes_of line → more ≡ next ∷ further
     → None ≡ workers_of next → IsBadAt lines 2
 bad_second lines more further line next nodes read says then none =
     no_workers lines nodes (ap (λ ls. nodes_of (line_at ls 0)) read ∙ sym says) (ap (λ ls. workers_of (line_at ls 1)) (read ∙ ap (λ ls. line ∷ ls) then) ∙ sym none)
 
 -- the lines begin with two that say how many nodes and workers there are
-pub record BeginsWith (lines further : List Line) (nodes workers : ℕ) : Type 0 where
+pub record BeginsWith (lines further : List ScriptLine) (nodes workers : ℕ) : Type 0 where
   pub first : nodes_of (line_at lines 0) ≡ Some nodes
   pub second : workers_of (line_at lines 1) ≡ Some workers
   pub behind : drop 2 lines ≡ further
 
-pub two_lines : (lines more further : List Line) (line next : Line) (nodes workers : ℕ) → lines ≡ line ∷ more → Some nodes ≡ nodes_of line → more ≡ next ∷ further
+pub two_lines : (lines more further : List ScriptLine) (line next : ScriptLine) (nodes workers : ℕ) → lines ≡ line ∷ more → Some nodes ≡ nodes_of line → more ≡ next ∷ further
     → Some workers ≡ workers_of next → BeginsWith lines further nodes workers
 two_lines lines more further line next nodes workers read says then says' =
     let both = read ∙ ap (λ ls. line ∷ ls) then in
@@ -165,7 +165,7 @@ nothing_said (op ∷ ops) none = absurd (omega (arith, none))
 something_said : (ops : List MapOp) → length ops ≢ 0 → ops ≢ []
 something_said ops some none = some (ap length none)
 
-pub no_third : (lines further : List Line) (nodes workers count : ℕ) → BeginsWith lines further nodes workers → count ≡ length (said_first owner_of further) → count ≡ 0
+pub no_third : (lines further : List ScriptLine) (nodes workers count : ℕ) → BeginsWith lines further nodes workers → count ≡ length (said_first owner_of further) → count ≡ 0
     → IsBadAt lines 3
 no_third lines further nodes workers count begun size none =
     no_owner lines nodes workers begun.first begun.second (ap (said_first owner_of) begun.behind ∙ nothing_said (said_first owner_of further) (sym none ∙ size))
@@ -178,9 +178,9 @@ drop-two (suc n) xs =
     ap (λ k. drop k xs) same ∙ drop-more (n + 2) xs ∙ ap (drop 1) (drop-two n xs) ∙ sym (ap (λ k. drop k (drop 2 xs)) one ∙ drop-more n (drop 2 xs))
 
 -- a whole header
-pub whole_header : (lines : List Line) (rest : List ℕ) (further : List Line) (nodes workers count : ℕ) (table : Table) → BeginsWith lines further nodes workers
-    → Shows table (said_first owner_of further) → count ≡ length (said_first owner_of further) → lines_of rest ≡ drop count further → count ≢ 0
-    → (owners : List MapOp) × HasHeader lines nodes workers owners × Shows table owners × (count + 2 ≡ length owners + 2) × (lines_of rest ≡ drop (length owners + 2) lines)
+pub whole_header : (lines : List ScriptLine) (rest : List ℕ) (further : List ScriptLine) (nodes workers count : ℕ) (table : Table) → BeginsWith lines further nodes workers
+    → MapShows table (said_first owner_of further) → count ≡ length (said_first owner_of further) → lines_of rest ≡ drop count further → count ≢ 0
+    → (owners : List MapOp) × HasHeader lines nodes workers owners × MapShows table owners × (count + 2 ≡ length owners + 2) × (lines_of rest ≡ drop (length owners + 2) lines)
 whole_header lines rest further nodes workers count table begun shown size behind some =
     let owners = said_first owner_of further in (
       owners,

@@ -1,3 +1,4 @@
+pub mod AsRuns
 pub mod Asked
 pub mod Linking
 pub mod Lookups
@@ -9,7 +10,7 @@ pub mod Taking
 pub mod Pieces
 pub mod Numbers
 pub mod Narrow
-pub mod Tickets
+pub mod TicketWords
 pub mod Headers
 pub mod Inputs
 pub mod Texts

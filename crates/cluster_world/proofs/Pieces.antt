@@ -7,7 +7,7 @@ use Rattle.std.proofs.lemmas.List.Folds.{list_all-append}
 use Rattle.std.proofs.lemmas.List.Splits.{slice_split_first, slice_split_none, length-slice_split}
 use Rattle.std.proofs.lemmas.List.Sums.{fails_before_first}
 use borrow.Author.Tests.{ltb-true, ltb-false}
-use Rattle.cluster_world.specs.Script.{Line, Words, is_lf, is_space, is_word, line_of, lines_in, lines_of}
+use Rattle.cluster_world.specs.Script.{ScriptLine, Words, is_lf, is_space, is_word, line_of, lines_in, lines_of}
 
 pub and-false : (b : Bool) → (b && false) ≡ false
 and-false true = refl
@@ -92,7 +92,7 @@ lines-cons : (text : List ℕ) (pieces : List (List ℕ)) → 0 < length pieces 
 lines-cons text [] some = absurd (omega (arith, some))
 lines-cons text (piece ∷ pieces) some = refl
 
-pub line_off : (script text rest : List ℕ) (line : Line) → position_or_len is_lf script < length script → text ≡ before_first is_lf script → rest ≡ after_first is_lf script
+pub line_off : (script text rest : List ℕ) (line : ScriptLine) → position_or_len is_lf script < length script → text ≡ before_first is_lf script → rest ≡ after_first is_lf script
     → line ≡ line_of text → (lines_of script ≡ line ∷ lines_of rest) × (length rest < length script)
 unfolding lines_of
 line_off script text rest line lt front behind is =

@@ -1,14 +1,14 @@
 -- Runs of `simulate`, put together.
 use Rattle.std.proofs.Common.{◌≡◌, ℕ, ◌+◌, ◌-◌, List, ◌++◌, length, drop, Result, Ok, Err, sym, ap, ◌∙◌, subst, arith}
 use Rattle.slot_map.specs.declared.ops.MapOp.{MapOp}
-use Rattle.world_laws.specs.State.{World}
+use Rattle.world_laws.specs.State.{WorldModel}
 use Rattle.world_laws.specs.declared.event.Event.{Event}
 use Rattle.cluster_world.specs.declared.script_fault.ScriptFault.{ScriptFault}
 use Rattle.cluster_world.specs.declared.script_fault.ScriptFault.TheVariants as script
 use Rattle.cluster_world.specs.declared.header.Header.{Header}
 use Rattle.cluster_world.specs.declared.input.Input.{Input}
 use Rattle.cluster_world.specs.declared.input.Input.TheVariants.{Whole, TooLong, Failed}
-use Rattle.cluster_world.specs.declared.simulate.Outcome.{Outcome}
+use Rattle.cluster_world.specs.declared.outcome.Outcome.{Outcome}
 use Rattle.cluster_world.specs.declared.fault.RunFault.{RunFault}
 use Rattle.cluster_world.specs.Steps.{Runs}
 use Rattle.cluster_world.specs.Outcomes.{Opens, Reports, WritesInput, WritesScript}
@@ -51,7 +51,7 @@ bad_owned input header number read opens =
     let at : number ≡ length owners + 3 = let n = opens.0 in let m = read.3 in omega (arith, n, m) in
     subst (IsBadAt (lines_of input)) (sym at) (bad_owners (lines_of input) header.nodes header.workers owners read.1 (opens.1 owners read.2))
 
-pub bad_event : (input : List ℕ) (header : Header) (w : World) (number : ℕ) → ReadsHeader input (Ok header) → Opens header (Ok w) → said_behind header ≡ Err number
+pub bad_event : (input : List ℕ) (header : Header) (w : WorldModel) (number : ℕ) → ReadsHeader input (Ok header) → Opens header (Ok w) → said_behind header ≡ Err number
     → IsBadAt (lines_of input) number
 bad_event input header w number read opens said =
     let owners = read.0 in
@@ -61,7 +61,7 @@ bad_event input header w number read opens said =
 abbrev asked : Header → List MapOp → List Event → Schedule
 asked header owners events = record { nodes = header.nodes; workers = header.workers; owners = owners; events = events }
 
-says : (input : List ℕ) (header : Header) (w : World) (events : List Event) (read : ReadsHeader input (Ok header)) → Opens header (Ok w) → said_behind header ≡ Ok events
+says : (input : List ℕ) (header : Header) (w : WorldModel) (events : List Event) (read : ReadsHeader input (Ok header)) → Opens header (Ok w) → said_behind header ≡ Ok events
     → Says (lines_of input) (asked header (read.0) events)
 says input header w events read opens said = record {
   header = read.1;
@@ -69,7 +69,7 @@ says input header w events read opens said = record {
   events = behind input header (read.0) read.3 read.4 ∙ said;
 }
 
-pub played : {U : Type 0} (input : List ℕ) (header : Header) (first last : World) (events : List Event) (result : Result U RunFault) (outcome : Outcome)
+pub played : {U : Type 0} (input : List ℕ) (header : Header) (first last : WorldModel) (events : List Event) (result : Result U RunFault) (outcome : Outcome)
     → ReadsHeader input (Ok header) → Opens header (Ok first) → said_behind header ≡ Ok events → Runs first events result last → Reports last result outcome
     → Writes input outcome.status outcome.text.items
 played input header first last events (Ok u) outcome read opens said run reports =
@@ -92,7 +92,7 @@ pub not_opened : (input : List ℕ) (header : Header) (fault : ScriptFault) (res
 not_opened input header (script.BadLine number) result read opens is = subst (WritesScript input) (sym is) (bad_owned input header number read opens)
 not_opened input header script.NoMemory result read opens is = subst (WritesScript input) (sym is) tt
 
-pub not_read : (input : List ℕ) (header : Header) (w : World) (fault : ScriptFault) (result : Result Outcome ScriptFault) → ReadsHeader input (Ok header) → Opens header (Ok w)
+pub not_read : (input : List ℕ) (header : Header) (w : WorldModel) (fault : ScriptFault) (result : Result Outcome ScriptFault) → ReadsHeader input (Ok header) → Opens header (Ok w)
     → ReadsEvents (said_behind header) (Err fault) → result ≡ Err fault → WritesScript input result
 not_read input header w (script.BadLine number) result read opens said is = subst (WritesScript input) (sym is) (bad_event input header w number read opens said)
 not_read input header w script.NoMemory result read opens said is = subst (WritesScript input) (sym is) tt

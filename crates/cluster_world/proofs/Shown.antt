@@ -8,19 +8,22 @@ use Rattle.resp_wire.specs.Data.{Data, items_of, list_of}
 use Rattle.resp_wire.specs.Seen.{data_of}
 use Rattle.resp_wire.specs.declared.value.Value.{Value}
 use Rattle.resp_wire.specs.declared.value.Value.TheVariants as value
-use Rattle.key_split.specs.Command.{Command as Part}
+use Rattle.key_split.specs.PartModel.{PartModel}
 use Rattle.key_split.specs.declared.travel.Ticket.{Ticket}
 use Rattle.key_split.specs.declared.travel.Told.TheVariants.{Reply}
-use Rattle.node_model.specs.History.{Entry as Executed}
+use Rattle.node_model.specs.History.{EntryModel}
 use Rattle.world_laws.specs.State.{Link, answered_of, replied}
-use Rattle.world_laws.specs.declared.state.Request.{Request}
-use Rattle.world_laws.specs.declared.state.Back.{Back}
-use Rattle.world_laws.specs.declared.state.Back.TheVariants.{To}
-use Rattle.world_laws.specs.declared.state.Back.TheVariants as back
+use Rattle.world_laws.specs.declared.state.LinkRequest.{LinkRequest}
+use Rattle.cluster_world.specs.Alone.{as_request}
+use Rattle.cluster_world.specs.declared.alone.RequestAlone.{RequestAlone}
+use Rattle.cluster_world.proofs.AsRuns.{in-alone}
+use Rattle.world_laws.specs.declared.state.LinkReply.{LinkReply}
+use Rattle.world_laws.specs.declared.state.LinkReply.TheVariants.{To}
+use Rattle.world_laws.specs.declared.state.LinkReply.TheVariants as back
 use Rattle.world_laws.specs.Places.{asks, in_backs}
 use Rattle.world_laws.specs.Places.Item.{Comes}
-use Rattle.cluster_world.specs.Kept.{Line, value_of, reply_at, shown_back, shown, IsBelow, KeepsBelow, kept_for, in_kept, keeps, refusal_in, Notes}
-use Rattle.cluster_world.specs.Links.{Linked, linked, with_link, There, NoneThere, FirstIs, Begins, Fetches, IsOpen}
+use Rattle.cluster_world.specs.Kept.{LinkModel, value_of, reply_at, shown_back, shown, IsBelow, KeepsBelow, kept_for, in_kept, keeps, refusal_in, Notes}
+use Rattle.cluster_world.specs.Links.{LinksModel, linked, with_link, There, NoneThere, FirstIs, Begins, Fetches, IsOpen}
 use Rattle.cluster_world.specs.Rests.{LineRests, LinkRests}
 use Rattle.cluster_world.specs.declared.link.Kept.{Kept}
 use Rattle.cluster_world.specs.declared.link.Kept.TheVariants.{Welcome, Refusal, Entry}
@@ -43,31 +46,31 @@ valued value.NullArray = refl
 
 -- the reply at a place
 
-reply-last : (h : List Executed) (e : Executed) (place : ℕ) → place ≡ length h → reply_at (h ++ e ∷ []) place ≡ e.reply
+reply-last : (h : List EntryModel) (e : EntryModel) (place : ℕ) → place ≡ length h → reply_at (h ++ e ∷ []) place ≡ e.reply
 reply-last [] e zero is = refl
 reply-last [] e (suc p) is = absurd (omega (arith, is))
 reply-last (x ∷ h) e zero is = absurd (omega (arith, is))
 reply-last (x ∷ h) e (suc p) is = reply-last h e p (omega (arith, is))
 
-reply-earlier : (h more : List Executed) (place : ℕ) → place < length h → reply_at (h ++ more) place ≡ reply_at h place
+reply-earlier : (h more : List EntryModel) (place : ℕ) → place < length h → reply_at (h ++ more) place ≡ reply_at h place
 reply-earlier [] more place lt = absurd (omega (arith, lt))
 reply-earlier (x ∷ h) more zero lt = refl
 reply-earlier (x ∷ h) more (suc p) lt = reply-earlier h more p (omega (arith, lt))
 
-pub reply-is : (h : List Executed) (place : ℕ) (e : Executed) → slice_get h place ≡ Some e → reply_at h place ≡ e.reply
+pub reply-is : (h : List EntryModel) (place : ℕ) (e : EntryModel) → slice_get h place ≡ Some e → reply_at h place ≡ e.reply
 reply-is [] place e is = absurd (cc)
-reply-is (x ∷ h) zero e is = let same : x ≡ e = cc in ap (λ (y : Executed). y.reply) same
+reply-is (x ∷ h) zero e is = let same : x ≡ e = cc in ap (λ (y : EntryModel). y.reply) same
 reply-is (x ∷ h) (suc p) e is = reply-is h p e is
 
-pub shows-reply : (h : List Executed) (ticket : Ticket) (place : ℕ) (e : Executed) (reply : Value) → slice_get h place ≡ Some e → data_of reply ≡ e.reply
+pub shows-reply : (h : List EntryModel) (ticket : Ticket) (place : ℕ) (e : EntryModel) (reply : Value) → slice_get h place ≡ Some e → data_of reply ≡ e.reply
     → shown_back h (Entry ticket place) ≡ To ticket (Reply reply)
 shows-reply h ticket place e reply at same = ap (λ v. To ticket (Reply v)) (ap value_of (reply-is h place e at ∙ sym same) ∙ valued reply)
 
 -- a reply that is noted
-pub notes-reply : (h : List Executed) (ticket : Ticket) (part : Part) (moment : ℕ) (reply : Value) (place : ℕ) → place ≡ length h
+pub notes-reply : (h : List EntryModel) (ticket : Ticket) (part : PartModel) (moment : ℕ) (reply : Value) (place : ℕ) → place ≡ length h
     → Notes h ticket part moment (Reply reply) (h ++ record { ticket = ticket; part = part; reply = data_of reply; moment = moment } ∷ []) (Entry ticket place)
 notes-reply h ticket part moment reply place is =
-    let e : Executed = record { ticket = ticket; part = part; reply = data_of reply; moment = moment } in
+    let e : EntryModel = record { ticket = ticket; part = part; reply = data_of reply; moment = moment } in
     record {
       history = refl;
       shows = ap (λ d. To ticket (Reply (value_of d))) (reply-last h e place is) ∙ ap (λ v. To ticket (Reply v)) (valued reply);
@@ -78,46 +81,46 @@ notes-reply h ticket part moment reply place is =
 
 -- lists of links
 
-pub at-shown : (ls : List Line) (h : List Executed) (at : ℕ) (l : Line) → slice_get ls at ≡ Some l → slice_get (map (shown h) ls) at ≡ Some (shown h l)
+pub at-shown : (ls : List LinkModel) (h : List EntryModel) (at : ℕ) (l : LinkModel) → slice_get ls at ≡ Some l → slice_get (map (shown h) ls) at ≡ Some (shown h l)
 at-shown [] h at l e = absurd (cc)
 at-shown (x ∷ ls) h zero l e = let same : x ≡ l = cc in ap (λ y. Some (shown h y)) same
 at-shown (x ∷ ls) h (suc at) l e = at-shown ls h at l e
 
-pub set-shown : (ls : List Line) (h : List Executed) (at : ℕ) (l : Line) → map (shown h) (slice_set ls at l) ≡ slice_set (map (shown h) ls) at (shown h l)
+pub set-shown : (ls : List LinkModel) (h : List EntryModel) (at : ℕ) (l : LinkModel) → map (shown h) (slice_set ls at l) ≡ slice_set (map (shown h) ls) at (shown h l)
 set-shown [] h at l = refl
 set-shown (x ∷ ls) h zero l = refl
 set-shown (x ∷ ls) h (suc at) l = ap (λ ys. shown h x ∷ ys) (set-shown ls h at l)
 
-pub shown-length : (ls : List Line) (h : List Executed) → length (map (shown h) ls) ≡ length ls
+pub shown-length : (ls : List LinkModel) (h : List EntryModel) → length (map (shown h) ls) ≡ length ls
 shown-length [] h = refl
 shown-length (x ∷ ls) h = omega (arith, shown-length ls h)
 
-pub set-linked : (ls : List Line) (h : List Executed) (at : ℕ) (l : Line) → linked (slice_set ls at l) h ≡ with_link (linked ls h) at (shown h l)
+pub set-linked : (ls : List LinkModel) (h : List EntryModel) (at : ℕ) (l : LinkModel) → linked (slice_set ls at l) h ≡ with_link (linked ls h) at (shown h l)
 set-linked ls h at l = ap (λ xs. record { links = xs; history = h }) (set-shown ls h at l)
 
 -- a link that shows the same
-pub set-same : (ls : List Line) (h : List Executed) (at : ℕ) (l new : Line) → slice_get ls at ≡ Some l → shown h new ≡ shown h l → linked (slice_set ls at new) h ≡ linked ls h
+pub set-same : (ls : List LinkModel) (h : List EntryModel) (at : ℕ) (l new : LinkModel) → slice_get ls at ≡ Some l → shown h new ≡ shown h l → linked (slice_set ls at new) h ≡ linked ls h
 set-same ls h at l new e same =
     ap (λ xs. record { links = xs; history = h })
     (set-shown ls h at new ∙ ap (slice_set (map (shown h) ls) at) same ∙ set-itself (map (shown h) ls) at (shown h l) (at-shown ls h at l e))
 
-module _ (ls : List Line) (h : List Executed) (k : Linked) (is : linked ls h ≡ k) (at : ℕ) (l : Line) (e : slice_get ls at ≡ Some l) where
-  pub there : (P : Linked → Link → Type 0) → P (linked ls h) (shown h l) → There k at (P k)
-  there P p = subst (λ (x : Linked). There x at (P x)) is (shown h l, at-shown ls h at l e, p)
+module _ (ls : List LinkModel) (h : List EntryModel) (k : LinksModel) (is : linked ls h ≡ k) (at : ℕ) (l : LinkModel) (e : slice_get ls at ≡ Some l) where
+  pub there : (P : LinksModel → Link → Type 0) → P (linked ls h) (shown h l) → There k at (P k)
+  there P p = subst (λ (x : LinksModel). There x at (P x)) is (shown h l, at-shown ls h at l e, p)
 
   pub none-there : (P : Link → Type 0) → (P (shown h l) → ⊥) → NoneThere k at P
-  none-there P never = subst (λ (x : Linked). NoneThere x at P) is (λ x ex p. never (subst P (same-item (map (shown h) ls) at x (shown h l) ex (at-shown ls h at l e)) p))
+  none-there P never = subst (λ (x : LinksModel). NoneThere x at P) is (λ x ex p. never (subst P (same-item (map (shown h) ls) at x (shown h l) ex (at-shown ls h at l e)) p))
 
   pub here : (P : Link → Type 0) → There k at P → P (shown h l)
   here P t =
-      let u : There (linked ls h) at P = subst (λ (x : Linked). There x at P) (sym is) t in
+      let u : There (linked ls h) at P = subst (λ (x : LinksModel). There x at P) (sym is) t in
       subst P (same-item (map (shown h) ls) at u.0 (shown h l) u.1 (at-shown ls h at l e)) u.2
 
-  module _ (new : Line) (taken : new ≡ record l { backs = new.backs; room = new.room }) (open' : l.is_open ≡ true) where
-    pub fetched : (b : Kept) (shows : Back) → shown_back h b ≡ shows → l.backs ≡ b ∷ new.backs
-        → There k at (λ x. IsOpen x × ((rest : List Back) × (x.backs ≡ shows ∷ rest) × (linked (slice_set ls at new) h ≡ with_link k at (record x { backs = rest }))))
+  module _ (new : LinkModel) (taken : new ≡ record l { backs = new.backs; room = new.room }) (open' : l.is_open ≡ true) where
+    pub fetched : (b : Kept) (shows : LinkReply) → shown_back h b ≡ shows → l.backs ≡ b ∷ new.backs
+        → There k at (λ x. IsOpen x × ((rest : List LinkReply) × (x.backs ≡ shows ∷ rest) × (linked (slice_set ls at new) h ≡ with_link k at (record x { backs = rest }))))
     fetched b shows same first =
-        there (λ k x. IsOpen x × ((rest : List Back) × (x.backs ≡ shows ∷ rest) × (linked (slice_set ls at new) h ≡ with_link k at (record x { backs = rest }))))
+        there (λ k x. IsOpen x × ((rest : List LinkReply) × (x.backs ≡ shows ∷ rest) × (linked (slice_set ls at new) h ≡ with_link k at (record x { backs = rest }))))
         (open', (map (shown_back h) new.backs, ap (map (shown_back h)) first ∙ (λ i. same i ∷ map (shown_back h) new.backs), set-linked ls h at new ∙ ap (λ x. with_link (linked ls h) at (shown h x)) taken))
 
     pub fetched-other : (b : Kept) → l.backs ≡ b ∷ new.backs → ((ticket : Ticket) (place : ℕ) (rest : List Kept) → l.backs ≡ Entry ticket place ∷ rest → ⊥) → Fetches k at (Ok (refusal_in b)) (linked (slice_set ls at new) h)
@@ -125,49 +128,49 @@ module _ (ls : List Line) (h : List Executed) (k : Linked) (is : linked ls h ≡
     fetched-other (Refusal ticket told) first never = fetched (Refusal ticket told) (To ticket told) refl first
     fetched-other (Entry ticket place) first never = absurd (never ticket place new.backs first)
 
-  pub first-request : (r : Option Request) → MatchOption r (l.requests ≡ []) (λ request. (rest : List Request) × (l.requests ≡ request ∷ rest)) → FirstIs k at r
-  first-request None m = none-there (λ (x : Link). x.requests ≢ []) (λ p. p m)
-  first-request (Some request) m = there (λ x. Begins request) m
+  pub first-request : (r : Option RequestAlone) → MatchOption r (l.requests ≡ []) (λ request. (rest : List RequestAlone) × (l.requests ≡ request ∷ rest)) → FirstIs k at r
+  first-request None m = none-there (λ (x : Link). x.requests ≢ []) (λ p. p (ap (map as_request) m))
+  first-request (Some request) m = there (λ x. Begins request) (map as_request m.0, ap (map as_request) m.1)
 
 -- where a link is there
-pub there-within : (ls : List Line) (h : List Executed) (k : Linked) (at : ℕ) (P : Link → Type 0) → linked ls h ≡ k → There k at P → at < length ls
+pub there-within : (ls : List LinkModel) (h : List EntryModel) (k : LinksModel) (at : ℕ) (P : Link → Type 0) → linked ls h ≡ k → There k at P → at < length ls
 there-within ls h k at P is t =
-    let u : There (linked ls h) at P = subst (λ (x : Linked). There x at P) (sym is) t in
+    let u : There (linked ls h) at P = subst (λ (x : LinksModel). There x at P) (sym is) t in
     omega (arith, slice_get_within (map (shown h) ls) at u.0 u.1, shown-length ls h)
 
 -- whose replies they are, and what they tell
 
-pub answered-shown : (h : List Executed) (ks : List Kept) → answered_of (map (shown_back h) ks) ≡ kept_for ks
+pub answered-shown : (h : List EntryModel) (ks : List Kept) → answered_of (map (shown_back h) ks) ≡ kept_for ks
 answered-shown h [] = refl
 answered-shown h (Welcome ∷ ks) = answered-shown h ks
 answered-shown h (Refusal t told ∷ ks) = ap (λ ts. t ∷ ts) (answered-shown h ks)
 answered-shown h (Entry t place ∷ ks) = ap (λ ts. t ∷ ts) (answered-shown h ks)
 
-asks-shown : (h : List Executed) (node : ℕ) (ticket : Ticket) (ks : List Kept) → in_backs (asks node ticket) (map (shown_back h) ks) ≡ in_kept (asks node ticket) ks
+asks-shown : (h : List EntryModel) (node : ℕ) (ticket : Ticket) (ks : List Kept) → in_backs (asks node ticket) (map (shown_back h) ks) ≡ in_kept (asks node ticket) ks
 asks-shown h node ticket [] = refl
 asks-shown h node ticket (Welcome ∷ ks) = asks-shown h node ticket ks
 asks-shown h node ticket (Refusal t told ∷ ks) = ap (λ n. asks node ticket (Comes t told) + n) (asks-shown h node ticket ks)
 asks-shown h node ticket (Entry t place ∷ ks) = omega (arith, asks-shown h node ticket ks)
 
-rests-shown : (h : List Executed) (l : Line) (node : ℕ) (ticket : Ticket) → LineRests l node ticket → LinkRests (shown h l) node ticket
+rests-shown : (h : List EntryModel) (l : LinkModel) (node : ℕ) (ticket : Ticket) → LineRests l node ticket → LinkRests (shown h l) node ticket
 unfolding LineRests LinkRests
-rests-shown h l node ticket r = (r.0, asks-shown h node ticket l.backs ∙ r.1)
+rests-shown h l node ticket r = (in-alone (asks node ticket) l.is_open l.node l.asking l.requests ∙ r.0, asks-shown h node ticket l.backs ∙ r.1)
 
-shown-rests : (h : List Executed) (l : Line) (node : ℕ) (ticket : Ticket) → LinkRests (shown h l) node ticket → LineRests l node ticket
+shown-rests : (h : List EntryModel) (l : LinkModel) (node : ℕ) (ticket : Ticket) → LinkRests (shown h l) node ticket → LineRests l node ticket
 unfolding LineRests LinkRests
-shown-rests h l node ticket r = (r.0, sym (asks-shown h node ticket l.backs) ∙ r.1)
+shown-rests h l node ticket r = (sym (in-alone (asks node ticket) l.is_open l.node l.asking l.requests) ∙ r.0, sym (asks-shown h node ticket l.backs) ∙ r.1)
 
-pub all-rest : (ls : List Line) (h : List Executed) (node : ℕ) (ticket : Ticket) → All (λ l. LineRests l node ticket) ls → All (λ l. LinkRests l node ticket) (map (shown h) ls)
+pub all-rest : (ls : List LinkModel) (h : List EntryModel) (node : ℕ) (ticket : Ticket) → All (λ l. LineRests l node ticket) ls → All (λ l. LinkRests l node ticket) (map (shown h) ls)
 all-rest ls h node ticket all = All-map (λ l. LinkRests l node ticket) (shown h) ls (λ k d lt. rests-shown h _ node ticket (all k d lt))
 
-pub rest-all : (ls : List Line) (h : List Executed) (node : ℕ) (ticket : Ticket) → All (λ l. LinkRests l node ticket) (map (shown h) ls) → All (λ l. LineRests l node ticket) ls
+pub rest-all : (ls : List LinkModel) (h : List EntryModel) (node : ℕ) (ticket : Ticket) → All (λ l. LinkRests l node ticket) (map (shown h) ls) → All (λ l. LineRests l node ticket) ls
 rest-all [] h node ticket all k d lt = absurd (omega (arith, lt))
 rest-all (x ∷ ls) h node ticket all zero d lt = shown-rests h x node ticket (all zero (shown h d) (omega arith))
 rest-all (x ∷ ls) h node ticket all (suc k) d lt = rest-all ls h node ticket (λ j e l. all (suc j) e (omega (arith, l))) k d (omega (arith, lt))
 
 -- what is kept, where the history grows
 
-module _ (h h' : List Executed) (same : (place : ℕ) → place < length h → reply_at h' place ≡ reply_at h place) where
+module _ (h h' : List EntryModel) (same : (place : ℕ) → place < length h → reply_at h' place ≡ reply_at h place) where
   back-same : (b : Kept) → IsBelow (length h) b → shown_back h' b ≡ shown_back h b
   back-same Welcome p = refl
   back-same (Refusal t told) p = refl
@@ -177,24 +180,24 @@ module _ (h h' : List Executed) (same : (place : ℕ) → place < length h → r
   backs-same [] p = refl
   backs-same (b ∷ bs) p = λ i. back-same b (p 0 b (omega arith)) i ∷ backs-same bs (λ k d lt. p (suc k) d (omega (arith, lt))) i
 
-  pub line-same : (l : Line) → KeepsBelow (length h) l → shown h' l ≡ shown h l
-  line-same l p = ap (λ bs. record { node = l.node; is_open = l.is_open; requests = l.requests; backs = bs; asking = l.asking }) (backs-same l.backs p)
+  pub line-same : (l : LinkModel) → KeepsBelow (length h) l → shown h' l ≡ shown h l
+  line-same l p = ap (λ bs. record { node = l.node; is_open = l.is_open; requests = map as_request l.requests; backs = bs; asking = l.asking }) (backs-same l.backs p)
 
-  pub lines-same : (ls : List Line) → All (KeepsBelow (length h)) ls → map (shown h') ls ≡ map (shown h) ls
+  pub lines-same : (ls : List LinkModel) → All (KeepsBelow (length h)) ls → map (shown h') ls ≡ map (shown h) ls
   lines-same [] p = refl
   lines-same (l ∷ ls) p = λ i. line-same l (p 0 l (omega arith)) i ∷ lines-same ls (λ k d lt. p (suc k) d (omega (arith, lt))) i
 
 -- an answer is kept, where the link is open
-pub keeps-shown : (h : List Executed) (l : Line) (b : Kept) → shown h (keeps l b) ≡ replied (shown h l) (shown_back h b)
+pub keeps-shown : (h : List EntryModel) (l : LinkModel) (b : Kept) → shown h (keeps l b) ≡ replied (shown h l) (shown_back h b)
 keeps-shown h l b = go l.is_open
   where
     go : (o : Bool) → shown h (keeps (record l { is_open = o }) b) ≡ replied (shown h (record l { is_open = o })) (shown_back h b)
-    go true = ap (λ bs. record { node = l.node; is_open = true; requests = l.requests; backs = bs; asking = l.asking }) (map_push (shown_back h) l.backs b)
+    go true = ap (λ bs. record { node = l.node; is_open = true; requests = map as_request l.requests; backs = bs; asking = l.asking }) (map_push (shown_back h) l.backs b)
     go false = refl
 
 -- the lines of a list, one of which is written
 
-pub line-at : (n : ℕ) (ls : List Line) (at : ℕ) (l : Line) → All (KeepsBelow n) ls → slice_get ls at ≡ Some l → KeepsBelow n l
+pub line-at : (n : ℕ) (ls : List LinkModel) (at : ℕ) (l : LinkModel) → All (KeepsBelow n) ls → slice_get ls at ≡ Some l → KeepsBelow n l
 line-at n ls at l all e = subst (KeepsBelow n) (get_or_from_slice_get ls at l l e) (all at l (slice_get_within ls at l e))
 
 pub rest-below : (n : ℕ) (b : Kept) (bs rest : List Kept) → bs ≡ b ∷ rest → All (IsBelow n) bs → All (IsBelow n) rest
@@ -204,7 +207,7 @@ rest-below n b bs rest e all k d lt =
 pub first-below : (n : ℕ) (b : Kept) (bs rest : List Kept) → bs ≡ b ∷ rest → All (IsBelow n) bs → IsBelow n b
 first-below n b bs rest e all = let more : All (IsBelow n) (b ∷ rest) = subst (All (IsBelow n)) e all in more 0 b (omega arith)
 
-keeps-below : (n : ℕ) (l : Line) (b : Kept) → KeepsBelow n l → IsBelow n b → KeepsBelow n (keeps l b)
+keeps-below : (n : ℕ) (l : LinkModel) (b : Kept) → KeepsBelow n l → IsBelow n b → KeepsBelow n (keeps l b)
 keeps-below n l b all p = go l.is_open
   where
     go : (o : Bool) → KeepsBelow n (keeps (record l { is_open = o }) b)
@@ -216,10 +219,10 @@ back-longer n m more Welcome p = tt
 back-longer n m more (Refusal t told) p = tt
 back-longer n m more (Entry t place) p = more place p
 
-pub line-longer : (n m : ℕ) → ((count : ℕ) → count < n → count < m) → (l : Line) → KeepsBelow n l → KeepsBelow m l
+pub line-longer : (n m : ℕ) → ((count : ℕ) → count < n → count < m) → (l : LinkModel) → KeepsBelow n l → KeepsBelow m l
 line-longer n m more l all k d lt = back-longer n m more _ (all k d lt)
 
-pub lines-longer : (n m : ℕ) → ((count : ℕ) → count < n → count < m) → (ls : List Line) → All (KeepsBelow n) ls → All (KeepsBelow m) ls
+pub lines-longer : (n m : ℕ) → ((count : ℕ) → count < n → count < m) → (ls : List LinkModel) → All (KeepsBelow n) ls → All (KeepsBelow m) ls
 lines-longer n m more ls all k d lt = line-longer n m more (slice_index_or ls k d) (all k d lt)
 
 -- a link takes a request, and keeps a reply
@@ -231,17 +234,21 @@ head-of (y ∷ ys) x e = let same : y ≡ x = cc in (ys, ap (λ z. z ∷ ys) sam
 pub tails : {X : Type 0} (xs rest more : List X) (x y : X) → xs ≡ x ∷ rest → xs ≡ y ∷ more → xs ≡ x ∷ more
 tails xs rest more x y e f = cc
 
-pub some-request : {X : Type 0} (xs ys rest : List X) (x : X) → ys ≡ xs → xs ≡ x ∷ rest → ys ≢ []
-some-request xs ys rest x e f g = cc
+-- the requests behind the first
+pub behind : (rs more : List RequestAlone) (rest : List LinkRequest) (x : LinkRequest) (y : RequestAlone) → map as_request rs ≡ x ∷ rest → rs ≡ y ∷ more → map as_request rs ≡ x ∷ map as_request more
+behind rs more rest x y e f = tails (map as_request rs) rest (map as_request more) x (as_request y) e (ap (map as_request) f)
 
-module _ (l l1 l2 l3 : Line) (flag : Bool) (b : Kept) (e1 : l1 ≡ record l { room = l1.room }) (e2 : l2 ≡ record l1 { requests = l2.requests; asking = flag }) (e3 : l3 ≡ keeps (record l2 { room = l3.room }) b) where
-  pub done-shown : (h : List Executed) → shown h l3 ≡ replied (record (shown h l) { requests = l2.requests; asking = flag }) (shown_back h b)
+pub some-request : (xs ys : List RequestAlone) (rest : List LinkRequest) (x : LinkRequest) → ys ≡ xs → map as_request xs ≡ x ∷ rest → ys ≢ []
+some-request xs ys rest x e f g = let none : map as_request xs ≡ [] = ap (map as_request) (sym e ∙ g) in cc
+
+module _ (l l1 l2 l3 : LinkModel) (flag : Bool) (b : Kept) (e1 : l1 ≡ record l { room = l1.room }) (e2 : l2 ≡ record l1 { requests = l2.requests; asking = flag }) (e3 : l3 ≡ keeps (record l2 { room = l3.room }) b) where
+  pub done-shown : (h : List EntryModel) → shown h l3 ≡ replied (record (shown h l) { requests = map as_request l2.requests; asking = flag }) (shown_back h b)
   done-shown h =
-      let two : shown h l2 ≡ record (shown h l) { requests = l2.requests; asking = flag } =
-      ap (shown h) e2 ∙ ap (λ (x : Line). record (shown h x) { requests = l2.requests; asking = flag }) e1 in
+      let two : shown h l2 ≡ record (shown h l) { requests = map as_request l2.requests; asking = flag } =
+      ap (shown h) e2 ∙ ap (λ (x : LinkModel). record (shown h x) { requests = map as_request l2.requests; asking = flag }) e1 in
       ap (shown h) e3 ∙ keeps-shown h (record l2 { room = l3.room }) b ∙ ap (λ (x : Link). replied x (shown_back h b)) two
 
   pub done-below : (n : ℕ) → KeepsBelow n l → IsBelow n b → KeepsBelow n l3
   done-below n all p =
-      let same : l2.backs ≡ l.backs = ap (λ (x : Line). x.backs) e2 ∙ ap (λ (x : Line). x.backs) e1 in
+      let same : l2.backs ≡ l.backs = ap (λ (x : LinkModel). x.backs) e2 ∙ ap (λ (x : LinkModel). x.backs) e1 in
       subst (KeepsBelow n) (sym e3) (keeps-below n (record l2 { room = l3.room }) b (subst (All (IsBelow n)) (sym same) all) p)

@@ -1,34 +1,34 @@
 -- A step of a world, and its events one after another.
 use Rattle.std.proofs.Common.{◌≡◌, ℕ, zero, suc, ◌+◌, ◌-◌, ◌<◌, ◌≤◌, get_or, List, [], ◌∷◌, ◌++◌, length, Some, Err, refl, sym, ap, ◌∙◌, subst, arith}
 use Rattle.std.specs.Prelude.{take, drop, slice_get}
-use Rattle.world_laws.specs.State.{World}
-use Rattle.world_laws.specs.World.{Step, Run, last_moment}
+use Rattle.world_laws.specs.State.{WorldModel}
+use Rattle.world_laws.specs.World.{WorldStep, WorldRun, last_moment}
 use Rattle.world_laws.specs.declared.event.Event.{Event}
-use Rattle.cluster_world.specs.Machine.{Answers}
+use Rattle.cluster_world.specs.Machine.{MachineAnswers}
 use Rattle.cluster_world.specs.Steps.{RefusedFor, Steps, Runs}
 use Rattle.cluster_world.specs.declared.fault.WorldFault.{WorldFault}
 use Rattle.cluster_world.specs.declared.fault.WorldFault.TheVariants.{NoMemory, NotNow}
 
 -- a refused event changes nothing
 
-unchanged : (U : Type 0) (w w' : World) (e : Event) (fault : WorldFault) → Answers {U = U} w e (Err fault) w' → w' ≡ w
+unchanged : (U : Type 0) (w w' : WorldModel) (e : Event) (fault : WorldFault) → MachineAnswers {U = U} w e (Err fault) w' → w' ≡ w
 unchanged U w w' e NotNow h = h.1
 unchanged U w w' e NoMemory h = h.1
 
 less-one : (n : ℕ) → n + 1 - 1 ≡ n
 less-one n = omega arith
 
-pub undone : (U : Type 0) (w w' : World) (e : Event) (fault : WorldFault) → Answers {U = U} (record w { moment = w.moment + 1 }) e (Err fault) w' → record w' { moment = w'.moment - 1 } ≡ w
-undone U w w' e fault h = ap (λ (v : World). record v { moment = v.moment - 1 }) (unchanged U (record w { moment = w.moment + 1 }) w' e fault h) ∙ ap (λ n. record w { moment = n }) (less-one w.moment)
+pub undone : (U : Type 0) (w w' : WorldModel) (e : Event) (fault : WorldFault) → MachineAnswers {U = U} (record w { moment = w.moment + 1 }) e (Err fault) w' → record w' { moment = w'.moment - 1 } ≡ w
+undone U w w' e fault h = ap (λ (v : WorldModel). record v { moment = v.moment - 1 }) (unchanged U (record w { moment = w.moment + 1 }) w' e fault h) ∙ ap (λ n. record w { moment = n }) (less-one w.moment)
 
-pub refused-for : (U : Type 0) (w w' : World) (e : Event) (fault : WorldFault) → w.moment < last_moment → Answers {U = U} (record w { moment = w.moment + 1 }) e (Err fault) w' → RefusedFor w e fault
+pub refused-for : (U : Type 0) (w w' : WorldModel) (e : Event) (fault : WorldFault) → w.moment < last_moment → MachineAnswers {U = U} (record w { moment = w.moment + 1 }) e (Err fault) w' → RefusedFor w e fault
 refused-for U w w' e NotNow lt h = λ v s. h.0 v s.1
 refused-for U w w' e NoMemory lt h = (h.0.0, (lt, h.0.1))
 
 -- events, one after another
 
-pub run-on : (w mid w' : World) (es : List Event) (e : Event) → Run w es mid → Step mid e w' → Run w (es ++ e ∷ []) w'
-run-on w mid w' [] e r s = (w', subst (λ (v : World). Step v e w') r s, refl)
+pub run-on : (w mid w' : WorldModel) (es : List Event) (e : Event) → WorldRun w es mid → WorldStep mid e w' → WorldRun w (es ++ e ∷ []) w'
+run-on w mid w' [] e r s = (w', subst (λ (v : WorldModel). WorldStep v e w') r s, refl)
 run-on w mid w' (x ∷ es) e r s = (r.0, r.1, run-on r.0 mid w' es e r.2 s)
 
 pub joined : (done rest : List Event) (e : Event) → (done ++ e ∷ []) ++ rest ≡ done ++ e ∷ rest
@@ -48,7 +48,7 @@ next [] rest e = refl
 next (x ∷ done) rest e = next done rest e
 
 -- the first that is refused
-pub stops : (U : Type 0) (w mid w' : World) (es done rest : List Event) (e : Event) (number : ℕ) (why : WorldFault) → done ++ e ∷ rest ≡ es → length done + 1 ≡ number → Run w done mid → Steps {U = U} mid e (Err why) w'
+pub stops : (U : Type 0) (w mid w' : WorldModel) (es done rest : List Event) (e : Event) (number : ℕ) (why : WorldFault) → done ++ e ∷ rest ≡ es → length done + 1 ≡ number → WorldRun w done mid → Steps {U = U} mid e (Err why) w'
     → Runs {U = U} w es (Err (record { number = number; why = why })) w'
 stops U w mid w' es done rest e number why is count r s =
     let place : length done ≡ number - 1 = omega (arith, count) in
@@ -56,8 +56,8 @@ stops U w mid w' es done rest e number why is count r s =
       e,
       omega (arith, count),
       subst (λ (p : ℕ × List Event). slice_get p.1 p.0 ≡ Some e) (λ i. (place i, is i)) (next done rest e),
-      subst (λ (p : ℕ × List Event). Run w (take p.0 p.1) w') (λ i. (place i, is i)) (subst (λ (xs : List Event). Run w xs w') (sym (taken done (e ∷ rest))) (subst (Run w done) (sym same) r)),
-      subst (λ (v : World). RefusedFor v e why) (sym same) s.0,
+      subst (λ (p : ℕ × List Event). WorldRun w (take p.0 p.1) w') (λ i. (place i, is i)) (subst (λ (xs : List Event). WorldRun w xs w') (sym (taken done (e ∷ rest))) (subst (WorldRun w done) (sym same) r)),
+      subst (λ (v : WorldModel). RefusedFor v e why) (sym same) s.0,
     )
 
 -- a list by its first event

@@ -2,9 +2,9 @@
 use Rattle.std.proofs.Common.{◌≡◌, ℕ, zero, suc, List, [], ◌∷◌, refl, arith}
 use Rattle.std.specs.Prelude.{All}
 use Rattle.key_split.specs.declared.travel.Ticket.{Ticket}
-use Rattle.world_laws.specs.State.{World, Link}
-use Rattle.world_laws.specs.Places.{asks, in_link, tally, total}
-use Rattle.world_laws.specs.Places.Item.{Stands, Lies, Comes}
+use Rattle.world_laws.specs.State.{WorldModel, Link}
+use Rattle.world_laws.specs.Places.{asks, in_lane, in_link, tally, total}
+use Rattle.world_laws.specs.Places.Item.{Stands, Comes}
 use Rattle.cluster_world.specs.Rests.{LinkRests, Rests}
 
 total-zero : {X : Type 0} (f : X → ℕ) (xs : List X) → All (λ x. f x ≡ 0) xs → total f xs ≡ 0
@@ -26,19 +26,19 @@ zero-link : (l : Link) (node : ℕ) (ticket : Ticket) → in_link (asks node tic
 unfolding LinkRests
 zero-link l node ticket e = (omega (arith, e), omega (arith, e))
 
-pub rests-none : (w : World) (node : ℕ) (ticket : Ticket) → Rests w node ticket → tally (asks node ticket) w ≡ 0
+pub rests-none : (w : WorldModel) (node : ℕ) (ticket : Ticket) → Rests w node ticket → tally (asks node ticket) w ≡ 0
 unfolding Rests
 rests-none w node ticket h =
     let a : total (λ c. asks node ticket (Stands c)) w.commands ≡ 0 = total-zero (λ c. asks node ticket (Stands c)) w.commands h.commands in
-    let b : total (λ b. asks node ticket (Lies b)) w.ups ≡ 0 = total-zero (λ b. asks node ticket (Lies b)) w.ups h.ups in
+    let b : total (in_lane (asks node ticket)) w.ups ≡ 0 = total-zero (in_lane (asks node ticket)) w.ups h.ups in
     let d : total (in_link (asks node ticket)) w.links ≡ 0 = total-zero (in_link (asks node ticket)) w.links (λ k x lt. link-zero _ node ticket (h.links k x lt)) in
     let e : total (λ p. asks node ticket (Comes p.0 p.1)) w.downs ≡ 0 = total-zero (λ p. asks node ticket (Comes p.0 p.1)) w.downs h.downs in omega (arith, a, b, d, e)
 
-pub none-rests : (w : World) (node : ℕ) (ticket : Ticket) → tally (asks node ticket) w ≡ 0 → Rests w node ticket
+pub none-rests : (w : WorldModel) (node : ℕ) (ticket : Ticket) → tally (asks node ticket) w ≡ 0 → Rests w node ticket
 unfolding Rests
 none-rests w node ticket e = record {
   commands = zero-total (λ c. asks node ticket (Stands c)) w.commands (omega (arith, e));
-  ups = zero-total (λ b. asks node ticket (Lies b)) w.ups (omega (arith, e));
+  ups = zero-total (in_lane (asks node ticket)) w.ups (omega (arith, e));
   links = λ k x lt. zero-link _ node ticket (zero-total (in_link (asks node ticket)) w.links (omega (arith, e)) k x lt);
   downs = zero-total (λ p. asks node ticket (Comes p.0 p.1)) w.downs (omega (arith, e));
 }

@@ -8,12 +8,12 @@ use Rattle.std.specs.Ordering.{nat_cmp}
 use Rattle.std.specs.Cmp.Lexicographic.{slice_cmp}
 use Rattle.std.proofs.lemmas.Bool.Decides.{nat_tests}
 use Rattle.std.proofs.lemmas.List.{reverse-append}
-use Rattle.slot_map.specs.Map.{covers, node_in, node_after, Shows}
+use Rattle.slot_map.specs.Map.{covers, node_in, node_after, MapShows}
 use Rattle.slot_map.specs.declared.ops.MapOp.{MapOp}
 use Rattle.slot_map.specs.declared.ops.MapOp.TheVariants.{SetSlot}
-use Rattle.node_model.specs.Store.{Content}
-use Rattle.node_model.specs.Standings.{Standing, settled_at}
-use Rattle.node_model.specs.Nodes.{Nodes, HasOwners, Opens, one_of}
+use Rattle.node_model.specs.Store.{StoreModel}
+use Rattle.node_model.specs.Standings.{SlotStandingModel, settled_at}
+use Rattle.node_model.specs.Nodes.{ClusterModel, HasOwners, Opens, one_of}
 use Rattle.node_model.specs.declared.standing.Phase.TheVariants.{Settled}
 use Rattle.node_model.specs.declared.cluster.ClusterFault.{ClusterFault}
 use Rattle.node_model.specs.declared.cluster.ClusterFault.TheVariants.{NoMemory, BadOwners}
@@ -45,7 +45,7 @@ up-to s n lt = grind arith
 
 module _ (old owners : List (Option ℕ)) (number : ℕ) where
   -- it has no owner
-  pub taken-none : ((ops : List MapOp) → Shows owners ops → None ≡ node_after ops number) → IsTakenOver old owners number → IsTakenOver old owners (number + 1)
+  pub taken-none : ((ops : List MapOp) → MapShows owners ops → None ≡ node_after ops number) → IsTakenOver old owners number → IsTakenOver old owners (number + 1)
   taken-none none h = (
     h.0,
     record {
@@ -55,7 +55,7 @@ module _ (old owners : List (Option ℕ)) (number : ℕ) where
     },
   )
 
-  pub taken-some : (new : List (Option ℕ)) (slot node : ℕ) → slot ≡ number → ((ops : List MapOp) → Shows owners ops → Some node ≡ node_after ops number) → ((ops : List MapOp) → Shows old ops → Shows new (ops ++ SetSlot slot node ∷ []))
+  pub taken-some : (new : List (Option ℕ)) (slot node : ℕ) → slot ≡ number → ((ops : List MapOp) → MapShows owners ops → Some node ≡ node_after ops number) → ((ops : List MapOp) → MapShows old ops → MapShows new (ops ++ SetSlot slot node ∷ []))
       → IsTakenOver old owners number → IsTakenOver new owners (number + 1)
   taken-some new slot node is some grows h = (
     h.0 ++ SetSlot slot node ∷ [],
@@ -79,7 +79,7 @@ module _ (count : ℕ) (a b : ℕ → Option ℕ) (same : (slot : ℕ) → slot 
   has-owners : HasOwners count a → HasOwners count b
   has-owners h = (h.0, h.1, λ slot lt. subst (λ (o : Option ℕ). IsSome (one_of count o)) (same slot lt) (h.2 slot lt))
 
-  opens : (k : Nodes) → Opens count a (Ok k) → Opens count b (Ok k)
+  opens : (k : ClusterModel) → Opens count a (Ok k) → Opens count b (Ok k)
   opens k h = (
     has-owners h.0,
     record {
@@ -95,34 +95,34 @@ pub starts-fault : (count workers : ℕ) (a b : ℕ → Option ℕ) → ((slot :
 starts-fault count workers a b same NoMemory h = has-owners count a b same h
 starts-fault count workers a b same BadOwners h = λ x. h (has-owners count b a (λ slot lt. sym (same slot lt)) x)
 
-pub opens-same : (count : ℕ) (a b : ℕ → Option ℕ) → ((slot : ℕ) → slot < 16384 → a slot ≡ b slot) → (k : Nodes) → Opens count a (Ok k) → Opens count b (Ok k)
+pub opens-same : (count : ℕ) (a b : ℕ → Option ℕ) → ((slot : ℕ) → slot < 16384 → a slot ≡ b slot) → (k : ClusterModel) → Opens count a (Ok k) → Opens count b (Ok k)
 opens-same count a b same k h = opens count a b same k h
 
 -- opened nodes are new
 
-standing-new : (count : ℕ) (o : Option ℕ) (s : Standing) → IsSome (one_of count o) → IfSome (one_of count o) (λ owner. s ≡ settled_at owner) → s.phase ≡ Settled
+standing-new : (count : ℕ) (o : Option ℕ) (s : SlotStandingModel) → IsSome (one_of count o) → IfSome (one_of count o) (λ owner. s ≡ settled_at owner) → s.phase ≡ Settled
 standing-new count o s some is = go (one_of count o) some is
   where
     go : (p : Option ℕ) → IsSome p → IfSome p (λ owner. s ≡ settled_at owner) → s.phase ≡ Settled
     go None some is = absurd (cc)
-    go (Some owner) some is = ap (λ (x : Standing). x.phase) is
+    go (Some owner) some is = ap (λ (x : SlotStandingModel). x.phase) is
 
 beyond-all : {X : Type 0} (xs : List X) (i : ℕ) (d : X) → length xs ≤ i → slice_index_or xs i d ≡ d
 beyond-all [] i d le = refl
 beyond-all (x ∷ xs) zero d le = absurd (omega (arith, le))
 beyond-all (x ∷ xs) (suc i) d le = beyond-all xs i d (omega (arith, le))
 
-no-key : (stores : List Content) (n : ℕ) (key : List ℕ) → All (λ store. store ≡ empty) stores → get (slice_index_or stores n empty) key ≡ None
+no-key : (stores : List StoreModel) (n : ℕ) (key : List ℕ) → All (λ store. store ≡ empty) stores → get (slice_index_or stores n empty) key ≡ None
 no-key stores n key all = ⊎_elim (λ (lt : n < length stores). ap (λ store. get store key) (all n empty lt) ∙ get-empty (slice_cmp nat_cmp) key)
     (λ (le : length stores ≤ n). ap (λ store. get store key) (beyond-all stores n empty le) ∙ get-empty (slice_cmp nat_cmp) key) (within n (length stores))
   where
     within : (a b : ℕ) → (a < b) ⊎ (b ≤ a)
     within a b = grind arith
 
-pub opens-new : (count : ℕ) (owners : ℕ → Option ℕ) (k : Nodes) → Opens count owners (Ok k) → IsNew k
+pub opens-new : (count : ℕ) (owners : ℕ → Option ℕ) (k : ClusterModel) → Opens count owners (Ok k) → IsNew k
 opens-new count owners k h = record {
   settled = λ slot. ⊎_elim (λ (lt : slot < 16384). standing-new count (owners slot) (slice_index_or k.slots slot (settled_at 0)) (h.0.2 slot lt) ((h.1).settled slot lt))
-      (λ (le : 16384 ≤ slot). ap (λ (s : Standing). s.phase) (beyond-all k.slots slot (settled_at 0) (subst (λ n. n ≤ slot) (sym (h.1).all_slots) le))) (within slot);
+      (λ (le : 16384 ≤ slot). ap (λ (s : SlotStandingModel). s.phase) (beyond-all k.slots slot (settled_at 0) (subst (λ n. n ≤ slot) (sym (h.1).all_slots) le))) (within slot);
   no_keys = λ node key. no-key k.stores node key (h.1).no_keys;
 }
   where

@@ -1,9 +1,10 @@
 -- The commands in order of arrival, and what the tables by which they are found say of them.
+-- Only private functions cite it.
 use Rattle.std.specs.Prelude.{◌≡◌, ◌≢◌, ◌↔◌, ◌<◌, ◌==◌, ◌&&◌, not, ℕ, Bool, true, List, length, take, Option, Some, None, All, count_by, position, slice_get, slice_set}
 use Rattle.key_split.specs.declared.travel.Ticket.{Ticket}
 use Rattle.key_split.specs.declared.travel.Told.{Told}
 use Rattle.key_split.specs.Same.{same_ticket}
-use Rattle.command_future.specs.Progress.{MayPost, WantsPost}
+use Rattle.command_future.specs.CommandModel.{MayPostTo, WantsPost}
 use Rattle.command_future.specs.declared.stage.Stage.TheVariants.{Awaits}
 use Rattle.world_laws.specs.State.{HasEnded, slot_for}
 use Rattle.world_laws.specs.World.{SameTurn}
@@ -31,7 +32,7 @@ HasTurn commands place c = All (λ d. SameTurn c d → HasEnded d) (take place c
 
 -- the command at the place may be posted at the node
 abbrev pub MayPostAt : List Arrival → ℕ → ℕ → Type 0
-MayPostAt commands place node = (c : Arrival) × (slice_get commands place ≡ Some c) × MayPost c.command.stage node × HasTurn commands place c
+MayPostAt commands place node = (c : Arrival) × (slice_get commands place ≡ Some c) × MayPostTo c.command.stage node × HasTurn commands place c
 
 -- the command at the place awaits what it is told
 abbrev pub AwaitsAt : List Arrival → ℕ → Type 0

@@ -1,4 +1,5 @@
 -- Bytes cut in two, and references seen as what they point to.
+-- For calls that read the lines and numbers of a script.
 use Rattle.std.specs.Prelude.{◌≡◌, ◌⊎◌, ◌<◌, ◌≤◌, ◌+◌, ◌-◌, ◌*◌, ◌^◌, ◌==◌, ◌++◌, ℕ, true, false, List, length, Option, None, Some}
 use Rattle.std.specs.Borrow.{Bor}
 use Rattle.cluster_world.specs.Script.{is_digit}

@@ -1,4 +1,5 @@
 -- The faults of the nodes' steps, as the world's.
+-- Only private functions cite it.
 use Rattle.node_model.specs.declared.standing.MoveFault.{MoveFault}
 use Rattle.node_model.specs.declared.standing.MoveFault.TheVariants as move
 use Rattle.node_model.specs.declared.role.ServeFault.{ServeFault}

@@ -1,9 +1,10 @@
 -- What the tables of an audit hold: where the things of a report stand, by their tickets.
+-- Only private functions cite it.
 use Rattle.std.specs.Prelude.{◌≡◌, ◌≢◌, ◌↔◌, ◌<◌, ℕ, Bool, List, length, Option, Some, None, AllPairs, slice_get}
 use Rattle.std.specs.HashMap.{HashMap}
 use Rattle.std.specs.Map.{lookup}
 use Rattle.key_split.specs.declared.travel.Ticket.{Ticket}
-use Rattle.node_model.specs.History.{Entry}
+use Rattle.node_model.specs.History.{EntryModel}
 use Rattle.world_laws.specs.State.{slot_for}
 use Rattle.cluster_world.specs.declared.places.Key.{Key}
 use Rattle.cluster_world.specs.contracts.places.KeyPartialEq.TheImpl as key_eq
@@ -16,7 +17,7 @@ abbrev pub ticket_key : Ticket → Key
 ticket_key t = record { worker = t.worker; client = t.client; number = t.part }
 
 -- a client's slot
-abbrev pub turn_key : Entry → Key
+abbrev pub turn_key : EntryModel → Key
 turn_key e = record { worker = e.ticket.worker; client = e.ticket.client; number = slot_for e.part }
 
 -- what a table says of a key

@@ -1,35 +1,38 @@
--- What a link keeps of the replies that are not yet fetched, and what it shows: of an executed command it keeps the place of the entry, whose reply it shows.
+-- What a link keeps of the replies that are not yet fetched, and what it shows: of an executed command it keeps the
+-- place of the entry, whose reply it shows.
+-- Only private functions cite it. A copy of the reply, made after the node executed, could fail too late.
 use Rattle.std.specs.Prelude.{◌≡◌, ℕ, ◌+◌, ◌<◌, zero, suc, List, [], ◌∷◌, ◌++◌, length, map, All, Bool, true, false, if◌then◌else◌, Option, Some, None}
 use Rattle.resp_wire.specs.Data.{Data, simple, error, integer, bulk, null_bulk, array, null_array, list_of}
 use Rattle.resp_wire.specs.Seen.{data_of}
 use Rattle.resp_wire.specs.declared.value.Value.{Value}
 use Rattle.resp_wire.specs.declared.value.Value.TheVariants as value
-use Rattle.key_split.specs.Command.{Command as Part}
+use Rattle.key_split.specs.PartModel.{PartModel}
 use Rattle.key_split.specs.declared.travel.Ticket.{Ticket}
 use Rattle.key_split.specs.declared.travel.Told.{Told}
 use Rattle.key_split.specs.declared.travel.Told.TheVariants.{Reply, Moved, Ask, TryAgain, ClusterDown, Unclear, Unsent}
-use Rattle.node_model.specs.History.{Entry as Executed}
+use Rattle.node_model.specs.History.{EntryModel}
 use Rattle.world_laws.specs.State.{Link}
-use Rattle.world_laws.specs.declared.state.Request.{Request}
-use Rattle.world_laws.specs.declared.state.Back.{Back}
-use Rattle.world_laws.specs.declared.state.Back.TheVariants.{To}
-use Rattle.world_laws.specs.declared.state.Back.TheVariants as back
+use Rattle.world_laws.specs.declared.state.LinkReply.{LinkReply}
+use Rattle.world_laws.specs.declared.state.LinkReply.TheVariants.{To}
+use Rattle.world_laws.specs.declared.state.LinkReply.TheVariants as back
 use Rattle.world_laws.specs.Places.{Item}
 use Rattle.world_laws.specs.Places.Item.{Comes}
+use Rattle.cluster_world.specs.Alone.{as_request}
+use Rattle.cluster_world.specs.declared.alone.RequestAlone.{RequestAlone}
 use Rattle.cluster_world.specs.declared.link.Kept.{Kept}
 use Rattle.cluster_world.specs.declared.link.Kept.TheVariants.{Welcome, Refusal, Entry}
 
 -- a link as the code has it: `room` is for how many replies there is memory
-pub record Line : Type 0 where
+pub record LinkModel : Type 0 where
   pub node : ℕ
   pub is_open : Bool
-  pub requests : List Request
+  pub requests : List RequestAlone
   pub backs : List Kept
   pub asking : Bool
   pub room : ℕ
 
-abbrev pub new_line : ℕ → ℕ → Line
-new_line node room = record { node = node; is_open = true; requests = []; backs = []; asking = false; room = room }
+abbrev pub new_link_model : ℕ → ℕ → LinkModel
+new_link_model node room = record { node = node; is_open = true; requests = []; backs = []; asking = false; room = room }
 
 -- the value that has this data
 abbrev pub value_of : Data → Value
@@ -42,18 +45,18 @@ value_of (array ds) = value.Array (list_of ds)
 value_of null_array = value.NullArray
 
 -- the reply of the entry at a place
-abbrev pub reply_at : List Executed → ℕ → Data
+abbrev pub reply_at : List EntryModel → ℕ → Data
 reply_at [] place = null_bulk
 reply_at (e ∷ es) zero = e.reply
 reply_at (e ∷ es) (suc place) = reply_at es place
 
-abbrev pub shown_back : List Executed → Kept → Back
+abbrev pub shown_back : List EntryModel → Kept → LinkReply
 shown_back history Welcome = back.Welcome
 shown_back history (Refusal ticket told) = To ticket told
 shown_back history (Entry ticket place) = To ticket (Reply (value_of (reply_at history place)))
 
-abbrev pub shown : List Executed → Line → Link
-shown history l = record { node = l.node; is_open = l.is_open; requests = l.requests; backs = map (shown_back history) l.backs; asking = l.asking }
+abbrev pub shown : List EntryModel → LinkModel → Link
+shown history l = record { node = l.node; is_open = l.is_open; requests = map as_request l.requests; backs = map (shown_back history) l.backs; asking = l.asking }
 
 -- its entry is one of the first so many
 abbrev pub IsBelow : ℕ → Kept → Type 0
@@ -62,7 +65,7 @@ IsBelow count (Refusal ticket told) = Unit {0}
 IsBelow count (Entry ticket place) = place < count
 
 -- all that the link keeps are
-abbrev pub KeepsBelow : ℕ → Line → Type 0
+abbrev pub KeepsBelow : ℕ → LinkModel → Type 0
 KeepsBelow count l = All (IsBelow count) l.backs
 
 -- the first is an entry, or none is there, or it is another
@@ -91,11 +94,11 @@ in_kept f (Refusal ticket told ∷ ks) = f (Comes ticket told) + in_kept f ks
 in_kept f (Entry ticket place ∷ ks) = in_kept f ks
 
 -- what is kept of a reply, where the link is open
-abbrev pub keeps : Line → Kept → Line
+abbrev pub keeps : LinkModel → Kept → LinkModel
 keeps l kept = if l.is_open then record l { backs = l.backs ++ kept ∷ [] } else l
 
 -- the history after a command was told this: what a node replied to, it executed
-abbrev pub noted : List Executed → Ticket → Part → ℕ → Told → List Executed
+abbrev pub noted : List EntryModel → Ticket → PartModel → ℕ → Told → List EntryModel
 noted history ticket part moment (Reply value) = history ++ record { ticket = ticket; part = part; reply = data_of value; moment = moment } ∷ []
 noted history ticket part moment (Moved slot node) = history
 noted history ticket part moment (Ask slot node) = history
@@ -106,7 +109,7 @@ noted history ticket part moment Told.Lost = history
 noted history ticket part moment Unsent = history
 
 -- what is kept shows what the command was told, and what was kept before shows the same
-pub record Notes (old : List Executed) (ticket : Ticket) (part : Part) (moment : ℕ) (told : Told) (new : List Executed) (kept : Kept) : Type 0 where
+pub record Notes (old : List EntryModel) (ticket : Ticket) (part : PartModel) (moment : ℕ) (told : Told) (new : List EntryModel) (kept : Kept) : Type 0 where
   pub history : new ≡ noted old ticket part moment told
   pub shows : shown_back new kept ≡ To ticket told
   pub below : IsBelow (length new) kept

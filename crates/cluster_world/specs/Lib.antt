@@ -1,3 +1,4 @@
+pub mod Alone
 pub mod Fault
 pub mod Kept
 pub mod Links

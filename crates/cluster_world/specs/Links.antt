@@ -1,41 +1,44 @@
 -- The links with the history of what their nodes executed, and what each call on them leaves.
+-- Only private functions cite it.
 use Rattle.std.specs.Prelude.{◌≡◌, ◌≢◌, ◌⊎◌, ℕ, List, [], ◌∷◌, ◌++◌, length, map, Option, Some, None, true, false, slice_get, slice_set, Result, Ok, Err}
-use Rattle.key_split.specs.Command.{Command as Part}
+use Rattle.key_split.specs.PartModel.{PartModel}
 use Rattle.key_split.specs.declared.travel.Ticket.{Ticket}
 use Rattle.key_split.specs.declared.travel.Told.{Told}
-use Rattle.node_model.specs.History.{Entry as Executed}
-use Rattle.node_model.specs.Nodes.{Nodes}
-use Rattle.node_model.specs.Serving.{deed_at, Does as NodeDoes}
+use Rattle.node_model.specs.History.{EntryModel}
+use Rattle.node_model.specs.Nodes.{ClusterModel}
+use Rattle.node_model.specs.Serving.{deed_at, NodeDoes}
 use Rattle.node_model.specs.declared.role.Verdict.{Verdict}
 use Rattle.world_laws.specs.State.{Link, new_link, sent, replied, waiting}
 use Rattle.world_laws.specs.declared.state.Posted.{Posted}
-use Rattle.world_laws.specs.declared.state.Request.{Request}
-use Rattle.world_laws.specs.declared.state.Back.{Back}
-use Rattle.world_laws.specs.declared.state.Request.TheVariants.{Asking, Runs}
-use Rattle.world_laws.specs.declared.state.Back.TheVariants.{Welcome, To}
+use Rattle.world_laws.specs.declared.state.LinkRequest.{LinkRequest}
+use Rattle.world_laws.specs.declared.state.LinkReply.{LinkReply}
+use Rattle.world_laws.specs.declared.state.LinkRequest.TheVariants.{Asking, Runs}
+use Rattle.world_laws.specs.declared.state.LinkReply.TheVariants.{Welcome, To}
 use Rattle.world_laws.specs.World.{NamesNode}
-use Rattle.cluster_world.specs.Kept.{Line, shown, noted}
+use Rattle.cluster_world.specs.Alone.{as_request}
+use Rattle.cluster_world.specs.declared.alone.RequestAlone.{RequestAlone}
+use Rattle.cluster_world.specs.Kept.{LinkModel, shown, noted}
 use Rattle.cluster_world.specs.Lost.{each_lost}
 use Rattle.cluster_world.specs.declared.fault.WorldFault.{WorldFault}
 use Rattle.cluster_world.specs.declared.fault.WorldFault.TheVariants.{NoMemory, NotNow}
 
-pub record Linked : Type 0 where
+pub record LinksModel : Type 0 where
   pub links : List Link
-  pub history : List Executed
+  pub history : List EntryModel
 
 -- what lines show of a history
-abbrev pub linked : List Line → List Executed → Linked
+abbrev pub linked : List LinkModel → List EntryModel → LinksModel
 linked lines history = record { links = map (shown history) lines; history = history }
 
 -- one link is so from now on
-abbrev pub with_link : Linked → ℕ → Link → Linked
+abbrev pub with_link : LinksModel → ℕ → Link → LinksModel
 with_link k at l = record k { links = slice_set k.links at l }
 
 -- there is such a link, or none that is
-abbrev pub There : Linked → ℕ → (Link → Type 0) → Type 0
+abbrev pub There : LinksModel → ℕ → (Link → Type 0) → Type 0
 There k at P = (l : Link) × (slice_get k.links at ≡ Some l) × P l
 
-abbrev pub NoneThere : Linked → ℕ → (Link → Type 0) → Type 0
+abbrev pub NoneThere : LinksModel → ℕ → (Link → Type 0) → Type 0
 NoneThere k at P = (l : Link) → slice_get k.links at ≡ Some l → P l → ⊥
 
 -- the links after a batch was put on one; or none takes it, or one does and there is no memory, and they stay
@@ -44,7 +47,7 @@ GoesOver links at b new =
     ((l : Link) × (slice_get links at ≡ Some l) × (l.is_open ≡ true) × (l.node ≡ b.node) × (new ≡ slice_set links at (sent l b)))
     ⊎ ((at ≡ length links) × (new ≡ links ++ sent (new_link b.node) b ∷ []))
 
-abbrev pub Carries : {U : Type 0} → Linked → ℕ → Posted → Result U WorldFault → Linked → Type 0
+abbrev pub Carries : {U : Type 0} → LinksModel → ℕ → Posted → Result U WorldFault → LinksModel → Type 0
 Carries k at b (Ok u) k' = GoesOver k.links at b k'.links × (k'.history ≡ k.history)
 Carries k at b (Err NotNow) k' = ((links : List Link) → GoesOver k.links at b links → ⊥) × (k' ≡ k)
 Carries k at b (Err NoMemory) k' = ((links : List Link) × GoesOver k.links at b links) × (k' ≡ k)
@@ -53,7 +56,7 @@ Carries k at b (Err NoMemory) k' = ((links : List Link) × GoesOver k.links at b
 abbrev pub IsOpen : Link → Type 0
 IsOpen l = l.is_open ≡ true
 
-abbrev pub Closes : {U : Type 0} → Linked → ℕ → List (Ticket × Told) → Result U WorldFault → Linked → List (Ticket × Told) → Type 0
+abbrev pub Closes : {U : Type 0} → LinksModel → ℕ → List (Ticket × Told) → Result U WorldFault → LinksModel → List (Ticket × Told) → Type 0
 Closes k at downs (Ok u) k' downs' = There k at (λ l. IsOpen l × (k' ≡ with_link k at (record l { is_open = false; backs = [] })) × (downs' ≡ downs ++ each_lost (waiting l)))
 Closes k at downs (Err NotNow) k' downs' = NoneThere k at IsOpen × (k' ≡ k) × (downs' ≡ downs)
 Closes k at downs (Err NoMemory) k' downs' = There k at IsOpen × (k' ≡ k) × (downs' ≡ downs)
@@ -62,7 +65,7 @@ Closes k at downs (Err NoMemory) k' downs' = There k at IsOpen × (k' ≡ k) × 
 abbrev pub HasRests : Link → Type 0
 HasRests l = (l.is_open ≡ false) × (l.requests ≢ [])
 
-abbrev pub Discards : {U : Type 0} → Linked → ℕ → Result U WorldFault → Linked → Type 0
+abbrev pub Discards : {U : Type 0} → LinksModel → ℕ → Result U WorldFault → LinksModel → Type 0
 Discards k at (Ok u) k' = There k at (λ l. HasRests l × (k' ≡ with_link k at (record l { requests = [] })))
 Discards k at (Err NotNow) k' = NoneThere k at HasRests × (k' ≡ k)
 Discards k at (Err NoMemory) k' = ⊥
@@ -71,32 +74,32 @@ Discards k at (Err NoMemory) k' = ⊥
 abbrev pub HasReply : Link → Type 0
 HasReply l = (l.is_open ≡ true) × (l.backs ≢ [])
 
-abbrev pub Fetches : Linked → ℕ → Result (Option (Ticket × Told)) WorldFault → Linked → Type 0
-Fetches k at (Ok None) k' = There k at (λ l. IsOpen l × ((rest : List Back) × (l.backs ≡ Welcome ∷ rest) × (k' ≡ with_link k at (record l { backs = rest }))))
-Fetches k at (Ok (Some down)) k' = There k at (λ l. IsOpen l × ((rest : List Back) × (l.backs ≡ To down.0 down.1 ∷ rest) × (k' ≡ with_link k at (record l { backs = rest }))))
+abbrev pub Fetches : LinksModel → ℕ → Result (Option (Ticket × Told)) WorldFault → LinksModel → Type 0
+Fetches k at (Ok None) k' = There k at (λ l. IsOpen l × ((rest : List LinkReply) × (l.backs ≡ Welcome ∷ rest) × (k' ≡ with_link k at (record l { backs = rest }))))
+Fetches k at (Ok (Some down)) k' = There k at (λ l. IsOpen l × ((rest : List LinkReply) × (l.backs ≡ To down.0 down.1 ∷ rest) × (k' ≡ with_link k at (record l { backs = rest }))))
 Fetches k at (Err NotNow) k' = NoneThere k at HasReply × (k' ≡ k)
 Fetches k at (Err NoMemory) k' = k' ≡ k
 
 -- the first request of a link, open or closed
-abbrev pub Begins : Request → Link → Type 0
-Begins request l = (rest : List Request) × (l.requests ≡ request ∷ rest)
+abbrev pub Begins : RequestAlone → Link → Type 0
+Begins request l = (rest : List LinkRequest) × (l.requests ≡ as_request request ∷ rest)
 
-abbrev pub FirstIs : Linked → ℕ → Option Request → Type 0
+abbrev pub FirstIs : LinksModel → ℕ → Option RequestAlone → Type 0
 FirstIs k at (Some request) = There k at (Begins request)
 FirstIs k at None = NoneThere k at (λ l. l.requests ≢ [])
 
 -- ASKING is served
-abbrev pub Welcomes : {U : Type 0} → Linked → ℕ → Result U WorldFault → Linked → Type 0
-Welcomes k at (Ok u) k' = There k at (λ l. (rest : List Request) × (l.requests ≡ Asking ∷ rest) × (k' ≡ with_link k at (replied (record l { requests = rest; asking = true }) Welcome)))
+abbrev pub Welcomes : {U : Type 0} → LinksModel → ℕ → Result U WorldFault → LinksModel → Type 0
+Welcomes k at (Ok u) k' = There k at (λ l. (rest : List LinkRequest) × (l.requests ≡ Asking ∷ rest) × (k' ≡ with_link k at (replied (record l { requests = rest; asking = true }) Welcome)))
 Welcomes k at (Err NotNow) k' = ⊥
 Welcomes k at (Err NoMemory) k' = k' ≡ k
 
 -- a command is served by its link's node
-abbrev pub Executes : {U : Type 0} → Linked → Nodes → ℕ → Ticket → Part → Verdict → ℕ → Result U WorldFault → Linked → Nodes → Type 0
-Executes k nodes at ticket part verdict moment (Ok u) k' nodes' =
+abbrev pub LinkExecutes : {U : Type 0} → LinksModel → ClusterModel → ℕ → Ticket → PartModel → Verdict → ℕ → Result U WorldFault → LinksModel → ClusterModel → Type 0
+LinkExecutes k nodes at ticket part verdict moment (Ok u) k' nodes' =
     There k at (λ l.
-    (rest : List Request) × (told : Told) × (l.requests ≡ Runs ticket ∷ rest) × NamesNode nodes verdict
+    (rest : List LinkRequest) × (told : Told) × (l.requests ≡ Runs (ticket ∷ []) ∷ rest) × NamesNode nodes verdict
     × NodeDoes (deed_at nodes l.node l.asking part verdict) nodes l.node part told nodes'
     × (k' ≡ record { links = slice_set k.links at (replied (record l { requests = rest; asking = false }) (To ticket told)); history = noted k.history ticket part moment told }))
-Executes k nodes at ticket part verdict moment (Err NotNow) k' nodes' = (NamesNode nodes verdict → ⊥) × (k' ≡ k) × (nodes' ≡ nodes)
-Executes k nodes at ticket part verdict moment (Err NoMemory) k' nodes' = (k' ≡ k) × (nodes' ≡ nodes)
+LinkExecutes k nodes at ticket part verdict moment (Err NotNow) k' nodes' = (NamesNode nodes verdict → ⊥) × (k' ≡ k) × (nodes' ≡ nodes)
+LinkExecutes k nodes at ticket part verdict moment (Err NoMemory) k' nodes' = (k' ≡ k) × (nodes' ≡ nodes)

@@ -1,4 +1,5 @@
 -- What those are told who wait on a link that is closed.
+-- Only private functions cite it.
 use Rattle.std.specs.Prelude.{List, map}
 use Rattle.key_split.specs.declared.travel.Ticket.{Ticket}
 use Rattle.key_split.specs.declared.travel.Told.{Told}

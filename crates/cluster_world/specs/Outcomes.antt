@@ -1,15 +1,17 @@
 -- What the steps of a run of `simulate` give.
+-- Only private functions cite it.
 use Rattle.std.specs.Prelude.{◌≡◌, ◌+◌, ℕ, List, ◌++◌, Result, Ok, Err}
 use Rattle.slot_map.specs.declared.ops.MapOp.{MapOp}
-use Rattle.slot_map.specs.Map.{Shows, node_after}
-use Rattle.node_model.specs.Nodes.{Nodes, HasOwners, IsOpening}
-use Rattle.world_laws.specs.State.{World, start}
+use Rattle.slot_map.specs.Map.{MapShows, node_after}
+use Rattle.node_model.specs.Nodes.{ClusterModel, HasOwners, IsOpening}
+use Rattle.world_laws.specs.State.{WorldModel, start}
+use Rattle.cluster_world.specs.Alone.{run_limit}
 use Rattle.cluster_world.specs.declared.script_fault.ScriptFault.{ScriptFault}
 use Rattle.cluster_world.specs.declared.script_fault.ScriptFault.TheVariants.{NoMemory, BadLine}
 use Rattle.cluster_world.specs.declared.header.Header.{Header}
 use Rattle.cluster_world.specs.declared.input.Input.{Input}
 use Rattle.cluster_world.specs.declared.input.Input.TheVariants.{Whole, TooLong, Failed}
-use Rattle.cluster_world.specs.declared.simulate.Outcome.{Outcome}
+use Rattle.cluster_world.specs.declared.outcome.Outcome.{Outcome}
 use Rattle.cluster_world.specs.declared.fault.RunFault.{RunFault}
 use Rattle.cluster_world.specs.Script.{lines_of}
 use Rattle.cluster_world.specs.Schedule.{IsBadAt}
@@ -29,13 +31,13 @@ WritesScript script (Err (BadLine number)) = IsBadAt (lines_of script) number
 WritesScript script (Err NoMemory) = Unit {0}
 
 -- the world that a header begins with, whatever operations its owners are; or none, by the owners
-abbrev pub Opens : Header → Result World ScriptFault → Type 0
-Opens header (Ok w) = (owners : List MapOp) → Shows header.owners owners
-    → HasOwners header.nodes (node_after owners) × ((k : Nodes) × IsOpening header.nodes (node_after owners) k × (w ≡ start header.workers k))
-Opens header (Err (BadLine number)) = (number ≡ header.count + 1) × ((owners : List MapOp) → Shows header.owners owners → HasOwners header.nodes (node_after owners) → ⊥)
+abbrev pub Opens : Header → Result WorldModel ScriptFault → Type 0
+Opens header (Ok w) = (owners : List MapOp) → MapShows header.owners owners
+    → HasOwners header.nodes (node_after owners) × ((k : ClusterModel) × IsOpening header.nodes (node_after owners) k × (w ≡ start header.workers run_limit k))
+Opens header (Err (BadLine number)) = (number ≡ header.count + 1) × ((owners : List MapOp) → MapShows header.owners owners → HasOwners header.nodes (node_after owners) → ⊥)
 Opens header (Err NoMemory) = Unit {0}
 
 -- the text of a world, and of the event that it refused
-abbrev pub Reports : {U : Type 0} → World → Result U RunFault → Outcome → Type 0
+abbrev pub Reports : {U : Type 0} → WorldModel → Result U RunFault → Outcome → Type 0
 Reports w (Ok u) outcome = (outcome.status ≡ 0) × (outcome.text.items ≡ state_text w)
 Reports w (Err fault) outcome = (outcome.status ≡ 1) × (outcome.text.items ≡ state_text w ++ refused_line fault.number fault.why)

@@ -1,12 +1,13 @@
 -- Owners taken over slot by slot.
+-- Only private functions cite it.
 use Rattle.std.specs.Prelude.{◌≡◌, ◌<◌, ◌≤◌, ℕ, List, Option, None}
-use Rattle.slot_map.specs.Map.{node_after, Shows}
+use Rattle.slot_map.specs.Map.{node_after, MapShows}
 use Rattle.slot_map.specs.declared.ops.MapOp.{MapOp}
 
 -- the new map has the owners of so many slots, and none beyond
 pub record TakenOver (new owners : List (Option ℕ)) (count : ℕ) (changes : List MapOp) : Type 0 where
-  pub shown : Shows new changes
-  pub same : (ops : List MapOp) → Shows owners ops → (slot : ℕ) → slot < count → node_after changes slot ≡ node_after ops slot
+  pub shown : MapShows new changes
+  pub same : (ops : List MapOp) → MapShows owners ops → (slot : ℕ) → slot < count → node_after changes slot ≡ node_after ops slot
   pub beyond : (slot : ℕ) → count ≤ slot → node_after changes slot ≡ None
 
 -- by some changes

@@ -1,8 +1,9 @@
 -- What the calls that read a script give.
+-- `simulate` and `local` share the calls that read an input and its lines.
 use Rattle.std.specs.Prelude.{◌≡◌, ◌<◌, ◌≤◌, ℕ, ◌+◌, List, [], ◌∷◌, ◌++◌, Option, None, Some, Result, Ok, Err, Vec, drop, length}
 use Rattle.std.specs.declared.alloc.Global.{Global}
 use Rattle.slot_map.specs.declared.ops.MapOp.{MapOp}
-use Rattle.slot_map.specs.Map.{Shows}
+use Rattle.slot_map.specs.Map.{MapShows}
 use Rattle.world_laws.specs.declared.event.Event.{Event}
 use Rattle.cluster_world.specs.declared.input.Input.{Input}
 use Rattle.cluster_world.specs.declared.input.Input.TheVariants.{Whole, TooLong, Failed}
@@ -48,7 +49,7 @@ ReadsEvents said (Err NoMemory) = Unit {0}
 -- the header of the lines, and what stands behind it; or where they are bad
 abbrev pub ReadsHeader : List ℕ → Result Header ScriptFault → Type 0
 ReadsHeader input (Ok header) =
-    (owners : List MapOp) × HasHeader (lines_of input) header.nodes header.workers owners × Shows header.owners owners
+    (owners : List MapOp) × HasHeader (lines_of input) header.nodes header.workers owners × MapShows header.owners owners
     × (header.count ≡ length owners + 2) × (lines_of header.rest.now ≡ drop (length owners + 2) (lines_of input))
 ReadsHeader input (Err (BadLine number)) = IsBadAt (lines_of input) number
 ReadsHeader input (Err NoMemory) = Unit {0}

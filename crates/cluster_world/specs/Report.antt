@@ -1,4 +1,5 @@
 -- The text of a world's answers and entries.
+-- This project's format.
 use Rattle.std.specs.Prelude.{ℕ, List, [], ◌∷◌, ◌++◌, codes}
 use Rattle.std.specs.Fmt.{decimal, signed_decimal}
 use Rattle.std.specs.List.{flat_map}
@@ -8,8 +9,8 @@ use Rattle.key_split.specs.Words.{words_of}
 use Rattle.key_split.specs.declared.travel.Ticket.{Ticket}
 use Rattle.key_split.specs.declared.travel.Ended.{Ended}
 use Rattle.key_split.specs.declared.travel.Ended.TheVariants.{Answered, GaveUp, Lost}
-use Rattle.node_model.specs.History.{Entry}
-use Rattle.world_laws.specs.State.{World}
+use Rattle.node_model.specs.History.{EntryModel}
+use Rattle.world_laws.specs.State.{WorldModel}
 use Rattle.world_laws.specs.declared.history.Answer.{Answer}
 use Rattle.cluster_world.specs.declared.fault.WorldFault.{WorldFault}
 use Rattle.cluster_world.specs.declared.fault.WorldFault.TheVariants.{NoMemory, NotNow}
@@ -56,11 +57,11 @@ line text = text ++ 10 ∷ []
 unfoldable pub answer_line : Answer → List ℕ
 answer_line a = line (codes "answer " ++ ticket_text a.ticket ++ space ++ end_text a.ended)
 
-unfoldable pub entry_line : Entry → List ℕ
+unfoldable pub entry_line : EntryModel → List ℕ
 entry_line e = line (codes "entry " ++ ticket_text e.ticket ++ space ++ joined space (words_of e.part) ++ codes " = " ++ value_text e.reply)
 
 -- the answers in order, and then the entries
-abbrev pub state_text : World → List ℕ
+abbrev pub state_text : WorldModel → List ℕ
 state_text w = flat_map answer_line w.answers ++ flat_map entry_line w.history
 
 abbrev pub fault_name : WorldFault → List ℕ

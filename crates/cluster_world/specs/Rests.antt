@@ -1,10 +1,12 @@
 -- Where a command that ASK sent to a node may be on its way there: place by place, it is not.
+-- Only private functions cite it.
 use Rattle.std.specs.Prelude.{◌≡◌, ℕ, ◌==◌, ◌&&◌, if◌then◌else◌, All}
 use Rattle.key_split.specs.declared.travel.Ticket.{Ticket}
-use Rattle.world_laws.specs.State.{World, Link}
-use Rattle.world_laws.specs.Places.{Item, asks, asks_in_stage, asks_in_told, in_requests, in_backs}
+use Rattle.world_laws.specs.State.{WorldModel, Link}
+use Rattle.world_laws.specs.Places.{Item, asks, asks_in_stage, asks_in_told, in_lane, in_requests, in_backs}
 use Rattle.world_laws.specs.Places.Item.{Stands, Lies, Sent, Comes}
-use Rattle.cluster_world.specs.Kept.{Line, in_kept}
+use Rattle.cluster_world.specs.Alone.{in_sent}
+use Rattle.cluster_world.specs.Kept.{LinkModel, in_kept}
 
 -- no request of the link is the ticket's command for the node behind ASKING, and no reply tells it to ask there
 unfoldable pub LinkRests : Link → ℕ → Ticket → Type 0
@@ -12,26 +14,26 @@ LinkRests l node ticket =
     (in_requests (asks node ticket) l.is_open l.node l.asking l.requests ≡ 0) × (in_backs (asks node ticket) l.backs ≡ 0)
 
 -- the same of a link as the code has it
-unfoldable pub LineRests : Line → ℕ → Ticket → Type 0
-LineRests l node ticket = (in_requests (asks node ticket) l.is_open l.node l.asking l.requests ≡ 0) × (in_kept (asks node ticket) l.backs ≡ 0)
+unfoldable pub LineRests : LinkModel → ℕ → Ticket → Type 0
+LineRests l node ticket = (in_sent (asks node ticket) l.is_open l.node l.asking l.requests ≡ 0) × (in_kept (asks node ticket) l.backs ≡ 0)
 
 -- the same of any command: whether something asks at the node at all
 abbrev pub asked : ℕ → Item → ℕ
 asked node (Stands c) = asks_in_stage node c.command.stage 1
-asked node (Lies b) = if b.asking && (b.node == node) then 1 else 0
+asked node (Lies m asking u) = if asking && (m == node) then 1 else 0
 asked node (Sent o m asking u) = if asking && (m == node) then 1 else 0
 asked node (Comes u told) = asks_in_told node told 1
 
-unfoldable pub LineAsksNot : Line → ℕ → Type 0
-LineAsksNot l node = (in_requests (asked node) l.is_open l.node l.asking l.requests ≡ 0) × (in_kept (asked node) l.backs ≡ 0)
+unfoldable pub LineAsksNot : LinkModel → ℕ → Type 0
+LineAsksNot l node = (in_sent (asked node) l.is_open l.node l.asking l.requests ≡ 0) × (in_kept (asked node) l.backs ≡ 0)
 
 -- it is nowhere on its way there
-pub record RestsEverywhere (w : World) (node : ℕ) (ticket : Ticket) : Type 0 where
+pub record RestsEverywhere (w : WorldModel) (node : ℕ) (ticket : Ticket) : Type 0 where
   pub commands : All (λ c. asks node ticket (Stands c) ≡ 0) w.commands
-  pub ups : All (λ b. asks node ticket (Lies b) ≡ 0) w.ups
+  pub ups : All (λ b. in_lane (asks node ticket) b ≡ 0) w.ups
   pub links : All (λ l. LinkRests l node ticket) w.links
   pub downs : All (λ p. asks node ticket (Comes p.0 p.1) ≡ 0) w.downs
 
 -- the same, as one word
-unfoldable pub Rests : World → ℕ → Ticket → Type 0
+unfoldable pub Rests : WorldModel → ℕ → Ticket → Type 0
 Rests w node ticket = RestsEverywhere w node ticket

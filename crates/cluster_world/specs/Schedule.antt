@@ -1,4 +1,6 @@
 -- The schedule that a script's lines say: a header, and then one event on each line.
+-- This project's format. A request stands in it only where its plan has one part. A script that doesn't fit is refused
+-- by its lowest bad line, the header's lines among them.
 use Rattle.std.specs.Prelude.{◌≡◌, ◌≢◌, ℕ, ◌+◌, ◌%◌, ◌^◌, ◌==◌, nat_le, Bool, ◌&&◌, if◌then◌else◌, List, [], ◌∷◌, length, drop, slice_index_or, Option, None, Some, Result, Ok, Err, codes}
 use Rattle.std.specs.List.{find, before_first, after_first}
 use Rattle.std.specs.Option.{option_map}
@@ -6,7 +8,7 @@ use Rattle.std.specs.Str.{bytes_eq}
 use Rattle.slot_map.specs.declared.ops.MapOp.{MapOp}
 use Rattle.slot_map.specs.declared.ops.MapOp.TheVariants.{SetRange}
 use Rattle.slot_map.specs.Map.{node_after}
-use Rattle.key_split.specs.Command.{Command as Part}
+use Rattle.key_split.specs.PartModel.{PartModel}
 use Rattle.key_split.specs.Plan.{plan_of}
 use Rattle.key_split.specs.declared.planned.Planned.{Planned}
 use Rattle.key_split.specs.declared.planned.Planned.TheVariants.{Local, Parts, Close}
@@ -19,7 +21,7 @@ use Rattle.world_laws.specs.declared.event.Event.{Event}
 use Rattle.world_laws.specs.declared.event.Event.TheVariants as event
 use Rattle.cluster_world.specs.declared.verb.Verb.{Verb}
 use Rattle.cluster_world.specs.declared.verb.Verb.TheVariants.{Arrive, Post, Carry, Refuse, Serve, Fetch, Take, Drop, Discard, Import, Migrate, MoveKey, Own, Release, Forget, Stay, Answer}
-use Rattle.cluster_world.specs.Script.{Words, Line, number_below}
+use Rattle.cluster_world.specs.Script.{Words, ScriptLine, number_below}
 
 -- Numbers of the types that events speak of.
 
@@ -97,12 +99,12 @@ abbrev pub of_two : {A B : Type 0} → (A → B → Event) → (List ℕ → Opt
 of_two make first second args = if length args == 2 then both make (first (word_at args 0)) (second (word_at args 1)) else None
 
 -- the part of a plan that has one alone
-abbrev pub only_of : List Part → Option Part
+abbrev pub only_of : List PartModel → Option PartModel
 only_of [] = None
 only_of (part ∷ []) = Some part
 only_of (part ∷ other ∷ more) = None
 
-abbrev pub only_part : Result Planned PlanFault → Option Part
+abbrev pub only_part : Result Planned PlanFault → Option PartModel
 only_part (Err fault) = None
 only_part (Ok (Local reply)) = None
 only_part (Ok (Parts joining parts)) = only_of parts
@@ -130,10 +132,14 @@ verdict_in words =
 abbrev pub serving_in : Words → Option Event
 serving_in args = if nat_le 1 (length args) then both event.Serve (link_in (word_at args 0)) (verdict_in (drop 1 args)) else None
 
+-- a command goes alone
+abbrev pub post_alone : Ticket → ℕ → Event
+post_alone ticket node = event.Post (ticket ∷ []) node
+
 -- the event of a verb and the words behind it
 abbrev pub event_as : ℕ → Verb → Words → Option Event
 event_as workers Arrive args = arrival_in args
-event_as workers Post args = of_two event.Post (ticket_in workers) node_in args
+event_as workers Post args = of_two post_alone (ticket_in workers) node_in args
 event_as workers Carry args = of_two event.Carry lane_in link_in args
 event_as workers Refuse args = of_one event.Refuse lane_in args
 event_as workers Serve args = serving_in args
@@ -155,14 +161,14 @@ event_with workers None args = None
 event_with workers (Some verb) args = event_as workers verb args
 
 -- the event that a line says
-unfoldable pub event_of : ℕ → Line → Option Event
+unfoldable pub event_of : ℕ → ScriptLine → Option Event
 event_of workers None = None
 event_of workers (Some words) = event_with workers (verb_of (word_at words 0)) (drop 1 words)
 
 -- The header.
 
 -- the words behind a line's name, where it has this name and so many
-abbrev pub args_of : List ℕ → ℕ → Line → Option Words
+abbrev pub args_of : List ℕ → ℕ → ScriptLine → Option Words
 args_of name count None = None
 args_of name count (Some words) = if (length words == count + 1) && bytes_eq (word_at words 0) name then Some (drop 1 words) else None
 
@@ -171,7 +177,7 @@ abbrev pub nodes_in : Option Words → Option ℕ
 nodes_in None = None
 nodes_in (Some args) = number_below (2 ^ 8) (word_at args 0)
 
-unfoldable pub nodes_of : Line → Option ℕ
+unfoldable pub nodes_of : ScriptLine → Option ℕ
 nodes_of line = nodes_in (args_of (codes "nodes") 1 line)
 
 -- `workers N`: 1 to 64
@@ -183,7 +189,7 @@ abbrev pub workers_in : Option Words → Option ℕ
 workers_in None = None
 workers_in (Some args) = from_one (number_below 65 (word_at args 0))
 
-unfoldable pub workers_of : Line → Option ℕ
+unfoldable pub workers_of : ScriptLine → Option ℕ
 workers_of line = workers_in (args_of (codes "workers") 1 line)
 
 -- `owner LO HI NODE`
@@ -197,13 +203,13 @@ abbrev pub owner_in : Option Words → Option MapOp
 owner_in None = None
 owner_in (Some args) = owner_with (slot_in (word_at args 0)) (slot_in (word_at args 1)) (node_in (word_at args 2))
 
-unfoldable pub owner_of : Line → Option MapOp
+unfoldable pub owner_of : ScriptLine → Option MapOp
 owner_of line = owner_in (args_of (codes "owner") 3 line)
 
 -- The whole.
 
 -- a line by its place, from 0: one that is not there says nothing
-abbrev pub line_at : List Line → ℕ → Line
+abbrev pub line_at : List ScriptLine → ℕ → ScriptLine
 line_at lines k = slice_index_or lines k None
 
 -- what the lines say from the front on, up to the first that says no such thing
@@ -211,7 +217,7 @@ abbrev pub put_before : {X : Type 0} → Option X → List X → List X
 put_before None xs = []
 put_before (Some x) xs = x ∷ xs
 
-abbrev pub said_first : {X : Type 0} → (Line → Option X) → List Line → List X
+abbrev pub said_first : {X : Type 0} → (ScriptLine → Option X) → List ScriptLine → List X
 said_first say [] = []
 said_first say (line ∷ lines) = put_before (say line) (said_first say lines)
 
@@ -221,31 +227,31 @@ said_with None number more = Err number
 said_with (Some x) number (Err bad) = Err bad
 said_with (Some x) number (Ok xs) = Ok (x ∷ xs)
 
-abbrev pub all_said : {X : Type 0} → (Line → Option X) → ℕ → List Line → Result (List X) ℕ
+abbrev pub all_said : {X : Type 0} → (ScriptLine → Option X) → ℕ → List ScriptLine → Result (List X) ℕ
 all_said say number [] = Ok []
 all_said say number (line ∷ lines) = said_with (say line) number (all_said say (number + 1) lines)
 
 -- `nodes N`, `workers N`, and one or more `owner LO HI NODE`
-pub record HasHeader (lines : List Line) (nodes workers : ℕ) (owners : List MapOp) : Type 0 where
+pub record HasHeader (lines : List ScriptLine) (nodes workers : ℕ) (owners : List MapOp) : Type 0 where
   pub first : nodes_of (line_at lines 0) ≡ Some nodes
   pub second : workers_of (line_at lines 1) ≡ Some workers
   pub further : said_first owner_of (drop 2 lines) ≡ owners
   pub some : owners ≢ []
 
 -- the events that the lines behind the header say, or the number of the first line that says none
-abbrev pub events_behind : List Line → ℕ → List MapOp → Result (List Event) ℕ
+abbrev pub events_behind : List ScriptLine → ℕ → List MapOp → Result (List Event) ℕ
 events_behind lines workers owners = all_said (event_of workers) (length owners + 3) (drop (length owners + 2) lines)
 
 -- the lowest line that is bad, from 1: it does not fit, or it is the one behind owners that no cluster begins with, or the one behind the last line where no
 -- owner came
-pub data IsBadAt : List Line → ℕ → Type 0 where
-  no_nodes : (lines : List Line) → nodes_of (line_at lines 0) ≡ None → IsBadAt lines 1
-  no_workers : (lines : List Line) (nodes : ℕ) → nodes_of (line_at lines 0) ≡ Some nodes → workers_of (line_at lines 1) ≡ None → IsBadAt lines 2
-  no_owner : (lines : List Line) (nodes workers : ℕ) → nodes_of (line_at lines 0) ≡ Some nodes → workers_of (line_at lines 1) ≡ Some workers
+pub data IsBadAt : List ScriptLine → ℕ → Type 0 where
+  no_nodes : (lines : List ScriptLine) → nodes_of (line_at lines 0) ≡ None → IsBadAt lines 1
+  no_workers : (lines : List ScriptLine) (nodes : ℕ) → nodes_of (line_at lines 0) ≡ Some nodes → workers_of (line_at lines 1) ≡ None → IsBadAt lines 2
+  no_owner : (lines : List ScriptLine) (nodes workers : ℕ) → nodes_of (line_at lines 0) ≡ Some nodes → workers_of (line_at lines 1) ≡ Some workers
       → said_first owner_of (drop 2 lines) ≡ [] → IsBadAt lines 3
-  bad_owners : (lines : List Line) (nodes workers : ℕ) (owners : List MapOp) → HasHeader lines nodes workers owners → (HasOwners nodes (node_after owners) → ⊥)
+  bad_owners : (lines : List ScriptLine) (nodes workers : ℕ) (owners : List MapOp) → HasHeader lines nodes workers owners → (HasOwners nodes (node_after owners) → ⊥)
       → IsBadAt lines (length owners + 3)
-  no_event : (lines : List Line) (nodes workers : ℕ) (owners : List MapOp) (number : ℕ) → HasHeader lines nodes workers owners → HasOwners nodes (node_after owners)
+  no_event : (lines : List ScriptLine) (nodes workers : ℕ) (owners : List MapOp) (number : ℕ) → HasHeader lines nodes workers owners → HasOwners nodes (node_after owners)
       → events_behind lines workers owners ≡ Err number → IsBadAt lines number
 
 -- what a script asks for
@@ -256,7 +262,7 @@ pub record Schedule : Type 0 where
   pub events : List Event
 
 -- the lines are a script that says so
-pub record Says (lines : List Line) (s : Schedule) : Type 0 where
+pub record Says (lines : List ScriptLine) (s : Schedule) : Type 0 where
   pub header : HasHeader lines s.nodes s.workers s.owners
   pub owned : HasOwners s.nodes (node_after s.owners)
   pub events : events_behind lines s.workers s.owners ≡ Ok s.events

@@ -1,4 +1,5 @@
 -- The lines of a script: each is ended by LF, and its words are bytes 0x21 to 0x7E, separated by one space.
+-- This project's format: one way to write each thing. An empty line fits nothing. Numbers may have leading zeros.
 use Rattle.std.specs.Prelude.{ℕ, ◌+◌, ◌-◌, ◌*◌, ◌==◌, nat_le, nat_lt, Bool, ◌&&◌, not, if◌then◌else◌, List, [], ◌∷◌, length, Option, None, Some}
 use Rattle.std.specs.List.{fold, list_all, slice_split}
 
@@ -6,8 +7,8 @@ abbrev pub Words : Type 0
 Words = List (List ℕ)
 
 -- a line's words, or none where it has no such words or no LF ends it
-abbrev pub Line : Type 0
-Line = Option Words
+abbrev pub ScriptLine : Type 0
+ScriptLine = Option Words
 
 abbrev pub is_space : ℕ → Bool
 is_space b = b == 32
@@ -22,21 +23,21 @@ abbrev pub is_word : List ℕ → Bool
 is_word word = not (length word == 0) && list_all is_printable word
 
 -- the words of a line's text
-unfoldable pub line_of : List ℕ → Line
+unfoldable pub line_of : List ℕ → ScriptLine
 line_of text = if list_all is_word (slice_split is_space text) then Some (slice_split is_space text) else None
 
 -- what stands behind the last LF is a line that none ends
-abbrev pub unended : List ℕ → List Line
+abbrev pub unended : List ℕ → List ScriptLine
 unended [] = []
 unended (b ∷ bs) = None ∷ []
 
-abbrev pub lines_in : List (List ℕ) → List Line
+abbrev pub lines_in : List (List ℕ) → List ScriptLine
 lines_in [] = []
 lines_in (last ∷ []) = unended last
 lines_in (text ∷ next ∷ more) = line_of text ∷ lines_in (next ∷ more)
 
 -- the lines of an input
-unfoldable pub lines_of : List ℕ → List Line
+unfoldable pub lines_of : List ℕ → List ScriptLine
 lines_of input = lines_in (slice_split is_lf input)
 
 -- Numbers: decimal digits without a sign.

@@ -1,10 +1,13 @@
 -- What a run of `simulate` writes.
+-- Status 0 where every event happened. A refused event gives status 1, the text of the world before it and a line for
+-- it; any other input gives one line and status 1. This project's format.
 use Rattle.std.specs.Prelude.{◌≡◌, ℕ, ◌+◌, ◌≤◌, List, ◌++◌, length, take, Some, slice_get, codes}
 use Rattle.slot_map.specs.Map.{node_after}
-use Rattle.node_model.specs.Nodes.{Nodes, IsOpening}
-use Rattle.world_laws.specs.State.{World, start}
-use Rattle.world_laws.specs.World.{Run}
+use Rattle.node_model.specs.Nodes.{ClusterModel, IsOpening}
+use Rattle.world_laws.specs.State.{WorldModel, start}
+use Rattle.world_laws.specs.World.{WorldRun}
 use Rattle.world_laws.specs.declared.event.Event.{Event}
+use Rattle.cluster_world.specs.Alone.{run_limit}
 use Rattle.cluster_world.specs.declared.fault.WorldFault.{WorldFault}
 use Rattle.cluster_world.specs.Steps.{RefusedFor}
 use Rattle.cluster_world.specs.Script.{lines_of}
@@ -12,15 +15,15 @@ use Rattle.cluster_world.specs.Schedule.{Schedule, Says, IsBadAt}
 use Rattle.cluster_world.specs.Report.{state_text, refused_line, bad_line, line}
 
 -- the world in which a schedule begins
-abbrev pub Begins : Schedule → World → Type 0
-Begins s w = (k : Nodes) × IsOpening s.nodes (node_after s.owners) k × (w ≡ start s.workers k)
+abbrev pub Begins : Schedule → WorldModel → Type 0
+Begins s w = (k : ClusterModel) × IsOpening s.nodes (node_after s.owners) k × (w ≡ start s.workers run_limit k)
 
 -- the status and the text for an input that was read whole
 pub data Writes : List ℕ → ℕ → List ℕ → Type 0 where
   bad : (input : List ℕ) (number : ℕ) → IsBadAt (lines_of input) number → Writes input 1 (bad_line number)
-  ran : (input : List ℕ) (s : Schedule) (first last : World) → Says (lines_of input) s → Begins s first → Run first s.events last → Writes input 0 (state_text last)
-  refused : (input : List ℕ) (s : Schedule) (first last : World) (place : ℕ) (event : Event) (why : WorldFault) → Says (lines_of input) s → Begins s first
-      → slice_get s.events place ≡ Some event → Run first (take place s.events) last → RefusedFor last event why
+  ran : (input : List ℕ) (s : Schedule) (first last : WorldModel) → Says (lines_of input) s → Begins s first → WorldRun first s.events last → Writes input 0 (state_text last)
+  refused : (input : List ℕ) (s : Schedule) (first last : WorldModel) (place : ℕ) (event : Event) (why : WorldFault) → Says (lines_of input) s → Begins s first
+      → slice_get s.events place ≡ Some event → WorldRun first (take place s.events) last → RefusedFor last event why
       → Writes input 1 (state_text last ++ refused_line (place + 1) why)
 
 abbrev pub too_long_text : List ℕ

@@ -1,9 +1,10 @@
 -- What the tables of commands say, and how they change.
+-- Only private functions cite it.
 use Rattle.std.specs.Prelude.{◌≡◌, ◌<◌, ◌==◌, ◌&&◌, ℕ, Bool, cond, List, [], ◌∷◌, ◌++◌, Option, Some, None, nat_eq}
 use Rattle.std.specs.Vec.{vec_len, vec_capacity}
 use Rattle.std.specs.HashMap.{HashMap, get, spare}
 use Rattle.key_split.specs.declared.travel.Ticket.{Ticket}
-use Rattle.command_future.specs.Progress.{Progress}
+use Rattle.command_future.specs.CommandModel.{CommandModel}
 use Rattle.world_laws.specs.State.{slot_for}
 use Rattle.cluster_world.specs.declared.rows.Row.{Row}
 use Rattle.cluster_world.specs.declared.tables.PartKey.{PartKey}
@@ -20,7 +21,7 @@ same_part = (part_eq.ghosts).eq
 abbrev pub same_turn : TurnKey → TurnKey → Bool
 same_turn = (turn_eq.ghosts).eq
 
-abbrev pub turn_key_of : Progress → TurnKey
+abbrev pub turn_key_of : CommandModel → TurnKey
 turn_key_of c = record { client = c.ticket.client; slot = slot_for c.part }
 
 abbrev pub placed_in : {S : Type 0} → HashMap PartKey ℕ S → ℕ → ℕ → Option ℕ

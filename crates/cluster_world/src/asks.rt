@@ -1,17 +1,19 @@
 //! Whether a command that ASK sent to a node is on its way there, place by place.
 
-ghost use Rattle.std.specs.Prelude.{◌≡◌, ◌↔◌, All, IsTrue};
-ghost use Rattle.world_laws.specs.Places.{asks_in_stage, asks_in_told, is};
+ghost use Rattle.std.specs.Prelude.{◌≡◌, ◌↔◌, All, IsTrue, map};
+ghost use Rattle.world_laws.specs.Places.{asks_in_stage, asks_in_told, in_lane, is};
 ghost use Rattle.world_laws.specs.Places.{asks as asks_by};
+ghost use Rattle.cluster_world.specs.Alone.{as_run, lying};
 ghost use Rattle.cluster_world.specs.Kept.{in_kept};
 ghost use Rattle.cluster_world.specs.Rests.{asked};
-ghost use Rattle.world_laws.specs.Places.Item.{Lies, Stands, Comes};
+ghost use Rattle.world_laws.specs.Places.Item.{Stands, Comes};
 
+use crate::alone::PostedAlone;
 use crate::link::Kept;
 use command_future::{Command, Want};
 use key_split::{Ticket, Told};
 use slot_map::NodeId;
-use world_laws::{Arrival, Posted};
+use world_laws::Arrival;
 
 /// Whether the ticket's command does not want to be posted there, after ASKING.
 pub(crate) fn command_rests(command: &Command, node: NodeId, ticket: Ticket) -> bool
@@ -24,8 +26,8 @@ pub(crate) fn command_rests(command: &Command, node: NodeId, ticket: Ticket) -> 
 }
 
 /// Whether the batch is not the ticket's, for the node and behind ASKING.
-pub(crate) fn batch_rests(posted: Posted, node: NodeId, ticket: Ticket) -> bool
-    ensures { IsTrue result ↔ (asks_by node ticket (Lies posted) ≡ 0) }
+pub(crate) fn batch_rests(posted: PostedAlone, node: NodeId, ticket: Ticket) -> bool
+    ensures { IsTrue result ↔ (lying (asks_by node ticket) posted ≡ 0) }
 {
     !(posted.asking && posted.node == node && ticket == posted.ticket)
 }
@@ -51,8 +53,8 @@ pub(crate) fn command_asks_not(command: &Command, node: NodeId) -> bool
 }
 
 /// Whether the batch is not for the node and behind ASKING.
-pub(crate) fn batch_asks_not(posted: Posted, node: NodeId) -> bool
-    ensures { IsTrue result ↔ (asked node (Lies posted) ≡ 0) }
+pub(crate) fn batch_asks_not(posted: PostedAlone, node: NodeId) -> bool
+    ensures { IsTrue result ↔ (lying (asked node) posted ≡ 0) }
 {
     !(posted.asking && posted.node == node)
 }
@@ -93,8 +95,15 @@ pub(crate) fn commands_ask_not(commands: &[Arrival], node: NodeId) -> bool
 }
 
 /// Whether none of the batches is for the node and behind ASKING.
-pub(crate) fn batches_ask_not(ups: &[Posted], node: NodeId) -> bool
-    ensures { IsTrue result ↔ All (λ b. asked node (Lies b) ≡ 0) ups.now }
+pub(crate) fn batches_ask_not(ups: &[PostedAlone], node: NodeId) -> bool
+    ensures { IsTrue result → (ticket : Ticket) → All (λ b. in_lane (asks_by node ticket) b ≡ 0) (map as_run ups.now) }
+{
+    each_asks_not(ups, node)
+}
+
+// The same of each by itself.
+fn each_asks_not(ups: &[PostedAlone], node: NodeId) -> bool
+    ensures { IsTrue result ↔ All (λ b. lying (asked node) b ≡ 0) ups.now }
 {
     ups.iter().all(|posted| batch_asks_not(*posted, node))
 }
@@ -132,8 +141,15 @@ pub(crate) fn commands_rest(commands: &[Arrival], node: NodeId, ticket: Ticket) 
 }
 
 /// Whether none of the batches is the ticket's, for the node and behind ASKING.
-pub(crate) fn batches_rest(ups: &[Posted], node: NodeId, ticket: Ticket) -> bool
-    ensures { IsTrue result ↔ All (λ b. asks_by node ticket (Lies b) ≡ 0) ups.now }
+pub(crate) fn batches_rest(ups: &[PostedAlone], node: NodeId, ticket: Ticket) -> bool
+    ensures { IsTrue result ↔ All (λ b. in_lane (asks_by node ticket) b ≡ 0) (map as_run ups.now) }
+{
+    each_rests(ups, node, ticket)
+}
+
+// The same of each by itself.
+fn each_rests(ups: &[PostedAlone], node: NodeId, ticket: Ticket) -> bool
+    ensures { IsTrue result ↔ All (λ b. lying (asks_by node ticket) b ≡ 0) ups.now }
 {
     ups.iter().all(|posted| batch_rests(*posted, node, ticket))
 }

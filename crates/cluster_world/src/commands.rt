@@ -1,7 +1,7 @@
 //! The commands of a world, and the tables by which they are found.
 
 ghost use Rattle.std.specs.Prelude.{◌≡◌, ◌↔◌, ◌<◌, [], ◌∷◌, ◌++◌, false, length, slice_get, Some, IsTrue, OnOk, OnErr};
-ghost use Rattle.command_future.specs.Progress.{fresh};
+ghost use Rattle.command_future.specs.CommandModel.{fresh};
 ghost use Rattle.command_future.specs.declared.command.Step.TheVariants.{Done};
 ghost use Rattle.world_laws.specs.State.{awaiting, after_told};
 ghost use Rattle.world_laws.specs.declared.state.Arrival.{Arrival};

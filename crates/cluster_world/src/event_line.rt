@@ -1,17 +1,17 @@
 //! The events that lines say.
 
-ghost use Rattle.std.specs.Prelude.{◌≡◌, ◌≢◌, ◌<◌, Some, length, IfOk};
+ghost use Rattle.std.specs.Prelude.{◌≡◌, ◌≢◌, ◌<◌, [], ◌∷◌, Some, length, IfOk};
 ghost use Rattle.key_split.specs.Plan.{plan_of};
 ghost use Rattle.cluster_world.specs.Schedule as schedule;
 
 use crate::fields::{client_in, lane_in, link_in, node_in, slot_in, ticket_in};
 use crate::verb::Verb;
-use key_split::{Part, Parts, PlanFault, Planned, plan};
+use key_split::{Part, Parts, PlanFault, Planned, Ticket, plan};
 use node_model::Verdict;
 use resp_wire::{Bytes, NoMemory, Words};
 use slot_hash::Slot;
 use std::alloc::Global;
-use world_laws::Event;
+use world_laws::{Event, Tickets};
 
 /// The event that a line's words say, where they say one.
 #[tactic(auto, unfolding(crate::specs::Schedule::event_of))]
@@ -42,6 +42,7 @@ fn event_as(
     match verb {
         Verb::Arrive => arrival_in(alloc, args),
         Verb::MoveKey => move_key_in(alloc, args),
+        Verb::Post => post_in(alloc, workers, args),
         _ => Ok(plain_event(workers, verb, args)),
     }
 }
@@ -51,11 +52,11 @@ fn plain_event(workers: u16, verb: Verb, args: &[Bytes]) -> Option<Event>
     requires workers { 0 < workers }
     requires command { verb ≢ Verb.Arrive }
     requires key { verb ≢ Verb.MoveKey }
+    requires run { verb ≢ Verb.Post }
     ensures { result ≡ schedule.event_as workers verb args.now }
 {
     match verb {
-        Verb::Arrive | Verb::MoveKey => None,
-        Verb::Post => post_in(workers, args),
+        Verb::Arrive | Verb::MoveKey | Verb::Post => None,
         Verb::Carry => carry_in(args),
         Verb::Refuse => Some(Event::Refuse {
             lane: lane_alone(args)?,
@@ -132,16 +133,30 @@ fn client_alone(args: &[Bytes]) -> Option<u32>
 }
 
 /// `post CLIENT.PART NODE`
-fn post_in(workers: u16, args: &[Bytes]) -> Option<Event>
+fn post_in(alloc: Global, workers: u16, args: &[Bytes]) -> Result<Option<Event>, NoMemory>
     requires { 0 < workers }
-    ensures { result ≡ schedule.event_as workers Verb.Post args.now }
+    ensures { IfOk result (λ event. event ≡ schedule.event_as workers Verb.Post args.now) }
 {
     if args.len() != 2 {
-        return None;
+        return Ok(None);
     }
-    let ticket = ticket_in(workers, args[0].as_slice())?;
-    let node = node_in(args[1].as_slice())?;
-    Some(Event::Post { ticket, node })
+    let Some(ticket) = ticket_in(workers, args[0].as_slice()) else {
+        return Ok(None);
+    };
+    let Some(node) = node_in(args[1].as_slice()) else {
+        return Ok(None);
+    };
+    let tickets = alone(alloc, ticket)?;
+    Ok(Some(Event::Post { tickets, node }))
+}
+
+/// A run of one.
+fn alone(alloc: Global, ticket: Ticket) -> Result<Tickets, NoMemory>
+    ensures { IfOk result (λ tickets. tickets ≡ ticket ∷ []) }
+{
+    let mut tickets = Vec::new(alloc);
+    tickets.push(ticket)?;
+    Ok(Tickets::new(tickets))
 }
 
 /// `carry LANE LINK`

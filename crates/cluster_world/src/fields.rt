@@ -10,7 +10,7 @@ use slot_hash::{SLOT_COUNT, Slot};
 use slot_map::{NODE_LIMIT, NodeId};
 
 /// The number that a word writes, where it is below a bound.
-pub(crate) fn number_under(word: &[u8], bound: u64) -> Option<u64>
+pub fn number_under(word: &[u8], bound: u64) -> Option<u64>
     ensures value { result ≡ number_below bound word.now }
     ensures under { IfSome result (λ number. number < bound) }
 {
@@ -38,14 +38,16 @@ pub(crate) fn link_in(word: &[u8]) -> Option<u64>
     number(word)
 }
 
-pub(crate) fn node_in(word: &[u8]) -> Option<NodeId>
+/// The node that a word names.
+pub fn node_in(word: &[u8]) -> Option<NodeId>
     ensures { result ≡ node_in word.now }
 {
     let node = number_under(word, NODE_LIMIT as u64)?;
     NodeId::new(node as u8)
 }
 
-pub(crate) fn slot_in(word: &[u8]) -> Option<Slot>
+/// The slot that a word names.
+pub fn slot_in(word: &[u8]) -> Option<Slot>
     ensures { result ≡ slot_in word.now }
 {
     let slot = number_under(word, u64::from(SLOT_COUNT))?;

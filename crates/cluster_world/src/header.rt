@@ -2,7 +2,7 @@
 
 ghost use Rattle.std.specs.Prelude.{◌≡◌, ◌≤◌, ◌<◌, ◌+◌, ◌++◌, List, IfOk, IfSome, length, drop};
 ghost use Rattle.slot_map.specs.declared.ops.MapOp.{MapOp};
-ghost use Rattle.slot_map.specs.Map.{Shows as MapShows};
+ghost use Rattle.slot_map.specs.Map.{MapShows};
 ghost use Rattle.cluster_world.specs.Cuts.{Shows};
 ghost use Rattle.cluster_world.specs.Reading.{ReadsHeader};
 ghost use Rattle.cluster_world.specs.Script.{lines_of};

@@ -9,9 +9,10 @@
 //!
 //! Promises: exact steps, and the headline. `World::apply` makes the step of world_laws and answers `NotNow` exactly where there
 //! is none (`specs/Steps.antt`); `World::run` is the fold of it. Whatever events a world was led by, its history is one legal
-//! history of one store, and each answer stands in it (the clauses `headline`).
+//! history of one store, and each command that ended with a reply stands in it once (the clauses `headline`).
 #![tactic(auto)]
 
+mod alone;
 mod asks;
 mod commands;
 mod event_line;
@@ -24,6 +25,7 @@ mod link;
 mod links;
 mod machine;
 mod moves;
+mod outcome;
 mod owners;
 mod places;
 mod report;
@@ -39,11 +41,13 @@ mod world;
 
 pub use event_line::event_of;
 pub use fault::{RunFault, WorldFault};
+pub use fields::{node_in, number_under, slot_in};
 pub use input::{INPUT_LIMIT, Input, read_input};
 pub use lawful::audit;
-pub use report::write_value_text;
+pub use outcome::{Outcome, WriteFailed};
+pub use report::{bad_line, write_value_text};
 pub use run_report::RunReport;
 pub use script::{LineRead, cut, number, read_line, words};
 pub use simulate::{SimulateFault, run_script, run_simulate};
 pub use world::World;
-pub use world_laws::{Answer, Entry, Event};
+pub use world_laws::{Answer, Entry, Event, Tickets};

@@ -1,18 +1,18 @@
 //! A link to a node.
 
 ghost use Rattle.std.specs.Prelude.{◌≡◌, ◌<◌, [], ◌∷◌, ◌++◌, true, false, List, OnOk, OnErr, ◌≢◌, IsTrue, ◌↔◌, IfOk, MatchOption, length};
-ghost use Rattle.world_laws.specs.State.{requests_of, sent_of};
-ghost use Rattle.world_laws.specs.Places.{asks, in_requests};
-ghost use Rattle.cluster_world.specs.Kept.{FirstEntry, keeps, kept_for, new_line, refusal_in};
+ghost use Rattle.world_laws.specs.Places.{asks};
+ghost use Rattle.cluster_world.specs.Alone.{in_sent, requests_for, sent_for};
+ghost use Rattle.cluster_world.specs.Kept.{FirstEntry, keeps, kept_for, new_link_model, refusal_in};
 ghost use Rattle.cluster_world.specs.Rests.{asked, LineAsksNot, LineRests};
 ghost use Rattle.cluster_world.specs.Lost.{each_lost};
 
+use crate::alone::{PostedAlone, RequestAlone};
 use crate::asks::{kept_ask_not, kept_rest};
 use key_split::{Ticket, Told};
 use slot_map::NodeId;
 use std::alloc::{AllocError, Global};
 use std::marker::Model;
-use world_laws::{Posted, Request};
 
 /// What a link keeps of a reply that is not yet fetched.
 #[derive(Drop)]
@@ -42,18 +42,18 @@ impl Kept {
 pub(crate) struct Link {
     node: NodeId,
     is_open: bool,
-    requests: Vec<Request>,
+    requests: Vec<RequestAlone>,
     backs: Vec<Kept>,
     asking: bool,
 }
 
 impl Model for Link {
-    ghost use Rattle.cluster_world.specs.Kept.{Line};
+    ghost use Rattle.cluster_world.specs.Kept.{LinkModel};
     ghost use Rattle.resp_wire.specs.contracts.value.Value as value;
     ghost use Rattle.std.specs.Coded.{codes};
     ghost use Rattle.std.specs.Vec.{vec_capacity};
 
-    ghost Value = { Line };
+    ghost Value = { LinkModel };
 
     ghost coded = { Prim.hlevel (codes, value.the_row.coded) };
 
@@ -62,7 +62,7 @@ impl Model for Link {
 
 impl Link {
     pub(crate) fn new(alloc: Global, node: NodeId) -> Link
-        ensures { result ≡ new_line node result.room }
+        ensures { result ≡ new_link_model node result.room }
     {
         Link {
             node,
@@ -131,14 +131,14 @@ impl Link {
     }
 
     /// The first request.
-    pub(crate) fn first_request(&self) -> Option<Request>
-        ensures { MatchOption result (self.now.requests ≡ []) (λ request. (rest : List Request) × (self.now.requests ≡ request ∷ rest)) }
+    pub(crate) fn first_request(&self) -> Option<RequestAlone>
+        ensures { MatchOption result (self.now.requests ≡ []) (λ request. (rest : List RequestAlone) × (self.now.requests ≡ request ∷ rest)) }
     {
         self.requests.first().copied()
     }
 
     /// Takes the first request. What comes after it meets the flag so.
-    pub(crate) fn take_request(&mut self, asking: bool) -> Request
+    pub(crate) fn take_request(&mut self, asking: bool) -> RequestAlone
         requires { self.old.requests ≢ [] }
         ensures first { self.old.requests ≡ result ∷ self.new.requests }
         ensures rest { self.new ≡ record self.old { requests = self.new.requests; asking = asking } }
@@ -173,21 +173,22 @@ impl Link {
     }
 
     /// Puts a batch's requests at the end: all of them, or none for want of memory.
-    pub(crate) fn send(&mut self, posted: Posted) -> Result<(), AllocError>
-        ensures ok { OnOk result (self.new ≡ record self.old { requests = self.old.requests ++ requests_of posted }) }
+    pub(crate) fn send(&mut self, posted: PostedAlone) -> Result<(), AllocError>
+        ensures ok { OnOk result (self.new ≡ record self.old { requests = self.old.requests ++ requests_for posted }) }
         ensures err { OnErr result (self.new ≡ self.old) }
     {
         self.requests.reserve(2)?;
         if posted.asking {
-            self.requests.push_reserved(Request::Asking);
+            self.requests.push_reserved(RequestAlone::Asking);
         }
-        self.requests.push_reserved(Request::Runs(posted.ticket));
+        self.requests
+            .push_reserved(RequestAlone::Command(posted.ticket));
         Ok(())
     }
 
     /// Who waits on it, in order of sending: each is told that it is lost.
     pub(crate) fn lost(&self, alloc: Global) -> Result<Vec<(Ticket, Told)>, AllocError>
-        ensures { IfOk result (λ lost. lost.items ≡ each_lost (kept_for self.now.backs ++ sent_of self.now.requests)) }
+        ensures { IfOk result (λ lost. lost.items ≡ each_lost (kept_for self.now.backs ++ sent_for self.now.requests)) }
     {
         let mut lost = Vec::new(alloc);
         push_answered(&mut lost, &self.backs)?;
@@ -204,14 +205,14 @@ impl Link {
 
     // Whether none of its requests is the ticket's command, for the node and behind ASKING.
     fn requests_rest(&self, node: NodeId, ticket: Ticket) -> bool
-        ensures { IsTrue result ↔ (in_requests (asks node ticket) self.now.is_open self.now.node self.now.asking self.now.requests ≡ 0) }
+        ensures { IsTrue result ↔ (in_sent (asks node ticket) self.now.is_open self.now.node self.now.asking self.now.requests ≡ 0) }
     {
         let mut asking = self.asking;
         let mut rest = self.requests.as_slice();
         while let [request, further @ ..] = rest {
             match request {
-                Request::Asking => asking = true,
-                Request::Runs(sent) => {
+                RequestAlone::Asking => asking = true,
+                RequestAlone::Command(sent) => {
                     if asking && self.node == node && ticket == *sent {
                         return false;
                     }
@@ -232,14 +233,14 @@ impl Link {
 
     // Whether none of its requests is for the node and behind ASKING.
     fn requests_ask_not(&self, node: NodeId) -> bool
-        ensures { IsTrue result ↔ (in_requests (asked node) self.now.is_open self.now.node self.now.asking self.now.requests ≡ 0) }
+        ensures { IsTrue result ↔ (in_sent (asked node) self.now.is_open self.now.node self.now.asking self.now.requests ≡ 0) }
     {
         let mut asking = self.asking;
         let mut rest = self.requests.as_slice();
         while let [request, further @ ..] = rest {
             match request {
-                Request::Asking => asking = true,
-                Request::Runs(_) => {
+                RequestAlone::Asking => asking = true,
+                RequestAlone::Command(_) => {
                     if asking && self.node == node {
                         return false;
                     }
@@ -277,12 +278,12 @@ fn push_answered(lost: &mut Vec<(Ticket, Told)>, backs: &[Kept]) -> Result<(), A
 }
 
 // Adds those whose requests these are.
-fn push_sent(lost: &mut Vec<(Ticket, Told)>, requests: &[Request]) -> Result<(), AllocError>
-    ensures { OnOk result (lost.new.items ≡ lost.old.items ++ each_lost (sent_of requests.now)) }
+fn push_sent(lost: &mut Vec<(Ticket, Told)>, requests: &[RequestAlone]) -> Result<(), AllocError>
+    ensures { OnOk result (lost.new.items ≡ lost.old.items ++ each_lost (sent_for requests.now)) }
 {
     let mut rest = requests;
     while let [request, further @ ..] = rest {
-        if let Request::Runs(ticket) = request {
+        if let RequestAlone::Command(ticket) = request {
             lost.push((*ticket, Told::Lost))?;
         }
         rest = further;

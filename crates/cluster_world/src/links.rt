@@ -2,12 +2,14 @@
 
 ghost use Rattle.std.specs.Prelude.{◌≡◌, ◌<◌, ◌↔◌, [], ◌∷◌, List, All, IsTrue, length};
 ghost use Rattle.std.specs.Vec.{vec_len, vec_capacity};
+ghost use Rattle.cluster_world.specs.Alone.{as_run};
 ghost use Rattle.cluster_world.specs.Kept.{Notes};
-ghost use Rattle.cluster_world.specs.Links.{There, Begins, Carries, Closes, Discards, Fetches, FirstIs, HasReply, Welcomes, Executes};
+ghost use Rattle.cluster_world.specs.Links.{There, Begins, Carries, Closes, Discards, Fetches, FirstIs, HasReply, Welcomes, LinkExecutes};
 ghost use Rattle.cluster_world.specs.Rests.{LineAsksNot, LineRests, LinkRests};
 ghost use Rattle.world_laws.specs.World.{IsNode};
-ghost use Rattle.world_laws.specs.declared.state.Request.TheVariants.{Asking, Runs};
+ghost use Rattle.cluster_world.specs.declared.alone.RequestAlone.TheVariants.{Asking, Command};
 
+use crate::alone::{PostedAlone, RequestAlone};
 use crate::fault::WorldFault;
 use crate::link::{Kept, Link};
 use key_split::{Part, Ticket, Told};
@@ -15,7 +17,7 @@ use node_model::{Cluster, Verdict};
 use slot_map::NodeId;
 use std::alloc::Global;
 use std::marker::Model;
-use world_laws::{Entry, Posted, Request};
+use world_laws::Entry;
 
 /// The links by their numbers, and what was executed. Of an executed command a link keeps the place of its entry, so that the
 /// reply stands in memory once.
@@ -32,9 +34,9 @@ impl Model for Links {
     ghost use Rattle.resp_wire.specs.contracts.value.Value as value;
     ghost use Rattle.std.specs.Coded.{codes};
     ghost use Rattle.cluster_world.specs.Kept.{KeepsBelow};
-    ghost use Rattle.cluster_world.specs.Links.{Linked, linked};
+    ghost use Rattle.cluster_world.specs.Links.{LinksModel, linked};
 
-    ghost Value = { Linked };
+    ghost Value = { LinksModel };
 
     ghost coded = { Prim.hlevel (codes, value.the_row.coded, coded_data) };
 
@@ -62,8 +64,8 @@ impl Links {
     }
 
     /// Puts a batch on an open link to its node, or on a new one.
-    pub(crate) fn carry(&mut self, at: usize, posted: Posted) -> Result<(), WorldFault>
-        ensures { Carries self.old at posted result self.new }
+    pub(crate) fn carry(&mut self, at: usize, posted: PostedAlone) -> Result<(), WorldFault>
+        ensures { Carries self.old at (as_run posted) result self.new }
     {
         if at > self.links.len() {
             return Err(WorldFault::NotNow);
@@ -146,7 +148,7 @@ impl Links {
     }
 
     /// The first request of a link.
-    pub(crate) fn first_request(&self, at: usize) -> Option<Request>
+    pub(crate) fn first_request(&self, at: usize) -> Option<RequestAlone>
         ensures { FirstIs self.now at result }
     {
         let Some(link) = self.links.get(at) else {
@@ -177,9 +179,9 @@ impl Links {
         verdict: Verdict,
         moment: u64,
     ) -> Result<(), WorldFault>
-        requires first { There self.old at (Begins (Runs ticket)) }
+        requires first { There self.old at (Begins (Command ticket)) }
         requires nodes { All (λ l. IsNode cluster.old l.node) self.old.links }
-        ensures { Executes self.old cluster.old at ticket part verdict moment result self.new cluster.new }
+        ensures { LinkExecutes self.old cluster.old at ticket part verdict moment result self.new cluster.new }
     {
         let link = &mut self.links[at];
         link.reserve()?;

@@ -1,17 +1,19 @@
 //! What a world holds, and its events on lanes and links.
 
-ghost use Rattle.std.specs.Prelude.{◌≡◌, ◌==◌, ◌↔◌, ◌<◌, All, IsTrue, position, length};
-ghost use Rattle.cluster_world.specs.Machine.{state_of, Answers};
+ghost use Rattle.std.specs.Prelude.{◌≡◌, ◌≢◌, ◌==◌, ◌↔◌, ◌<◌, [], ◌∷◌, All, IsTrue, MatchOption, position, length};
+ghost use Rattle.cluster_world.specs.Alone.{run_limit};
+ghost use Rattle.cluster_world.specs.Machine.{state_of, MachineAnswers, PostAnswers};
 ghost use Rattle.cluster_world.specs.Links.{There, Begins};
-ghost use Rattle.command_future.specs.Progress.{asks_at, MayPost};
+ghost use Rattle.command_future.specs.CommandModel.{asks_at, MayPostTo};
 ghost use Rattle.world_laws.specs.State.{start};
 ghost use Rattle.world_laws.specs.World.{IsNode};
-ghost use Rattle.world_laws.specs.declared.state.Request.TheVariants.{Asking, Runs};
+ghost use Rattle.cluster_world.specs.declared.alone.RequestAlone.TheVariants as request;
 ghost use Rattle.node_model.specs.Serving.{names_node as named_among};
 ghost use Rattle.node_model.specs.declared.role.Verdict.TheVariants as verdict_of;
 ghost use Rattle.command_future.specs.declared.stage.Stage.TheVariants.{Awaits};
 ghost use Rattle.world_laws.specs.declared.event.Event.TheVariants as event;
 
+use crate::alone::{PostedAlone, RequestAlone};
 use crate::commands::Commands;
 use crate::fault::WorldFault;
 use crate::links::Links;
@@ -20,7 +22,7 @@ use key_split::{Part, Ticket, Told};
 use node_model::{Cluster, Verdict};
 use slot_map::NodeId;
 use std::alloc::Global;
-use world_laws::{Answer, Event, Posted, Request};
+use world_laws::{Answer, Event, Tickets};
 
 /// The commands, lanes, links and nodes, with what was executed and answered.
 #[derive(Drop)]
@@ -29,7 +31,7 @@ pub(crate) struct Machine {
     pub(crate) workers: u16,
     pub(crate) cluster: Cluster,
     pub(crate) commands: Commands,
-    pub(crate) ups: Vec<Posted>,
+    pub(crate) ups: Vec<PostedAlone>,
     pub(crate) links: Links,
     pub(crate) downs: Vec<(Ticket, Told)>,
     pub(crate) answers: Vec<Answer>,
@@ -37,8 +39,8 @@ pub(crate) struct Machine {
 }
 
 // The place of a lane's first batch.
-fn first_posted(ups: &[Posted], lane: u16) -> Option<usize>
-    ensures { result ≡ position (λ (b : Posted). b.ticket.worker == lane) ups.now }
+fn first_posted(ups: &[PostedAlone], lane: u16) -> Option<usize>
+    ensures { result ≡ position (λ (b : PostedAlone). b.ticket.worker == lane) ups.now }
 {
     ups.iter().position(|posted| posted.ticket.worker == lane)
 }
@@ -50,9 +52,19 @@ fn first_down(downs: &[(Ticket, Told)], lane: u16) -> Option<usize>
     downs.iter().position(|down| down.0.worker == lane)
 }
 
+// The ticket of a run of one.
+fn only_of(tickets: &Tickets) -> Option<Ticket>
+    ensures { MatchOption result (length tickets.now ≢ 1) (λ ticket. tickets.now ≡ ticket ∷ []) }
+{
+    match tickets.as_slice() {
+        [ticket] => Some(*ticket),
+        _ => None,
+    }
+}
+
 // Whether the command wants to be posted, and may be at this node.
 fn may_post(command: &Command, node: NodeId) -> bool
-    ensures { IsTrue result ↔ MayPost command.now.stage node }
+    ensures { IsTrue result ↔ MayPostTo command.now.stage node }
 {
     match command.want() {
         Want::Post(_, None) => true,
@@ -95,7 +107,7 @@ fn names_node(verdict: &Verdict, nodes: u8) -> bool
 impl Machine {
     /// Nothing has happened yet.
     pub(crate) fn new(alloc: Global, workers: u16, cluster: Cluster) -> Machine
-        ensures { state_of result ≡ start workers cluster }
+        ensures { state_of result ≡ start workers run_limit cluster }
     {
         Machine {
             alloc,
@@ -115,11 +127,11 @@ impl Machine {
         requires workers { 0 < self.old.workers }
         requires nodes { nodes ≡ length self.old.cluster.stores }
         requires links { All (λ l. IsNode self.old.cluster l.node) self.old.links.links }
-        ensures { Answers (state_of self.old) event.now result (state_of self.new) }
+        ensures { MachineAnswers (state_of self.old) event.now result (state_of self.new) }
     {
         match event {
             Event::Arrive { client, part } => self.arrive(*client, part),
-            Event::Post { ticket, node } => self.post(*ticket, *node, nodes),
+            Event::Post { tickets, node } => self.post(tickets, *node, nodes),
             Event::Carry { lane, link } => self.carry(*lane, *link),
             Event::Refuse { lane } => self.refuse(*lane),
             Event::Serve { link, verdict } => self.serve(*link, *verdict, nodes),
@@ -140,7 +152,7 @@ impl Machine {
 
     /// Hands the first batch of a lane back, unsent.
     pub(crate) fn refuse(&mut self, lane: u16) -> Result<(), WorldFault>
-        ensures { Answers (state_of self.old) (event.Refuse lane) result (state_of self.new) }
+        ensures { MachineAnswers (state_of self.old) (event.Refuse lane) result (state_of self.new) }
     {
         let Some(first) = first_posted(&self.ups, lane) else {
             return Err(WorldFault::NotNow);
@@ -153,14 +165,14 @@ impl Machine {
 
     /// Closes a link; who waits on it is told so.
     pub(crate) fn close(&mut self, link: u64) -> Result<(), WorldFault>
-        ensures { Answers (state_of self.old) (event.Drop link) result (state_of self.new) }
+        ensures { MachineAnswers (state_of self.old) (event.Drop link) result (state_of self.new) }
     {
         self.links.close(link as usize, &mut self.downs)
     }
 
     /// Throws the requests of a closed link away.
     pub(crate) fn discard(&mut self, link: u64) -> Result<(), WorldFault>
-        ensures { Answers (state_of self.old) (event.Discard link) result (state_of self.new) }
+        ensures { MachineAnswers (state_of self.old) (event.Discard link) result (state_of self.new) }
     {
         self.links.discard(link as usize)
     }
@@ -169,19 +181,19 @@ impl Machine {
     pub(crate) fn serve(&mut self, link: u64, verdict: Verdict, nodes: u8) -> Result<(), WorldFault>
         requires nodes { nodes ≡ length self.old.cluster.stores }
         requires links { All (λ l. IsNode self.old.cluster l.node) self.old.links.links }
-        ensures { Answers (state_of self.old) (event.Serve link verdict) result (state_of self.new) }
+        ensures { MachineAnswers (state_of self.old) (event.Serve link verdict) result (state_of self.new) }
     {
         match self.links.first_request(link as usize) {
             None => Err(WorldFault::NotNow),
-            Some(Request::Asking) => self.serve_asking(link, verdict),
-            Some(Request::Runs(ticket)) => self.serve_command(link, ticket, verdict, nodes),
+            Some(RequestAlone::Asking) => self.serve_asking(link, verdict),
+            Some(RequestAlone::Command(ticket)) => self.serve_command(link, ticket, verdict, nodes),
         }
     }
 
     // The first request is ASKING.
     fn serve_asking(&mut self, link: u64, verdict: Verdict) -> Result<(), WorldFault>
-        requires { There self.old.links link (Begins Asking) }
-        ensures { Answers (state_of self.old) (event.Serve link verdict) result (state_of self.new) }
+        requires { There self.old.links link (Begins request.Asking) }
+        ensures { MachineAnswers (state_of self.old) (event.Serve link verdict) result (state_of self.new) }
     {
         if !is_plain(verdict) {
             return Err(WorldFault::NotNow);
@@ -197,10 +209,10 @@ impl Machine {
         verdict: Verdict,
         nodes: u8,
     ) -> Result<(), WorldFault>
-        requires first { There self.old.links link (Begins (Runs ticket)) }
+        requires first { There self.old.links link (Begins (request.Command ticket)) }
         requires nodes { nodes ≡ length self.old.cluster.stores }
         requires links { All (λ l. IsNode self.old.cluster l.node) self.old.links.links }
-        ensures { Answers (state_of self.old) (event.Serve link verdict) result (state_of self.new) }
+        ensures { MachineAnswers (state_of self.old) (event.Serve link verdict) result (state_of self.new) }
     {
         let Some(place) = self.commands.place_of(ticket) else {
             return Err(WorldFault::NotNow);
@@ -221,7 +233,7 @@ impl Machine {
 
     /// Takes the first reply of a link down to its worker; that of ASKING is dropped.
     pub(crate) fn fetch(&mut self, link: u64) -> Result<(), WorldFault>
-        ensures { Answers (state_of self.old) (event.Fetch link) result (state_of self.new) }
+        ensures { MachineAnswers (state_of self.old) (event.Fetch link) result (state_of self.new) }
     {
         if !self.links.has_reply(link as usize) {
             return Err(WorldFault::NotNow);
@@ -239,7 +251,7 @@ impl Machine {
 
     /// Tells the first pair of a lane to its command.
     pub(crate) fn take(&mut self, lane: u16) -> Result<(), WorldFault>
-        ensures { Answers (state_of self.old) (event.Take lane) result (state_of self.new) }
+        ensures { MachineAnswers (state_of self.old) (event.Take lane) result (state_of self.new) }
     {
         let Some(first) = first_down(&self.downs, lane) else {
             return Err(WorldFault::NotNow);
@@ -259,7 +271,7 @@ impl Machine {
     /// A client's next command arrives.
     pub(crate) fn arrive(&mut self, client: u32, part: &Part) -> Result<(), WorldFault>
         requires { 0 < self.old.workers }
-        ensures { Answers (state_of self.old) (event.Arrive client part.now) result (state_of self.new) }
+        ensures { MachineAnswers (state_of self.old) (event.Arrive client part.now) result (state_of self.new) }
     {
         let _ = part.slot();
         let ticket = Ticket {
@@ -272,10 +284,26 @@ impl Machine {
         Ok(())
     }
 
-    /// Posts a command to one of so many nodes.
-    pub(crate) fn post(&mut self, ticket: Ticket, node: NodeId, nodes: u8) -> Result<(), WorldFault>
+    /// Posts a run to one of so many nodes; it has one command.
+    pub(crate) fn post(
+        &mut self,
+        tickets: &Tickets,
+        node: NodeId,
+        nodes: u8,
+    ) -> Result<(), WorldFault>
         requires { nodes ≡ length self.old.cluster.stores }
-        ensures { Answers (state_of self.old) (event.Post ticket node) result (state_of self.new) }
+        ensures { MachineAnswers (state_of self.old) (event.Post tickets.now node) result (state_of self.new) }
+    {
+        match only_of(tickets) {
+            Some(ticket) => self.post_alone(ticket, node, nodes),
+            None => Err(WorldFault::NotNow),
+        }
+    }
+
+    // Posts a command alone to one of so many nodes.
+    fn post_alone(&mut self, ticket: Ticket, node: NodeId, nodes: u8) -> Result<(), WorldFault>
+        requires { nodes ≡ length self.old.cluster.stores }
+        ensures { PostAnswers (state_of self.old) ticket node result (state_of self.new) }
     {
         if node.number() >= nodes {
             return Err(WorldFault::NotNow);
@@ -290,8 +318,8 @@ impl Machine {
         if !self.commands.turn_has_come(place) {
             return Err(WorldFault::NotNow);
         }
-        let posted = Posted {
-            ticket: command.ticket(),
+        let posted = PostedAlone {
+            ticket,
             node,
             asking: asks(command),
         };
@@ -303,7 +331,7 @@ impl Machine {
 
     /// Answers a client's oldest unanswered command, which has ended.
     pub(crate) fn answer(&mut self, client: u32) -> Result<(), WorldFault>
-        ensures { Answers (state_of self.old) (event.Answer client) result (state_of self.new) }
+        ensures { MachineAnswers (state_of self.old) (event.Answer client) result (state_of self.new) }
     {
         let Some(place) = self.commands.first_unanswered(client) else {
             return Err(WorldFault::NotNow);
@@ -326,7 +354,7 @@ impl Machine {
 
     /// Puts the first batch of a lane on a link, which it opens where the number is the next unused one.
     pub(crate) fn carry(&mut self, lane: u16, link: u64) -> Result<(), WorldFault>
-        ensures { Answers (state_of self.old) (event.Carry lane link) result (state_of self.new) }
+        ensures { MachineAnswers (state_of self.old) (event.Carry lane link) result (state_of self.new) }
     {
         let Some(first) = first_posted(&self.ups, lane) else {
             return Err(WorldFault::NotNow);

@@ -1,6 +1,6 @@
 //! The events by which slots move.
 
-ghost use Rattle.cluster_world.specs.Machine.{state_of, Answers};
+ghost use Rattle.cluster_world.specs.Machine.{state_of, MachineAnswers};
 ghost use Rattle.std.specs.Prelude.{◌≡◌, ◌↔◌, All, IsTrue};
 ghost use Rattle.world_laws.specs.State.{slot_for};
 ghost use Rattle.cluster_world.specs.Rests.{Rests};
@@ -19,7 +19,7 @@ use slot_map::NodeId;
 impl Machine {
     /// A settled slot begins to move to another node.
     pub(crate) fn import(&mut self, slot: Slot, target: NodeId) -> Result<(), WorldFault>
-        ensures { Answers (state_of self.old) (event.Import slot target) result (state_of self.new) }
+        ensures { MachineAnswers (state_of self.old) (event.Import slot target) result (state_of self.new) }
     {
         if !self.none_asks(slot, target) {
             return Err(WorldFault::NotNow);
@@ -36,7 +36,6 @@ impl Machine {
     }
 
     // Whether nothing at all asks at the node: a quick look, once through the lists.
-    #[tactic(auto, unfolding(crate::specs::Rests::Rests))]
     fn asks_not(&self, node: NodeId) -> bool
         ensures { IsTrue result → (ticket : Ticket) → Rests (state_of self.now) node ticket }
     {
@@ -68,7 +67,7 @@ impl Machine {
 
     /// The slot's owner begins to give it.
     pub(crate) fn migrate(&mut self, slot: Slot) -> Result<(), WorldFault>
-        ensures { Answers (state_of self.old) (event.Migrate slot) result (state_of self.new) }
+        ensures { MachineAnswers (state_of self.old) (event.Migrate slot) result (state_of self.new) }
     {
         self.cluster.migrate_slot(slot)?;
         Ok(())
@@ -76,7 +75,7 @@ impl Machine {
 
     /// A key and its value leave the source for the target.
     pub(crate) fn move_key(&mut self, slot: Slot, key: &Bytes) -> Result<(), WorldFault>
-        ensures { Answers (state_of self.old) (event.MoveKey slot key.now) result (state_of self.new) }
+        ensures { MachineAnswers (state_of self.old) (event.MoveKey slot key.now) result (state_of self.new) }
     {
         self.cluster.move_key(slot, key)?;
         Ok(())
@@ -84,7 +83,7 @@ impl Machine {
 
     /// The target owns the slot.
     pub(crate) fn own(&mut self, slot: Slot) -> Result<(), WorldFault>
-        ensures { Answers (state_of self.old) (event.Own slot) result (state_of self.new) }
+        ensures { MachineAnswers (state_of self.old) (event.Own slot) result (state_of self.new) }
     {
         self.cluster.own_slot(slot)?;
         Ok(())
@@ -92,7 +91,7 @@ impl Machine {
 
     /// The source gives the slot up.
     pub(crate) fn release(&mut self, slot: Slot) -> Result<(), WorldFault>
-        ensures { Answers (state_of self.old) (event.Release slot) result (state_of self.new) }
+        ensures { MachineAnswers (state_of self.old) (event.Release slot) result (state_of self.new) }
     {
         self.cluster.release_slot(slot)?;
         Ok(())
@@ -100,7 +99,7 @@ impl Machine {
 
     /// The target forgets a slot of which it holds no key.
     pub(crate) fn forget(&mut self, slot: Slot) -> Result<(), WorldFault>
-        ensures { Answers (state_of self.old) (event.Forget slot) result (state_of self.new) }
+        ensures { MachineAnswers (state_of self.old) (event.Forget slot) result (state_of self.new) }
     {
         self.cluster.forget_slot(slot)?;
         Ok(())
@@ -108,7 +107,7 @@ impl Machine {
 
     /// The source of a forgotten move stays the owner.
     pub(crate) fn stay(&mut self, slot: Slot) -> Result<(), WorldFault>
-        ensures { Answers (state_of self.old) (event.Stay slot) result (state_of self.new) }
+        ensures { MachineAnswers (state_of self.old) (event.Stay slot) result (state_of self.new) }
     {
         self.cluster.stay_slot(slot)?;
         Ok(())

@@ -213,7 +213,7 @@ pub(crate) fn push_refused(out: &mut Vec<u8>, number: u64, why: WorldFault) -> R
 
 /// The line that names a bad one.
 #[tactic(auto, unfolding(crate::specs::Report::bad_line))]
-pub(crate) fn bad_line(alloc: Global, number: u64) -> Result<Vec<u8>, NoMemory>
+pub fn bad_line(alloc: Global, number: u64) -> Result<Vec<u8>, NoMemory>
     ensures { IfOk result (λ text. text.items ≡ report.bad_line number) }
 {
     let mut out = Vec::new(alloc);

@@ -9,6 +9,7 @@ ghost use Rattle.cluster_world.specs.Simulate.{Writes, WritesFor};
 use crate::fault::RunFault;
 use crate::header::{Header, read_header};
 use crate::input::{INPUT_LIMIT, Input, read_input};
+use crate::outcome::{Outcome, WriteFailed};
 use crate::report::{bad_line, push_answers, push_entries, push_refused};
 use crate::schedule::read_events;
 use crate::script_fault::ScriptFault;
@@ -34,13 +35,6 @@ impl From<NoMemory> for SimulateFault {
     fn from(_: NoMemory) -> Self {
         SimulateFault::NoMemory
     }
-}
-
-/// What is written, and the status.
-#[derive(Drop)]
-pub(crate) struct Outcome {
-    pub(crate) status: u8,
-    pub(crate) text: Vec<u8>,
 }
 
 /// Runs the script of the reader in a new world, writes its answers and entries, and gives the status: 0 where every
@@ -70,9 +64,9 @@ pub fn run_script<R: Read, W: Write>(
 {
     let input = read_input(alloc, reader)?;
     let outcome = outcome_of(alloc, input)?;
-    match writer.write_all(&outcome.text) {
-        Ok(()) => Ok(outcome.status),
-        Err(_) => Err(SimulateFault::WriteFailed),
+    match outcome.write_to(writer) {
+        Ok(status) => Ok(status),
+        Err(WriteFailed) => Err(SimulateFault::WriteFailed),
     }
 }
 
@@ -84,17 +78,9 @@ fn outcome_of(alloc: Global, input: Input) -> Result<Outcome, NoMemory>
 {
     match input {
         Input::Whole(script) => outcome_of_script(alloc, &script),
-        Input::TooLong => fault_line(alloc, b"too long\n"),
-        Input::Failed => fault_line(alloc, b"read failed\n"),
+        Input::TooLong => Outcome::failure(alloc, b"too long\n"),
+        Input::Failed => Outcome::failure(alloc, b"read failed\n"),
     }
-}
-
-/// A line in place of a world's.
-fn fault_line(alloc: Global, line: &[u8]) -> Result<Outcome, NoMemory>
-    ensures { IfOk result (λ outcome. (outcome.status ≡ 1) × (outcome.text.items ≡ line.now)) }
-{
-    let text = Vec::from_slice(alloc, line)?;
-    Ok(Outcome { status: 1, text })
 }
 
 /// What is written for a script.

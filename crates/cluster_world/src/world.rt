@@ -1,15 +1,15 @@
 //! A world that events lead on.
 
 ghost use Rattle.std.specs.Prelude.{◌≡◌, ◌≤◌, List};
-ghost use Rattle.slot_map.specs.Map.{node_after, Shows};
+ghost use Rattle.slot_map.specs.Map.{node_after, MapShows};
 ghost use Rattle.slot_map.specs.declared.ops.MapOp.{MapOp};
 ghost use Rattle.world_laws.specs.Headline.{Headline};
 ghost use Rattle.cluster_world.specs.Steps.{Runs, Starts, Steps};
 
 use crate::fault::{RunFault, WorldFault};
 use crate::machine::Machine;
-use crate::owners::{has_owners, taken_over};
-use node_model::{Cluster, ClusterFault};
+use crate::owners::taken_over;
+use node_model::{Cluster, ClusterFault, has_owners};
 use slot_map::SlotMap;
 use std::alloc::Global;
 use std::marker::Model;
@@ -28,11 +28,11 @@ impl Model for World {
     ghost use Rattle.resp_wire.specs.Stored.{coded_data};
     ghost use Rattle.resp_wire.specs.contracts.value.Value as value;
     ghost use Rattle.std.specs.Coded.{codes};
-    ghost use Rattle.world_laws.specs.State.{World as State};
+    ghost use Rattle.world_laws.specs.State.{WorldModel};
     ghost use Rattle.cluster_world.specs.Machine.{state_of};
     ghost use Rattle.cluster_world.specs.Steps.{IsWorld};
 
-    ghost Value = { State };
+    ghost Value = { WorldModel };
 
     ghost coded = { Prim.hlevel (codes, value.the_row.coded, coded_data, nodes_code) };
 
@@ -50,7 +50,7 @@ impl World {
         owners: &SlotMap,
     ) -> Result<World, ClusterFault>
         requires { (1 ≤ workers) × (workers ≤ 64) }
-        ensures { (ops : List MapOp) → Shows owners.now ops → Starts nodes workers (node_after ops) result }
+        ensures { (ops : List MapOp) → MapShows owners.now ops → Starts nodes workers (node_after ops) result }
     {
         if !has_owners(nodes, owners) {
             return Err(ClusterFault::BadOwners);

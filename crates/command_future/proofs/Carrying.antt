@@ -3,20 +3,20 @@ use Rattle.std.proofs.Common.{◌≡◌, ℕ, List, [], ◌∷◌, ◌++◌, Opt
 use Rattle.std.specs.List.{FoldsTo}
 use Rattle.std.proofs.lemmas.List.{append-nil}
 use Rattle.key_split.specs.declared.travel.Batch.{Batch}
-use Rattle.key_split.specs.Command.{Command as Part}
+use Rattle.key_split.specs.PartModel.{PartModel}
 use Rattle.key_split.specs.declared.travel.Ticket.{Ticket}
 use Rattle.key_split.specs.declared.travel.Told.{Told}
 use Rattle.key_split.specs.declared.travel.Ended.{Ended}
 use Rattle.command_future.specs.declared.stage.Stage.{Stage}
 use Rattle.command_future.specs.declared.stage.Stage.TheVariants.{Wants, WantsAsking, Awaits, Over}
 use Rattle.command_future.specs.declared.stage.Want.TheVariants.{Await}
-use Rattle.command_future.specs.Life.{Event, told_in, HasEnd, IsLife}
-use Rattle.command_future.specs.Life.Event.{Posted, Heard}
-use Rattle.command_future.specs.Progress.{Progress, want_at, MayPost, batch_of, progress_told, Stands}
-use Rattle.command_future.specs.Carried.{events_in, Does, Gives, Advances}
+use Rattle.command_future.specs.Life.{CommandEvent, told_in, HasEnd, IsLife}
+use Rattle.command_future.specs.Life.CommandEvent.{Posted, Heard}
+use Rattle.command_future.specs.CommandModel.{CommandModel, want_at, MayPostTo, batch_of, progress_told, Stands}
+use Rattle.command_future.specs.Carried.{events_in, CourierDoes, Gives, Advances}
 use Rattle.command_future.proofs.Lives.{lived_posted, lived_told}
 
-pub events_in-append : (calls more : List (Option Event)) → events_in (calls ++ more) ≡ events_in calls ++ events_in more
+pub events_in-append : (calls more : List (Option CommandEvent)) → events_in (calls ++ more) ≡ events_in calls ++ events_in more
 events_in-append [] more = refl
 events_in-append (None ∷ calls) more = events_in-append calls more
 events_in-append (Some event ∷ calls) more = ap (λ l. event ∷ l) (events_in-append calls more)
@@ -35,12 +35,12 @@ awaits (Over end) e = cc
 
 module _ {P : Type 0} (posts : P → Batch → P → Type 0) (tells : P → Ticket → Told → P → Type 0) (rests : P → P → Type 0) where
   -- nothing was called
-  pub advances_not : (c : Progress) (p : P) → Advances posts tells rests c p c p
+  pub advances_not : (c : CommandModel) (p : P) → Advances posts tells rests c p c p
   advances_not c p =
       record { calls = []; did = refl; same_ticket = refl; same_part = refl; lives = λ before lived. rw append-nil lived }
 
   -- nothing came of a call
-  pub advances_later : (c : Progress) (p q : P) → rests p q → Advances posts tells rests c p c q
+  pub advances_later : (c : CommandModel) (p q : P) → rests p q → Advances posts tells rests c p c q
   advances_later c p q rested =
       record {
         calls = None ∷ [];
@@ -50,10 +50,10 @@ module _ {P : Type 0} (posts : P → Batch → P → Type 0) (tells : P → Tick
         lives = λ before lived. rw append-nil lived;
       }
 
-  pub advances_posted : (c d : Progress) (node : ℕ) (p q : P) → MayPost c.stage node → posts p (batch_of c node) q
+  pub advances_posted : (c d : CommandModel) (node : ℕ) (p q : P) → MayPostTo c.stage node → posts p (batch_of c node) q
       → d ≡ record c { stage = Awaits } → Advances posts tells rests c p d q
   advances_posted c d node p q may posted is =
-      subst (λ (e : Progress). Advances posts tells rests c p e q) (sym is) (record {
+      subst (λ (e : CommandModel). Advances posts tells rests c p e q) (sym is) (record {
         calls = Some (Posted (batch_of c node)) ∷ [];
         did = (q, posted, refl);
         same_ticket = refl;
@@ -61,10 +61,10 @@ module _ {P : Type 0} (posts : P → Batch → P → Type 0) (tells : P → Tick
         lives = λ before lived. lived_posted c node before may lived;
       })
 
-  pub advances_told : (c d : Progress) (told : Told) (p q : P) → c.stage ≡ Awaits → tells p c.ticket told q
+  pub advances_told : (c d : CommandModel) (told : Told) (p q : P) → c.stage ≡ Awaits → tells p c.ticket told q
       → d ≡ progress_told c told → Advances posts tells rests c p d q
   advances_told c d told p q awaits was_told is =
-      subst (λ (e : Progress). Advances posts tells rests c p e q) (sym is) (record {
+      subst (λ (e : CommandModel). Advances posts tells rests c p e q) (sym is) (record {
         calls = Some (Heard told) ∷ [];
         did = (q, was_told, refl);
         same_ticket = refl;
@@ -73,15 +73,15 @@ module _ {P : Type 0} (posts : P → Batch → P → Type 0) (tells : P → Tick
       })
 
   -- what it gives after it advanced, it gave before
-  pub gives_before : (c d : Progress) (p q : P) (out : Ticket × Ended) → Advances posts tells rests c p d q
+  pub gives_before : (c d : CommandModel) (p q : P) (out : Ticket × Ended) → Advances posts tells rests c p d q
       → Gives posts tells rests d q out → Gives posts tells rests c p out
   gives_before c d p q out advanced later =
-      let then : FoldsTo (Does posts tells rests c.ticket) q later.calls later.left =
-      subst (λ (t : Ticket). FoldsTo (Does posts tells rests t) q later.calls later.left) advanced.same_ticket later.did in
+      let then : FoldsTo (CourierDoes posts tells rests c.ticket) q later.calls later.left =
+      subst (λ (t : Ticket). FoldsTo (CourierDoes posts tells rests t) q later.calls later.left) advanced.same_ticket later.did in
       record {
         calls = advanced.calls ++ later.calls;
         left = later.left;
-        did = FoldsTo-append (Does posts tells rests c.ticket) p advanced.calls q later.calls later.left advanced.did then;
+        did = FoldsTo-append (CourierDoes posts tells rests c.ticket) p advanced.calls q later.calls later.left advanced.did then;
         ticket = later.ticket ∙ advanced.same_ticket;
         life = λ before lived.
             let now = later.life (before ++ events_in advanced.calls) (advanced.lives before lived) in
@@ -89,12 +89,12 @@ module _ {P : Type 0} (posts : P → Batch → P → Type 0) (tells : P → Tick
             let e : all ≡ before ++ events_in (advanced.calls ++ later.calls) = rw (events_in-append, append_assoc) refl in
             let same : IsLife c.ticket c.part all =
             subst (λ (t : Ticket). IsLife t c.part all) advanced.same_ticket
-            (subst (λ (r : Part). IsLife d.ticket r all) advanced.same_part now.0) in
-            subst (λ (es : List Event). IsLife c.ticket c.part es × HasEnd (told_in es) out.1) e (same, now.1);
+            (subst (λ (r : PartModel). IsLife d.ticket r all) advanced.same_part now.0) in
+            subst (λ (es : List CommandEvent). IsLife c.ticket c.part es × HasEnd (told_in es) out.1) e (same, now.1);
       }
 
   -- it gives its end
-  pub gives_end : (c : Progress) (p : P) (out : Ticket × Ended) → out.0 ≡ c.ticket → c.stage ≡ Over out.1
+  pub gives_end : (c : CommandModel) (p : P) (out : Ticket × Ended) → out.0 ≡ c.ticket → c.stage ≡ Over out.1
       → Gives posts tells rests c p out
   gives_end c p out ticket over =
       record {

@@ -1,7 +1,7 @@
 -- The laws of lives.
 use Rattle.std.proofs.Common.{◌≡◌, ℕ, suc, ◌⊎◌, Bool, false, true, Option, Some, None, inl, inr, List, [], ◌∷◌, ◌++◌, length, refl, ap, ◌∙◌, arith, length-append, subst, sym}
 use Rattle.std.specs.Prelude.{All}
-use Rattle.key_split.specs.Command.{Command as Part}
+use Rattle.key_split.specs.PartModel.{PartModel}
 use Rattle.key_split.specs.declared.travel.Ticket.{Ticket}
 use Rattle.key_split.specs.declared.travel.Told.{Told}
 use Rattle.key_split.specs.declared.travel.Told.TheVariants.{Reply, Moved, Ask, TryAgain, ClusterDown, Unclear, Unsent}
@@ -9,8 +9,8 @@ use Rattle.key_split.specs.declared.travel.Ended.{Ended}
 use Rattle.key_split.specs.declared.travel.Ended.TheVariants.{Answered, GaveUp}
 use Rattle.command_future.specs.declared.stage.Want.{Want}
 use Rattle.command_future.specs.declared.stage.Want.TheVariants.{Post, Await, Finished}
-use Rattle.command_future.specs.Life.{Event, told_in, IsRefusal, IsOpen, IsWanted, IsDue, IsLife, EndsWith, HasEnd, IsTold, want_after}
-use Rattle.command_future.specs.Life.Event.{Posted, Heard}
+use Rattle.command_future.specs.Life.{CommandEvent, told_in, IsRefusal, IsOpen, IsWanted, IsDue, IsLife, EndsWith, HasEnd, IsTold, want_after}
+use Rattle.command_future.specs.Life.CommandEvent.{Posted, Heard}
 use Rattle.command_future.proofs.Lives.{told_in-posted, told_in-heard, posted_in-posted, posted_in-heard, last_or-push, All-one}
 use Rattle.std.proofs.lemmas.Bool.{cases_lt}
 use Rattle.std.proofs.lemmas.List.Elements.{All-append}
@@ -52,7 +52,7 @@ not_open told (Answered v) h open_yet = not_refusals told (Reply v) h open_yet.0
 not_open told Ended.Lost h open_yet = not_refusals told Told.Lost h open_yet.0
 not_open told GaveUp h open_yet = absurd (omega arith)
 
-pub one_want : (events : List Event) (want other : Want) → IsWanted events want → IsWanted events other → want ≡ other
+pub one_want : (events : List CommandEvent) (want other : Want) → IsWanted events want → IsWanted events other → want ≡ other
 one_want events (Post a n) (Post b m) h k = sym h.2 ∙ k.2
 one_want events (Post a n) Await h k = absurd (omega arith)
 one_want events (Post a n) Finished h k = absurd (not_open (told_in events) k.0 k.1 h.0)
@@ -89,19 +89,19 @@ told_more told ClusterDown open_yet = told_refusal told ClusterDown open_yet tt
 told_more told Unclear open_yet = told_refusal told Unclear open_yet tt
 told_more told Unsent open_yet = told_refusal told Unsent open_yet tt
 
-due_told : (ticket : Ticket) (part : Part) (events : List Event) (event : Event) → IsDue ticket part events event
+due_told : (ticket : Ticket) (part : PartModel) (events : List CommandEvent) (event : CommandEvent) → IsDue ticket part events event
     → IsTold (told_in (events ++ event ∷ []))
 due_told ticket part events (Posted batch) due = rw told_in-posted (inl due.wanted.0)
 due_told ticket part events (Heard told) due = rw told_in-heard (told_more (told_in events) told due.0)
 
-pub grammar : (ticket : Ticket) (part : Part) (events : List Event) → IsLife ticket part events → IsTold (told_in events)
+pub grammar : (ticket : Ticket) (part : PartModel) (events : List CommandEvent) → IsLife ticket part events → IsTold (told_in events)
 grammar ticket part events life = elim (from_end events) [
   | inl none ↦ rw none (inl ((λ k d below. absurd (omega arith)), omega arith))
   | inr some ↦ rw some.2 (due_told ticket part some.0 some.1 (life.each some.0 [] some.1 some.2))
 ]
 
 -- once it has an end, nothing is due
-pub no_more : (ticket : Ticket) (part : Part) (events : List Event) (event : Event) (end : Ended) → HasEnd (told_in events) end
+pub no_more : (ticket : Ticket) (part : PartModel) (events : List CommandEvent) (event : CommandEvent) (end : Ended) → HasEnd (told_in events) end
     → IsLife ticket part (events ++ event ∷ []) → ⊥
 no_more ticket part events (Posted batch) end ended life =
     let due : IsDue ticket part events (Posted batch) = life.each events [] (Posted batch) refl in
@@ -122,7 +122,7 @@ sent_to_post Unclear = (false, None, refl)
 sent_to_post Unsent = (false, None, refl)
 
 -- after what was due it wants something
-wants_next : (ticket : Ticket) (part : Part) (events : List Event) (event : Event) → IsDue ticket part events event
+wants_next : (ticket : Ticket) (part : PartModel) (events : List CommandEvent) (event : CommandEvent) → IsDue ticket part events event
     → (want : Want) × IsWanted (events ++ event ∷ []) want
 wants_next ticket part events (Posted batch) due =
     (Await, rw (told_in-posted, posted_in-posted) (due.wanted.0, simp length-append (omega arith)))
@@ -133,7 +133,7 @@ wants_next ticket part events (Heard told) due =
       | inr ended ↦ (Finished, rw told_in-heard ended)
     ]
 
-pub some_want : (ticket : Ticket) (part : Part) (events : List Event) → IsLife ticket part events → (want : Want) × IsWanted events want
+pub some_want : (ticket : Ticket) (part : PartModel) (events : List CommandEvent) → IsLife ticket part events → (want : Want) × IsWanted events want
 some_want ticket part events life = elim (from_end events) [
   | inl none ↦ rw none (Post false None, (((λ k d below. absurd (omega arith)), omega arith), refl, refl))
   | inr some ↦ rw some.2 (wants_next ticket part some.0 some.1 (life.each some.0 [] some.1 some.2))

@@ -5,7 +5,7 @@ use Rattle.std.specs.List.{last_or}
 use Rattle.std.proofs.lemmas.List.Elements.{All-append}
 use Rattle.std.proofs.lemmas.Bool.{eqb-true, eqb-false}
 use Rattle.key_split.specs.declared.travel.Batch.{Batch}
-use Rattle.key_split.specs.Command.{Command as Part}
+use Rattle.key_split.specs.PartModel.{PartModel}
 use Rattle.key_split.specs.declared.travel.Ticket.{Ticket}
 use Rattle.key_split.specs.declared.travel.Told.{Told}
 use Rattle.key_split.specs.declared.travel.Told.TheVariants.{Reply, Moved, Ask, TryAgain, ClusterDown, Unclear, Unsent}
@@ -13,9 +13,9 @@ use Rattle.key_split.specs.declared.travel.Ended.TheVariants.{GaveUp}
 use Rattle.command_future.specs.declared.stage.Stage.{Stage}
 use Rattle.command_future.specs.declared.stage.Stage.TheVariants.{Wants, WantsAsking, Awaits, Over}
 use Rattle.command_future.specs.declared.stage.Want.TheVariants.{Post, Await}
-use Rattle.command_future.specs.Life.{Event, told_in, posted_in, IsRefusal, IsWanted, IsWantedBatch, IsDue, IsLife, EndsWith, want_after}
-use Rattle.command_future.specs.Life.Event.{Posted, Heard}
-use Rattle.command_future.specs.Progress.{Progress, fresh, want_at, WantsPost, MayPost, batch_of, refused_at, progress_told, Stands, HasLived}
+use Rattle.command_future.specs.Life.{CommandEvent, told_in, posted_in, IsRefusal, IsWanted, IsWantedBatch, IsDue, IsLife, EndsWith, want_after}
+use Rattle.command_future.specs.Life.CommandEvent.{Posted, Heard}
+use Rattle.command_future.specs.CommandModel.{CommandModel, fresh, want_at, WantsPost, MayPostTo, batch_of, refused_at, progress_told, Stands, HasLived}
 
 module _ {A : Type 0} where
   pub not_nil : (before after : List A) (x : A) → [] ≡ before ++ x ∷ after → ⊥
@@ -39,50 +39,50 @@ module _ {A : Type 0} where
   last_or-push o [] x = refl
   last_or-push o (y ∷ xs) x = last_or-push (Some y) xs x
 
-pub told_in-posted : (events : List Event) (batch : Batch) → told_in (events ++ Posted batch ∷ []) ≡ told_in events
+pub told_in-posted : (events : List CommandEvent) (batch : Batch) → told_in (events ++ Posted batch ∷ []) ≡ told_in events
 told_in-posted [] batch = refl
 told_in-posted (Posted b ∷ events) batch = told_in-posted events batch
 told_in-posted (Heard t ∷ events) batch = ap (λ l. t ∷ l) (told_in-posted events batch)
 
-pub told_in-heard : (events : List Event) (told : Told) → told_in (events ++ Heard told ∷ []) ≡ told_in events ++ told ∷ []
+pub told_in-heard : (events : List CommandEvent) (told : Told) → told_in (events ++ Heard told ∷ []) ≡ told_in events ++ told ∷ []
 told_in-heard [] told = refl
 told_in-heard (Posted b ∷ events) told = told_in-heard events told
 told_in-heard (Heard t ∷ events) told = ap (λ l. t ∷ l) (told_in-heard events told)
 
-pub posted_in-posted : (events : List Event) (batch : Batch) → posted_in (events ++ Posted batch ∷ []) ≡ posted_in events ++ batch ∷ []
+pub posted_in-posted : (events : List CommandEvent) (batch : Batch) → posted_in (events ++ Posted batch ∷ []) ≡ posted_in events ++ batch ∷ []
 posted_in-posted [] batch = refl
 posted_in-posted (Posted b ∷ events) batch = ap (λ l. b ∷ l) (posted_in-posted events batch)
 posted_in-posted (Heard t ∷ events) batch = posted_in-posted events batch
 
-pub posted_in-heard : (events : List Event) (told : Told) → posted_in (events ++ Heard told ∷ []) ≡ posted_in events
+pub posted_in-heard : (events : List CommandEvent) (told : Told) → posted_in (events ++ Heard told ∷ []) ≡ posted_in events
 posted_in-heard [] told = refl
 posted_in-heard (Posted b ∷ events) told = ap (λ l. b ∷ l) (posted_in-heard events told)
 posted_in-heard (Heard t ∷ events) told = posted_in-heard events told
 
-module _ (ticket : Ticket) (part : Part) where
+module _ (ticket : Ticket) (part : PartModel) where
   pub life_fresh : IsLife ticket part []
   life_fresh = record { each = λ before after event e. absurd (not_nil before after event e) }
 
-  pub life_more : (events : List Event) (event : Event) → IsLife ticket part events → IsDue ticket part events event
+  pub life_more : (events : List CommandEvent) (event : CommandEvent) → IsLife ticket part events → IsDue ticket part events event
       → IsLife ticket part (events ++ event ∷ [])
   life_more events event life due =
       record {
         each = λ before after other e. elim (split_last events before after event other e) [
-          | inl h ↦ subst (λ (b : List Event). IsDue ticket part b other) (sym h.0) (subst (λ (o : Event). IsDue ticket part events o) (sym h.1) due)
+          | inl h ↦ subst (λ (b : List CommandEvent). IsDue ticket part b other) (sym h.0) (subst (λ (o : CommandEvent). IsDue ticket part events o) (sym h.1) due)
           | inr h ↦ life.each before h.0 other h.1
         ];
       }
 
-pub lived_fresh : (ticket : Ticket) (part : Part) → HasLived (fresh ticket part) []
+pub lived_fresh : (ticket : Ticket) (part : PartModel) → HasLived (fresh ticket part) []
 lived_fresh ticket part =
     record { life = life_fresh ticket part; stands = ((((λ k d h. absurd (omega arith)), omega arith), refl, refl), refl) }
 
-module _ (ticket : Ticket) (part : Part) (followed : ℕ) (events : List Event) where
+module _ (ticket : Ticket) (part : PartModel) (followed : ℕ) (events : List CommandEvent) where
   abbrev batch_at : Stage → ℕ → Batch
   batch_at stage node = batch_of (record { ticket = ticket; part = part; followed = followed; stage = stage }) node
 
   -- the batch was wanted, and then an answer is
-  posted_stands : (stage : Stage) (node : ℕ) → MayPost stage node → Stands stage followed events
+  posted_stands : (stage : Stage) (node : ℕ) → MayPostTo stage node → Stands stage followed events
       → IsWantedBatch ticket part events (batch_at stage node)
       × Stands Awaits followed (events ++ Posted (batch_at stage node) ∷ [])
   posted_stands (Wants named) node may stands = (
@@ -96,7 +96,7 @@ module _ (ticket : Ticket) (part : Part) (followed : ℕ) (events : List Event) 
   posted_stands Awaits node may stands = absurd may
   posted_stands (Over end) node may stands = absurd may
 
-pub lived_posted : (c : Progress) (node : ℕ) (events : List Event) → MayPost c.stage node → HasLived c events
+pub lived_posted : (c : CommandModel) (node : ℕ) (events : List CommandEvent) → MayPostTo c.stage node → HasLived c events
     → HasLived (record c { stage = Awaits }) (events ++ Posted (batch_of c node) ∷ [])
 lived_posted c node events may lived =
     let next = posted_stands c.ticket c.part c.followed events c.stage node may lived.stands in
@@ -105,7 +105,7 @@ lived_posted c node events may lived =
 abbrev one_refused : Bool → ℕ → Stage → ℕ × Stage
 one_refused is_last followed next = if is_last then (followed, Over GaveUp) else (followed + 1, next)
 
-module _ (events : List Event) (told : Told) (wanted : IsWanted events Await) where
+module _ (events : List CommandEvent) (told : Told) (wanted : IsWanted events Await) where
   one_more : IsRefusal told → All IsRefusal (told_in events ++ told ∷ [])
   one_more refusal = All-append IsRefusal (told_in events) (told ∷ []) wanted.0.0 (All-one IsRefusal told refusal)
 
@@ -145,14 +145,14 @@ module _ (events : List Event) (told : Told) (wanted : IsWanted events Await) wh
   told_ends : EndsWith (told_in (events ++ Heard told ∷ [])) told
   told_ends = (told_in events, wanted.0, told_in-heard events told)
 
-module _ (c : Progress) (events : List Event) (awaits : c.stage ≡ Awaits) (lived : HasLived c events) where
+module _ (c : CommandModel) (events : List CommandEvent) (awaits : c.stage ≡ Awaits) (lived : HasLived c events) where
   stood : Stands Awaits c.followed events
   stood = subst (λ (stage : Stage). Stands stage c.followed events) awaits lived.stands
 
   goes_on : (told : Told) → IsLife c.ticket c.part (events ++ Heard told ∷ [])
   goes_on told = life_more c.ticket c.part events (Heard told) lived.life stood.0
 
-  abbrev progress_refused : Stage → Progress
+  abbrev progress_refused : Stage → CommandModel
   progress_refused next = record c { followed = (refused_at c.followed next).0; stage = (refused_at c.followed next).1 }
 
   refused : (told : Told) (next : Stage) → IsRefusal told → WantsPost next → want_after told ≡ want_at next

@@ -1,10 +1,12 @@
 -- The life of a command: what it is told, how it is posted before each of these, and how it ends.
 -- Redis Cluster specification, "MOVED Redirection", "ASK redirection" and "Multiple keys operations" (TRYAGAIN).
 -- How many refusals are followed is this proxy's choice: sixteen.
+-- After a lost connection a command is never posted again, since the node may have executed it. A life is a list of
+-- events, each of which was due after those before it; no state stands in it.
 use Rattle.std.specs.Prelude.{◌≡◌, ℕ, ◌+◌, ◌≤◌, ◌⊎◌, true, false, List, [], ◌∷◌, ◌++◌, length, Option, Some, None, All, ⊤}
 use Rattle.std.specs.Option.{option_map_or}
 use Rattle.std.specs.List.{last_or}
-use Rattle.key_split.specs.Command.{Command as Part}
+use Rattle.key_split.specs.PartModel.{PartModel}
 use Rattle.key_split.specs.declared.travel.Batch.{Batch}
 use Rattle.key_split.specs.declared.travel.Ticket.{Ticket}
 use Rattle.key_split.specs.declared.travel.Told.{Told}
@@ -15,18 +17,18 @@ use Rattle.command_future.specs.declared.stage.Want.{Want}
 use Rattle.command_future.specs.declared.stage.Want.TheVariants.{Post, Await, Finished}
 
 -- what happens to a command: a batch of it is posted, and it is told something
-pub data Event : Type 0 where
-  Posted : Batch → Event
-  Heard : Told → Event
+pub data CommandEvent : Type 0 where
+  Posted : Batch → CommandEvent
+  Heard : Told → CommandEvent
 
 -- what it was told, in order
-abbrev pub told_in : List Event → List Told
+abbrev pub told_in : List CommandEvent → List Told
 told_in [] = []
 told_in (Posted batch ∷ events) = told_in events
 told_in (Heard told ∷ events) = told ∷ told_in events
 
 -- the batches that were posted, in order
-abbrev pub posted_in : List Event → List Batch
+abbrev pub posted_in : List CommandEvent → List Batch
 posted_in [] = []
 posted_in (Posted batch ∷ events) = batch ∷ posted_in events
 posted_in (Heard told ∷ events) = posted_in events
@@ -80,7 +82,7 @@ abbrev pub IsTold : List Told → Type 0
 IsTold told = IsOpen told ⊎ ((end : Ended) × HasEnd told end)
 
 -- what a command wants after these events: a post where each was answered by a refusal, an answer where the last post was not answered, and nothing once it has an end
-abbrev pub IsWanted : List Event → Want → Type 0
+abbrev pub IsWanted : List CommandEvent → Want → Type 0
 IsWanted events (Post asking named) = IsOpen (told_in events) × (length (posted_in events) ≡ length (told_in events))
     × (sent_by (told_in events) ≡ Post asking named)
 IsWanted events Await = IsOpen (told_in events) × (length (posted_in events) ≡ length (told_in events) + 1)
@@ -92,7 +94,7 @@ Names None node = ⊤
 Names (Some named) node = node ≡ named
 
 -- after these events a command of this ticket and part wants this batch to be posted
-pub record IsWantedBatch (ticket : Ticket) (part : Part) (events : List Event) (batch : Batch) : Type 0 where
+pub record IsWantedBatch (ticket : Ticket) (part : PartModel) (events : List CommandEvent) (batch : Batch) : Type 0 where
   pub same_ticket : batch.ticket ≡ ticket
   pub same_part : batch.part ≡ part
   pub named : Option ℕ
@@ -100,11 +102,11 @@ pub record IsWantedBatch (ticket : Ticket) (part : Part) (events : List Event) (
   pub there : Names named batch.node
 
 -- this happens after those as a command of this ticket and part wants: it is posted so, or it is told something where it awaits that
-abbrev pub IsDue : Ticket → Part → List Event → Event → Type 0
+abbrev pub IsDue : Ticket → PartModel → List CommandEvent → CommandEvent → Type 0
 IsDue ticket part before (Posted batch) = IsWantedBatch ticket part before batch
 IsDue ticket part before (Heard told) = IsWanted before Await
 
 -- the life of a command of this ticket and part, so far: each event was due after those before it
-pub record IsLife (ticket : Ticket) (part : Part) (events : List Event) : Type 0 where
-  pub each : (before after : List Event) (event : Event) → events ≡ before ++ event ∷ after
+pub record IsLife (ticket : Ticket) (part : PartModel) (events : List CommandEvent) : Type 0 where
+  pub each : (before after : List CommandEvent) (event : CommandEvent) → events ≡ before ++ event ∷ after
       → IsDue ticket part before event

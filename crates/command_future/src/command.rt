@@ -2,7 +2,7 @@
 
 ghost use Rattle.std.specs.Prelude.{◌≡◌, ◌≤◌, ◌↔◌, List, [], ◌∷◌, ◌++◌, IfOk, MatchOption, MatchResult};
 ghost use Rattle.slot_hash.specs.Slot.{slot_of};
-ghost use Rattle.command_future.specs.Progress.{refused_at};
+ghost use Rattle.command_future.specs.CommandModel.{refused_at};
 
 use crate::stage::{Stage, Want};
 use key_split::{Batch, Ended, Part, Ticket, Told};
@@ -33,11 +33,11 @@ pub struct Command {
 
 impl Model for Command {
     ghost use Rattle.std.specs.Prelude.{◌≤◌};
-    ghost use Rattle.command_future.specs.Progress.{Progress};
+    ghost use Rattle.command_future.specs.CommandModel.{CommandModel};
     ghost use Rattle.resp_wire.specs.contracts.value.Value as value;
     ghost use Rattle.std.specs.Coded.{codes};
 
-    ghost Value = { Progress };
+    ghost Value = { CommandModel };
 
     ghost coded = { Prim.hlevel (codes, value.the_row.coded) };
 
@@ -47,9 +47,9 @@ impl Model for Command {
 }
 
 impl Command {
-    ghost use Rattle.command_future.specs.Life.{Event, IsWanted, IsWantedBatch, IsOpen, HasEnd, told_in};
-    ghost use Rattle.command_future.specs.Life.Event.{Posted, Heard};
-    ghost use Rattle.command_future.specs.Progress.{fresh, want_at, MayPost, batch_of, progress_told, IsOver, HasLived};
+    ghost use Rattle.command_future.specs.Life.{CommandEvent, IsWanted, IsWantedBatch, IsOpen, HasEnd, told_in};
+    ghost use Rattle.command_future.specs.Life.CommandEvent.{Posted, Heard};
+    ghost use Rattle.command_future.specs.CommandModel.{fresh, want_at, MayPostTo, batch_of, progress_told, IsOver, HasLived};
     ghost use Rattle.command_future.specs.declared.stage.Stage.TheVariants.{Awaits, Over};
 
     /// A command that was neither posted nor told anything.
@@ -67,16 +67,16 @@ impl Command {
 
     pub fn want(&self) -> Want
         ensures progress { result ≡ want_at self.now.stage }
-        ensures life { (events : List Event) → HasLived self.now events → IsWanted events result }
+        ensures life { (events : List CommandEvent) → HasLived self.now events → IsWanted events result }
     {
         self.stage.want()
     }
 
     /// The batch that posts it at this node, with a copy of its part.
     pub fn batch(&self, alloc: Global, node: NodeId) -> Result<Batch, NoMemory>
-        requires { MayPost self.now.stage node }
+        requires { MayPostTo self.now.stage node }
         ensures progress { IfOk result (λ batch. batch ≡ batch_of self.now node) }
-        ensures life { (events : List Event) → HasLived self.now events
+        ensures life { (events : List CommandEvent) → HasLived self.now events
             → IfOk result (IsWantedBatch self.now.ticket self.now.part events) }
     {
         Ok(Batch {
@@ -89,9 +89,9 @@ impl Command {
 
     /// The command was posted at this node.
     pub fn posted(&mut self, node: NodeId)
-        requires { MayPost self.old.stage node }
+        requires { MayPostTo self.old.stage node }
         ensures progress { self.new ≡ record self.old { stage = Awaits } }
-        ensures life { (events : List Event) → HasLived self.old events
+        ensures life { (events : List CommandEvent) → HasLived self.old events
             → HasLived self.new (events ++ Posted (batch_of self.old node) ∷ []) }
     {
         self.stage = Stage::Awaits;
@@ -102,7 +102,7 @@ impl Command {
         requires { self.old.stage ≡ Awaits }
         ensures progress { self.new ≡ progress_told self.old told }
         ensures step { (result ≡ Step.Done) ↔ IsOver self.new.stage }
-        ensures life { (events : List Event) → HasLived self.old events
+        ensures life { (events : List CommandEvent) → HasLived self.old events
             → HasLived self.new (events ++ Heard told ∷ []) }
     {
         let next = match told {
@@ -126,7 +126,7 @@ impl Command {
     pub fn finish(self) -> Result<(Ticket, Ended), Command>
         ensures progress { MatchResult result (λ (ticket, end). (ticket ≡ self.ticket) × (self.stage ≡ Over end))
             (λ back. (back ≡ self) × ¬ IsOver self.stage) }
-        ensures life { (events : List Event) → HasLived self events
+        ensures life { (events : List CommandEvent) → HasLived self events
             → MatchResult result (λ (ticket, end). HasEnd (told_in events) end) (λ back. IsOpen (told_in events)) }
     {
         let Command {
@@ -144,6 +144,13 @@ impl Command {
                 stage,
             }),
         }
+    }
+
+    /// How many refusals it was told and followed.
+    pub fn followed(&self) -> u8
+        ensures { result ≡ self.now.followed }
+    {
+        self.followed
     }
 
     pub fn ticket(&self) -> Ticket
@@ -168,7 +175,7 @@ impl Command {
     /// Its end, where it has one.
     pub fn end(&self) -> Option<&Ended>
         ensures progress { MatchOption result (¬ IsOver self.now.stage) (λ end. self.now.stage ≡ Over end.now) }
-        ensures life { (events : List Event) → HasLived self.now events
+        ensures life { (events : List CommandEvent) → HasLived self.now events
             → MatchOption result (IsOpen (told_in events)) (λ end. HasEnd (told_in events) end.now) }
     {
         match &self.stage {

@@ -2,7 +2,7 @@ ghost use Rattle.std.specs.Prelude.{◌≡◌, MatchOption};
 ghost use Rattle.key_split.specs.declared.travel.Batch.{Batch};
 ghost use Rattle.key_split.specs.declared.travel.Ticket.{Ticket};
 ghost use Rattle.key_split.specs.declared.travel.Told.{Told};
-ghost use Rattle.command_future.specs.Progress.{WantsPost};
+ghost use Rattle.command_future.specs.CommandModel.{WantsPost};
 ghost use Rattle.command_future.specs.Carried.{Posts};
 
 use crate::command::Command;

@@ -3,7 +3,7 @@ ghost use Rattle.futures.specs.Task.{Covers, Keeps};
 ghost use Rattle.futures.specs.Poll.{IfReady, OnPending};
 ghost use Rattle.key_split.specs.declared.travel.Ticket.{Ticket};
 ghost use Rattle.key_split.specs.declared.travel.Ended.{Ended};
-ghost use Rattle.command_future.specs.Progress.{IsFresh};
+ghost use Rattle.command_future.specs.CommandModel.{IsFresh};
 ghost use Rattle.command_future.specs.Carried.{Advances, Carries, Fulfils, Gives};
 
 use crate::command::Command;

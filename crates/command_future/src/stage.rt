@@ -29,7 +29,7 @@ pub(crate) enum Stage {
 }
 
 impl Stage {
-    ghost use Rattle.command_future.specs.Progress.{asks_at, want_at};
+    ghost use Rattle.command_future.specs.CommandModel.{asks_at, want_at};
 
     pub(crate) fn want(&self) -> Want
         ensures { result ≡ want_at self.now }

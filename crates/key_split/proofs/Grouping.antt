@@ -16,8 +16,8 @@ use Rattle.std.proofs.lemmas.List.{map-append}
 use Rattle.std.proofs.lemmas.List.Elements.{filter-append}
 use Rattle.std.proofs.lemmas.List.Folds.{position_or_len_push}
 use Rattle.std.proofs.lemmas.Map.Views.{any-filter_same}
-use Rattle.key_split.specs.declared.command.Op.{Op}
-use Rattle.key_split.specs.Command.{Command, Pair}
+use Rattle.key_split.specs.declared.part.Op.{Op}
+use Rattle.key_split.specs.PartModel.{PartModel, Pair}
 use Rattle.key_split.specs.Groups.{slot_at, slots, of_slot, groups, group_numbers, on_group, parts_of}
 
 -- the number is among the numbers
@@ -234,7 +234,7 @@ get-place f s (n ∷ ns) d h = at (λ e. get-place f s ns d (ap (λ b. b || amon
     at later false e = ap (λ i. get_or (f n ∷ map f ns) i d) (next (place s ns)) ∙ later e
 
 -- the part at the place found
-pub record IsPartOf (o : Op) (ps : List Pair) (s : ℕ) (part : Command) : Type 0 where
+pub record IsPartOf (o : Op) (ps : List Pair) (s : ℕ) (part : PartModel) : Type 0 where
   pub is : part ≡ on_group o (of_slot ps s)
   pub op : part.op ≡ o
   pub slot : slot_of part.key ≡ s
@@ -250,7 +250,7 @@ part-of o ps s h =
       more = λ p. ap (λ g. on_group o (g ++ p ∷ [])) e ∙ sym (ap (λ g. record (on_group o g) { rest = (on_group o g).rest ++ p ∷ [] }) e);
     }
 
-pub part-at : (o : Op) (ps : List Pair) (s k : ℕ) (parts : List Command) (part : Command) → position (nat_eq s) (slots ps) ≡ Some k → parts ≡ parts_of o ps → part ≡ get_or parts k part → IsPartOf o ps s part
+pub part-at : (o : Op) (ps : List Pair) (s k : ℕ) (parts : List PartModel) (part : PartModel) → position (nat_eq s) (slots ps) ≡ Some k → parts ≡ parts_of o ps → part ≡ get_or parts k part → IsPartOf o ps s part
 part-at o ps s k parts part h is at =
     let f = found s k (slots ps) h in
     subst (IsPartOf o ps s)
@@ -299,10 +299,10 @@ pub length-parts : (o : Op) (ps : List Pair) → length (parts_of o ps) ≡ leng
 length-parts o ps = length-map (groups ps) (on_group o) ∙ length-map (slots ps) (of_slot ps)
 
 -- what the loop keeps
-abbrev pub Made : Op → List Pair → List Command → List ℕ → (ℕ → Option ℕ) → Type 0
+abbrev pub Made : Op → List Pair → List PartModel → List ℕ → (ℕ → Option ℕ) → Type 0
 Made o ps parts places look = (parts ≡ parts_of o ps) × (places ≡ group_numbers ps) × ((t : ℕ) → look t ≡ position (nat_eq t) (slots ps))
 
-pub made-own : (o : Op) (ps : List Pair) (p : Pair) (s k : ℕ) (parts parts' : List Command) (part part' : Command) (places places' : List ℕ) (look look' : ℕ → Option ℕ)
+pub made-own : (o : Op) (ps : List Pair) (p : Pair) (s k : ℕ) (parts parts' : List PartModel) (part part' : PartModel) (places places' : List ℕ) (look look' : ℕ → Option ℕ)
     → s ≡ slot_at p → Made o ps parts places look → Some k ≡ look s → part ≡ get_or parts k part → part' ≡ record part { rest = part.rest ++ p ∷ [] }
     → parts' ≡ set parts k part' → places' ≡ places ++ k ∷ [] → ((t : ℕ) → look' t ≡ look t) → Made o (ps ++ p ∷ []) parts' places' look'
 made-own o ps p s k parts parts' part part' places places' look look' same m there at more ps' ks' ls' =
@@ -315,7 +315,7 @@ made-own o ps p s k parts parts' part part' places places' look look' same m the
       λ t. ls' t ∙ m.2 t ∙ ap (position (nat_eq t)) (sym (slots-push ps p ∙ cond-true _ _ _ f.0)),
     )
 
-pub made-new : (o : Op) (ps : List Pair) (p : Pair) (s k : ℕ) (parts parts' : List Command) (places places' : List ℕ) (look look' : ℕ → Option ℕ)
+pub made-new : (o : Op) (ps : List Pair) (p : Pair) (s k : ℕ) (parts parts' : List PartModel) (places places' : List ℕ) (look look' : ℕ → Option ℕ)
     → s ≡ slot_at p → Made o ps parts places look → None ≡ look s → k ≡ length parts
     → parts' ≡ parts ++ on_group o (p ∷ []) ∷ [] → places' ≡ places ++ k ∷ [] → ((t : ℕ) → look' t ≡ cond (is_at (nat_cmp s) t) (Some k) (look t))
     → Made o (ps ++ p ∷ []) parts' places' look'

@@ -3,19 +3,19 @@ use Rattle.std.proofs.Common.{◌≡◌, ℕ, ℤ, ◌<◌, ◌+◌, List, [], �
 use Rattle.std.specs.Prelude.{All, IfOk, Ok, Err, if◌then◌else◌}
 use Rattle.std.proofs.lemmas.Bool.{false≢true}
 use Rattle.std.proofs.lemmas.List.Elements.{All-map, All-nil, All-cons}
-use Rattle.key_split.specs.declared.command.Op.{Op}
-use Rattle.key_split.specs.declared.command.Op.TheVariants as op
-use Rattle.key_split.specs.declared.command.Mode.{Mode}
+use Rattle.key_split.specs.declared.part.Op.{Op}
+use Rattle.key_split.specs.declared.part.Op.TheVariants as op
+use Rattle.key_split.specs.declared.part.Mode.{Mode}
 use Rattle.key_split.specs.declared.name.Name.{Name}
 use Rattle.key_split.specs.declared.name.Name.TheVariants.{Get, Set, SetNx, GetSet, GetDel, Append, StrLen, Incr, Decr, IncrBy, Del, Exists, MGet, MSet, Ping, Echo, Select, Quit}
 use Rattle.key_split.specs.declared.planned.Planned.{Planned}
 use Rattle.key_split.specs.declared.planned.Planned.TheVariants.{Local}
 use Rattle.key_split.specs.declared.planned.PlanFault.{PlanFault}
 use Rattle.resp_wire.specs.declared.value.Value.{Value}
-use Rattle.key_split.specs.Command.{Pair}
+use Rattle.key_split.specs.PartModel.{Pair}
 use Rattle.key_split.specs.Groups.{slot_at, slots, group_numbers, parts_of, alone}
 use Rattle.key_split.specs.Names.{allows}
-use Rattle.key_split.specs.Plan.{Answer, Plans, Words, plan_as, set_with, increase}
+use Rattle.key_split.specs.Plan.{PlanAnswer, Plans, Words, plan_as, set_with, increase}
 use Rattle.key_split.specs.Join.{CanBeJoined}
 use Rattle.key_split.proofs.Grouping.{AllAmong, all-among, place, place-within, length-parts}
 
@@ -69,7 +69,7 @@ plan_as-joins Echo args h = tt
 plan_as-joins Select args h = either-joins _ _ _
 plan_as-joins Quit args h = tt
 
-pub IfOk-planned : (wanted given : Answer) → Plans wanted given → IfOk wanted CanBeJoined → IfOk given CanBeJoined
+pub IfOk-planned : (wanted given : PlanAnswer) → Plans wanted given → IfOk wanted CanBeJoined → IfOk given CanBeJoined
 IfOk-planned wanted (Err e) h j = tt
 IfOk-planned (Err fault) (Ok p) h j = absurd cc
 IfOk-planned (Ok wanted) (Ok p) h j = subst CanBeJoined (sym h) j

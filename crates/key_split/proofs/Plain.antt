@@ -8,25 +8,25 @@ use Rattle.std.proofs.lemmas.Bool.{eqb-true, cond_both}
 use Rattle.std.proofs.lemmas.List.Elements.{All-nil, All-cons, All-map, All-weaker, All-filter, filter_passes}
 use Rattle.resp_wire.specs.declared.value.Value.{Value}
 use Rattle.slot_hash.specs.Slot.{slot_of}
-use Rattle.key_split.specs.declared.command.Op.{Op}
-use Rattle.key_split.specs.declared.command.Op.TheVariants as op
-use Rattle.key_split.specs.declared.command.Mode.{Mode}
+use Rattle.key_split.specs.declared.part.Op.{Op}
+use Rattle.key_split.specs.declared.part.Op.TheVariants as op
+use Rattle.key_split.specs.declared.part.Mode.{Mode}
 use Rattle.key_split.specs.declared.name.Name.{Name}
 use Rattle.key_split.specs.declared.name.Name.TheVariants.{Get, Set, SetNx, GetSet, GetDel, Append, StrLen, Incr, Decr, IncrBy, Del, Exists, MGet, MSet, Ping, Echo, Select, Quit}
 use Rattle.key_split.specs.declared.planned.Planned.TheVariants.{Local, Parts, Close}
 use Rattle.key_split.specs.declared.planned.PlanFault.TheVariants.{WrongCount}
-use Rattle.key_split.specs.Command.{Pair, pairs_in, takes_group}
+use Rattle.key_split.specs.PartModel.{Pair, pairs_in, takes_group}
 use Rattle.key_split.specs.Groups.{slot_at, slots, of_slot, groups, on_group, parts_of, alone, pairs_of}
 use Rattle.key_split.specs.Laws.{IsPlain, PlansArePlain, puts_value}
 use Rattle.key_split.specs.Names.{allows, name_of}
 use Rattle.key_split.specs.Number.{in_range, number_of}
-use Rattle.key_split.specs.Plan.{Answer, Words, word_at, with_value, mode_of, set_with, increase, plan_as, plan_named}
+use Rattle.key_split.specs.Plan.{PlanAnswer, Words, word_at, with_value, mode_of, set_with, increase, plan_as, plan_named}
 use Rattle.key_split.proofs.Grouping.{among, part-of}
 use Rattle.key_split.proofs.PutBack.{pairs-part}
 use Rattle.key_split.proofs.Together.{All-among}
 
 -- each part of the answer is plain
-abbrev ArePlain : Answer → Type 0
+abbrev ArePlain : PlanAnswer → Type 0
 ArePlain (Err fault) = Unit {0}
 ArePlain (Ok (Local reply)) = Unit {0}
 ArePlain (Ok (Parts joining parts)) = All IsPlain parts

@@ -5,8 +5,8 @@ use Rattle.std.specs.List.{slice_get, list_all}
 use Rattle.std.proofs.lemmas.Bool.{eq-eqb, ne_eqb, eqb-false, or_left, or_right}
 use Rattle.std.proofs.lemmas.List.{length-map}
 use Rattle.std.proofs.lemmas.Simd.{map-map}
-use Rattle.key_split.specs.declared.command.Op.{Op}
-use Rattle.key_split.specs.Command.{Pair, pairs_in}
+use Rattle.key_split.specs.declared.part.Op.{Op}
+use Rattle.key_split.specs.PartModel.{Pair, pairs_in}
 use Rattle.key_split.specs.Groups.{slot_at, slots, of_slot, groups, group_numbers, on_group, parts_of}
 use Rattle.key_split.specs.Woven.{woven, advanced, led_by}
 use Rattle.key_split.specs.Laws.{PutBack}

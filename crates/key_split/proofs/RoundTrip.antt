@@ -5,9 +5,9 @@ use Rattle.std.specs.List.{filter, flat_map, position_or_len, AllByRecursion}
 use Rattle.std.proofs.lemmas.Bool.{eq-eqb, cond-true, false≢true}
 use Rattle.std.proofs.lemmas.Bool.Decides.{nat_tests}
 use Rattle.std.proofs.lemmas.List.Elements.{recursion_from_All, All-head}
-use Rattle.key_split.specs.declared.command.Op.{Op}
-use Rattle.key_split.specs.declared.command.Op.TheVariants.{Get, Set, SetNx, GetSet, GetDel, Append, StrLen, Incr, Decr, IncrBy, Del, Exists, MGet, MSet}
-use Rattle.key_split.specs.declared.command.Mode.TheVariants.{Always, IfAbsent, IfPresent}
+use Rattle.key_split.specs.declared.part.Op.{Op}
+use Rattle.key_split.specs.declared.part.Op.TheVariants.{Get, Set, SetNx, GetSet, GetDel, Append, StrLen, Incr, Decr, IncrBy, Del, Exists, MGet, MSet}
+use Rattle.key_split.specs.declared.part.Mode.TheVariants.{Always, IfAbsent, IfPresent}
 use Rattle.key_split.specs.declared.name.Name.{Name}
 use Rattle.key_split.specs.declared.name.Name.TheVariants as name
 use Rattle.key_split.specs.declared.planned.Planned.TheVariants.{Parts}
@@ -15,12 +15,12 @@ use Rattle.key_split.specs.declared.planned.Joining.TheVariants.{One, Array, All
 use Rattle.key_split.specs.declared.planned.PlanFault.TheVariants.{WrongCount}
 use Rattle.std.specs.Fmt.{signed_decimal}
 use Rattle.slot_hash.specs.Slot.{slot_of}
-use Rattle.key_split.specs.Command.{Command, Pair, HasOneSlot}
+use Rattle.key_split.specs.PartModel.{PartModel, Pair, HasOneSlot}
 use Rattle.key_split.specs.Groups.{slot_at, slots, of_slot, group_numbers, on_group, parts_of, alone, pairs_of}
 use Rattle.key_split.specs.Laws.{IsPlain, PlannedBack, joining_of}
 use Rattle.key_split.specs.Names.{allows, name_of, text_of}
 use Rattle.key_split.specs.Number.{number_of}
-use Rattle.key_split.specs.Plan.{Answer, Words, plan_as, plan_of, with_value, increase}
+use Rattle.key_split.specs.Plan.{PlanAnswer, Words, plan_as, plan_of, with_value, increase}
 use Rattle.key_split.specs.Words.{op_name, behind_key, pair_words, words_of}
 use Rattle.key_split.proofs.NumberLemmas.{number_of-signed_decimal}
 
@@ -41,7 +41,7 @@ IsSingle Exists v = ⊥
 IsSingle MGet v = ⊥
 IsSingle MSet v = ⊥
 
-abbrev planned : Op → List ℕ → List ℕ → Answer
+abbrev planned : Op → List ℕ → List ℕ → PlanAnswer
 planned o k v = Ok (Parts One (with_value o k v ∷ []))
 
 plan_of-single : (o : Op) (k v : List ℕ) → IsSingle o v → plan_of (text_of (op_name o) ∷ k ∷ behind_key o v ++ []) ≡ planned o k v
@@ -158,7 +158,7 @@ plan_of-MSet p ps h =
     counted name.MSet (flat_map (pair_words MSet) (p ∷ ps)) (subst (λ n. allows name.MSet (suc (suc n) + 1) ≡ true) (sym (length-words ps)) (odd-words (length ps)))
     ∙ ap (λ qs. Ok (Parts AllOk (parts_of MSet qs))) (pairs_of-words (p ∷ ps)) ∙ ap (λ cs. Ok (Parts AllOk cs)) (parts_of-one MSet p ps h)
 
-abbrev part : Op → List ℕ → List ℕ → List Pair → Command
+abbrev part : Op → List ℕ → List ℕ → List Pair → PartModel
 part o k v rest = record { op = o; key = k; arg = v; rest = rest }
 
 -- the words of a part are planned as that part

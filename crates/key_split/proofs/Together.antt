@@ -6,8 +6,8 @@ use Rattle.std.proofs.lemmas.Bool.{eqb-true, eq-eqb, or_left, or_right, cond-tru
 use Rattle.std.proofs.lemmas.List.{length-map}
 use Rattle.std.proofs.lemmas.List.Elements.{All-nil, All-cons, All-map, All-contains, filter_passes}
 use Rattle.std.proofs.lemmas.Simd.{map-map}
-use Rattle.key_split.specs.declared.command.Op.{Op}
-use Rattle.key_split.specs.Command.{Command, Pair, pairs_in}
+use Rattle.key_split.specs.declared.part.Op.{Op}
+use Rattle.key_split.specs.PartModel.{PartModel, Pair, pairs_in}
 use Rattle.key_split.specs.Groups.{slot_at, slots, of_slot, groups, on_group, parts_of}
 use Rattle.key_split.specs.Laws.{TogetherBySlot}
 use Rattle.key_split.proofs.Grouping.{among, place, AllAmong, all-among, get-place, place-within}
@@ -19,7 +19,7 @@ All-among P [] h = All-nil P
 All-among P (n ∷ ns) h = All-cons P n ns (h n (or_left _ _ (eq-eqb n n refl))) (All-among P ns (λ m e. h m (or_right _ _ e)))
 
 -- the part's keys are a group
-abbrev IsGroup : List Pair → Command → Type 0
+abbrev IsGroup : List Pair → PartModel → Type 0
 IsGroup ps part = (s : ℕ) × (pairs_in part ≡ of_slot ps s)
 
 each-is-group : (o : Op) (ps : List Pair) → All (IsGroup ps) (parts_of o ps)

@@ -1,9 +1,12 @@
--- The groups that the keys of a request make, those of one slot together: Redis Cluster specification, "Implemented subset".
+-- The groups that the keys of a request make, those of one slot together: Redis Cluster specification, "Implemented
+-- subset".
+-- One part for each slot, in the order of each slot's first key. A part keeps its keys in the request's order, repeats
+-- included, so the last value that MSET has for a key stays.
 use Rattle.std.specs.Prelude.{ℕ, List, [], ◌∷◌, map, not, nat_eq}
 use Rattle.std.specs.List.{filter, position_or_len}
 use Rattle.slot_hash.specs.Slot.{slot_of}
-use Rattle.key_split.specs.declared.command.Op.{Op}
-use Rattle.key_split.specs.Command.{Command, Pair}
+use Rattle.key_split.specs.declared.part.Op.{Op}
+use Rattle.key_split.specs.PartModel.{PartModel, Pair}
 
 abbrev pub slot_at : Pair → ℕ
 slot_at pair = slot_of pair.0
@@ -25,11 +28,11 @@ abbrev pub group_numbers : List Pair → List ℕ
 group_numbers pairs = map (λ pair. position_or_len (nat_eq (slot_at pair)) (slots pairs)) pairs
 
 -- the operation on a group, which has at least one key
-abbrev pub on_group : Op → List Pair → Command
+abbrev pub on_group : Op → List Pair → PartModel
 on_group o [] = record { op = o; key = []; arg = []; rest = [] }
 on_group o (first ∷ rest) = record { op = o; key = first.0; arg = first.1; rest = rest }
 
-abbrev pub parts_of : Op → List Pair → List Command
+abbrev pub parts_of : Op → List Pair → List PartModel
 parts_of o pairs = map (on_group o) (groups pairs)
 
 -- keys that have no value

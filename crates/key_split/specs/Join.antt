@@ -1,4 +1,8 @@
 -- The reply that the ends of a request's parts become.
+-- The first error is the whole reply. A part that gave up or whose connection was lost counts as an error. Other parts
+-- may have been executed then: a command over several slots is not atomic.
+-- Redis command reference: DEL and EXISTS add integers, MGET makes an array, MSET answers OK. Replies of other kinds,
+-- or a sum past 64 bits, are `unexpected reply`. Texts that begin with `ERR proxy:` are this proxy's.
 use Rattle.std.specs.Prelude.{◌≡◌, ◌<◌, All, length, ℕ, ℤ, pos, ◌+ℤ◌, slice_index_or, List, [], ◌∷◌, map, Bool, true, false, if◌then◌else◌, Option, None, Some, unwrap_or, codes}
 use Rattle.std.specs.List.{list_all, find}
 use Rattle.std.specs.Str.{bytes_eq}

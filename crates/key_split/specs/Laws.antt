@@ -1,11 +1,13 @@
 -- What holds of plans and of the words for a node.
+-- Statements alone; the functions of src/laws.rt prove them. No key is lost or doubled, two keys share a part exactly
+-- where they share a slot, and a part's words are planned as that part.
 use Rattle.std.specs.Prelude.{◌≡◌, ◌⊎◌, ◌↔◌, ℤ, List, [], ◌∷◌, map, All, Contains, IsTrue, Bool, true, false, Some, Ok}
-use Rattle.key_split.specs.declared.command.Op.{Op}
-use Rattle.key_split.specs.declared.command.Op.TheVariants.{Get, Set, SetNx, GetSet, GetDel, Append, StrLen, Incr, Decr, IncrBy, Del, Exists, MGet, MSet}
+use Rattle.key_split.specs.declared.part.Op.{Op}
+use Rattle.key_split.specs.declared.part.Op.TheVariants.{Get, Set, SetNx, GetSet, GetDel, Append, StrLen, Incr, Decr, IncrBy, Del, Exists, MGet, MSet}
 use Rattle.key_split.specs.declared.planned.Joining.{Joining}
 use Rattle.key_split.specs.declared.planned.Joining.TheVariants.{One, Array, AllOk, Sum}
 use Rattle.key_split.specs.declared.planned.Planned.TheVariants.{Parts}
-use Rattle.key_split.specs.Command.{Command, Pair, pairs_in, HasOneSlot, HasFitKeys}
+use Rattle.key_split.specs.PartModel.{PartModel, Pair, pairs_in, HasOneSlot, HasFitKeys}
 use Rattle.key_split.specs.Groups.{slot_at, group_numbers, parts_of}
 use Rattle.key_split.specs.Number.{in_range}
 use Rattle.key_split.specs.Plan.{Words, plan_of}
@@ -17,8 +19,8 @@ abbrev pub PutBack : Type 0
 PutBack = (o : Op) (pairs : List Pair) → woven (group_numbers pairs) (map pairs_in (parts_of o pairs)) ≡ Some pairs
 
 -- one part has both keys
-abbrev pub SharePart : List Command → Pair → Pair → Type 0
-SharePart parts a b = (part : Command) × Contains parts part × Contains (pairs_in part) a × Contains (pairs_in part) b
+abbrev pub SharePart : List PartModel → Pair → Pair → Type 0
+SharePart parts a b = (part : PartModel) × Contains parts part × Contains (pairs_in part) a × Contains (pairs_in part) b
 
 -- two keys of a request are in one part exactly where they have one slot
 abbrev pub TogetherBySlot : Type 0
@@ -42,7 +44,7 @@ puts_value MGet = false
 puts_value MSet = true
 
 -- the operation is written whole by the words for a node
-pub record IsPlain (c : Command) : Type 0 where
+pub record IsPlain (c : PartModel) : Type 0 where
   pub one_slot : HasOneSlot c
   pub fit_keys : HasFitKeys c
   pub values : IsTrue (puts_value c.op) ⊎ All (λ pair. pair.1 ≡ []) (pairs_in c)
@@ -67,8 +69,8 @@ joining_of MSet pairs = AllOk
 
 -- the words for a node are planned as the part that they were made of
 abbrev pub PlannedBack : Type 0
-PlannedBack = (c : Command) → IsPlain c → plan_of (words_of c) ≡ Ok (Parts (joining_of c.op (pairs_in c)) (c ∷ []))
+PlannedBack = (c : PartModel) → IsPlain c → plan_of (words_of c) ≡ Ok (Parts (joining_of c.op (pairs_in c)) (c ∷ []))
 
 -- each part of a plan is plain, so that its words are planned back
 abbrev pub PlansArePlain : Type 0
-PlansArePlain = (words : Words) (joining : Joining) (parts : List Command) → plan_of words ≡ Ok (Parts joining parts) → All IsPlain parts
+PlansArePlain = (words : Words) (joining : Joining) (parts : List PartModel) → plan_of words ≡ Ok (Parts joining parts) → All IsPlain parts

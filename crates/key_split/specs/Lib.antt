@@ -1,5 +1,5 @@
 pub mod Number
-pub mod Command
+pub mod PartModel
 pub mod Same
 pub mod Groups
 pub mod Names

@@ -1,4 +1,6 @@
 -- The names of the commands, and how many words a request of each has: Redis command reference.
+-- Letters count without regard to ASCII case. The count includes the name. Which options SET may have is said in
+-- Plan.antt.
 use Rattle.std.specs.Prelude.{ℕ, List, [], ◌∷◌, ◌==◌, ◌%◌, nat_le, Bool, ◌&&◌, Option, map, codes}
 use Rattle.std.specs.List.{find}
 use Rattle.std.specs.Str.{bytes_eq}

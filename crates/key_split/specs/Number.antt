@@ -1,4 +1,5 @@
 -- Numbers as texts, canonical decimal in the range of i64: Redis command reference, INCRBY.
+-- As Redis reads integers: no plus sign, no leading zero, no `-0`, no space.
 use Rattle.std.specs.Prelude.{ℕ, ℤ, pos, negsuc, ◌^◌, List, Bool, ◌&&◌, if◌then◌else◌, Option, None, Some, nat_lt}
 use Rattle.std.specs.Fmt.{signed_decimal}
 use Rattle.std.specs.Str.{bytes_eq}

@@ -1,15 +1,17 @@
--- Tests of whether two parts, tickets, ends or told answers are the same; each `==` ensures that its test tells exactly that.
+-- Tests of whether two parts, tickets, ends or told answers are the same; each `==` ensures that its test tells exactly
+-- that.
+-- `==` makes these tests. A lemma `..-Decides` each says that the test answers true exactly for equal things.
 use Rattle.std.proofs.Common.{◌≡◌, Bool, true, false, ◌&&◌, List, [], ◌∷◌, refl, sym, ap, ◌∙◌, subst, nat_eq, IsTrue, ◌↔◌}
 use Rattle.std.specs.Bool.{Decides}
 use Rattle.std.specs.Str.{bytes_eq}
 use Rattle.std.specs.Cmp.{first_so, second_so, signed_Decides, unsigned_Decides}
 use Rattle.std.specs.Cmp.Lexicographic.{pointwise, pointwise_decides, bytes_decides}
 use Rattle.std.proofs.lemmas.Bool.{false≢true}
-use Rattle.key_split.specs.declared.command.Op.{Op}
-use Rattle.key_split.specs.declared.command.Op.TheVariants.{Get, Set, SetNx, GetSet, GetDel, Append, StrLen, Incr, Decr, IncrBy, Del, Exists, MGet, MSet}
-use Rattle.key_split.specs.declared.command.Mode.TheVariants.{Always, IfAbsent, IfPresent}
-use Rattle.key_split.specs.contracts.command.OpPartialEq.TheImpl as op_eq
-use Rattle.key_split.specs.Command.{Command, Pair}
+use Rattle.key_split.specs.declared.part.Op.{Op}
+use Rattle.key_split.specs.declared.part.Op.TheVariants.{Get, Set, SetNx, GetSet, GetDel, Append, StrLen, Incr, Decr, IncrBy, Del, Exists, MGet, MSet}
+use Rattle.key_split.specs.declared.part.Mode.TheVariants.{Always, IfAbsent, IfPresent}
+use Rattle.key_split.specs.contracts.part.OpPartialEq.TheImpl as op_eq
+use Rattle.key_split.specs.PartModel.{PartModel, Pair}
 use Rattle.key_split.specs.declared.travel.Ticket.{Ticket}
 use Rattle.key_split.specs.declared.travel.Ended.{Ended}
 use Rattle.key_split.specs.declared.travel.Ended.TheVariants as end
@@ -28,7 +30,7 @@ same_op = (op_eq.ghosts).eq
 abbrev pub same_pair : Pair → Pair → Bool
 same_pair a b = bytes_eq a.0 b.0 && bytes_eq a.1 b.1
 
-abbrev pub same_part : Command → Command → Bool
+abbrev pub same_part : PartModel → PartModel → Bool
 same_part a b = same_op a.op b.op && bytes_eq a.key b.key && bytes_eq a.arg b.arg && pointwise same_pair a.rest b.rest
 
 abbrev pub same_ticket : Ticket → Ticket → Bool
@@ -83,7 +85,7 @@ same_pair-Decides a b = (
 same_pairs-Decides : (a b : List Pair) → Decides (pointwise same_pair a b) (a ≡ b)
 same_pairs-Decides = pointwise_decides same_pair-Decides
 
-pub same_part-Decides : (a b : Command) → Decides (same_part a b) (a ≡ b)
+pub same_part-Decides : (a b : PartModel) → Decides (same_part a b) (a ≡ b)
 same_part-Decides a b = (
   λ e. (
       let three = first_so (same_op a.op b.op && bytes_eq a.key b.key && bytes_eq a.arg b.arg) (pointwise same_pair a.rest b.rest) e in

@@ -1,4 +1,5 @@
 -- The error texts of refused requests.
+-- Redis's texts, but for an unknown command's, which repeats neither name nor arguments.
 use Rattle.std.specs.Prelude.{ℕ, List, [], ◌++◌, map, codes}
 use Rattle.std.specs.Char.{to_ascii_lowercase}
 use Rattle.resp_wire.specs.declared.value.Value.{Value}

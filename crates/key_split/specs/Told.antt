@@ -1,4 +1,5 @@
 -- What a node writes for what it answers: Redis Cluster specification, "Redirection and resharding".
+-- What no node writes (Unclear, Lost, Unsent) has no text. Host and port are those of the table.
 use Rattle.std.specs.Prelude.{◌≡◌, ℕ, ◌<◌, List, ◌++◌, length, codes}
 use Rattle.std.specs.Fmt.{decimal}
 use Rattle.resp_wire.specs.declared.value.Value.{Value}

@@ -1,13 +1,15 @@
 -- The words by which a node is asked for an operation: Redis command reference.
+-- Names are written in capitals, numbers as canonical decimals. A node that plans these words finds the part that they
+-- were made of (Laws.antt, `PlannedBack`).
 use Rattle.std.specs.Prelude.{ℕ, List, [], ◌∷◌, ◌++◌, codes}
 use Rattle.std.specs.List.{flat_map}
 use Rattle.std.specs.Fmt.{signed_decimal}
-use Rattle.key_split.specs.declared.command.Op.{Op}
-use Rattle.key_split.specs.declared.command.Op.TheVariants.{Get, Set, SetNx, GetSet, GetDel, Append, StrLen, Incr, Decr, IncrBy, Del, Exists, MGet, MSet}
-use Rattle.key_split.specs.declared.command.Mode.TheVariants.{Always, IfAbsent, IfPresent}
+use Rattle.key_split.specs.declared.part.Op.{Op}
+use Rattle.key_split.specs.declared.part.Op.TheVariants.{Get, Set, SetNx, GetSet, GetDel, Append, StrLen, Incr, Decr, IncrBy, Del, Exists, MGet, MSet}
+use Rattle.key_split.specs.declared.part.Mode.TheVariants.{Always, IfAbsent, IfPresent}
 use Rattle.key_split.specs.declared.name.Name.{Name}
 use Rattle.key_split.specs.declared.name.Name.TheVariants as name
-use Rattle.key_split.specs.Command.{Command, Pair}
+use Rattle.key_split.specs.PartModel.{PartModel, Pair}
 use Rattle.key_split.specs.Names.{text_of}
 
 -- the command that an operation belongs to
@@ -50,5 +52,5 @@ behind_key MSet v = v ∷ []
 abbrev pub pair_words : Op → Pair → List (List ℕ)
 pair_words o pair = pair.0 ∷ behind_key o pair.1
 
-abbrev pub words_of : Command → List (List ℕ)
+abbrev pub words_of : PartModel → List (List ℕ)
 words_of c = text_of (op_name c.op) ∷ c.key ∷ behind_key c.op c.arg ++ flat_map (pair_words c.op) c.rest

@@ -1,4 +1,6 @@
 -- Several lists woven into one.
+-- For MGET over several slots: the k-th value is the next one of the part that has the k-th key. None where the lists
+-- don't fit the numbers.
 use Rattle.std.specs.Prelude.{ℕ, zero, suc, List, [], ◌∷◌, drop, if◌then◌else◌, Option, None, Some, option_map, slice_index_or, length, ◌==◌}
 use Rattle.std.specs.List.{list_all, slice_get}
 

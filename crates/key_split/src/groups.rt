@@ -1,10 +1,10 @@
 //! The groups that the keys of a request make: those of one slot together.
 
 ghost use Rattle.std.specs.Prelude.{◌≡◌, IsTrue, IfOk, map};
-ghost use Rattle.key_split.specs.Command.{takes_group};
+ghost use Rattle.key_split.specs.PartModel.{takes_group};
 ghost use Rattle.key_split.specs.Groups.{alone, group_numbers, pairs_of, parts_of};
 
-use crate::command::{Op, Pair, Part, Parts};
+use crate::part::{Op, Pair, Part, Parts};
 use crate::planned::Places;
 use resp_wire::{Bytes, NoMemory};
 use slot_hash::slot_of;

@@ -12,13 +12,13 @@
 //! `specs/Told.antt`. What holds of every plan are the laws of `specs/Laws.antt`.
 #![tactic(auto)]
 
-mod command;
 mod groups;
 mod joins;
 pub mod laws;
 mod lines;
 mod name;
 mod number;
+mod part;
 mod planned;
 mod planner;
 mod refusals;
@@ -26,10 +26,11 @@ mod tellings;
 mod travel;
 mod words;
 
-pub use command::{Mode, Op, Pair, Part, Parts};
 pub use joins::join;
-pub use name::Name;
+pub use lines::{error_line, into_error, simple_line};
+pub use name::{Name, same_letters};
 pub use number::{read_number, write_number};
+pub use part::{Mode, Op, Pair, Part, Parts};
 pub use planned::{Joining, Places, PlanFault, Planned};
 pub use planner::plan;
 pub use refusals::refusal;

@@ -6,6 +6,7 @@ ghost use Rattle.resp_wire.specs.Text.{is_one_line};
 use resp_wire::{Line, NoMemory, Value};
 use std::alloc::Global;
 
+/// A simple string of this text.
 pub fn simple_line(alloc: Global, text: &[u8]) -> Result<Value, NoMemory>
     requires { IsTrue (is_one_line text.now) }
     ensures { IfOk result (λ reply. reply ≡ Value.Simple text.now) }
@@ -13,6 +14,7 @@ pub fn simple_line(alloc: Global, text: &[u8]) -> Result<Value, NoMemory>
     Ok(Value::Simple(Line::from_text(alloc, text)?))
 }
 
+/// An error of this text.
 pub fn error_line(alloc: Global, text: &[u8]) -> Result<Value, NoMemory>
     requires { IsTrue (is_one_line text.now) }
     ensures { IfOk result (λ reply. reply ≡ Value.Error text.now) }

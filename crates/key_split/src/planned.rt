@@ -2,8 +2,8 @@
 
 ghost use Rattle.std.specs.Prelude.{◌≡◌};
 
-use crate::command::Parts;
 use crate::name::Name;
+use crate::part::Parts;
 use resp_wire::Value;
 use std::marker::Model;
 use thiserror::Error;

@@ -3,17 +3,17 @@
 ghost use Rattle.std.specs.Prelude.{◌≡◌, ◌<◌, ◌+◌, length, map, drop, IsTrue, IfOk, [], ◌∷◌, slice_index_or};
 ghost use Rattle.std.specs.List.{list_all};
 ghost use Rattle.key_split.specs.Number.{number_of};
-ghost use Rattle.key_split.specs.Command.{Command, takes_group};
+ghost use Rattle.key_split.specs.PartModel.{PartModel, takes_group};
 ghost use Rattle.key_split.specs.Groups.{alone};
 ghost use Rattle.key_split.specs.Join.{CanBeJoined};
 ghost use Rattle.key_split.specs.Names.{allows, same_letters};
 ghost use Rattle.key_split.specs.Plan.{gathered, increase, keyed, mode_of, plan_as, plan_of, Plans, select, set_with, summed, valued};
 
-use crate::command::{Mode, Op, Part, Parts};
 use crate::groups::{alone, grouped, pairs_of};
 use crate::lines::{error_line, simple_line};
 use crate::name::{Name, same_letters};
 use crate::number::read_number;
+use crate::part::{Mode, Op, Part, Parts};
 use crate::planned::{Joining, PlanFault, Planned};
 use resp_wire::{Bytes, NoMemory, Value};
 use std::alloc::Global;

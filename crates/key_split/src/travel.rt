@@ -2,7 +2,7 @@
 
 ghost use Rattle.std.specs.Prelude.{◌≡◌, IfOk};
 
-use crate::command::Part;
+use crate::part::Part;
 use resp_wire::{NoMemory, Value};
 use slot_hash::Slot;
 use slot_map::NodeId;

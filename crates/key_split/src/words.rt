@@ -3,9 +3,9 @@
 ghost use Rattle.std.specs.Prelude.{◌≡◌, ◌++◌, IfOk, OnOk};
 ghost use Rattle.key_split.specs.Words.{behind_key, op_name, words_of};
 
-use crate::command::{Mode, Op, Part};
 use crate::name::Name;
 use crate::number::write_number;
+use crate::part::{Mode, Op, Part};
 use resp_wire::{Bytes, NoMemory};
 use std::alloc::Global;
 

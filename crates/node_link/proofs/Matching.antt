@@ -6,9 +6,9 @@ use Rattle.std.proofs.lemmas.Grind.{common_steps}
 use Rattle.resp_wire.specs.declared.value.Value.{Value}
 use Rattle.key_split.specs.Requests.{Request}
 use Rattle.node_link.specs.declared.link.Due.{Due}
-use Rattle.node_link.specs.State.{Connection}
-use Rattle.node_link.specs.Connection.{due_of}
-use Rattle.node_link.specs.Laws.{StandsFor, Answers, MatchesReplies}
+use Rattle.node_link.specs.LinkModel.{LinkModel}
+use Rattle.node_link.specs.LinkCalls.{due_of}
+use Rattle.node_link.specs.Laws.{StandsFor, AnswersDue, MatchesReplies}
 
 map_more : (a b : List Request) → map due_of (a ++ b) ≡ map due_of a ++ map due_of b
 map_more [] b = refl
@@ -23,25 +23,25 @@ at_place (x ∷ xs) zero first rest e = (cc, cc, omega arith)
 at_place (x ∷ xs) (suc k) first rest e = let h = at_place xs k first rest e in (h.0, h.1, omega (arith, h.2))
 
 module _ {P : Type 0} where
-  sent_behind : (requests more : List Request) (values : List Value) (old new : Connection P) → StandsFor requests values old
+  sent_behind : (requests more : List Request) (values : List Value) (old new : LinkModel P) → StandsFor requests values old
       → new.due ≡ old.due ++ map due_of more → StandsFor (requests ++ more) values new
   sent_behind requests more values old new s due = record {
     answered = omega (arith, s.answered, length-append requests more);
     due = rw (due, s.due, drop-append-le (length values) requests more s.answered) (sym (map_more (drop (length values) requests) more));
   }
 
-  pub came : (requests : List Request) (values : List Value) (old new : Connection P) (first : Due) (value : Value) → StandsFor requests values old
-      → old.due ≡ first ∷ new.due → Answers requests values first value new
+  pub came : (requests : List Request) (values : List Value) (old new : LinkModel P) (first : Due) (value : Value) → StandsFor requests values old
+      → old.due ≡ first ∷ new.due → AnswersDue requests values first value new
   came requests values old new first value s due =
       let h = at_place requests (length values) first new.due (sym due ∙ s.due) in
       let longer : length (values ++ value ∷ []) ≡ suc (length values) = grind (arith, common_steps) in
       (h.0, record { answered = omega (arith, longer, h.2); due = rw longer h.1 })
 
-  same_due : (requests : List Request) (values : List Value) (old new : Connection P) → StandsFor requests values old → new.due ≡ old.due
+  same_due : (requests : List Request) (values : List Value) (old new : LinkModel P) → StandsFor requests values old → new.due ≡ old.due
       → StandsFor requests values new
   same_due requests values old new s due = record { answered = s.answered; due = due ∙ s.due }
 
-  abbrev due_in : Connection P → List Due
+  abbrev due_in : LinkModel P → List Due
   due_in link = link.due
 
   pub replies_match : (failures : P → ℕ) (is_garbled : P → Type 0) (exchange : P → List Request → List Value → P → Type 0) → MatchesReplies failures is_garbled exchange

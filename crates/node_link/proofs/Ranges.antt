@@ -4,9 +4,9 @@ use Rattle.std.specs.Prelude.{slice_range}
 use Rattle.std.proofs.lemmas.List.{drop-take, drop-drop, take-take, take_all, drop_all}
 use Rattle.std.proofs.lemmas.List.Folds.{drop_split}
 use Rattle.std.proofs.lemmas.Grind.{common_steps}
-use Rattle.node_link.specs.Bytes.{Outgoing}
+use Rattle.node_link.specs.Bytes.{OutboxModel}
 
-abbrev pub made : List ℕ → List ℕ → Outgoing
+abbrev pub made : List ℕ → List ℕ → OutboxModel
 made unsent draft = record { unsent = unsent; draft = draft }
 
 pub outgoing : (a b c d : List ℕ) → a ≡ c → b ≡ d → made a b ≡ made c d

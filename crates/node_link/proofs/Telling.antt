@@ -13,8 +13,8 @@ use Rattle.node_link.specs.declared.link.Got.{Got}
 use Rattle.node_link.specs.declared.link.Got.TheVariants as got
 use Rattle.node_link.specs.declared.link.LinkFault.{LinkFault}
 use Rattle.node_link.specs.declared.link.LinkFault.TheVariants.{NoMemory, PortFailed, Stray, BadWire}
-use Rattle.node_link.specs.State.{Connection}
-use Rattle.node_link.specs.Connection.{Receives}
+use Rattle.node_link.specs.LinkModel.{LinkModel}
+use Rattle.node_link.specs.LinkCalls.{Receives}
 use Rattle.node_link.specs.Line.{Target, first_word, other_words, target_in}
 use Rattle.node_link.specs.Telling.{sent_on, redirected, refusal_or_reply, told_by, endpoint_meant, TellOutcome}
 
@@ -79,7 +79,7 @@ tell_grows said asked old (Ok told) new is = told_grows said asked old told new 
 tell_grows said asked old (Err back) new does = same old new does.1
 
 module _ {P : Type 0} (failures : P → ℕ) (is_garbled : P → Type 0) (exchange : P → List Request → List Value → P → Type 0) where
-  pub receives_grow : (old : Connection P) (table : List Endpoint) (result : Result (Option Got) LinkFault) (new : Connection P) (table' : List Endpoint)
+  pub receives_grow : (old : LinkModel P) (table : List Endpoint) (result : Result (Option Got) LinkFault) (new : LinkModel P) (table' : List Endpoint)
       → Receives failures is_garbled exchange old table result new table' → Grows table table'
   receives_grow old table (Ok (Some (got.Ticket ticket told))) new table' does = told_grows does.0 old.node table told table' does.4
   receives_grow old table (Ok (Some (got.Slots value))) new table' does = same table table' does.3

@@ -8,8 +8,8 @@ use Rattle.std.specs.List.{flat_map}
 use Rattle.resp_wire.specs.Canonical.{canonical_all}
 use Rattle.resp_wire.specs.Data.{bulk, items_of}
 use Rattle.resp_wire.specs.Spelling.{count_of}
-use Rattle.key_split.specs.declared.command.Op.{Op}
-use Rattle.key_split.specs.Command.{Command, Pair}
+use Rattle.key_split.specs.declared.part.Op.{Op}
+use Rattle.key_split.specs.PartModel.{PartModel, Pair}
 use Rattle.key_split.specs.Names.{text_of}
 use Rattle.key_split.specs.Words.{op_name, behind_key, pair_words, words_of}
 use Rattle.node_link.specs.Bytes.{spelled_words}
@@ -41,7 +41,7 @@ further o count each (pair ∷ pairs) =
     omega (arith, length-append (pair_words o pair) (flat_map (pair_words o) pairs), each pair.1, further o count each pairs)
 
 -- how many words a part makes
-pub length-words_of : (part : Command) (count : ℕ) → ((v : List ℕ) → count ≡ length (behind_key part.op v))
+pub length-words_of : (part : PartModel) (count : ℕ) → ((v : List ℕ) → count ≡ length (behind_key part.op v))
     → 1 + (1 + count) * (1 + length part.rest) ≡ length (words_of part)
 length-words_of part count each =
     omega (arith, length-append (behind_key part.op part.arg) (flat_map (pair_words part.op) part.rest), each part.arg, further part.op count each part.rest)
@@ -50,7 +50,7 @@ regrouped : (a b c d e f : List ℕ) → ((((a ++ b) ++ c) ++ d) ++ e) ++ f ≡ 
 regrouped a b c d e f = simp append_assoc refl
 
 -- the pieces of a part, one after another
-part_spelled : (part : Command) (old : List ℕ)
+part_spelled : (part : PartModel) (old : List ℕ)
     → ((((old ++ head 42 (length (words_of part))) ++ spelled_bulk (text_of (op_name part.op))) ++ spelled_bulk part.key)
     ++ spelled_bulks (behind_key part.op part.arg)) ++ spelled_bulks (flat_map (pair_words part.op) part.rest)
     ≡ old ++ spelled_words (words_of part)
@@ -64,7 +64,7 @@ part_spelled part old =
     spelled_words_are (words_of part) ∙ ap (λ xs. count ++ (name ++ (key ++ xs))) (spelled_bulks-append behind more) in
     regrouped old count name key (spelled_bulks behind) (spelled_bulks more) ∙ sym (ap (λ xs. old ++ xs) words)
 
-pub part_pieces : (part : Command) (count : ℕ) (d0 d1 d2 d3 d4 d5 : List ℕ) → count ≡ length (words_of part)
+pub part_pieces : (part : PartModel) (count : ℕ) (d0 d1 d2 d3 d4 d5 : List ℕ) → count ≡ length (words_of part)
     → d1 ≡ d0 ++ head 42 count → d2 ≡ d1 ++ spelled_bulk (text_of (op_name part.op)) → d3 ≡ d2 ++ spelled_bulk part.key
     → d4 ≡ d3 ++ spelled_bulks (behind_key part.op part.arg) → d5 ≡ d4 ++ spelled_bulks (flat_map (pair_words part.op) part.rest)
     → d5 ≡ d0 ++ spelled_words (words_of part)

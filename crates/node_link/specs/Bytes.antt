@@ -1,12 +1,13 @@
 -- A connection in bytes: the canonical spellings of the requests go out, and the spellings of the values come in.
 -- Redis serialization protocol (RESP2) specification, "Sending commands to a Redis server".
-use Rattle.std.specs.Prelude.{◌≡◌, ◌++◌, ◌∷◌, List, [], ℕ, ◌≤◌, Option, Some, None, Result, Ok, Err, codes, length, map, take}
+-- Commands of any size may be cut at any byte. What a node sends is read within the largest limits of resp_wire.
+use Rattle.std.specs.Prelude.{◌≡◌, ◌⊎◌, ◌++◌, ◌∷◌, List, [], ℕ, ◌≤◌, nat_lt, Bool, true, false, Option, Some, None, Result, Ok, Err, codes, length, map, take}
 use Rattle.std.specs.List.{flat_map}
-use Rattle.resp_wire.specs.Bounds.{Bounds}
+use Rattle.resp_wire.specs.LimitsModel.{LimitsModel}
 use Rattle.resp_wire.specs.Canonical.{canonical}
 use Rattle.resp_wire.specs.Data.{Data, bulk, array, items_of}
 use Rattle.resp_wire.specs.Front.{front, Whole, Faulty}
-use Rattle.resp_wire.specs.Input.{Input}
+use Rattle.resp_wire.specs.ReaderModel.{ReaderModel}
 use Rattle.resp_wire.specs.Seen.{data_of}
 use Rattle.resp_wire.specs.declared.value.Value.{Value}
 use Rattle.resp_wire.specs.declared.fault.WireFault.{WireFault}
@@ -14,6 +15,8 @@ use Rattle.key_split.specs.Requests.{Request, Asking, Command, Slots}
 use Rattle.key_split.specs.Words.{words_of}
 use Rattle.node_link.specs.declared.port.PortFault.{PortFault}
 use Rattle.node_link.specs.declared.port.PortFault.TheVariants.{NoMemory, Failed, BadWire}
+use Rattle.node_link.specs.declared.stream.Flow.{Flow}
+use Rattle.node_link.specs.declared.stream.Flow.TheVariants as flow
 use Rattle.node_link.specs.declared.stream.Gone.{Gone}
 use Rattle.node_link.specs.Port.{Rose}
 
@@ -31,21 +34,23 @@ abbrev pub spelled : List Request → List ℕ
 spelled requests = flat_map (λ request. spelled_words (words_in request)) requests
 
 -- the bytes are spellings of these values, in order, and then the rest
-abbrev pub Splits : Bounds → List ℕ → List Value → List ℕ → Type 0
+abbrev pub Splits : LimitsModel → List ℕ → List Value → List ℕ → Type 0
 Splits bounds bytes [] rest = bytes ≡ rest
 Splits bounds bytes (value ∷ values) rest =
     (more : List ℕ) × (front bounds bytes ≡ Whole (data_of value) more) × Splits bounds more values rest
 
 -- what a port over bytes holds: the stream, the bytes that it did not write yet, and what it read and gave no value for
-pub record Pipe (S : Type 0) : Type 0 where
+pub record BytePortModel (S : Type 0) : Type 0 where
   pub stream : S
   pub unsent : List ℕ
-  pub input : Input
+  -- whether the stream left some of the bytes that it was offered last
+  pub refused : Bool
+  pub input : ReaderModel
 
 module _ {S : Type 0} (moved : S → List ℕ → List ℕ → S → Type 0) where
   -- what was written and what is still to be written are the spellings of the requests; what was read is the
   -- spellings of the values and a rest
-  abbrev pub Exchanges : Pipe S → List Request → List Value → Pipe S → Type 0
+  abbrev pub Exchanges : BytePortModel S → List Request → List Value → BytePortModel S → Type 0
   Exchanges old requests values new =
       (written : List ℕ) × (read : List ℕ) × moved old.stream written read new.stream
       × (old.unsent ++ spelled requests ≡ written ++ new.unsent)
@@ -53,11 +58,30 @@ module _ {S : Type 0} (moved : S → List ℕ → List ℕ → S → Type 0) whe
       × (new.input.bounds ≡ old.input.bounds)
 
 -- the bytes that came and were given no value begin with a fault
-abbrev pub IsGarbled : {S : Type 0} → Pipe S → Type 0
+abbrev pub IsGarbled : {S : Type 0} → BytePortModel S → Type 0
 IsGarbled pipe = (fault : WireFault) × (front pipe.input.bounds pipe.input.unread ≡ Faulty fault)
 
+-- whether a write that was answered so leaves some of so many bytes
+abbrev pub leaves_some : Flow → ℕ → Bool
+leaves_some (flow.Bytes count) len = nat_lt count len
+leaves_some flow.Nothing len = true
+leaves_some flow.Gone len = true
+
+-- one write is offered all unsent bytes; or none is made, which may be only where no unsent byte was refused
+abbrev pub Offers : {S : Type 0} → (S → List ℕ → Flow → S → Type 0) → S → List ℕ → Bool → S → Bool → Type 0
+Offers offered old unsent refused new refused' =
+    ((given : Flow) × offered old unsent given new × (refused' ≡ leaves_some given (length unsent)))
+    ⊎ (((refused ≡ false) ⊎ (unsent ≡ [])) × (refused' ≡ refused) × (new ≡ old))
+
+-- what a call of a port asks of its stream: bytes that were refused are offered again before anything else, and after the
+-- write comes one read, or none
+abbrev pub OffersFirst : {S : Type 0} → (S → Flow → S → Type 0) → (S → List ℕ → Flow → S → Type 0) → BytePortModel S → BytePortModel S → Type 0
+OffersFirst {S} asked offered old new =
+    (between : S) × Offers offered old.stream old.unsent old.refused between new.refused
+    × ((new.stream ≡ between) ⊎ ((given : Flow) × asked between given new.stream))
+
 -- the bytes to be written: those of whole requests, and of one that is being spelled
-pub record Outgoing : Type 0 where
+pub record OutboxModel : Type 0 where
   pub unsent : List ℕ
   pub draft : List ℕ
 
@@ -67,23 +91,23 @@ FlushOutcome failures moved old unsent (Ok _) new rest = (written : List ℕ) ×
 FlushOutcome failures moved old unsent (Err _) new rest = Rose (failures old) (failures new) × moved old [] [] new × (rest ≡ unsent)
 
 -- the bytes that were read: those that the reader was fed, and those that it was not
-pub record Incoming : Type 0 where
-  pub fed : Input
+pub record InboxModel : Type 0 where
+  pub fed : ReaderModel
   pub unfed : List ℕ
 
 -- all bytes that no value was made of
-abbrev pub input_of : Incoming → Input
+abbrev pub input_of : InboxModel → ReaderModel
 input_of incoming = record incoming.fed { unread = incoming.fed.unread ++ incoming.unfed }
 
 -- a fault that the reader found is the first of what it was fed, and nothing was read after it
-abbrev pub IsFaultFirst : Input → List ℕ → Type 0
+abbrev pub IsFaultFirst : ReaderModel → List ℕ → Type 0
 IsFaultFirst input unfed = elim input.fault as (λ x. Type 0) [
   | Some fault ↦ (front input.bounds input.unread ≡ Faulty fault) × (unfed ≡ [])
   | None ↦ Unit {0}
 ]
 
 -- some bytes were read
-abbrev pub FillOutcome : {S : Type 0} → (S → ℕ) → (S → List ℕ → List ℕ → S → Type 0) → S → Incoming → Result (Unit {0}) Gone → S → Incoming → Type 0
+abbrev pub FillOutcome : {S : Type 0} → (S → ℕ) → (S → List ℕ → List ℕ → S → Type 0) → S → InboxModel → Result (Unit {0}) Gone → S → InboxModel → Type 0
 FillOutcome failures moved old before (Ok _) new after = moved old [] after.unfed new × (after.fed ≡ before.fed)
 FillOutcome failures moved old before (Err _) new after = Rose (failures old) (failures new) × moved old [] [] new × (after ≡ before)
 
@@ -92,17 +116,10 @@ ReadChunkOutcome failures moved old (Ok count) new chunk = (count ≤ length chu
 ReadChunkOutcome failures moved old (Err _) new chunk = Rose (failures old) (failures new) × moved old [] [] new
 
 -- the first value of what is unread is taken
-abbrev pub TakeOutcome : Input → Result (Option Value) PortFault → Input → Type 0
+abbrev pub TakeOutcome : ReaderModel → Result (Option Value) PortFault → ReaderModel → Type 0
 TakeOutcome old (Ok (Some value)) new = (front old.bounds old.unread ≡ Whole (data_of value) new.unread) × (new.bounds ≡ old.bounds)
 TakeOutcome old (Ok None) new = (new.unread ≡ old.unread) × (new.bounds ≡ old.bounds)
 TakeOutcome old (Err NoMemory) new = (new.unread ≡ old.unread) × (new.bounds ≡ old.bounds)
 TakeOutcome old (Err BadWire) new =
     (new.unread ≡ old.unread) × (new.bounds ≡ old.bounds) × (fault : WireFault) × (front new.bounds new.unread ≡ Faulty fault)
 TakeOutcome old (Err Failed) new = ⊥
-
--- some of what waits is written, and then some bytes are read
-abbrev pub PumpOutcome : {S : Type 0} → (S → ℕ) → (S → List ℕ → List ℕ → S → Type 0) → S → List ℕ → Incoming → Result (Unit {0}) Gone → S → List ℕ → Incoming → Type 0
-PumpOutcome failures moved old unsent before (Ok _) new rest after =
-    (written : List ℕ) × moved old written after.unfed new × (unsent ≡ written ++ rest) × (after.fed ≡ before.fed)
-PumpOutcome failures moved old unsent before (Err _) new rest after =
-    (written : List ℕ) × moved old written [] new × (unsent ≡ written ++ rest) × (after ≡ before) × Rose (failures old) (failures new)

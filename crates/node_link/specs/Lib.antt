@@ -1,10 +1,10 @@
 pub mod Port
-pub mod Fused
+pub mod FuseModel
 pub mod Stream
 pub mod Line
 pub mod Telling
-pub mod State
-pub mod Connection
+pub mod LinkModel
+pub mod LinkCalls
 pub mod Laws
 pub mod Spelling
 pub mod Bytes

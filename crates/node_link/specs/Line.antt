@@ -1,5 +1,6 @@
 -- The parts of a redirection line: Redis Cluster specification, "MOVED Redirection" and "ASK redirection".
 -- A line is `MOVED <slot> <host>:<port>` or `ASK <slot> <host>:<port>`.
+-- Words are separated by one space; those behind the endpoint don't count. A port is 1 to 65,535, a slot below 16,384.
 use Rattle.std.specs.Prelude.{◌+◌, ◌*◌, ◌-◌, List, ℕ, Option, Some, None, ◌&&◌, nat_eq, nat_le, length, fold, option_map, if◌then◌else◌}
 use Rattle.std.specs.List.{before_first, after_first, before_last, after_last, list_all, list_any}
 use Rattle.std.specs.Char.{is_ascii_digit}

@@ -1,4 +1,7 @@
 -- What a call of a port does, by its answer.
+-- `exchange` relates the port before, the requests sent, the values that came, and the port after. A port that fails at
+-- a send may have sent all of the requests or none. The count of failures never falls, so a failure in any
+-- one of several calls shows.
 use Rattle.std.specs.Prelude.{◌≡◌, ◌⊎◌, ◌<◌, ◌≤◌, ◌-◌, ◌^◌, List, [], ◌∷◌, ℕ, Option, Some, None, Result, Ok, Err}
 use Rattle.resp_wire.specs.declared.value.Value.{Value}
 use Rattle.key_split.specs.Requests.{Request}

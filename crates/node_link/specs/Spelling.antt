@@ -1,4 +1,5 @@
 -- The pieces of which the spelling of a request is made.
+-- Only private functions cite it.
 use Rattle.std.specs.Prelude.{◌++◌, ◌∷◌, List, [], ℕ, decimal}
 use Rattle.std.specs.List.{flat_map}
 use Rattle.resp_wire.specs.Canonical.{canonical}

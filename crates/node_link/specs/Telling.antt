@@ -1,5 +1,8 @@
--- What a node's reply says: Redis Cluster specification, "MOVED Redirection", "ASK redirection" and "Live reconfiguration".
+-- What a node's reply says: Redis Cluster specification, "MOVED Redirection", "ASK redirection" and "Live
+-- reconfiguration".
 -- The first word of an error line decides.
+-- Any other value is the command's reply, other errors too. A redirection that can't be read, or to a new node when the
+-- table is full, is Unclear, a refusal: the node executed nothing.
 use Rattle.std.specs.Prelude.{◌≡◌, ◌⊎◌, List, [], ◌∷◌, ℕ, Option, Some, None, Result, Ok, Err, ◌||◌, codes, if◌then◌else◌, IsTrue}
 use Rattle.std.specs.Str.{bytes_eq}
 use Rattle.resp_wire.specs.declared.fault.NoMemory.{NoMemory}
@@ -83,9 +86,3 @@ abbrev pub RedirectOutcome : (ℕ → ℕ → Told) → List ℕ → Option Targ
 RedirectOutcome how asked_host target old (Ok told) new = redirected how asked_host target old ≡ (told, new)
 RedirectOutcome how asked_host target old (Err refused) new =
     (named : Target) × (target ≡ Some named) × WouldAdd old (endpoint_meant asked_host named.endpoint) × (new ≡ old)
-
--- what adding an endpoint does: memory can be wanting only for a new one
-abbrev pub AddOutcome : List Endpoint → Endpoint → Result (Option ℕ) NoMemory → List Endpoint → Type 0
-AddOutcome old at (Ok (Some node)) new = numbered old at ≡ Some (record { table = new; number = node })
-AddOutcome old at (Ok None) new = (numbered old at ≡ None) × (new ≡ old)
-AddOutcome old at (Err refused) new = WouldAdd old at × (new ≡ old)

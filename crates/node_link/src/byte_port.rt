@@ -1,7 +1,9 @@
 //! A port over a stream of bytes.
 
-ghost use Rattle.std.specs.Prelude.{◌≡◌, ◌≤◌, [], None};
-ghost use Rattle.node_link.specs.Bytes.{Exchanges, IsGarbled, PumpOutcome};
+ghost use Rattle.std.specs.Prelude.{◌≡◌, ◌≤◌, ◌∷◌, [], None, false};
+ghost use Rattle.key_split.specs.Requests.{Slots, requests_of};
+ghost use Rattle.node_link.specs.Bytes.{Exchanges, IsGarbled, OffersFirst};
+ghost use Rattle.node_link.specs.Port.{SendOutcome, NextOutcome};
 
 use crate::inbox::Inbox;
 use crate::outbox::Outbox;
@@ -13,22 +15,25 @@ use resp_wire::{Limits, NoMemory, Value};
 use std::alloc::Global;
 use std::marker::Model;
 
-/// A port over a stream that does not block. It holds what is sent until `PATIENCE` reads came with nothing sent
-/// between them, or 16 KiB wait, so that under load one write and one read serve many commands.
+/// A port over a stream that does not block. It holds what is sent until `FLUSH_AFTER_READS` reads came with nothing sent
+/// between them, or 16 KiB wait, so that under load one write and one read serve many commands. What the stream refused is
+/// offered again at the next call, with all that came behind it.
 #[derive(Drop)]
 pub struct BytePort<S> {
     stream: S,
+    /// The stream left some of the bytes that it was offered last.
+    refused: bool,
     outbox: Outbox,
     inbox: Inbox,
 }
 
 impl<S> Model for BytePort<S> {
     ghost use Rattle.std.specs.Prelude.{◌≡◌, []};
-    ghost use Rattle.node_link.specs.Bytes.{Pipe, input_of};
+    ghost use Rattle.node_link.specs.Bytes.{BytePortModel, input_of};
 
-    ghost Value = { Pipe S };
+    ghost Value = { BytePortModel S };
 
-    ghost view = { λ a. record { stream = a.stream; unsent = a.outbox.unsent; input = input_of a.inbox } };
+    ghost view = { λ a. record { stream = a.stream; unsent = a.outbox.unsent; refused = a.refused; input = input_of a.inbox } };
 
     ghost invariant = { λ a. a.outbox.draft ≡ [] };
 }
@@ -36,10 +41,11 @@ impl<S> Model for BytePort<S> {
 impl<S> BytePort<S> {
     /// A port over a stream of which nothing was read or written.
     pub fn new(alloc: Global, stream: S, limits: Limits) -> Self
-        ensures { result ≡ record { stream = stream; unsent = []; input = record { bounds = limits; unread = []; fault = None } } }
+        ensures { result ≡ record { stream = stream; unsent = []; refused = false; input = record { bounds = limits; unread = []; fault = None } } }
     {
         BytePort {
             stream,
+            refused: false,
             outbox: Outbox::new(alloc),
             inbox: Inbox::new(alloc, limits),
         }
@@ -55,6 +61,7 @@ impl<S> BytePort<S> {
 impl<S: Stream> NodePort for BytePort<S> {
     ghost use Rattle.std.proofs.lemmas.List.{append-nil};
     ghost use Rattle.std.specs.Prelude.{refl};
+    ghost use Rattle.node_link.specs.Bytes.{BytePortModel};
 
     ghost failures = { λ p. S.failures p.stream };
 
@@ -64,8 +71,15 @@ impl<S: Stream> NodePort for BytePort<S> {
 
     ghost still = { λ p. ([], [], S.still p.stream, append-nil p.unsent, append-nil p.input.unread, refl) };
 
-    fn send(&mut self, batch: &Batch) -> Result<(), PortFault> {
-        if let Err(Gone) = self.outbox.go_on(&mut self.stream) {
+    fn send(&mut self, batch: &Batch) -> Result<(), PortFault>
+        ensures does { SendOutcome (λ (p : BytePortModel S). S.failures p.stream) IsGarbled (Exchanges S.moved) self.old (requests_of batch.now) result self.new }
+        ensures count { S.failures self.old.stream ≤ S.failures self.new.stream }
+        ensures offers { OffersFirst S.asked S.offered self.old self.new }
+    {
+        if let Err(Gone) = self
+            .outbox
+            .flush_before_send(&mut self.stream, &mut self.refused)
+        {
             return Err(PortFault::Failed);
         }
         if let Err(NoMemory) = append_batch(&mut self.outbox, batch) {
@@ -74,8 +88,15 @@ impl<S: Stream> NodePort for BytePort<S> {
         Ok(())
     }
 
-    fn ask_slots(&mut self) -> Result<(), PortFault> {
-        if let Err(Gone) = self.outbox.go_on(&mut self.stream) {
+    fn ask_slots(&mut self) -> Result<(), PortFault>
+        ensures does { SendOutcome (λ (p : BytePortModel S). S.failures p.stream) IsGarbled (Exchanges S.moved) self.old (Slots ∷ []) result self.new }
+        ensures count { S.failures self.old.stream ≤ S.failures self.new.stream }
+        ensures offers { OffersFirst S.asked S.offered self.old self.new }
+    {
+        if let Err(Gone) = self
+            .outbox
+            .flush_before_send(&mut self.stream, &mut self.refused)
+        {
             return Err(PortFault::Failed);
         }
         if let Err(NoMemory) = append_slots(&mut self.outbox) {
@@ -84,36 +105,29 @@ impl<S: Stream> NodePort for BytePort<S> {
         Ok(())
     }
 
-    fn next(&mut self) -> Result<Option<Value>, PortFault> {
+    fn next(&mut self) -> Result<Option<Value>, PortFault>
+        ensures does { NextOutcome (λ (p : BytePortModel S). S.failures p.stream) IsGarbled (Exchanges S.moved) self.old result self.new }
+        ensures count { S.failures self.old.stream ≤ S.failures self.new.stream }
+        ensures offers { OffersFirst S.asked S.offered self.old self.new }
+    {
+        let flushed = self
+            .outbox
+            .flush_before_read(&mut self.stream, &mut self.refused);
         match self.inbox.take() {
-            Ok(Some(value)) => return Ok(Some(value)),
+            Ok(Some(value)) => return Ok(Some(value)), // it came before the stream failed
             Ok(None) => {}
             Err(fault) => return Err(fault),
+        }
+        if let Err(Gone) = flushed {
+            return Err(PortFault::Failed);
         }
         if let Err(NoMemory) = self.inbox.make_room() {
             return Err(PortFault::NoMemory);
         }
-        if let Err(Gone) = pump(&mut self.stream, &mut self.outbox, &mut self.inbox) {
+        self.outbox.count_read();
+        if let Err(Gone) = self.inbox.fill(&mut self.stream) {
             return Err(PortFault::Failed);
         }
         self.inbox.take_more()
-    }
-}
-
-// Writes some of what waits, where it is time, and reads some bytes.
-fn pump<S: Stream>(stream: &mut S, outbox: &mut Outbox, inbox: &mut Inbox) -> Result<(), Gone>
-    requires empty { inbox.old.unfed ≡ [] }
-    requires sound { inbox.old.fed.fault ≡ None }
-    ensures moved { PumpOutcome S.failures S.moved stream.old outbox.old.unsent inbox.old result stream.new outbox.new.unsent inbox.new }
-    ensures draft { outbox.new.draft ≡ outbox.old.draft }
-    ensures count { S.failures stream.old ≤ S.failures stream.new }
-{
-    match outbox.settle(stream) {
-        Ok(()) => {}
-        Err(Gone) => return Err(Gone),
-    }
-    match inbox.fill(stream) {
-        Ok(()) => Ok(()),
-        Err(Gone) => Err(Gone),
     }
 }

@@ -18,9 +18,9 @@ pub struct Fuse<P> {
 }
 
 impl<P> Model for Fuse<P> {
-    ghost use Rattle.node_link.specs.Fused.{Fused};
+    ghost use Rattle.node_link.specs.FuseModel.{FuseModel};
 
-    ghost Value = { Fused P };
+    ghost Value = { FuseModel P };
 
     ghost view = { λ a. record { port = a.port; left = a.calls; blown = a.blown } };
 }
@@ -38,7 +38,7 @@ impl<P> Fuse<P> {
 }
 
 impl<P> Fuse<P> {
-    ghost use Rattle.node_link.specs.Fused.{PassOutcome};
+    ghost use Rattle.node_link.specs.FuseModel.{PassOutcome};
 
     // Whether the next call goes on to the port.
     fn passes(&mut self) -> bool
@@ -54,7 +54,7 @@ impl<P> Fuse<P> {
 }
 
 impl<P: NodePort> NodePort for Fuse<P> {
-    ghost use Rattle.node_link.specs.Fused.{FuseOutcome, failures_with, Inside, ExchangesInside};
+    ghost use Rattle.node_link.specs.FuseModel.{FuseOutcome, failures_with, Inside, ExchangesInside};
 
     ghost failures = { failures_with P.failures };
 

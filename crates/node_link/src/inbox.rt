@@ -1,6 +1,7 @@
 //! The bytes that were read and make no value yet.
 
 ghost use Rattle.std.specs.Prelude.{◌≡◌, ◌≤◌, [], None, OnOk, length, take};
+ghost use Rattle.node_link.specs.declared.stream.Flow.{Flow};
 ghost use Rattle.node_link.specs.Bytes.{input_of, FillOutcome, ReadChunkOutcome, TakeOutcome};
 
 use crate::port::PortFault;
@@ -23,9 +24,9 @@ pub struct Inbox {
 
 impl Model for Inbox {
     ghost use Rattle.std.specs.Prelude.{◌≤◌, length, take};
-    ghost use Rattle.node_link.specs.Bytes.{Incoming, IsFaultFirst};
+    ghost use Rattle.node_link.specs.Bytes.{InboxModel, IsFaultFirst};
 
-    ghost Value = { Incoming };
+    ghost Value = { InboxModel };
 
     ghost view = { λ a. record { fed = a.reader; unfed = take a.filled a.chunk.items } };
 
@@ -92,6 +93,7 @@ impl Inbox {
         requires sound { self.old.fed.fault ≡ None }
         ensures read { FillOutcome S.failures S.moved stream.old self.old result stream.new self.new }
         ensures count { S.failures stream.old ≤ S.failures stream.new }
+        ensures asked { (given : Flow) × S.asked stream.old given stream.new }
     {
         match read_chunk(stream, &mut self.chunk) {
             Ok(count) => {
@@ -107,6 +109,7 @@ impl Inbox {
 fn read_chunk<S: Stream>(stream: &mut S, chunk: &mut Vec<u8>) -> Result<usize, Gone>
     ensures read { ReadChunkOutcome S.failures S.moved stream.old result stream.new chunk.new.items }
     ensures count { S.failures stream.old ≤ S.failures stream.new }
+    ensures asked { (given : Flow) × S.asked stream.old given stream.new }
 {
     match stream.read(chunk) {
         Flow::Bytes(count) => Ok(count),

@@ -7,11 +7,12 @@
 //! while let Some(Got::Ticket(ticket, told)) = link.receive(&mut table)? { tell(ticket, told); }
 //! ```
 //!
-//! Exact links: `Sends` and `Receives` of specs/Connection.antt, and `replies_match`. Exact byte port: `Exchanges` of
-//! specs/Bytes.antt. What a line of a node says is `told_by` of specs/Telling.antt.
+//! Exact links: `Sends` and `Receives` of specs/LinkCalls.antt, and `replies_match`. Exact byte port: `Exchanges` and
+//! `OffersFirst` of specs/Bytes.antt. What a line of a node says is `told_by` of specs/Telling.antt.
 #![tactic(auto)]
 
 mod byte_port;
+mod byte_queue;
 mod fuse;
 mod inbox;
 mod laws;
@@ -24,10 +25,12 @@ mod stream;
 mod told;
 
 pub use byte_port::BytePort;
+pub use byte_queue::{drop_front, free_large};
 pub use fuse::Fuse;
 pub use laws::replies_match;
 pub use link::{Due, Failure, Got, Link, LinkFault};
-pub use outbox::PATIENCE;
+pub use outbox::FLUSH_AFTER_READS;
 pub use port::{NodePort, PortFault};
+pub use redirect::{endpoint_in, number_within};
 pub use stream::{Flow, Stream};
 pub use told::told_of;

@@ -4,7 +4,7 @@ ghost use Rattle.std.specs.Prelude.{◌≡◌, ◌<◌, ◌≤◌, ◌+◌, ◌+
 ghost use Rattle.std.specs.VecDeque.{deque_len, deque_capacity};
 ghost use Rattle.key_split.specs.Requests.{Slots, requests_of};
 ghost use Rattle.slot_map.specs.Table.{Grows};
-ghost use Rattle.node_link.specs.Connection.{due_of, tickets_of, fault_of, Sends, Gives, Receives};
+ghost use Rattle.node_link.specs.LinkCalls.{due_of, tickets_of, fault_of, Sends, LinkGives, Receives};
 
 use crate::port::{NodePort, PortFault};
 use crate::told::told_of;
@@ -81,11 +81,11 @@ pub struct Link<P> {
 }
 
 impl<P> Model for Link<P> {
-    ghost use Rattle.node_link.specs.State.{Connection};
+    ghost use Rattle.node_link.specs.LinkModel.{LinkModel};
     ghost use Rattle.std.specs.Coded.{codes};
     ghost use Rattle.resp_wire.specs.Stored.{coded_data};
 
-    ghost Value = { Connection P };
+    ghost Value = { LinkModel P };
 
     ghost coded = { Prim.hlevel (codes, coded_data) };
 
@@ -144,13 +144,11 @@ impl<P: NodePort> Link<P> {
             }
             Err(PortFault::Failed) => {
                 owe_batch(&mut self.due, batch); // it may have been sent
-                self.failure = Some(Failure::PortFailed);
-                Err(LinkFault::PortFailed)
+                Err(self.fail(Failure::PortFailed))
             }
             Err(PortFault::BadWire) => {
                 owe_batch(&mut self.due, batch);
-                self.failure = Some(Failure::BadWire);
-                Err(LinkFault::BadWire)
+                Err(self.fail(Failure::BadWire))
             }
         }
     }
@@ -173,13 +171,11 @@ impl<P: NodePort> Link<P> {
             }
             Err(PortFault::Failed) => {
                 owe(&mut self.due, Due::Slots);
-                self.failure = Some(Failure::PortFailed);
-                Err(LinkFault::PortFailed)
+                Err(self.fail(Failure::PortFailed))
             }
             Err(PortFault::BadWire) => {
                 owe(&mut self.due, Due::Slots);
-                self.failure = Some(Failure::BadWire);
-                Err(LinkFault::BadWire)
+                Err(self.fail(Failure::BadWire))
             }
         }
     }
@@ -208,27 +204,18 @@ impl<P: NodePort> Link<P> {
             Ok(Some(value)) => self.give(value, table),
             Ok(None) => Ok(None),
             Err(PortFault::NoMemory) => Err(LinkFault::NoMemory),
-            Err(PortFault::Failed) => {
-                self.failure = Some(Failure::PortFailed);
-                Err(LinkFault::PortFailed)
-            }
-            Err(PortFault::BadWire) => {
-                self.failure = Some(Failure::BadWire);
-                Err(LinkFault::BadWire)
-            }
+            Err(PortFault::Failed) => Err(self.fail(Failure::PortFailed)),
+            Err(PortFault::BadWire) => Err(self.fail(Failure::BadWire)),
         }
     }
 
     // Gives a value to the request that it belongs to. One for which memory is wanting is kept.
     fn give(&mut self, value: Value, table: &mut NodeTable) -> Result<Option<Got>, LinkFault>
         requires { self.old.node < length table.old }
-        ensures { Gives value self.old table.old result self.new table.new }
+        ensures { LinkGives value self.old table.old result self.new table.new }
     {
         match self.due.pop_front() {
-            None => {
-                self.failure = Some(Failure::Stray);
-                Err(LinkFault::Stray)
-            }
+            None => Err(self.fail(Failure::Stray)),
             Some(Due::Asking) => Ok(None),
             Some(Due::Slots) => Ok(Some(Got::Slots(value))),
             Some(Due::Command(ticket)) => match told_of(value, self.node, table) {
@@ -240,6 +227,15 @@ impl<P: NodePort> Link<P> {
                 }
             },
         }
+    }
+
+    // From now on nothing goes over the link.
+    fn fail(&mut self, failure: Failure) -> LinkFault
+        ensures fault { result ≡ fault_of failure }
+        ensures link { self.new ≡ record self.old { failure = Some failure } }
+    {
+        self.failure = Some(failure);
+        failure.fault()
     }
 
     /// Takes off the oldest waiting ticket of a link that has failed.

@@ -1,19 +1,20 @@
 //! The bytes that wait to be written.
 
 ghost use Rattle.std.specs.Prelude.{◌≡◌, ◌≤◌, ◌++◌, [], OnOk, OnErr, length, drop, take, slice_range};
-ghost use Rattle.node_link.specs.Bytes.{FlushOutcome};
+ghost use Rattle.node_link.specs.Bytes.{FlushOutcome, Offers};
 
+use crate::byte_queue::{drop_front, free_large};
 use crate::stream::{Flow, Gone, Stream};
 use resp_wire::NoMemory;
 use std::alloc::Global;
 use std::marker::Model;
 
-/// So many bytes are written without waiting for more, in bytes.
-const FULL: usize = 16 * 1024;
-/// What is sent waits for more until so many reads came with nothing sent between them.
-pub const PATIENCE: u32 = 4;
+/// Writes are held back until this many bytes are waiting, in bytes.
+const FLUSH_SIZE: usize = 16 * 1024;
+/// Writes are held back until this many reads came with nothing sent between them.
+pub const FLUSH_AFTER_READS: u32 = 4;
 /// A larger buffer is given back once all of it was written, in bytes.
-const LARGE: usize = 64 * 1024;
+const MAX_KEPT: usize = 64 * 1024;
 
 /// Bytes that wait to be written, and behind them those of a request that is being spelled.
 #[derive(Drop)]
@@ -24,14 +25,14 @@ pub struct Outbox {
     /// How many of the bytes are of whole requests.
     finished: usize,
     /// How many reads came since the last request was spelled.
-    quiet: u32,
+    quiet_reads: u32,
 }
 
 impl Model for Outbox {
     ghost use Rattle.std.specs.Prelude.{◌≤◌, length, drop, slice_range};
-    ghost use Rattle.node_link.specs.Bytes.{Outgoing};
+    ghost use Rattle.node_link.specs.Bytes.{OutboxModel};
 
-    ghost Value = { Outgoing };
+    ghost Value = { OutboxModel };
 
     ghost view = { λ a. record { unsent = slice_range a.bytes.items a.written a.finished; draft = drop a.finished a.bytes.items } };
 
@@ -46,7 +47,7 @@ impl Outbox {
             bytes: Vec::new(alloc),
             written: 0,
             finished: 0,
-            quiet: 0,
+            quiet_reads: 0,
         }
     }
 
@@ -66,7 +67,7 @@ impl Outbox {
         ensures { self.new ≡ record { unsent = self.old.unsent ++ self.old.draft; draft = [] } }
     {
         self.finished = self.bytes.len();
-        self.quiet = 0;
+        self.quiet_reads = 0;
     }
 
     /// Forgets the request that is being spelled.
@@ -76,58 +77,85 @@ impl Outbox {
         self.bytes.truncate(self.finished);
     }
 
-    /// Writes what waits, where it is so much that it does not wait for more.
-    pub fn go_on<S: Stream>(&mut self, stream: &mut S) -> Result<(), Gone>
+    /// Writes what waits, where the stream refused some of it, or where it is so much that it does not wait for more.
+    /// `refused` is whether the stream left some of the bytes that it was offered last.
+    pub fn flush_before_send<S: Stream>(
+        &mut self,
+        stream: &mut S,
+        refused: &mut bool,
+    ) -> Result<(), Gone>
         ensures written { FlushOutcome S.failures S.moved stream.old self.old.unsent result stream.new self.new.unsent }
+        ensures offers { Offers S.offered stream.old self.old.unsent refused.old stream.new refused.new }
         ensures draft { self.new.draft ≡ self.old.draft }
         ensures count { S.failures stream.old ≤ S.failures stream.new }
     {
-        if self.is_full() {
-            self.flush(stream)
-        } else {
-            Ok(())
-        }
-    }
-
-    /// Writes what waits, once it waited long enough or does not wait for more.
-    pub fn settle<S: Stream>(&mut self, stream: &mut S) -> Result<(), Gone>
-        ensures written { FlushOutcome S.failures S.moved stream.old self.old.unsent result stream.new self.new.unsent }
-        ensures draft { self.new.draft ≡ self.old.draft }
-        ensures count { S.failures stream.old ≤ S.failures stream.new }
-    {
-        if self.quiet < PATIENCE && !self.is_full() {
-            self.quiet += 1;
+        if !*refused && !self.is_full() {
             return Ok(());
         }
-        self.flush(stream)
+        self.flush(stream, refused)
+    }
+
+    /// The same, and where it waited long enough.
+    pub fn flush_before_read<S: Stream>(
+        &mut self,
+        stream: &mut S,
+        refused: &mut bool,
+    ) -> Result<(), Gone>
+        ensures written { FlushOutcome S.failures S.moved stream.old self.old.unsent result stream.new self.new.unsent }
+        ensures offers { Offers S.offered stream.old self.old.unsent refused.old stream.new refused.new }
+        ensures draft { self.new.draft ≡ self.old.draft }
+        ensures count { S.failures stream.old ≤ S.failures stream.new }
+    {
+        if self.quiet_reads < FLUSH_AFTER_READS {
+            return self.flush_before_send(stream, refused);
+        }
+        self.flush(stream, refused)
+    }
+
+    /// A read comes.
+    pub fn count_read(&mut self)
+        ensures { self.new ≡ self.old }
+    {
+        if self.quiet_reads < FLUSH_AFTER_READS {
+            self.quiet_reads += 1;
+        }
     }
 
     fn is_full(&self) -> bool {
-        self.finished - self.written >= FULL
+        self.finished - self.written >= FLUSH_SIZE
     }
 
-    // Writes some of what waits, by at most one call of the stream. What it refuses waits for no more.
-    fn flush<S: Stream>(&mut self, stream: &mut S) -> Result<(), Gone>
+    // Writes some of what waits, by one call of the stream.
+    fn flush<S: Stream>(&mut self, stream: &mut S, refused: &mut bool) -> Result<(), Gone>
         ensures written { FlushOutcome S.failures S.moved stream.old self.old.unsent result stream.new self.new.unsent }
+        ensures offers { Offers S.offered stream.old self.old.unsent refused.old stream.new refused.new }
         ensures draft { self.new.draft ≡ self.old.draft }
         ensures count { S.failures stream.old ≤ S.failures stream.new }
     {
         if self.written == self.finished {
             return Ok(());
         }
-        self.quiet = PATIENCE;
-        match stream.write(&self.bytes[self.written..self.finished]) {
+        let waiting = &self.bytes[self.written..self.finished];
+        let len = waiting.len();
+        match stream.write(waiting) {
             Flow::Bytes(count) => {
-                self.leave(count);
+                *refused = count < len;
+                self.count_written(count);
                 Ok(())
             }
-            Flow::Nothing => Ok(()),
-            Flow::Gone => Err(Gone),
+            Flow::Nothing => {
+                *refused = true;
+                Ok(())
+            }
+            Flow::Gone => {
+                *refused = true;
+                Err(Gone)
+            }
         }
     }
 
     // So many bytes were written.
-    fn leave(&mut self, count: usize)
+    fn count_written(&mut self, count: usize)
         requires { count ≤ length self.old.unsent }
         ensures { self.new ≡ record self.old { unsent = drop count self.old.unsent } }
     {
@@ -149,20 +177,7 @@ fn forget_written(bytes: &mut Vec<u8>, written: &mut usize, finished: &mut usize
         return;
     }
     drop_front(bytes, *written);
+    free_large(bytes, MAX_KEPT);
     *finished -= *written;
     *written = 0;
-}
-
-fn drop_front(bytes: &mut Vec<u8>, count: usize)
-    requires { count ≤ length bytes.old.items }
-    ensures { bytes.new.items ≡ drop count bytes.old.items }
-{
-    if count < bytes.len() {
-        drop(bytes.drain(..count));
-        return;
-    }
-    bytes.clear();
-    if bytes.capacity() > LARGE {
-        bytes.shrink_to_fit();
-    }
 }

@@ -49,8 +49,8 @@ pub fn target_in(words: &[u8]) -> Option<Target<'_>>
     Some(Target { slot, host, port })
 }
 
-// A host and a port, cut at the last colon.
-fn endpoint_in(text: &[u8]) -> Option<(&[u8], u16)>
+/// A host and a port, cut at the last colon.
+pub fn endpoint_in(text: &[u8]) -> Option<(&[u8], u16)>
     ensures { MatchOption result (endpoint_in text.now ≡ None)
         (λ e. endpoint_in text.now ≡ Some (record { host = e.0.now; port = e.1 })) }
 {
@@ -97,8 +97,8 @@ fn colonless_end(text: &[u8]) -> usize
     text.iter().rev().take_while(|byte| **byte != b':').count()
 }
 
-// One to five decimal digits as a number in a range.
-fn number_within(text: &[u8], low: u16, high: u16) -> Option<u16>
+/// One to five decimal digits as a number in a range.
+pub fn number_within(text: &[u8], low: u16, high: u16) -> Option<u16>
     ensures number { result ≡ number_within low high text.now }
     ensures bound { IfSome result (λ n. n ≤ high) }
 {

@@ -2,7 +2,7 @@
 
 ghost use Rattle.std.specs.Prelude.{◌≡◌, ◌<◌, ◌≤◌, ◌+◌, ◌*◌, ◌++◌, ◌∷◌, [], List, ℕ, OnOk, OnErr, length, decimal, codes};
 ghost use Rattle.std.specs.List.{flat_map};
-ghost use Rattle.key_split.specs.Command.{Pair};
+ghost use Rattle.key_split.specs.PartModel.{Pair};
 ghost use Rattle.key_split.specs.Requests.{Slots, requests_of};
 ghost use Rattle.key_split.specs.Words.{behind_key, pair_words, words_of};
 ghost use Rattle.node_link.specs.Bytes.{spelled, spelled_words};

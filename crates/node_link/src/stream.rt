@@ -1,6 +1,7 @@
 //! A stream of bytes that does not block.
 
 ghost use Rattle.std.specs.Prelude.{◌≡◌, ◌≤◌, List, [], ◌++◌, ℕ, length, take};
+ghost use Rattle.node_link.specs.declared.stream.Flow.{Flow};
 ghost use Rattle.node_link.specs.Stream.{ReadOutcome, WriteOutcome};
 
 /// What one call on a stream moved.
@@ -22,15 +23,25 @@ pub trait Stream {
     /// From the first state to the second these bytes were written and these were read, each in order.
     ghost moved: { Self → List ℕ → List ℕ → Self → Type 0 };
 
+    /// One read, which was answered so, led from the first state to the second. Code that is generic in the stream has this
+    /// fact from a read alone, so where it stands a read was made.
+    ghost asked: { Self → Flow → Self → Type 0 } = { λ _ _ _. Unit {0} };
+
+    /// One write, which was offered these bytes and answered so, led from the first state to the second. Code that is
+    /// generic in the stream has this fact from a write alone, so where it stands a write was made.
+    ghost offered: { Self → List ℕ → Flow → Self → Type 0 } = { λ _ _ _ _. Unit {0} };
+
     /// Reads some bytes to the front of the buffer.
     fn read(&mut self, buffer: &mut [u8]) -> Flow
         ensures read { ReadOutcome failures moved self.old buffer.new result self.new }
-        ensures count { failures self.old ≤ failures self.new };
+        ensures count { failures self.old ≤ failures self.new }
+        ensures asked { asked self.old result self.new };
 
     /// Writes some bytes off the front.
     fn write(&mut self, bytes: &[u8]) -> Flow
         ensures written { WriteOutcome failures moved self.old bytes.now result self.new }
-        ensures count { failures self.old ≤ failures self.new };
+        ensures count { failures self.old ≤ failures self.new }
+        ensures offered { offered self.old bytes.now result self.new };
 
     /// Where no call is made, nothing moves.
     ghost still: { (stream : Self) → moved stream [] [] stream };

@@ -5,7 +5,7 @@ ghost use Rattle.std.specs.Str.{bytes_eq};
 ghost use Rattle.resp_wire.specs.Text.{is_one_line};
 ghost use Rattle.slot_map.specs.Table.{Grows, host_of, Interns};
 ghost use Rattle.node_link.specs.Line.{target_in};
-ghost use Rattle.node_link.specs.Telling.{TellOutcome, RefusalOutcome, RedirectOutcome, AddOutcome, endpoint_meant, told_how};
+ghost use Rattle.node_link.specs.Telling.{TellOutcome, RefusalOutcome, RedirectOutcome, endpoint_meant, told_how};
 
 use crate::redirect::{split_word, target_in};
 use key_split::Told;
@@ -100,31 +100,16 @@ fn redirected(
     let Some(slot) = Slot::new(target.slot) else {
         return Ok(Told::Unclear);
     };
-    match add(target.host, target.port, asked, table) {
-        Ok(Some(node)) => Ok(how.told(slot, node)),
-        Ok(None) => Ok(Told::Unclear),
-        Err(NoMemory) => Err(NoMemory),
+    match intern_meant(target.host, target.port, asked, table) {
+        Ok(node) => Ok(how.told(slot, node)),
+        Err(MapFault::TooManyNodes) => Ok(Told::Unclear),
+        Err(MapFault::NoMemory) => Err(NoMemory),
+        Err(MapFault::NotSlots) => unreachable!(),
+        Err(MapFault::BadRange) => unreachable!(),
     }
 }
 
-// The node that an endpoint means, or nothing where the table is full.
-fn add(
-    host: &[u8],
-    port: u16,
-    asked: NodeId,
-    table: &mut NodeTable,
-) -> Result<Option<NodeId>, NoMemory>
-    requires known { asked < length table.old }
-    requires one_line { IsTrue (is_one_line host.now) }
-    ensures { AddOutcome table.old (endpoint_meant (host_of table.old asked) (record { host = host.now; port = port })) result table.new }
-{
-    match intern_meant(host, port, asked, table) {
-        Ok(node) => Ok(Some(node)),
-        Err(MapFault::TooManyNodes) => Ok(None),
-        Err(_) => Err(NoMemory),
-    }
-}
-
+// The node that an endpoint means.
 fn intern_meant(
     host: &[u8],
     port: u16,

@@ -1,4 +1,5 @@
 -- The ends that a call of `lanes` makes.
+-- Each worker's end and the carrier's are the two ends of the same lanes, and nothing was posted yet.
 use Rattle.std.specs.Prelude.{◌≡◌, ℕ, ◌+◌, List, [], ◌∷◌, IsSomeAnd}
 use Rattle.proxy_lanes.specs.declared.ends.lane_ends.LaneEnds.{LaneEnds}
 use Rattle.proxy_lanes.specs.declared.ends.CarrierEnds.{CarrierEnds}

@@ -1,4 +1,5 @@
 -- The ends of all lanes: those of each worker, and the carrier's.
+-- A call of the carrier changes the lanes of one worker and of no other.
 use Rattle.std.specs.Prelude.{◌≡◌, ℕ, List, Option, Some, None, Result, Err, IfSome, slice_get, slice_set}
 use Rattle.key_split.specs.declared.travel.Batch.{Batch}
 use Rattle.key_split.specs.declared.travel.Ticket.{Ticket}

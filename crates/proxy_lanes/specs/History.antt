@@ -1,4 +1,5 @@
 -- The one history of published operations: its rule, what a step that adds to it tells, and its name.
+-- All copies of the slot map keep a beginning of this one list, so no view contradicts another or goes back.
 use Rattle.std.specs.Prelude.{ℕ, ◌≡◌, ◌==◌, true, List, [], ◌∷◌, ◌++◌, length, MatchBool}
 use Rattle.logbook.specs.Pages.{Cell, Step, View, Book, Named}
 use Rattle.slot_map.specs.declared.ops.MapOp.{MapOp}

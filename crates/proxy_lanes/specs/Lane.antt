@@ -1,4 +1,6 @@
 -- A lane: the items that were posted, and those of them that were taken, each with its number.
+-- Two lists: the items posted, and the items taken, which are a beginning of the first. A lane has 1,024 places, so the
+-- first 1,024 posts succeed. A refused item comes back to the sender.
 use Rattle.std.specs.Prelude.{◌≡◌, ℕ, ◌-◌, ◌^◌, ◌≤◌, ◌⊎◌, List, [], ◌∷◌, ◌++◌, length, Option, None, Some, Result, Ok, Err}
 use mathlib.Core.List.{IsPrefix}
 use Rattle.rtrb.specs.Ring.{sent, received, known_free, known_items, all_sent, IsPair, Finishes, IsFinishedOf, SameProducer, SameConsumer}

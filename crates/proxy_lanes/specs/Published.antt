@@ -1,4 +1,5 @@
 -- What a copy of the map stands for, when a publication is taken in.
+-- Only private functions cite it.
 use Rattle.std.specs.Prelude.{◌==◌, Bool, true, false, List, length}
 use Rattle.slot_map.specs.declared.ops.MapOp.{MapOp}
 

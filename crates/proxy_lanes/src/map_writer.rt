@@ -34,11 +34,11 @@ impl<J: Naming, T: ShowsOps + Drop> Model for MapWriter<J, T> {
 }
 
 impl<J: Naming, T: ShowsOps + Drop> MapWriter<J, T> {
-    ghost use Rattle.std.specs.Prelude.{◌≡◌, IfSome};
+    ghost use Rattle.std.specs.Prelude.{◌≡◌, IsSomeAnd};
 
     /// What was published so far, for views to learn.
     pub fn tell(&mut self) -> Option<Front<J>>
-        ensures front { IfSome result (λ front. front ≡ self.old) }
+        ensures front { IsSomeAnd result (λ front. front ≡ self.old) }
         ensures same { self.new ≡ self.old }
     {
         Some(self.front.again())

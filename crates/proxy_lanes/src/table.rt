@@ -22,13 +22,13 @@ pub struct Table<J: Naming> {
 impl<J: Naming> Model for Table<J> {
     ghost use Rattle.std.specs.Prelude.{List};
     ghost use Rattle.slot_map.specs.declared.ops.MapOp.{MapOp};
-    ghost use Rattle.slot_map.specs.Map.{Shows};
+    ghost use Rattle.slot_map.specs.Map.{MapShows};
 
     ghost Value = { List MapOp };
 
     ghost view = { λ t. t.front };
 
-    ghost invariant = { λ t. Shows t.map t.front };
+    ghost invariant = { λ t. MapShows t.map t.front };
 }
 
 /// Operations that are published at once, with the history before and after them. Contracts see it as these two.

@@ -5,10 +5,10 @@ use Rattle.std.proofs.lemmas.List.{append-nil, drop-drop, take-append-drop, take
 use Rattle.std.proofs.Math.Seq.{take-add}
 use Rattle.key_split.specs.declared.travel.Ticket.{Ticket}
 use Rattle.key_split.specs.declared.travel.Ended.{Ended}
-use Rattle.resp_wire.specs.Bounds.{Bounds, full}
+use Rattle.resp_wire.specs.LimitsModel.{LimitsModel, full}
 use Rattle.resp_wire.specs.Data.{Data}
 use Rattle.resp_wire.specs.Front.{Front, front, Whole, Partial, Faulty}
-use Rattle.resp_wire.specs.Input.{Input}
+use Rattle.resp_wire.specs.ReaderModel.{ReaderModel}
 use Rattle.resp_wire.specs.Laws.{FrontKeepsValue, FrontKeepsFault}
 use Rattle.resp_wire.specs.declared.fault.NoMemory.{NoMemory}
 use Rattle.resp_wire.specs.declared.fault.WireFault.{WireFault}
@@ -74,11 +74,11 @@ GoesOn bytes owed numbered rest = (m : ℕ) → Owes numbered rest m → Owes 0 
 pub nothing_yet : (bytes : List ℕ) → GoesOn bytes 0 0 bytes
 nothing_yet bytes m owes = let P : ℕ → Type 0 = λ k. Owes 0 bytes k in let e : m ≡ 0 + m = omega arith in subst P e owes
 
-pub went_over : (bytes : List ℕ) (owed numbered : ℕ) (old new : Input) → GoesOn bytes owed numbered old.unread → Took numbered old Skips new
+pub went_over : (bytes : List ℕ) (owed numbered : ℕ) (old new : ReaderModel) → GoesOn bytes owed numbered old.unread → Took numbered old Skips new
     → GoesOn bytes owed numbered new.unread
 went_over bytes owed numbered old new so took m owes = so m (skipped numbered m old.unread new.unread took.0 took.1 took.2 owes)
 
-pub went_on : (bytes : List ℕ) (owed numbered later : ℕ) (old new : Input) → GoesOn bytes owed numbered old.unread → Took numbered old (Asks later) new
+pub went_on : (bytes : List ℕ) (owed numbered later : ℕ) (old new : ReaderModel) → GoesOn bytes owed numbered old.unread → Took numbered old (Asks later) new
     → GoesOn bytes (owed + 1) later new.unread
 went_on bytes owed numbered later old new so took m owes =
     let P : ℕ → Type 0 = λ k. Owes 0 bytes k in let e : owed + suc m ≡ owed + 1 + m = omega arith in
@@ -134,7 +134,7 @@ more_held (suc n) (suc m) bytes rest read less holds =
 
 -- ---- a reader that counts
 
-pub none_counted : (input : Input) → input ≡ record { bounds = full; unread = []; fault = None } → IsCounted [] input 0
+pub none_counted : (input : ReaderModel) → input ≡ record { bounds = full; unread = []; fault = None } → IsCounted [] input 0
 none_counted input is = rw is (record { rest = []; read = refl; bounds = refl; left = refl })
 
 kept_rest : FrontKeepsFault → (fault : Option WireFault) (unread unread' rest piece : List ℕ) → RestIs fault unread rest
@@ -143,7 +143,7 @@ kept_rest keeps None unread unread' rest piece is (inl fed) = rw (is, fed.1) ref
 kept_rest keeps None unread unread' rest piece is (inr met) = cc
 kept_rest keeps (Some fault) unread unread' rest piece is fed = keeps full rest piece fault is
 
-pub fed_counted : FrontKeepsValue → FrontKeepsFault → (bytes piece : List ℕ) (old new : Input) (count : ℕ) → IsCounted bytes old count → FeedOutcome old piece (Ok tt) new
+pub fed_counted : FrontKeepsValue → FrontKeepsFault → (bytes piece : List ℕ) (old new : ReaderModel) (count : ℕ) → IsCounted bytes old count → FeedOutcome old piece (Ok tt) new
     → IsCounted (bytes ++ piece) new count
 fed_counted values faults bytes piece old new count is (inl fed) = rw fed.1 (record {
   rest = is.rest ++ piece;
@@ -166,12 +166,12 @@ rest_faulty : (fault : Option WireFault) (f : WireFault) (unread rest : List ℕ
 rest_faulty None f unread rest met is = cc
 rest_faulty (Some fault) f unread rest met is = let P : Option WireFault → Type 0 = λ o. RestIs o unread rest in subst P met is
 
-at_unread : (bytes : List ℕ) (old : Input) (count : ℕ) (at : Front) (is : IsCounted bytes old count) → old.fault ≡ None → front old.bounds old.unread ≡ at → front full is.rest ≡ at
+at_unread : (bytes : List ℕ) (old : ReaderModel) (count : ℕ) (at : Front) (is : IsCounted bytes old count) → old.fault ≡ None → front old.bounds old.unread ≡ at → front full is.rest ≡ at
 at_unread bytes old count at is none looks =
     let same : is.rest ≡ old.unread = rest_unread old.fault old.unread is.rest none is.left in
     rw (same, ← is.bounds) looks
 
-pub took_counted : (bytes : List ℕ) (old new : Input) (count : ℕ) → IsCounted bytes old count → TakeOutcome old (Ok true) new → IsCounted bytes new (count + 1)
+pub took_counted : (bytes : List ℕ) (old new : ReaderModel) (count : ℕ) → IsCounted bytes old count → TakeOutcome old (Ok true) new → IsCounted bytes new (count + 1)
 took_counted bytes old new count is took =
     let e : suc count ≡ count + 1 = omega arith in
     let P : ℕ → Type 0 = λ k. Reads k bytes new.unread in
@@ -183,25 +183,25 @@ took_counted bytes old new count is took =
       left = left;
     })
 
-pub stuck_counted : (bytes : List ℕ) (old new : Input) (count : ℕ) → IsCounted bytes old count → TakeOutcome old (Ok false) new → IsCounted bytes new count
+pub stuck_counted : (bytes : List ℕ) (old new : ReaderModel) (count : ℕ) → IsCounted bytes old count → TakeOutcome old (Ok false) new → IsCounted bytes new count
 stuck_counted bytes old new count is (inl none) = rw none.2 is
 stuck_counted bytes old new count is (inr (fault, (inl met), changed)) =
     rw changed (record { rest = is.rest; read = is.read; bounds = is.bounds; left = rest_faulty old.fault fault old.unread is.rest met is.left })
 stuck_counted bytes old new count is (inr (fault, (inr met), changed)) =
     rw changed (record { rest = is.rest; read = is.read; bounds = is.bounds; left = at_unread bytes old count (Faulty fault) is met.0 met.1 })
 
-pub is_stuck : (old new : Input) → TakeOutcome old (Ok false) new → IsStuck new
+pub is_stuck : (old new : ReaderModel) → TakeOutcome old (Ok false) new → IsStuck new
 is_stuck old new (inl none) = rw none.2 (λ faultless. none.1)
 is_stuck old new (inr (fault, met, changed)) = rw changed (λ faultless. cc)
 
-no_more : (fault : Option WireFault) (bounds : Bounds) (unread rest after : List ℕ) (value : Data) → RestIs fault unread rest
+no_more : (fault : Option WireFault) (bounds : LimitsModel) (unread rest after : List ℕ) (value : Data) → RestIs fault unread rest
     → (fault ≡ None → front full unread ≡ Partial) → front full rest ≡ Whole value after → ⊥
 no_more None bounds unread rest after value is stuck at =
     let e : front full unread ≡ Whole value after = (let P : List ℕ → Type 0 = λ b. front full b ≡ Whole value after in subst P is at) in
     let f : Partial ≡ Whole value after = sym (stuck refl) ∙ e in cc
 no_more (Some fault) bounds unread rest after value is stuck at = let f : Faulty fault ≡ Whole value after = sym is ∙ at in cc
 
-pub all_held : (bytes : List ℕ) (input : Input) (count owed : ℕ) (reached : Bool) → IsCounted bytes input count → CountOutcome owed reached input count
+pub all_held : (bytes : List ℕ) (input : ReaderModel) (count owed : ℕ) (reached : Bool) → IsCounted bytes input count → CountOutcome owed reached input count
     → IsTrue reached ↔ Holds owed bytes
 all_held bytes input count owed true is outcome = ((λ _. held_below count owed bytes is.rest is.read outcome), (λ _. refl))
 all_held bytes input count owed false is outcome = (
@@ -210,7 +210,7 @@ all_held bytes input count owed false is outcome = (
       absurd (no_more input.fault input.bounds input.unread is.rest more.1 more.0 is.left (rw (← is.bounds) outcome.1) more.2)),
 )
 
-pub held_where_counted : (result : Result Bool NoMemory) (bytes : List ℕ) (input : Input) (count owed : ℕ) → IsCounted bytes input count
+pub held_where_counted : (result : Result Bool NoMemory) (bytes : List ℕ) (input : ReaderModel) (count owed : ℕ) → IsCounted bytes input count
     → IfOk result (λ reached. CountOutcome owed reached input count) → IfOk result (λ all. IsTrue all ↔ Holds owed bytes)
 held_where_counted (Ok reached) bytes input count owed is outcome = all_held bytes input count owed reached is outcome
 held_where_counted (Err refused) bytes input count owed is outcome = tt

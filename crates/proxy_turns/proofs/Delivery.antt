@@ -1,14 +1,14 @@
--- A pair that a lane hands back is the one that was given; what a line gives.
+-- A pair that a lane hands back is the one that was given; what a backend gives.
 use Rattle.std.proofs.Common.{◌≡◌, ◌∙◌, inl, inr, true, false, List, Option, Some, None, Result, Ok, Err, is_some, sym, ap, subst}
 use Rattle.key_split.specs.declared.travel.Ticket.{Ticket}
 use Rattle.key_split.specs.declared.travel.Told.{Told}
 use Rattle.proxy_lanes.specs.declared.ring.Outlet.{Outlet}
 use Rattle.proxy_lanes.specs.declared.ends.lane_ends.LaneEnds.{LaneEnds}
 use Rattle.proxy_lanes.specs.Ends.{ChangesAt, Gives, GivesDown}
-use Rattle.proxy_turns.specs.declared.line.Line.{Line}
-use Rattle.proxy_turns.specs.declared.line.Owed.{Owed}
-use Rattle.proxy_turns.specs.Hands.{DeliverOutcome, GiveOutcome}
-use Rattle.proxy_turns.proofs.Lines.{none_where}
+use Rattle.proxy_turns.specs.declared.backend.Backend.{Backend}
+use Rattle.proxy_turns.specs.declared.backend.PendingTold.{PendingTold}
+use Rattle.proxy_turns.specs.PendingBatch.{DeliverOutcome, GiveOutcome, WaitsToGive}
+use Rattle.proxy_turns.proofs.Backends.{none_where}
 
 comes_back : (old new : Option (Outlet (Ticket × Told))) (pair back : Ticket × Told) → Gives old new pair (Err back) → back ≡ pair
 comes_back (Some old) new pair back (next, is, posts) = posts.1
@@ -22,29 +22,30 @@ delivered {H} old new pair (Err back) (x, y, at, is, gives) =
     let P : Ticket × Told → Type 0 = λ b. GivesDown x y pair (Err b) in
     (same, (x, y, at, is, subst P same gives))
 
--- the pair of what is owed, which was looked at and then taken out
-changes_by : {H : Type 0} (owed owed' : Owed) (lanes lanes' : List (LaneEnds H)) (given : Result (Unit {0}) (Ticket × Told)) → owed ≡ owed'
-    → ChangesAt lanes owed.ticket.worker lanes' (λ lane lane'. GivesDown lane lane' (owed'.ticket, owed'.told) given)
-    → ChangesAt lanes owed.ticket.worker lanes' (λ lane lane'. GivesDown lane lane' (owed.ticket, owed.told) given)
-changes_by owed owed' lanes lanes' given same changes =
-    let Q : Owed → Type 0 = λ o. ChangesAt lanes owed.ticket.worker lanes' (λ lane lane'. GivesDown lane lane' (o.ticket, o.told) given) in
+-- the pending pair, which was looked at and then taken out
+changes_by : {H : Type 0} (pending_told pending_told' : PendingTold) (lanes lanes' : List (LaneEnds H)) (given : Result (Unit {0}) (Ticket × Told)) → pending_told ≡ pending_told'
+    → ChangesAt lanes pending_told.ticket.worker lanes' (λ lane lane'. GivesDown lane lane' (pending_told'.ticket, pending_told'.told) given)
+    → ChangesAt lanes pending_told.ticket.worker lanes' (λ lane lane'. GivesDown lane lane' (pending_told.ticket, pending_told.told) given)
+changes_by pending_told pending_told' lanes lanes' given same changes =
+    let Q : PendingTold → Type 0 = λ o. ChangesAt lanes pending_told.ticket.worker lanes' (λ lane lane'. GivesDown lane lane' (o.ticket, o.told) given) in
     subst Q (sym same) changes
 
-pub gives : {H P : Type 0} (line : Line P) (owed owed' : Owed) (left : Option Owed) (lanes lanes' : List (LaneEnds H)) (u : Unit {0})
-    → line.owed ≡ Some owed → line.owed ≡ Some owed' → is_some owed.change ≡ false → left ≡ None
-    → ChangesAt lanes owed.ticket.worker lanes' (λ lane lane'. GivesDown lane lane' (owed'.ticket, owed'.told) (Ok u))
-    → GiveOutcome line lanes true (record line { owed = left }) lanes'
-gives line owed owed' left lanes lanes' u is taken published none changes =
-    let same : owed ≡ owed' = cc in
-    (owed, is, none_where owed.change published, inl (changes_by owed owed' lanes lanes' (Ok u) same changes), λ i. record line { owed = none i })
+pub gives : {H P : Type 0} (backend : Backend P) (pending_told pending_told' : PendingTold) (left : Option PendingTold) (lanes lanes' : List (LaneEnds H)) (u : Unit {0})
+    → backend.pending_told ≡ Some pending_told → backend.pending_told ≡ Some pending_told' → is_some pending_told.change ≡ false → left ≡ None
+    → ChangesAt lanes pending_told.ticket.worker lanes' (λ lane lane'. GivesDown lane lane' (pending_told'.ticket, pending_told'.told) (Ok u))
+    → GiveOutcome backend lanes true (record backend { pending_told = left }) lanes'
+gives backend pending_told pending_told' left lanes lanes' u is taken published none changes =
+    let same : pending_told ≡ pending_told' = cc in
+    (pending_told, is, none_where pending_told.change published, inl (changes_by pending_told pending_told' lanes lanes' (Ok u) same changes), λ i. record backend { pending_told = none i })
 
-pub keeps : {H P : Type 0} (line : Line P) (owed owed' : Owed) (lanes lanes' : List (LaneEnds H)) (back : Ticket × Told)
-    → line.owed ≡ Some owed → line.owed ≡ Some owed' → is_some owed.change ≡ false
-    → ChangesAt lanes owed.ticket.worker lanes' (λ lane lane'. GivesDown lane lane' (owed'.ticket, owed'.told) (Err back))
-    → GiveOutcome line lanes false (record line { owed = Some (record { ticket = back.0; told = back.1; change = None }) }) lanes'
-keeps line owed owed' lanes lanes' back is taken published changes =
-    let same : owed ≡ owed' = cc in
-    let comes = delivered lanes lanes' (owed.ticket, owed.told) (Err back) (changes_by owed owed' lanes lanes' (Err back) same changes) in
-    let put : Some (record { ticket = back.0; told = back.1; change = None }) ≡ line.owed = ap (λ (pair : Ticket × Told). Some (record { ticket = pair.0; told = pair.1; change = None })) comes.0
-    ∙ ap (λ change. Some (record owed { change = change })) (sym (none_where owed.change published)) ∙ sym is in
-    ((λ i. record line { owed = put i }), inr ((owed.ticket, owed.told), comes.1))
+pub keeps : {H P : Type 0} (backend : Backend P) (pending_told pending_told' : PendingTold) (lanes lanes' : List (LaneEnds H)) (back : Ticket × Told)
+    → backend.pending_told ≡ Some pending_told → backend.pending_told ≡ Some pending_told' → is_some pending_told.change ≡ false
+    → ChangesAt lanes pending_told.ticket.worker lanes' (λ lane lane'. GivesDown lane lane' (pending_told'.ticket, pending_told'.told) (Err back))
+    → GiveOutcome backend lanes false (record backend { pending_told = Some (record { ticket = back.0; told = back.1; change = None }) }) lanes'
+keeps backend pending_told pending_told' lanes lanes' back is taken published changes =
+    let same : pending_told ≡ pending_told' = cc in
+    let comes = delivered lanes lanes' (pending_told.ticket, pending_told.told) (Err back) (changes_by pending_told pending_told' lanes lanes' (Err back) same changes) in
+    let put : Some (record { ticket = back.0; told = back.1; change = None }) ≡ backend.pending_told = ap (λ (pair : Ticket × Told). Some (record { ticket = pair.0; told = pair.1; change = None })) comes.0
+    ∙ ap (λ change. Some (record pending_told { change = change })) (sym (none_where pending_told.change published)) ∙ sym is in
+    let Q : Option PendingTold → Type 0 = λ o. WaitsToGive o lanes lanes' in
+    ((λ i. record backend { pending_told = put i }), subst Q (sym is) (inr (none_where pending_told.change published, comes.1)))

@@ -1,16 +1,18 @@
 -- How many replies a client is owed for its bytes.
+-- RESP2 specification, "Sending commands to a Redis server"; Redis command reference, QUIT. A client in memory uses the
+-- count to know when it has all its replies (Script.antt).
 use Rattle.std.specs.Prelude.{◌≡◌, ◌<◌, ◌≤◌, ◌+◌, ◌^◌, ℕ, suc, zero, List, Option, Some, None, Result, Ok, Err, if◌then◌else◌, nat_le, length}
-use Rattle.resp_wire.specs.Bounds.{full}
+use Rattle.resp_wire.specs.LimitsModel.{full}
 use Rattle.resp_wire.specs.Data.{Data}
 use Rattle.resp_wire.specs.Front.{Front, front, Whole, Partial, Faulty}
-use Rattle.resp_wire.specs.Input.{Input}
+use Rattle.resp_wire.specs.ReaderModel.{ReaderModel}
 use Rattle.resp_wire.specs.declared.fault.NoMemory.{NoMemory}
 use Rattle.resp_wire.specs.declared.fault.WireFault.{WireFault}
 use Rattle.key_split.specs.declared.planned.Planned.{Planned}
 use Rattle.key_split.specs.declared.planned.Planned.TheVariants as planned
 use Rattle.key_split.specs.declared.planned.PlanFault.{PlanFault}
-use Rattle.session_order.specs.Owed.{plan_for}
-use Rattle.session_order.specs.Requests.{Asked, Words, Skipped, Refused, asked_of}
+use Rattle.session_order.specs.PendingReply.{plan_for}
+use Rattle.session_order.specs.Requests.{RequestKindModel, Words, Skipped, Refused, asked_of}
 use Rattle.proxy_turns.specs.declared.owing.Effect.{Effect}
 use Rattle.proxy_turns.specs.declared.owing.Effect.TheVariants.{Skips, Asks, Ends}
 
@@ -26,7 +28,7 @@ effect_by numbered (Ok (planned.Parts how parts)) = numbering (numbered + length
 effect_by numbered (Ok planned.Close) = Ends
 
 -- what a value of a client does
-abbrev pub effect_of : ℕ → Asked → Effect
+abbrev pub effect_of : ℕ → RequestKindModel → Effect
 effect_of numbered Skipped = Skips
 effect_of numbered Refused = Ends
 effect_of numbered (Words words) = effect_by numbered (plan_for words)
@@ -61,12 +63,12 @@ EndsAt numbered (Faulty fault) = Unit {0}
 EndsAt numbered (Whole value after) = effect_of numbered (asked_of value) ≡ Ends
 
 -- the value at the front has this effect, and was taken off
-abbrev pub Took : ℕ → Input → Effect → Input → Type 0
+abbrev pub Took : ℕ → ReaderModel → Effect → ReaderModel → Type 0
 Took numbered old effect new =
     (value : Data) × (front full old.unread ≡ Whole value new.unread) × (effect_of numbered (asked_of value) ≡ effect)
     × (new ≡ record old { unread = new.unread }) × (length new.unread < length old.unread)
 
-abbrev pub NextOutcome : ℕ → Input → Result (Option Effect) NoMemory → Input → Type 0
+abbrev pub NextOutcome : ℕ → ReaderModel → Result (Option Effect) NoMemory → ReaderModel → Type 0
 NextOutcome numbered old (Ok None) new = front full old.unread ≡ Partial
 NextOutcome numbered old (Ok (Some Ends)) new = EndsAt numbered (front full old.unread)
 NextOutcome numbered old (Ok (Some Skips)) new = Took numbered old Skips new
@@ -79,7 +81,7 @@ RestIs None unread rest = rest ≡ unread
 RestIs (Some fault) unread rest = front full rest ≡ Faulty fault
 
 -- so many values of these bytes were read
-pub record IsCounted (bytes : List ℕ) (input : Input) (count : ℕ) : Type 0 where
+pub record IsCounted (bytes : List ℕ) (input : ReaderModel) (count : ℕ) : Type 0 where
   pub rest : List ℕ
   pub read : Reads count bytes rest
   pub bounds : input.bounds ≡ full

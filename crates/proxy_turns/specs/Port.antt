@@ -1,5 +1,7 @@
 -- What one call on a client's port moves, by its answer.
-use Rattle.std.specs.Prelude.{◌≤◌, List, [], ◌∷◌, ℕ, length, take, Result, Ok, Err}
+-- As node_link's Stream.antt, for clients. The relation of a socket may hold of anything; Script.antt has a port in
+-- memory whose relation says all.
+use Rattle.std.specs.Prelude.{◌≡◌, ◌≤◌, ⊤, List, [], ◌∷◌, ℕ, length, take, Result, Ok, Err}
 use Rattle.key_split.specs.declared.travel.Ticket.{Ticket}
 use Rattle.key_split.specs.declared.travel.Ended.{Ended}
 use Rattle.node_link.specs.declared.stream.Flow.{Flow}
@@ -9,6 +11,13 @@ use Rattle.resp_wire.specs.declared.fault.NoMemory.{NoMemory}
 -- from one state of a port to another these bytes were pulled, these were pushed, and these ends were noted
 abbrev pub Moves : Type 0 → Type 1
 Moves C = C → List ℕ → List ℕ → List (Ticket × Ended) → C → Type 0
+
+-- a call moved no bytes, and may move some later
+abbrev pub MovesNone : Result Flow NoMemory → Type 0
+MovesNone (Ok (Bytes n)) = n ≡ 0
+MovesNone (Ok Nothing) = ⊤
+MovesNone (Ok Gone) = ⊥
+MovesNone (Err refused) = ⊥
 
 module _ {C : Type 0} (moves : Moves C) where
   -- the bytes at the front of the buffer were pulled

@@ -1,4 +1,5 @@
 -- A client's port over memory.
+-- For tests and for `local`. It is gone exactly where it holds every reply owed to its bytes.
 use Rattle.std.specs.Prelude.{◌≡◌, ◌≢◌, ◌++◌, ℕ, List, [], Option, Some, None, Result, Ok, Err, length, min}
 use Rattle.key_split.specs.declared.travel.Ticket.{Ticket}
 use Rattle.key_split.specs.declared.travel.Ended.{Ended}
@@ -9,7 +10,7 @@ use Rattle.proxy_turns.specs.Owing.{Owes, Holds}
 
 -- Its client's number; its bytes, those that were pulled and those that were not; the bytes that were pushed, and the ends
 -- that were noted.
-pub record Scripted : Type 0 where
+pub record ScriptModel : Type 0 where
   pub client : ℕ
   pub pulled : List ℕ
   pub left : List ℕ
@@ -17,25 +18,25 @@ pub record Scripted : Type 0 where
   pub noted : List (Ticket × Ended)
 
 -- nothing has happened
-abbrev pub unplayed : ℕ → List ℕ → Scripted
+abbrev pub unplayed : ℕ → List ℕ → ScriptModel
 unplayed client bytes = record { client = client; pulled = []; left = bytes; pushed = []; noted = [] }
 
 -- these bytes leave the front of what is left, these are pushed, and these ends are noted
-abbrev pub Plays : Scripted → List ℕ → List ℕ → List (Ticket × Ended) → Scripted → Type 0
+abbrev pub Plays : ScriptModel → List ℕ → List ℕ → List (Ticket × Ended) → ScriptModel → Type 0
 Plays old pulled pushed noted new =
     (old.left ≡ pulled ++ new.left)
     × (new ≡ record old { pulled = old.pulled ++ pulled; left = new.left; pushed = old.pushed ++ pushed; noted = old.noted ++ noted })
 
 -- it holds each reply that is owed to its bytes
-abbrev pub IsServed : Scripted → Type 0
-IsServed script = (owed : ℕ) × Owes 0 (script.pulled ++ script.left) owed × Holds owed script.pushed
+abbrev pub IsScriptServed : ScriptModel → Type 0
+IsScriptServed script = (owed : ℕ) × Owes 0 (script.pulled ++ script.left) owed × Holds owed script.pushed
 
 -- What a pull answers: gone exactly where each reply that is owed is held; until then as many bytes as are left and fit in,
 -- and nothing where none are left.
-abbrev pub PullAnswer : Scripted → List ℕ → Result Flow NoMemory → Type 0
-PullAnswer old buffer (Ok (Bytes n)) = (IsServed old → ⊥) × (old.left ≢ []) × (n ≡ min (length buffer) (length old.left))
-PullAnswer old buffer (Ok Nothing) = (IsServed old → ⊥) × (old.left ≡ [])
-PullAnswer old buffer (Ok Gone) = IsServed old
+abbrev pub PullAnswer : ScriptModel → List ℕ → Result Flow NoMemory → Type 0
+PullAnswer old buffer (Ok (Bytes n)) = (IsScriptServed old → ⊥) × (old.left ≢ []) × (n ≡ min (length buffer) (length old.left))
+PullAnswer old buffer (Ok Nothing) = (IsScriptServed old → ⊥) × (old.left ≡ [])
+PullAnswer old buffer (Ok Gone) = IsScriptServed old
 PullAnswer old buffer (Err refused) = Unit {0}
 
 -- all bytes are taken

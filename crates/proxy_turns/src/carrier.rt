@@ -1,19 +1,19 @@
 //! The carrier: one turn after another.
 
-ghost use Rattle.std.specs.Prelude.{◌≡◌, ◌<◌};
+ghost use Rattle.std.specs.Prelude.{◌≡◌, ◌<◌, false, length};
+ghost use Rattle.std.specs.List.{list_any};
+ghost use Rattle.proxy_turns.specs.Backend.{has_open_link};
 
+use crate::all_backends::{any_unanswered, first_open};
+use crate::backend::{Backend, Dialled, MapTask};
 use crate::dial::Dial;
-use crate::hand::Hand;
-use crate::line::{Dialled, Line, Task, any_unanswered};
+use crate::pending_batch::PendingBatch;
 use node_link::NodePort;
 use proxy_lanes::{CarrierEnds, Naming, Publisher};
 use resp_wire::NoMemory;
 use slot_map::{NodeId, NodeTable};
 use std::alloc::Global;
 use std::sync::Wait;
-
-// How what a line holds of the slot map goes on.
-const ONWARD: [Task; 4] = [Task::Publish, Task::Ask, Task::Read, Task::Renew];
 
 /// Carries batches from the workers' lanes to the nodes, and what the nodes reply back, and renews the slot map.
 #[derive(Drop)]
@@ -22,18 +22,43 @@ pub struct Carrier<H: Drop, M: Drop, D, P> {
     ends: CarrierEnds<H, M>,
     dial: D,
     nodes: NodeTable,
-    hands: Vec<Hand>,
-    lines: Vec<Line<P>>,
+    pending_batches: Vec<PendingBatch>,
+    backends: Vec<Backend<P>>,
     /// The seed is still to be dialled.
-    greets: bool,
+    seed_to_dial: bool,
+    /// The node that is dialled next after a loss where no link is open.
+    next_dialled: u8,
 }
 
-// The place of a node's line.
+// The node of this number, or the seed.
+fn node_at(number: u8) -> NodeId {
+    match NodeId::new(number) {
+        Some(node) => node,
+        None => NodeId::new(0).unwrap(),
+    }
+}
+
+// The place of a node's backend.
 fn place_of(node: NodeId) -> usize
     ensures value { result ≡ node }
     ensures in_range { result < 64 }
 {
     node.number() as usize
+}
+
+impl<H: Drop, M: Drop, D, P> Carrier<H, M, D, P> {
+    ghost use Rattle.std.specs.Borrow.{Lends, sem};
+    ghost use Rattle.proxy_lanes.specs.contracts.ends.CarrierEnds.{the_row as ends_row};
+    ghost use Rattle.proxy_turns.specs.contracts.carrier.Carrier.{the_row as carrier_row};
+    ghost use Rattle.proxy_turns.specs.CarrierModel.{ends_of, with_ends};
+
+    /// The carrier's ends of the lanes, by which new clients are handed over.
+    pub fn ends(&mut self) -> &mut CarrierEnds<H, M>
+        ensures value { result.now ≡ ends_of self.old }
+        ensures* writes_back { sem 𝓛 (Lends (carrier_row H.row M.row D.row P.row) (ends_row H.row M.row) self.entry result (with_ends self.old)) }
+    {
+        &mut self.ends
+    }
 }
 
 impl<H: Drop, J, R, P, D> Carrier<H, Publisher<J, R>, D, P>
@@ -43,8 +68,9 @@ where
     P: NodePort + Drop,
     D: Dial<Port = P> + Drop,
 {
-    ghost use Rattle.proxy_turns.specs.Carriage.{carriage_of, ends_of, fresh_carriage, Goes, Turns};
+    ghost use Rattle.proxy_turns.specs.CarrierModel.{AddsBackend, AddsBackends, AddsWorker, AddsWorkers, CarrierTurns, Connects, ConnectsSeed, DialsNode, DialsSeed, DoesMapTask, FetchesReply, GivesReply, IsSought, RenewsMap, RestsAfter, SendsBatch, ServesBackend, ServesBackends, SeekOutcome, SeeksByDial, ServesLane, ServesLanes, TakesBatch, TakesTurn, TellsUnsent, carrier_model, new_carrier};
     ghost use Rattle.proxy_lanes.specs.Carrier.{lanes_of};
+    ghost use Rattle.proxy_turns.specs.Backend.{GaveNone};
 
     /// A carrier between these lanes and the nodes of this table, of which the first is the seed. No link is open.
     pub fn new(
@@ -53,271 +79,266 @@ where
         dial: D,
         nodes: NodeTable,
     ) -> Self
-        ensures { carriage_of D.failures result ≡ fresh_carriage (lanes_of ends) nodes ends.map (D.failures dial) }
+        ensures { carrier_model D.failures result ≡ new_carrier (lanes_of ends) nodes ends.map (D.failures dial) }
     {
         Carrier {
             alloc,
             ends,
             dial,
             nodes,
-            hands: Vec::new(alloc),
-            lines: Vec::new(alloc),
-            greets: true,
+            pending_batches: Vec::new(alloc),
+            backends: Vec::new(alloc),
+            seed_to_dial: true,
+            next_dialled: 0,
         }
     }
 
-    /// The carrier's ends of the lanes, by which new clients are handed over.
-    pub fn ends(&mut self) -> &mut CarrierEnds<H, Publisher<J, R>>
-        ensures { result.now ≡ ends_of self.old }
+    // Does one task at a backend.
+    fn run_map_task(&mut self, at: usize, task: MapTask) -> Result<bool, NoMemory>
+        ensures { DoesMapTask P.failures P.is_garbled P.exchange D.opens task at (carrier_model D.failures self.old) result (carrier_model D.failures self.new) }
     {
-        &mut self.ends
-    }
-
-    // Does one task at a line.
-    fn serve(&mut self, at: usize, task: Task) -> Result<bool, NoMemory>
-        ensures { Turns P.failures P.is_garbled P.exchange (carriage_of D.failures self.old) result (carriage_of D.failures self.new) }
-    {
-        if at >= self.lines.len() {
+        if at >= self.backends.len() {
             return Ok(false);
         }
-        let unanswered = any_unanswered(&self.lines);
-        let step = self.lines[at].serve(task, unanswered, &mut self.nodes, &mut self.ends.map)?;
+        let unanswered = any_unanswered(&self.backends);
+        let map = &mut self.ends.map;
+        let step = self.backends[at].run_task(task, unanswered, &mut self.nodes, map)?;
         Ok(step.is_move())
     }
 
-    // Takes what came over a line.
-    fn fetch(&mut self, at: usize) -> Result<bool, NoMemory>
-        ensures { Turns P.failures P.is_garbled P.exchange (carriage_of D.failures self.old) result (carriage_of D.failures self.new) }
+    // Takes what a backend replied.
+    fn fetch_from(&mut self, at: usize) -> Result<bool, NoMemory>
+        ensures { FetchesReply P.failures P.is_garbled P.exchange D.opens at (carrier_model D.failures self.old) result (carrier_model D.failures self.new) }
     {
-        if at >= self.lines.len() {
+        if at >= self.backends.len() {
             return Ok(false);
         }
-        let step = self.lines[at].fetch(&mut self.nodes)?;
+        let step = self.backends[at].fetch(&mut self.nodes)?;
         Ok(step.is_move())
     }
 
-    // Gives what is owed at a line.
-    fn give(&mut self, at: usize) -> bool
-        ensures { Goes P.failures P.is_garbled P.exchange (carriage_of D.failures self.old) result (carriage_of D.failures self.new) }
+    // Gives a worker what a backend has for it.
+    fn give_from(&mut self, at: usize) -> bool
+        ensures { GivesReply P.failures P.is_garbled P.exchange D.opens at (carrier_model D.failures self.old) result (carrier_model D.failures self.new) }
     {
-        if at >= self.lines.len() {
+        if at >= self.backends.len() {
             return false;
         }
-        self.lines[at].give(&mut self.ends)
+        self.backends[at].give(&mut self.ends)
     }
 
-    // A line for one more node.
-    fn add_line(&mut self) -> Result<bool, NoMemory>
-        ensures { Turns P.failures P.is_garbled P.exchange (carriage_of D.failures self.old) result (carriage_of D.failures self.new) }
+    // A backend for one more node.
+    fn add_backend(&mut self) -> Result<(), NoMemory>
+        ensures { AddsBackend (carrier_model D.failures self.old) result (carrier_model D.failures self.new) }
     {
-        self.lines.push(Line::new())?;
-        Ok(false)
+        self.backends.push(Backend::new())?;
+        Ok(())
     }
 
-    // A hand for one more worker.
-    fn add_hand(&mut self) -> Result<bool, NoMemory>
-        ensures { Turns P.failures P.is_garbled P.exchange (carriage_of D.failures self.old) result (carriage_of D.failures self.new) }
+    // A place for the pending batch of one more worker.
+    fn add_worker(&mut self) -> Result<(), NoMemory>
+        ensures { AddsWorker (carrier_model D.failures self.old) result (carrier_model D.failures self.new) }
     {
-        self.hands.push(Hand::new())?;
-        Ok(false)
+        self.pending_batches.push(PendingBatch::new())?;
+        Ok(())
     }
 
     // Takes the next batch of a worker's lane.
-    fn take(&mut self, at: usize) -> bool
-        ensures { Goes P.failures P.is_garbled P.exchange (carriage_of D.failures self.old) result (carriage_of D.failures self.new) }
+    fn take_from(&mut self, at: usize) -> bool
+        ensures { TakesBatch P.failures P.is_garbled P.exchange D.opens at (carrier_model D.failures self.old) result (carrier_model D.failures self.new) }
     {
-        if at >= self.hands.len() || at >= self.ends.workers() || at > 65_535 {
+        if at >= self.pending_batches.len() {
             return false;
         }
-        self.hands[at].take(at as u16, &mut self.ends)
+        if at >= self.ends.workers() {
+            return false;
+        }
+        if at > 65_535 {
+            return false;
+        }
+        self.pending_batches[at].take(at as u16, &mut self.ends)
     }
 
     // Tells a worker that a batch is unsent.
-    fn tell(&mut self, at: usize) -> bool
-        ensures { Goes P.failures P.is_garbled P.exchange (carriage_of D.failures self.old) result (carriage_of D.failures self.new) }
+    fn tell_unsent_of(&mut self, at: usize) -> bool
+        ensures { TellsUnsent P.failures P.is_garbled P.exchange D.opens at (carrier_model D.failures self.old) result (carrier_model D.failures self.new) }
     {
-        if at >= self.hands.len() {
+        if at >= self.pending_batches.len() {
             return false;
         }
-        self.hands[at].tell(&mut self.ends)
+        self.pending_batches[at].tell_unsent(&mut self.ends)
     }
 
-    // Dials the node of the batch in a hand, where there is no link to it.
-    fn dial(&mut self, worker: usize) -> Result<bool, NoMemory>
-        ensures { Turns P.failures P.is_garbled P.exchange (carriage_of D.failures self.old) result (carriage_of D.failures self.new) }
+    // Dials the node of a pending batch, where there is no link to it.
+    fn dial_for(&mut self, worker: usize) -> Result<bool, NoMemory>
+        ensures { DialsNode P.failures P.is_garbled P.exchange D.opens worker (carrier_model D.failures self.old) result (carrier_model D.failures self.new) }
     {
-        if worker >= self.hands.len() {
+        if worker >= self.pending_batches.len() {
             return Ok(false);
         }
-        let Some(node) = self.hands[worker].goal() else {
+        let Some(node) = self.pending_batches[worker].target() else {
             return Ok(false);
         };
         let at = place_of(node);
-        if at >= self.lines.len() {
+        if at >= self.backends.len() {
             return Ok(false);
         }
-        match self.lines[at].open(self.alloc, node, &mut self.dial, &self.nodes)? {
+        match self.backends[at].open(self.alloc, node, &mut self.dial, &self.nodes)? {
             Dialled::Present => Ok(false),
             Dialled::Opened => Ok(true),
             Dialled::Unreached => {
-                self.hands[worker].refuse();
+                self.dial.unsent();
+                self.pending_batches[worker].refuse();
                 Ok(true)
             }
         }
     }
 
-    // Sends the batch in a hand.
-    fn send(&mut self, worker: usize) -> Result<bool, NoMemory>
-        ensures { Turns P.failures P.is_garbled P.exchange (carriage_of D.failures self.old) result (carriage_of D.failures self.new) }
+    // Sends a pending batch.
+    fn send_for(&mut self, worker: usize) -> Result<bool, NoMemory>
+        ensures { SendsBatch P.failures P.is_garbled P.exchange D.opens worker (carrier_model D.failures self.old) result (carrier_model D.failures self.new) }
     {
-        if worker >= self.hands.len() {
+        if worker >= self.pending_batches.len() {
             return Ok(false);
         }
-        let hand = &mut self.hands[worker];
-        let Some(batch) = &hand.batch else {
+        let pending_batch = &mut self.pending_batches[worker];
+        let Some(batch) = &pending_batch.batch else {
             return Ok(false);
         };
         let at = place_of(batch.node);
-        if at >= self.lines.len() {
+        if at >= self.backends.len() {
             return Ok(false);
         }
-        let sent = self.lines[at].send(batch)?;
+        let sent = self.backends[at].send(batch)?;
         if !sent {
             return Ok(false);
         }
-        hand.batch = None;
+        pending_batch.batch = None;
         Ok(true)
     }
 
-    // Lines for all nodes up to this one.
-    fn reach(&mut self, node: NodeId) -> Result<bool, NoMemory>
-        ensures { Turns P.failures P.is_garbled P.exchange (carriage_of D.failures self.old) result (carriage_of D.failures self.new) }
+    // Backends for all nodes up to this one.
+    fn add_backends(&mut self, node: NodeId) -> Result<(), NoMemory>
+        ensures { AddsBackends P.failures P.is_garbled P.exchange D.opens node (carrier_model D.failures self.old) result (carrier_model D.failures self.new) }
     {
-        let mut moved = false;
-        for _ in self.lines.len()..place_of(node) + 1 {
-            moved |= self.add_line()?;
+        for _next in self.backends.len()..place_of(node) + 1 {
+            self.add_backend()?;
         }
-        Ok(moved)
+        Ok(())
     }
 
-    // Hands for all workers.
-    fn seat(&mut self) -> Result<bool, NoMemory>
-        ensures { Turns P.failures P.is_garbled P.exchange (carriage_of D.failures self.old) result (carriage_of D.failures self.new) }
+    // Places for the pending batches of all workers.
+    fn add_workers(&mut self) -> Result<(), NoMemory>
+        ensures { AddsWorkers P.failures P.is_garbled P.exchange D.opens (carrier_model D.failures self.old) result (carrier_model D.failures self.new) }
     {
-        let mut moved = false;
-        for _ in self.hands.len()..self.ends.workers() {
-            moved |= self.add_hand()?;
+        for _next in self.pending_batches.len()..self.ends.workers() {
+            self.add_worker()?;
         }
-        Ok(moved)
+        Ok(())
     }
 
     // Dials the seed, which is then to be asked for CLUSTER SLOTS.
-    fn greet(&mut self, seed: NodeId) -> Result<bool, NoMemory>
+    fn dial_seed(&mut self, seed: NodeId) -> Result<bool, NoMemory>
         requires { seed ≡ 0 }
-        ensures { Turns P.failures P.is_garbled P.exchange (carriage_of D.failures self.old) result (carriage_of D.failures self.new) }
+        ensures { DialsSeed P.failures P.is_garbled P.exchange D.opens (carrier_model D.failures self.old) result (carrier_model D.failures self.new) }
     {
-        if !self.greets {
+        if !self.seed_to_dial {
             return Ok(false);
         }
         let at = place_of(seed);
-        if at >= self.lines.len() {
+        if at >= self.backends.len() {
             return Ok(false);
         }
-        let line = &mut self.lines[at];
-        match line.open(self.alloc, seed, &mut self.dial, &self.nodes)? {
+        let backend = &mut self.backends[at];
+        match backend.open(self.alloc, seed, &mut self.dial, &self.nodes)? {
             Dialled::Opened => Ok(true),
             Dialled::Present => {
-                line.to_ask = true;
-                self.greets = false;
+                backend.to_ask = true;
+                self.seed_to_dial = false;
                 Ok(true)
             }
             Dialled::Unreached => {
-                self.greets = false;
+                self.seed_to_dial = false;
                 Ok(true)
             }
         }
     }
 
-    // What a line holds of the slot map goes on, where it holds anything.
-    fn renew(&mut self, at: usize) -> Result<bool, NoMemory>
-        ensures { Turns P.failures P.is_garbled P.exchange (carriage_of D.failures self.old) result (carriage_of D.failures self.new) }
+    // Publishes what a backend says of the slot map, where it says anything.
+    fn renew_map(&mut self, at: usize) -> Result<bool, NoMemory>
+        ensures { RenewsMap P.failures P.is_garbled P.exchange D.opens at (carrier_model D.failures self.old) result (carrier_model D.failures self.new) }
     {
-        if !self.has_news(at) {
+        if at >= self.backends.len() {
             return Ok(false);
         }
-        self.go_round(at)
+        if !self.backends[at].has_map_work() {
+            return Ok(false);
+        }
+        self.run_map_tasks(at)
     }
 
-    // Does at a line what leads on.
-    fn go_round(&mut self, at: usize) -> Result<bool, NoMemory>
-        ensures { Turns P.failures P.is_garbled P.exchange (carriage_of D.failures self.old) result (carriage_of D.failures self.new) }
+    // Does each task at a backend, in order.
+    fn run_map_tasks(&mut self, at: usize) -> Result<bool, NoMemory>
+        ensures { RenewsMap P.failures P.is_garbled P.exchange D.opens at (carrier_model D.failures self.old) result (carrier_model D.failures self.new) }
     {
-        let mut moved = false;
-        for i in 0..ONWARD.len() {
-            moved |= self.serve(at, ONWARD[i])?;
-        }
-        Ok(moved)
+        let published = self.run_map_task(at, MapTask::Publish)?;
+        let asked = self.run_map_task(at, MapTask::Ask)?;
+        let read = self.run_map_task(at, MapTask::Read)?;
+        let renewed = self.run_map_task(at, MapTask::Renew)?;
+        Ok(published | asked | read | renewed)
     }
 
-    fn has_news(&self, at: usize) -> bool {
-        match self.lines.get(at) {
-            Some(line) => line.has_news(),
-            None => false,
-        }
-    }
-
-    // A line's turn: what it holds of the slot map goes on, then one reply is taken, and given where nothing of it is to be
+    // A backend's turn: what it says of the slot map goes on, then one reply is taken, and given where nothing of it is to be
     // published first.
-    fn serve_line(&mut self, at: usize) -> Result<bool, NoMemory>
-        ensures { Turns P.failures P.is_garbled P.exchange (carriage_of D.failures self.old) result (carriage_of D.failures self.new) }
+    fn serve_backend(&mut self, at: usize) -> Result<bool, NoMemory>
+        ensures { ServesBackend P.failures P.is_garbled P.exchange D.opens at (carrier_model D.failures self.old) result (carrier_model D.failures self.new) }
     {
-        let renewed = self.renew(at)?;
-        let fetched = self.fetch(at)?;
-        let gave = self.give(at);
+        let renewed = self.renew_map(at)?;
+        let fetched = self.fetch_from(at)?;
+        let gave = self.give_from(at);
         Ok(renewed | fetched | gave)
     }
 
-    fn serve_lines(&mut self) -> Result<bool, NoMemory>
-        ensures { Turns P.failures P.is_garbled P.exchange (carriage_of D.failures self.old) result (carriage_of D.failures self.new) }
+    fn serve_backends(&mut self) -> Result<bool, NoMemory>
+        ensures { ServesBackends P.failures P.is_garbled P.exchange D.opens (carrier_model D.failures self.old) result (carrier_model D.failures self.new) }
     {
         let mut moved = false;
-        for at in 0..self.lines.len() {
-            moved |= self.serve_line(at)?;
+        for at in 0..self.backends.len() {
+            moved |= self.serve_backend(at)?;
         }
         Ok(moved)
     }
 
-    // Opens the way of the batch that is still in a hand.
-    fn open_way(&mut self, worker: usize) -> Result<bool, NoMemory>
-        ensures { Turns P.failures P.is_garbled P.exchange (carriage_of D.failures self.old) result (carriage_of D.failures self.new) }
+    // Dials the node of a batch that is still pending.
+    fn connect(&mut self, worker: usize) -> Result<bool, NoMemory>
+        ensures { Connects P.failures P.is_garbled P.exchange D.opens worker (carrier_model D.failures self.old) result (carrier_model D.failures self.new) }
     {
-        if worker >= self.hands.len() {
+        if worker >= self.pending_batches.len() {
             return Ok(false);
         }
-        let Some(node) = self.hands[worker].goal() else {
+        let Some(node) = self.pending_batches[worker].target() else {
             return Ok(false);
         };
-        let reached = self.reach(node)?;
-        let dialled = self.dial(worker)?;
-        Ok(reached | dialled)
+        self.add_backends(node)?;
+        self.dial_for(worker)
     }
 
     // The turn of a worker's lanes.
     fn serve_lane(&mut self, worker: usize) -> Result<bool, NoMemory>
-        ensures { Turns P.failures P.is_garbled P.exchange (carriage_of D.failures self.old) result (carriage_of D.failures self.new) }
+        ensures { ServesLane P.failures P.is_garbled P.exchange D.opens worker (carrier_model D.failures self.old) result (carrier_model D.failures self.new) }
     {
-        let told = self.tell(worker);
-        let took = self.take(worker);
-        let sent = self.send(worker)?;
-        let opened = self.open_way(worker)?;
-        Ok(told | took | sent | opened)
+        let told = self.tell_unsent_of(worker);
+        let took = self.take_from(worker);
+        let opened = self.connect(worker)?;
+        let sent = self.send_for(worker)?;
+        Ok(told | took | opened | sent)
     }
 
     fn serve_lanes(&mut self) -> Result<bool, NoMemory>
-        ensures { Turns P.failures P.is_garbled P.exchange (carriage_of D.failures self.old) result (carriage_of D.failures self.new) }
+        ensures { ServesLanes P.failures P.is_garbled P.exchange D.opens (carrier_model D.failures self.old) result (carrier_model D.failures self.new) }
     {
         let mut moved = false;
-        for worker in 0..self.hands.len() {
+        for worker in 0..self.pending_batches.len() {
             moved |= self.serve_lane(worker)?;
         }
         Ok(moved)
@@ -326,26 +347,94 @@ where
     /// Carries at most one batch of each worker, and takes at most one reply off each link. True exactly where something
     /// moved. After NoMemory what was done stands, and the item at which memory ran out stays where it was.
     pub fn turn(&mut self) -> Result<bool, NoMemory>
-        ensures { Turns P.failures P.is_garbled P.exchange (carriage_of D.failures self.old) result (carriage_of D.failures self.new) }
+        ensures turns { CarrierTurns P.failures P.is_garbled P.exchange D.opens (carrier_model D.failures self.old) result (carrier_model D.failures self.new) }
+        ensures rests { RestsAfter (GaveNone P.failures P.is_garbled P.exchange) result (carrier_model D.failures self.new) }
+        ensures sought { IsSought (D.is_calm self.new.dial) result (carrier_model D.failures self.new) }
     {
-        let seated = self.seat()?;
-        let greeted = self.greet_seed()?;
-        let fetched = self.serve_lines()?;
-        let carried = self.serve_lanes()?;
-        Ok(seated | greeted | fetched | carried)
+        let moved = self.take_turn()?;
+        let sought = self.seek()?;
+        Ok(moved | sought)
     }
 
-    fn greet_seed(&mut self) -> Result<bool, NoMemory>
-        ensures { Turns P.failures P.is_garbled P.exchange (carriage_of D.failures self.old) result (carriage_of D.failures self.new) }
+    fn take_turn(&mut self) -> Result<bool, NoMemory>
+        ensures { TakesTurn P.failures P.is_garbled P.exchange D.opens (carrier_model D.failures self.old) result (carrier_model D.failures self.new) }
     {
-        if !self.greets {
+        self.add_workers()?;
+        let connected = self.connect_seed()?;
+        let fetched = self.serve_backends()?;
+        let carried = self.serve_lanes()?;
+        Ok(connected | fetched | carried)
+    }
+
+    // Has a node asked for CLUSTER SLOTS, where one was lost: one that has an open link, else the next of the table.
+    fn seek(&mut self) -> Result<bool, NoMemory>
+        ensures { SeekOutcome P.failures P.is_garbled P.exchange D.opens (D.is_calm self.new.dial) (carrier_model D.failures self.old) result (carrier_model D.failures self.new) }
+    {
+        if any_unanswered(&self.backends) {
+            return Ok(false);
+        }
+        if !self.dial.seeks() {
+            return Ok(false);
+        }
+        match first_open(&self.backends) {
+            Some(at) => {
+                self.backends[at].to_ask = true;
+                Ok(true)
+            }
+            None => self.dial_next(),
+        }
+    }
+
+    // Dials the next node of the table, which is then to be asked.
+    fn dial_next(&mut self) -> Result<bool, NoMemory>
+        requires closed { list_any has_open_link self.old.backends.items ≡ false }
+        ensures { SeeksByDial P.failures P.is_garbled P.exchange D.opens (carrier_model D.failures self.old) result (carrier_model D.failures self.new) }
+    {
+        let node = self.next_node();
+        self.add_backends(node)?;
+        self.dial_to_ask(node)
+    }
+
+    // The node that is to be dialled next: each of the table, one after the other.
+    fn next_node(&mut self) -> NodeId
+        ensures { carrier_model D.failures self.new ≡ carrier_model D.failures self.old }
+    {
+        let node = node_at(self.next_dialled);
+        self.next_dialled = if self.nodes.endpoint(node).is_some() {
+            node.number() + 1
+        } else {
+            0
+        };
+        node
+    }
+
+    fn dial_to_ask(&mut self, node: NodeId) -> Result<bool, NoMemory>
+        requires inside { node < length self.old.backends.items }
+        requires closed { list_any has_open_link self.old.backends.items ≡ false }
+        ensures { SeeksByDial P.failures P.is_garbled P.exchange D.opens (carrier_model D.failures self.old) result (carrier_model D.failures self.new) }
+    {
+        let at = place_of(node);
+        let backend = &mut self.backends[at];
+        match backend.open(self.alloc, node, &mut self.dial, &self.nodes)? {
+            Dialled::Opened => {
+                backend.to_ask = true;
+                Ok(true)
+            }
+            Dialled::Present => Ok(true),
+            Dialled::Unreached => Ok(true),
+        }
+    }
+
+    fn connect_seed(&mut self) -> Result<bool, NoMemory>
+        ensures { ConnectsSeed P.failures P.is_garbled P.exchange D.opens (carrier_model D.failures self.old) result (carrier_model D.failures self.new) }
+    {
+        if !self.seed_to_dial {
             return Ok(false);
         }
         let Some(seed) = NodeId::new(0) else {
             return Ok(false);
         };
-        let reached = self.reach(seed)?;
-        let greeted = self.greet(seed)?;
-        Ok(reached | greeted)
+        self.add_backends(seed)?;
+        self.dial_seed(seed)
     }
 }

@@ -1,13 +1,16 @@
 //! The commands of one client.
 
-ghost use Rattle.std.specs.Prelude.{◌≡◌, ◌<◌, ◌↔◌, ℕ, Option, is_some, IsSome, Result, None, Some, false, IfOk, IfSome, OnErr, IsTrue, IsSomeAnd, MatchOption};
+ghost use Rattle.std.specs.Prelude.{◌≡◌, ◌<◌, ◌↔◌, ℕ, Option, is_some, IsSome, Result, None, Some, false, IfOk, IfSome, OnErr, IsTrue, IsSomeAnd, MatchOption, ⊤};
 ghost use Rattle.std.specs.FinMap as map;
 ghost use Rattle.std.specs.HashMap.{spare};
 ghost use Rattle.slot_hash.specs.Slot.{slot_of};
-ghost use Rattle.command_future.specs.Progress.{MayPost, Progress, fresh};
-ghost use Rattle.proxy_lanes.specs.declared.map_view.NotEntered.{NotEntered as NotEnteredNow};
-ghost use Rattle.proxy_turns.specs.Commands.{Drops, EndsAt, GoesTo, HandsIn, HasEnd, Hears, HearsOne, Looks, PostOutcome, PostsResult, commanded, in_table, node_looked_up};
+ghost use Rattle.command_future.specs.CommandModel.{CommandModel, MayPostTo, WantsPost, fresh};
+ghost use Rattle.proxy_lanes.specs.declared.map_view.NotEntered.{NotEntered};
+ghost use Rattle.proxy_turns.specs.ClientRest.{HasNoPlace, IfStill};
+ghost use Rattle.proxy_turns.specs.Pause.{pause_at};
+ghost use Rattle.proxy_turns.specs.Commands.{Drops, HasEndAt, GoesTo, PostsBatch, HasEnd, Hears, HearsOne, Looks, PostOutcome, PostsAtResult, PostsFreshResult, WantsPostAt, commanded, in_table, node_looked_up};
 
+use crate::pause::pause_millis;
 use command_future::{Command, Want};
 use key_split::{Batch, Ended, Part, Ticket, Told};
 use proxy_lanes::{MapView, Naming, Outlet};
@@ -32,9 +35,9 @@ impl Model for Commands {
     ghost use Rattle.std.specs.FinMap as map;
     ghost use Rattle.std.specs.Coded.{codes, coded_ℕ};
     ghost use Rattle.resp_wire.specs.Stored.{coded_data};
-    ghost use Rattle.proxy_turns.specs.Commands.{Commanded};
+    ghost use Rattle.proxy_turns.specs.Commands.{CommandsModel};
 
-    ghost Value = { Commanded };
+    ghost Value = { CommandsModel };
 
     ghost coded = { Prim.hlevel (codes, coded_data, map.code) };
 
@@ -87,7 +90,8 @@ impl Commands {
         outlet: &mut Outlet<Batch>,
         view: &mut MapView<J>,
     ) -> Result<bool, NoMemory>
-        ensures { PostsResult self.old outlet.old view.old result self.new outlet.new view.new }
+        ensures posts { PostsFreshResult self.old outlet.old view.old result self.new outlet.new view.new }
+        ensures full { IfStill result (IfSome self.old.fresh (λ command. WantsPost command.stage → HasNoPlace outlet.new)) }
     {
         self.posted.reserve(1)?;
         let Some(command) = &mut self.fresh else {
@@ -107,7 +111,8 @@ impl Commands {
         outlet: &mut Outlet<Batch>,
         view: &mut MapView<J>,
     ) -> Result<bool, NoMemory>
-        ensures { PostsResult self.old outlet.old view.old result self.new outlet.new view.new }
+        ensures posts { PostsAtResult self.old number outlet.old view.old result self.new outlet.new view.new }
+        ensures full { IfStill result (WantsPostAt self.old number → HasNoPlace outlet.new) }
     {
         post_at(self.alloc, &mut self.posted, number, outlet, view)
     }
@@ -120,16 +125,26 @@ impl Commands {
     }
 
     /// Whether the command for the part of this number wants to be posted.
-    pub(crate) fn wants_post(&self, number: u64) -> bool {
+    pub(crate) fn wants_post(&self, number: u64) -> bool
+        ensures { IsTrue result ↔ WantsPostAt self.now number }
+    {
         match self.posted.get(&number) {
-            Some(command) => matches!(command.want(), Want::Post(_, _)),
+            Some(command) => pause_of(command).is_some(),
             None => false,
         }
     }
 
+    /// How long the command for the part of this number waits before its next post, in milliseconds; `None` where it wants
+    /// none.
+    pub(crate) fn pause(&self, number: u64) -> Option<u64>
+        ensures { (c : CommandModel) → map.get self.now.posted number ≡ Some c → result ≡ pause_at c.stage c.followed }
+    {
+        pause_of(self.posted.get(&number)?)
+    }
+
     /// The ticket and the end of the command for the part of this number, where it has ended.
     pub(crate) fn end_of(&self, number: u64) -> Option<(Ticket, &Ended)>
-        ensures { MatchOption result (EndsAt self.now number → ⊥) (λ (ticket, end). HasEnd self.now number ticket end.now) }
+        ensures { MatchOption result (HasEndAt self.now number → ⊥) (λ (ticket, end). HasEnd self.now number ticket end.now) }
     {
         let command = self.posted.get(&number)?;
         Some((command.ticket(), command.end()?))
@@ -137,13 +152,26 @@ impl Commands {
 
     /// Takes off the command for the part of this number, which has ended, with its end.
     pub(crate) fn finish(&mut self, number: u64) -> (Ticket, Ended)
-        requires { EndsAt self.old number }
+        requires { HasEndAt self.old number }
         ensures { HasEnd self.old number result.0 result.1 × (self.new ≡ record self.old { posted = map.remove self.old.posted number }) }
     {
         match take_at(&mut self.posted, number).finish() {
             Ok(ended) => ended,
             Err(_) => unreachable!(),
         }
+    }
+}
+
+// How long the command waits before its next post, in milliseconds; `None` where it wants none.
+fn pause_of(command: &Command) -> Option<u64>
+    ensures { result ≡ pause_at command.now.stage command.now.followed }
+{
+    match command.want() {
+        Want::Post(asking, named) => {
+            Some(pause_millis(command.followed(), asking || named.is_some()))
+        }
+        Want::Await => None,
+        Want::Finished => None,
     }
 }
 
@@ -177,7 +205,7 @@ fn take_at(posted: &mut HashMap<u64, Command>, number: u64) -> Command
 }
 
 fn tell_at(posted: &mut HashMap<u64, Command>, ticket: Ticket, told: Told) -> bool
-    ensures { (fresh : Option Progress) → Hears (commanded fresh posted.old.entries) ticket told result (commanded fresh posted.new.entries) }
+    ensures { (fresh : Option CommandModel) → Hears (commanded fresh posted.old.entries) ticket told result (commanded fresh posted.new.entries) }
 {
     let Some(command) = posted.get_mut(&ticket.part) else {
         return false;
@@ -202,7 +230,8 @@ fn post_at<J: Naming>(
     outlet: &mut Outlet<Batch>,
     view: &mut MapView<J>,
 ) -> Result<bool, NoMemory>
-    ensures { (fresh : Option Progress) → PostsResult (commanded fresh posted.old.entries) outlet.old view.old result (commanded fresh posted.new.entries) outlet.new view.new }
+    ensures posts { (fresh : Option CommandModel) → PostsAtResult (commanded fresh posted.old.entries) number outlet.old view.old result (commanded fresh posted.new.entries) outlet.new view.new }
+    ensures full { IfStill result ((fresh : Option CommandModel) → WantsPostAt (commanded fresh posted.old.entries) number → HasNoPlace outlet.new) }
 {
     let Some(command) = posted.get_mut(&number) else {
         return Ok(false);
@@ -219,12 +248,13 @@ fn post_command<J: Naming>(
 ) -> Result<bool, NoMemory>
     ensures ok { IfOk result (λ moved. PostOutcome command.old outlet.old view.old moved command.new outlet.new view.new) }
     ensures err { OnErr result (PostOutcome command.old outlet.old view.old false command.new outlet.new view.new) }
+    ensures full { IfStill result (WantsPost command.old.stage → HasNoPlace outlet.new) }
 {
     let Some(node) = aim(command, view) else {
         return Ok(false);
     };
     let batch = command.batch(alloc, node)?;
-    if !hand_in(outlet, batch) {
+    if !post_batch(outlet, batch) {
         return Ok(false);
     }
     command.posted(node);
@@ -234,7 +264,8 @@ fn post_command<J: Naming>(
 // The node at which the command wants to be posted.
 fn aim<J: Naming>(command: &Command, view: &mut MapView<J>) -> Option<NodeId>
     ensures aims { MatchOption result (view.new ≡ view.old) (λ node. GoesTo command.now.stage (slot_of command.now.part.key) view.old node view.new) }
-    ensures may { IfSome result (λ node. MayPost command.now.stage node) }
+    ensures may { IfSome result (λ node. MayPostTo command.now.stage node) }
+    ensures none { MatchOption result (WantsPost command.now.stage → ⊥) (λ _. ⊤) }
 {
     match command.want() {
         Want::Post(_, Some(node)) => Some(node),
@@ -245,8 +276,8 @@ fn aim<J: Naming>(command: &Command, view: &mut MapView<J>) -> Option<NodeId>
 }
 
 // Posts the batch. False where it came back.
-fn hand_in(outlet: &mut Outlet<Batch>, batch: Batch) -> bool
-    ensures { HandsIn outlet.old batch result outlet.new }
+fn post_batch(outlet: &mut Outlet<Batch>, batch: Batch) -> bool
+    ensures { PostsBatch outlet.old batch result outlet.new }
 {
     match outlet.post(batch) {
         Ok(()) => true,
@@ -256,7 +287,7 @@ fn hand_in(outlet: &mut Outlet<Batch>, batch: Batch) -> bool
 
 // The node of the slot by the map, or the seed.
 fn node_by_map<J: Naming>(view: &mut MapView<J>, slot: Slot) -> NodeId
-    ensures { (answer : Result (Option ℕ) NotEnteredNow) × Looks view.old slot answer view.new × (result ≡ node_looked_up answer) }
+    ensures { (answer : Result (Option ℕ) NotEntered) × Looks view.old slot answer view.new × (result ≡ node_looked_up answer) }
 {
     match view.node_of(slot) {
         Ok(Some(node)) => node,

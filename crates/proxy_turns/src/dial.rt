@@ -1,18 +1,20 @@
 //! How a connection to a node is opened.
 
-ghost use Rattle.std.specs.Prelude.{ℕ};
+ghost use Rattle.std.specs.Prelude.{◌≡◌, ℕ, false, ⊤};
+ghost use Rattle.slot_map.specs.Table.{Endpoint};
 ghost use Rattle.proxy_turns.specs.Dialling.{OpenOutcome};
 
 use node_link::NodePort;
 use slot_map::NodeId;
 use thiserror::Error;
 
-/// Why no connection was opened.
+/// Why no connection was given.
 #[derive(Clone, Copy, Debug, PartialEq, Eq, Drop, Error)]
 pub enum DialFault {
     /// The node was not dialled.
     #[error("out of memory")]
     NoMemory,
+    /// No connection to the node stands: the dial failed, or is under way, or may not begin yet.
     #[error("the node does not answer")]
     Failed,
 }
@@ -24,7 +26,22 @@ pub trait Dial {
     /// How often a dial failed.
     ghost failures: { Self → ℕ };
 
-    /// A connection over which nothing was sent, to the node that listens there.
+    /// The port is a new connection to the node that listens at this endpoint: nothing went over it.
+    ghost opens: { Endpoint → Self.Port → Type 0 };
+
+    /// It said that no node is to be asked for CLUSTER SLOTS now.
+    ghost is_calm: { Self → Type 0 } = { λ _. ⊤ };
+
+    /// Whether a node is to be asked for CLUSTER SLOTS now, since one was lost. Asked at each turn while no such request is
+    /// unanswered; after each time that this is true a node is asked.
+    fn seeks(&mut self) -> bool
+        ensures calm { result ≡ false → is_calm self.new }
+        ensures failures { failures self.new ≡ failures self.old };
+
+    /// Told of each batch that could not be sent, since there is no connection to its node, and none was opened.
+    fn unsent(&self) {}
+
+    /// A new connection to the node that listens there.
     fn open(&mut self, node: NodeId, host: &[u8], port: u16) -> Result<Self::Port, DialFault>
-        ensures { OpenOutcome (failures self.old) result (failures self.new) };
+        ensures { OpenOutcome opens (record { host = host.now; port = port }) (failures self.old) result (failures self.new) };
 }

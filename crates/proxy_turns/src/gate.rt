@@ -17,6 +17,14 @@ pub trait Gate {
     /// So many batches the worker has posted so far. Told after each turn that was not its last.
     fn posted(&self, _count: u64) {}
 
+    /// What time it is, in milliseconds since some moment. Where there is no time, refused commands do not wait.
+    fn time(&self) -> Option<u64> {
+        None
+    }
+
+    /// When the first of the commands that wait is to be posted again, by `time`. Told before `idle`.
+    fn next_due(&self, _time: Option<u64>) {}
+
     /// The last turn moved nothing.
     fn idle(&self)
         ensures rested { rests self.now };

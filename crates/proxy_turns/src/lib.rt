@@ -7,41 +7,55 @@
 //! ```
 //!
 //! Promise: exact turns. A turn is a list of events between old and new, and it says that something moved exactly where one of
-//! them is a move: for a worker `Does` of `specs/Turn.antt` and `specs/Floor.antt`, for the carrier `specs/Carriage.antt`.
+//! them is a move: for a worker `ClientDoes` of `specs/ClientTurn.antt` and `WorkerDoes` of `specs/WorkerModel.antt`, for the
+//! carrier `CarrierDoes` of `specs/CarrierModel.antt`.
 //! A worker posts only what its commands want, in the turn of their parts; it is a future, a poll of which is one pass of its
-//! gate and one turn (`PollOutcome` of `specs/Worker.antt`), and at its end it gives back every port that it still holds.
+//! gate and one turn (`PollOutcome` of `specs/Worker.antt`), and at its end it gives back every port that it still holds. A turn
+//! of it that moved nothing leaves each of its clients at rest (`AreClientsAtRest` of `specs/WorkerRest.antt`), and each command
+//! that was posted: it awaits its answer, pauses, or wants its next post at a lane that takes no more (`ArePostedAtRest`).
 //! The carrier sends each batch as one item; what is given is what a link received, Lost for the tickets that a failed link
-//! lost, and Unsent for a batch whose dial failed; the slot map is renewed by MOVED and CLUSTER SLOTS. `Script` is a client's
+//! lost, and Unsent for a batch whose dial failed; the slot map is renewed by MOVED and CLUSTER SLOTS. A turn of its that moved
+//! nothing leaves it at rest (`IsAtRest` of `specs/CarrierModel.antt`): whatever it holds waits for a full lane, no lane to it
+//! has a batch, and each open link gave nothing when it was asked for a reply. `Script` is a client's
 //! port over memory, gone exactly where it holds every reply that is owed to its bytes (`Owes` of `specs/Owing.antt`).
 #![tactic(auto)]
 
+mod all_backends;
+mod backend;
+mod backend_step;
 mod carrier;
-mod client;
+mod client_bytes;
+mod client_limits;
+mod client_parts;
+mod client_state;
+mod client_table;
 mod commands;
 mod dial;
+mod due_commands;
 mod gate;
-mod hand;
-mod line;
 mod newcomer;
 mod owing;
+mod pause;
+mod pending_batch;
 mod port;
 mod received;
-mod room;
+mod reply_size;
+mod round;
 mod script;
-mod step;
-mod table;
 mod turned;
+mod unpushed;
 mod worker;
 mod worker_end;
+mod worker_state;
 
+pub use backend::{Backend, PendingTold};
+pub use backend_step::BackendStep;
 pub use carrier::Carrier;
 pub use dial::{Dial, DialFault};
 pub use gate::Gate;
-pub use hand::Hand;
-pub use line::{Line, Owed};
 pub use newcomer::Newcomer;
+pub use pending_batch::PendingBatch;
 pub use port::ClientPort;
 pub use script::Script;
-pub use step::Step;
 pub use worker::Worker;
 pub use worker_end::{WorkerEnd, WorkerOutcome};

@@ -1,16 +1,16 @@
 //! How many replies a client is owed for its bytes.
 
 ghost use Rattle.std.specs.Prelude.{◌≡◌, ◌<◌, ◌≤◌, ◌+◌, ◌^◌, None, IfOk, length};
-ghost use Rattle.resp_wire.specs.Bounds.{full};
+ghost use Rattle.resp_wire.specs.LimitsModel.{full};
 ghost use Rattle.resp_wire.specs.Seen.{data_of};
-ghost use Rattle.session_order.specs.Owed.{plan_for};
+ghost use Rattle.session_order.specs.PendingReply.{plan_for};
 ghost use Rattle.session_order.specs.Requests.{asked_of};
 ghost use Rattle.proxy_turns.specs.Owing.{numbering, effect_by, effect_of, Owes, NextOutcome};
 
 use key_split::{PlanFault, Planned, plan};
 use resp_wire::laws::front_is_whole;
 use resp_wire::{Bytes, Limits, NoMemory, Reader, Value, WireFault};
-use session_order::{Wish, wish_of};
+use session_order::{RequestKind, kind_of};
 use std::alloc::Global;
 
 /// How many parts a session numbers.
@@ -85,15 +85,15 @@ fn effect_of(alloc: Global, value: Value, numbered: u64) -> Result<Effect, NoMem
     requires { numbered ≤ 2 ^ 48 }
     ensures { IfOk result (λ effect. effect ≡ effect_of numbered (asked_of (data_of value))) }
 {
-    match wish_of(alloc, value) {
-        Ok(Wish::Words(words)) => effect_by(alloc, words.as_slice(), numbered),
-        Ok(Wish::Nothing) => Ok(Effect::Skips),
-        Ok(Wish::Refused) => Ok(Effect::Ends),
+    match kind_of(alloc, value) {
+        Ok(RequestKind::Words(words)) => effect_by(alloc, words.as_slice(), numbered),
+        Ok(RequestKind::Nothing) => Ok(Effect::Skips),
+        Ok(RequestKind::Refused) => Ok(Effect::Ends),
         Err(_) => Err(NoMemory),
     }
 }
 
-#[tactic(auto, unfolding(session_order::specs::Owed::plan_for))]
+#[tactic(auto, unfolding(session_order::specs::PendingReply::plan_for))]
 fn effect_by(alloc: Global, words: &[Bytes], numbered: u64) -> Result<Effect, NoMemory>
     requires few { numbered ≤ 2 ^ 48 }
     requires some { 0 < length words.now }

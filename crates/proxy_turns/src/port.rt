@@ -1,29 +1,44 @@
 //! A client, as a worker sees it.
 
-ghost use Rattle.std.specs.Prelude.{List, [], ℕ};
-ghost use Rattle.key_split.specs.declared.travel.Ticket.{Ticket as TicketOf};
-ghost use Rattle.key_split.specs.declared.travel.Ended.{Ended as EndedAs};
-ghost use Rattle.proxy_turns.specs.Port.{PullOutcome, PushOutcome, NoteOutcome};
+ghost use Rattle.std.specs.Prelude.{List, [], ℕ, ⊤};
+ghost use Rattle.key_split.specs.declared.travel.Ticket.{Ticket};
+ghost use Rattle.key_split.specs.declared.travel.Ended.{Ended};
+ghost use Rattle.proxy_turns.specs.Port.{MovesNone, PullOutcome, PushOutcome, NoteOutcome};
 
 use key_split::{Ended, Ticket};
 use node_link::Flow;
 use resp_wire::NoMemory;
+use session_order::SessionFault;
 
 /// A client's bytes in and out, by calls that do not wait.
 pub trait ClientPort {
     /// From the first state to the second these bytes were pulled, these were pushed, and these ends were noted, each in order.
-    ghost moves: { Self → List ℕ → List ℕ → List (TicketOf × EndedAs) → Self → Type 0 };
+    ghost moves: { Self → List ℕ → List ℕ → List (Ticket × Ended) → Self → Type 0 };
+
+    /// Its last pull gave nothing.
+    ghost gives_none: { Self → Type 0 } = { λ _. ⊤ };
+
+    /// Its last push took nothing.
+    ghost takes_none: { Self → Type 0 } = { λ _. ⊤ };
 
     /// Told before each pull: whether more may be pushed. One that has ended its sending is not gone while that is so.
     fn owes(&self, _more: bool) {}
 
+    /// Told after each turn that read requests: how many.
+    fn requests_read(&self, _count: usize) {}
+
+    /// Told why what the client sent is no request, at each try to read on.
+    fn faulted(&self, _fault: SessionFault) {}
+
     /// Pulls some bytes to the front of the buffer.
     fn pull(&mut self, buffer: &mut [u8]) -> Result<Flow, NoMemory>
-        ensures pulled { PullOutcome moves self.old buffer.new result self.new };
+        ensures pulled { PullOutcome moves self.old buffer.new result self.new }
+        ensures none { MovesNone result → gives_none self.new };
 
     /// Pushes some bytes off the front.
     fn push(&mut self, bytes: &[u8]) -> Result<Flow, NoMemory>
-        ensures pushed { PushOutcome moves self.old bytes.now result self.new };
+        ensures pushed { PushOutcome moves self.old bytes.now result self.new }
+        ensures none { MovesNone result → takes_none self.new };
 
     /// Notes how a part of the client ended.
     fn note(&mut self, ticket: Ticket, end: &Ended) -> Result<(), NoMemory>

@@ -1,6 +1,6 @@
 //! A client's port over memory.
 
-ghost use Rattle.std.specs.Prelude.{◌≡◌, ◌++◌, ◌↔◌, IfOk, IsTrue, length, min, take};
+ghost use Rattle.std.specs.Prelude.{◌≡◌, ◌++◌, ◌↔◌, IfOk, IsTrue, length, min, take, ⊤};
 
 use crate::owing::replies_owed;
 use crate::port::ClientPort;
@@ -29,9 +29,9 @@ impl Model for Script {
     ghost use Rattle.std.specs.Prelude.{◌≤◌, length, take, drop};
     ghost use Rattle.std.specs.Coded.{codes};
     ghost use Rattle.resp_wire.specs.Stored.{coded_data};
-    ghost use Rattle.proxy_turns.specs.Script.{Scripted, IsOwed};
+    ghost use Rattle.proxy_turns.specs.Script.{ScriptModel, IsOwed};
 
-    ghost Value = { Scripted };
+    ghost Value = { ScriptModel };
 
     ghost coded = { Prim.hlevel (codes, coded_data) };
 
@@ -47,7 +47,7 @@ impl Model for Script {
 }
 
 impl Script {
-    ghost use Rattle.proxy_turns.specs.Script.{unplayed, IsServed};
+    ghost use Rattle.proxy_turns.specs.Script.{unplayed, IsScriptServed};
     ghost use Rattle.proxy_turns.specs.Owing.{Owes};
 
     /// A client of this number that sends these bytes.
@@ -77,7 +77,7 @@ impl Script {
     // Whether it holds every reply that is owed.
     fn is_served(&mut self) -> Result<bool, NoMemory>
         ensures kept { self.new ≡ self.old }
-        ensures served { IfOk result (λ all. IsTrue all ↔ IsServed self.old) }
+        ensures served { IfOk result (λ all. IsTrue all ↔ IsScriptServed self.old) }
     {
         let owed = self.owed_replies()?;
         self.replies.holds(owed)
@@ -97,13 +97,14 @@ impl Script {
 }
 
 impl ClientPort for Script {
-    ghost use Rattle.proxy_turns.specs.Port.{PullOutcome, PushOutcome, NoteOutcome};
+    ghost use Rattle.proxy_turns.specs.Port.{MovesNone, PullOutcome, PushOutcome, NoteOutcome};
     ghost use Rattle.proxy_turns.specs.Script.{Plays, PullAnswer, PushAnswer};
 
     ghost moves = { Plays };
 
     fn pull(&mut self, buffer: &mut [u8]) -> Result<Flow, NoMemory>
         ensures pulled { PullOutcome Plays self.old buffer.new result self.new }
+        ensures none { MovesNone result → ⊤ }
         ensures answer { PullAnswer self.old buffer.old result }
     {
         if self.is_served()? {
@@ -120,6 +121,7 @@ impl ClientPort for Script {
 
     fn push(&mut self, bytes: &[u8]) -> Result<Flow, NoMemory>
         ensures pushed { PushOutcome Plays self.old bytes.now result self.new }
+        ensures none { MovesNone result → ⊤ }
         ensures answer { PushAnswer bytes.now result }
     {
         self.replies.push(bytes)?;

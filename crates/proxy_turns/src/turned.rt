@@ -1,7 +1,12 @@
 //! What a client's turn, or a step of one of its commands, came to.
 
-ghost use Rattle.std.specs.Prelude.{◌≡◌};
-ghost use Rattle.proxy_turns.specs.Turn.{is_settled};
+ghost use Rattle.std.specs.Prelude.{◌≡◌, ◌↔◌, IsTrue};
+ghost use Rattle.proxy_turns.specs.ClientModel.{read_answer};
+ghost use Rattle.proxy_turns.specs.ClientTurn.{is_settled};
+
+use crate::port::ClientPort;
+use resp_wire::NoMemory;
+use session_order::SessionFault;
 
 /// What a client's turn came to.
 #[derive(Clone, Copy, Debug, PartialEq, Eq)]
@@ -33,7 +38,37 @@ impl Settled {
     }
 
     /// Whether its command is still to be posted.
-    pub(crate) fn is_held(self) -> bool {
+    pub(crate) fn is_held(self) -> bool
+        ensures { IsTrue result ↔ (self ≡ Settled.Held) }
+    {
         matches!(self, Settled::Held)
+    }
+}
+
+/// Whether a request was read. After a fault of the client's, of which its port is told, none is read.
+pub(crate) fn has_read<C: ClientPort>(
+    given: Result<bool, SessionFault>,
+    port: &C,
+) -> Result<bool, NoMemory>
+    ensures { result ≡ read_answer given }
+{
+    match given {
+        Ok(read) => Ok(read),
+        Err(SessionFault::NoMemory) => Err(NoMemory),
+        Err(SessionFault::Wire(fault)) => {
+            port.faulted(SessionFault::Wire(fault));
+            Ok(false)
+        }
+        Err(SessionFault::NotRequest) => {
+            port.faulted(SessionFault::NotRequest);
+            Ok(false)
+        }
+    }
+}
+
+/// Tells the port how many requests were read in a turn, where any were.
+pub(crate) fn note_read<C: ClientPort>(port: &C, count: usize) {
+    if count > 0 {
+        port.requests_read(count);
     }
 }

@@ -3,14 +3,16 @@
 ghost use Rattle.std.specs.Prelude.{◌≡◌, false, true, ⊤};
 ghost use Rattle.futures.specs.Task.{Covers, Keeps};
 ghost use Rattle.futures.specs.Poll.{IfReady, OnPending};
-ghost use Rattle.proxy_turns.specs.Floor.{TurnsAll};
-ghost use Rattle.proxy_turns.specs.Worker.{Gives, HandsBack, IsRunning, PollOutcome, StepOutcome, begun_over, floor_under};
+ghost use Rattle.proxy_turns.specs.WorkerModel.{WorkerTurns};
+ghost use Rattle.proxy_turns.specs.ClientRest.{IfStill};
+ghost use Rattle.proxy_turns.specs.WorkerRest.{AreClientsAtRest, ArePostedAtRest, HasNoNewcomer, HasNothingToTell};
+ghost use Rattle.proxy_turns.specs.Worker.{Gives, HandsBack, IsRunning, PollOutcome, StepOutcome, new_worker, worker_model};
 
 use crate::gate::Gate;
 use crate::newcomer::Newcomer;
 use crate::port::ClientPort;
-use crate::room::Room;
 use crate::worker_end::{WorkerEnd, WorkerOutcome};
+use crate::worker_state::WorkerState;
 use futures::Future;
 use futures::task::{Context, Poll};
 use proxy_lanes::{Naming, WorkerEnds};
@@ -21,7 +23,7 @@ use std::alloc::Global;
 #[derive(Drop)]
 pub struct Worker<'g, C: ClientPort + Drop, J: Naming, G: Gate> {
     gate: &'g G,
-    room: Room<C, J>,
+    state: WorkerState<C, J>,
     over: bool,
 }
 
@@ -34,55 +36,60 @@ impl<'g, C: ClientPort + Drop, J: Naming, G: Gate> Worker<'g, C, J, G> {
         gate: &'g G,
         clients: Option<u32>,
     ) -> Worker<'g, C, J, G>
-        ensures floor { floor_under result ≡ begun_over ends clients }
+        ensures model { worker_model result ≡ new_worker ends clients }
         ensures gate { result.gate.now ≡ gate.now }
         ensures can_poll { ⟦<Worker<'g, C, J, G> as Future>⟧.can_poll result }
     {
         Worker {
             gate,
-            room: Room::new(alloc, ends, clients),
+            state: WorkerState::new(alloc, ends, clients),
             over: false,
         }
     }
 
     /// One turn: takes new clients, tells the commands what came, and serves each client. True where something moved.
     pub fn turn(&mut self) -> Result<bool, NoMemory>
-        ensures turns { TurnsAll C.moves (floor_under self.old) result (floor_under self.new) }
+        ensures turns { WorkerTurns C.moves (worker_model self.old) result (worker_model self.new) }
+        ensures no_newcomer { IfStill result (HasNoNewcomer (worker_model self.new)) }
+        ensures nothing_to_tell { IfStill result (HasNothingToTell (worker_model self.new)) }
+        ensures clients_rest { IfStill result (AreClientsAtRest C.gives_none C.takes_none (worker_model self.new)) }
+        ensures posted_rest { IfStill result (ArePostedAtRest (worker_model self.new)) }
         ensures runs { IsRunning self.old → IsRunning self.new }
     {
-        self.room.turn()
+        self.state.turn(self.gate)
     }
 
     // One pass of the gate, and one turn where it lets the worker go on. What ends the worker, where something does.
     fn step(&mut self) -> Option<WorkerOutcome>
-        ensures does { StepOutcome C.moves (G.says self.old.gate.now) (G.rests self.old.gate.now) (floor_under self.old) result (floor_under self.new) }
+        ensures does { StepOutcome C.moves (G.says self.old.gate.now) (G.rests self.old.gate.now) (worker_model self.old) result (worker_model self.new) }
         ensures runs { IsRunning self.old → IsRunning self.new }
     {
         if !self.pass() {
             return Some(WorkerOutcome::Stopped);
         }
-        let moved = match self.room.turn() {
+        let moved = match self.state.turn(self.gate) {
             Ok(moved) => moved,
             Err(NoMemory) => {
                 self.pass();
                 return Some(WorkerOutcome::NoMemory);
             }
         };
-        if self.room.is_served() {
+        if self.state.is_served() {
             self.pass();
             return Some(WorkerOutcome::Served);
         }
-        self.gate.posted(self.room.posted());
+        self.gate.posted(self.state.posted());
         if !moved {
+            self.gate.next_due(self.state.next_due());
             self.gate.idle();
         }
         None
     }
 
     fn pass(&self) -> bool
-        ensures { G.says self.now.gate.now self.now.room.worker self.now.room.answered result }
+        ensures { G.says self.now.gate.now self.now.state.worker self.now.state.answered result }
     {
-        self.gate.pass(self.room.worker(), self.room.answered())
+        self.gate.pass(self.state.worker(), self.state.answered())
     }
 }
 
@@ -94,24 +101,24 @@ impl<'g, C: ClientPort + Drop, J: Naming, G: Gate> Future for Worker<'g, C, J, G
     // No source wakes it: each pending poll asks for the next.
     ghost needs = { λ _ _. ⊤ };
 
-    ghost gives = { λ worker end. Gives C.moves (floor_under worker) end };
+    ghost gives = { λ worker end. Gives C.moves (worker_model worker) end };
 
     fn poll(&mut self, cx: &mut Context<'_>) -> Poll<WorkerEnd<C>>
         requires { IsRunning self.old }
-        ensures value { IfReady result (Gives C.moves (floor_under self.old)) }
+        ensures value { IfReady result (Gives C.moves (worker_model self.old)) }
         ensures again { OnPending result (IsRunning self.new) }
-        ensures same { OnPending result ((end : _) → Gives C.moves (floor_under self.new) end → Gives C.moves (floor_under self.old) end) }
+        ensures same { OnPending result ((end : _) → Gives C.moves (worker_model self.new) end → Gives C.moves (worker_model self.old) end) }
         ensures registered { OnPending result (Covers cx.new (λ _. ⊤)) }
         ensures kept { Keeps cx.old cx.new }
 
         // Beside what a future owes: what one poll did, and a pending one has asked for the next.
-        ensures polled { PollOutcome C.moves (G.says self.old.gate.now) (G.rests self.old.gate.now) (floor_under self.old) result (floor_under self.new) }
+        ensures polled { PollOutcome C.moves (G.says self.old.gate.now) (G.rests self.old.gate.now) (worker_model self.old) result (worker_model self.new) }
         ensures woken { OnPending result (cx.new.is_woken ≡ true) }
     {
         match self.step() {
             Some(outcome) => {
                 self.over = true;
-                Poll::Ready(self.room.end(outcome))
+                Poll::Ready(self.state.end(outcome))
             }
             None => cx.yield_now(),
         }

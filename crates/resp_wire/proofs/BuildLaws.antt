@@ -4,7 +4,7 @@ use Rattle.std.specs.Borrow.{Bor}
 use Rattle.std.proofs.lemmas.List.{append-nil, map-append}
 use Rattle.std.proofs.lemmas.Bool.{le-ltb}
 use Rattle.resp_wire.specs.Data.{Data, Items, no_items, item, items_of, array}
-use Rattle.resp_wire.specs.Bounds.{Bounds}
+use Rattle.resp_wire.specs.LimitsModel.{LimitsModel}
 use Rattle.resp_wire.specs.Reading.{Reading, whole, partial, faulty, then_read, value_at, items_at, items_in, counted_array, after_line}
 use Rattle.resp_wire.specs.Seen.{items_view}
 use Rattle.resp_wire.specs.Gives.{Builds}
@@ -93,11 +93,11 @@ pub builds_same : {X A : Type 0} (view : X → A) (result : Result (Option (X ×
 builds_same {X} {A} view result r s e b = subst (λ (t : Reading A). Builds view result t) (sym e) b
 
 -- a line, with nothing after the bytes
-pub line_alone : (l : Bounds) (room kind : ℕ) (text bytes rest : List ℕ) → value_at l room (bytes ++ []) ≡ after_line l (items_in l room) kind text (rest ++ []) → value_at l room bytes ≡ after_line l (items_in l room) kind text rest
+pub line_alone : (l : LimitsModel) (room kind : ℕ) (text bytes rest : List ℕ) → value_at l room (bytes ++ []) ≡ after_line l (items_in l room) kind text (rest ++ []) → value_at l room bytes ≡ after_line l (items_in l room) kind text rest
 line_alone l room kind text bytes rest e =
     ap (λ (u : List ℕ). value_at l room u) (sym (append-nil bytes)) ∙ e ∙ ap (λ (u : List ℕ). after_line l (items_in l room) kind text u) (append-nil rest)
 
-pub array_inner : (l : Bounds) (room n limit : ℕ) (rest : List ℕ) → room ≢ 0 → limit ≡ l.items → n ≤ limit → counted_array (items_in l room) rest n ≡ then_read (items_at (value_at l (room - 1)) n rest) (λ vs after. whole (array vs) after)
+pub array_inner : (l : LimitsModel) (room n limit : ℕ) (rest : List ℕ) → room ≢ 0 → limit ≡ l.items → n ≤ limit → counted_array (items_in l room) rest n ≡ then_read (items_at (value_at l (room - 1)) n rest) (λ vs after. whole (array vs) after)
 array_inner l zero n limit rest h m k = absurd (h refl)
 array_inner l (suc inner) n limit rest h m k =
     let less : suc inner - 1 ≡ inner = omega arith in

@@ -10,7 +10,7 @@ use Rattle.std.proofs.lemmas.Fmt.{length-decimal-le, decimal_is_IsNumeral}
 use Rattle.std.proofs.lemmas.List.{length-drop}
 use Rattle.resp_wire.specs.Text.{is_one_line}
 use Rattle.resp_wire.specs.Data.{Data, Items, simple, error, integer, bulk, null_bulk, array, null_array, no_items, item}
-use Rattle.resp_wire.specs.Bounds.{Bounds}
+use Rattle.resp_wire.specs.LimitsModel.{LimitsModel}
 use Rattle.resp_wire.specs.Spelling.{is_digits, signed_64, length_in, integer_in, Spells, SpellsAll, count_of}
 use Rattle.resp_wire.specs.Canonical.{canonical, canonical_all}
 use Rattle.resp_wire.specs.Laws.{CanonicalSpells, CanonicalReads}
@@ -168,7 +168,7 @@ mutual
       (decimal (count_of vs), canonical_all vs, s.2, s.3, a.1, s.5, record { plain = a.2; short = omega (arith, a.0, s.6.short); are = refl }, all_spell l s.2 s.1 vs s.7)
   canonical_spells l room bytes null_array s = record { plain = s.plain; short = s.short; are = refl }
 
-  all_spell : (l : Bounds) (room : ℕ) (bytes : List ℕ) (vs : Items) → SpellsAll l room bytes vs → SpellsAll l room (canonical_all vs) vs
+  all_spell : (l : LimitsModel) (room : ℕ) (bytes : List ℕ) (vs : Items) → SpellsAll l room bytes vs → SpellsAll l room (canonical_all vs) vs
   all_spell l room bytes no_items s = refl
   all_spell l room bytes (item v vs) s = (canonical v, canonical_all vs, refl, canonical_spells l room s.0 v s.3, all_spell l room s.1 vs s.4)
 

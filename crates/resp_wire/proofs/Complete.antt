@@ -2,21 +2,21 @@
 use Rattle.std.proofs.Common.{◌≡◌, ℕ, suc, ◌≤◌, List, [], ◌∷◌, ◌++◌, length, Some, refl, ◌∙◌, append_assoc}
 use Rattle.std.proofs.lemmas.Bool.{le-ltb}
 use Rattle.resp_wire.specs.Data.{Data, Items, simple, error, integer, bulk, null_bulk, array, null_array, no_items, item}
-use Rattle.resp_wire.specs.Bounds.{Bounds}
+use Rattle.resp_wire.specs.LimitsModel.{LimitsModel}
 use Rattle.resp_wire.specs.Spelling.{cr, lf, plus, minus, colon, dollar, star, none, BeginsLine, length_in, integer_in, count_of, Spells, SpellsAll}
 use Rattle.resp_wire.specs.Reading.{Reading, whole, then_read, after_line, integer_at, bulk_at, array_at, items_at, items_in, value_at}
 use Rattle.resp_wire.proofs.Lines.{line_whole, begins_more, body_whole, length_no_null, by_length_some}
 
 -- what follows a line of each kind
-pub after_colon : (l : Bounds) (items : ℕ → List ℕ → Reading Items) (text rest : List ℕ) → after_line l items colon text rest ≡ integer_at text rest
+pub after_colon : (l : LimitsModel) (items : ℕ → List ℕ → Reading Items) (text rest : List ℕ) → after_line l items colon text rest ≡ integer_at text rest
 unfolding after_line
 after_colon l items text rest = refl
 
-pub after_dollar : (l : Bounds) (items : ℕ → List ℕ → Reading Items) (text rest : List ℕ) → after_line l items dollar text rest ≡ bulk_at l text rest
+pub after_dollar : (l : LimitsModel) (items : ℕ → List ℕ → Reading Items) (text rest : List ℕ) → after_line l items dollar text rest ≡ bulk_at l text rest
 unfolding after_line
 after_dollar l items text rest = refl
 
-pub after_star : (l : Bounds) (items : ℕ → List ℕ → Reading Items) (text rest : List ℕ) → after_line l items star text rest ≡ array_at items text rest
+pub after_star : (l : LimitsModel) (items : ℕ → List ℕ → Reading Items) (text rest : List ℕ) → after_line l items star text rest ≡ array_at items text rest
 unfolding after_line
 after_star l items text rest = refl
 
@@ -24,11 +24,11 @@ pub integer_whole : (text rest : List ℕ) (z : _) → integer_in text ≡ Some 
 unfolding integer_at
 integer_whole text rest z e = rw e refl
 
-bulk_whole : (l : Bounds) (text body after : List ℕ) → length_in text ≡ Some (length body) → length body ≤ l.bulk → bulk_at l text (body ++ cr ∷ lf ∷ after) ≡ whole (bulk body) after
+bulk_whole : (l : LimitsModel) (text body after : List ℕ) → length_in text ≡ Some (length body) → length body ≤ l.bulk → bulk_at l text (body ++ cr ∷ lf ∷ after) ≡ whole (bulk body) after
 unfolding bulk_at
 bulk_whole l text body after e h = rw (length_no_null text (length body) e, e, le-ltb l.bulk (length body) h, body_whole body after) refl
 
-bulk_null : (l : Bounds) (rest : List ℕ) → bulk_at l none rest ≡ whole null_bulk rest
+bulk_null : (l : LimitsModel) (rest : List ℕ) → bulk_at l none rest ≡ whole null_bulk rest
 unfolding bulk_at
 bulk_null l rest = refl
 
@@ -48,7 +48,7 @@ pub items_none : (read : List ℕ → Reading Data) (bytes : List ℕ) → items
 unfolding items_at
 items_none read bytes = refl
 
-array_again : (l : Bounds) (inner : ℕ) (text body bytes after : List ℕ) (vs : Items) → length_in text ≡ Some (count_of vs) → count_of vs ≤ l.items → BeginsLine l star text bytes body
+array_again : (l : LimitsModel) (inner : ℕ) (text body bytes after : List ℕ) (vs : Items) → length_in text ≡ Some (count_of vs) → count_of vs ≤ l.items → BeginsLine l star text bytes body
     → items_at (value_at l inner) (count_of vs) (body ++ after) ≡ whole vs after → value_at l (suc inner) (bytes ++ after) ≡ whole (array vs) after
 array_again l inner text body bytes after vs e h b again =
     line_whole l (items_in l (suc inner)) star text (bytes ++ after) (body ++ after) (begins_more l star text bytes body after b) refl
@@ -56,17 +56,17 @@ array_again l inner text body bytes after vs e h b again =
     ∙ array_counted (items_in l (suc inner)) text (body ++ after) (count_of vs) e
     ∙ rw (le-ltb l.items (count_of vs) h, again) refl
 
-simple_again : (l : Bounds) (room : ℕ) (bytes after text : List ℕ) → BeginsLine l plus text bytes [] → value_at l room (bytes ++ after) ≡ whole (simple text) after
+simple_again : (l : LimitsModel) (room : ℕ) (bytes after text : List ℕ) → BeginsLine l plus text bytes [] → value_at l room (bytes ++ after) ≡ whole (simple text) after
 unfolding after_line
 simple_again l room bytes after text s = line_whole l (items_in l room) plus text (bytes ++ after) after (begins_more l plus text bytes [] after s) refl
 
-error_again : (l : Bounds) (room : ℕ) (bytes after text : List ℕ) → BeginsLine l minus text bytes [] → value_at l room (bytes ++ after) ≡ whole (error text) after
+error_again : (l : LimitsModel) (room : ℕ) (bytes after text : List ℕ) → BeginsLine l minus text bytes [] → value_at l room (bytes ++ after) ≡ whole (error text) after
 unfolding after_line
 error_again l room bytes after text s = line_whole l (items_in l room) minus text (bytes ++ after) after (begins_more l minus text bytes [] after s) refl
 
 mutual
   -- a spelled value is read, whatever follows it
-  pub read_again : (l : Bounds) (room : ℕ) (bytes after : List ℕ) (v : Data) → Spells l room bytes v → value_at l room (bytes ++ after) ≡ whole v after
+  pub read_again : (l : LimitsModel) (room : ℕ) (bytes after : List ℕ) (v : Data) → Spells l room bytes v → value_at l room (bytes ++ after) ≡ whole v after
   read_again l room bytes after (simple text) s = simple_again l room bytes after text s
   read_again l room bytes after (error text) s = error_again l room bytes after text s
   read_again l room bytes after (integer z) s =
@@ -87,7 +87,7 @@ mutual
       ∙ after_star l (items_in l room) none after
       ∙ array_null (items_in l room) after
 
-  pub all_again : (l : Bounds) (room : ℕ) (bytes after : List ℕ) (vs : Items) → SpellsAll l room bytes vs → items_at (value_at l room) (count_of vs) (bytes ++ after) ≡ whole vs after
+  pub all_again : (l : LimitsModel) (room : ℕ) (bytes after : List ℕ) (vs : Items) → SpellsAll l room bytes vs → items_at (value_at l room) (count_of vs) (bytes ++ after) ≡ whole vs after
   all_again l room bytes after no_items s = rw s (items_none (value_at l room) after)
   all_again l room bytes after (item v vs) s =
       rw (s.2, append_assoc s.0 s.1 after) (items_more (value_at l room) (count_of vs) (s.0 ++ (s.1 ++ after)) (s.1 ++ after) v (read_again l room s.0 (s.1 ++ after) v s.3)

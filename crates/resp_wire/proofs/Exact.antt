@@ -2,7 +2,7 @@
 use Rattle.std.proofs.Common.{◌≡◌, ℕ, zero, suc, ◌<◌, ◌≤◌, cond, ltb, List, [], ◌∷◌, ◌++◌, length, take, drop, Some, refl, sym, ap, subst, ◌∙◌, append_assoc, arith, inl, inr}
 use Rattle.std.proofs.lemmas.Bool.{ltb-true, ltb-false}
 use Rattle.resp_wire.specs.Data.{Data, Items, simple, error, integer, bulk, null_bulk, array, null_array, no_items, item}
-use Rattle.resp_wire.specs.Bounds.{Bounds}
+use Rattle.resp_wire.specs.LimitsModel.{LimitsModel}
 use Rattle.resp_wire.specs.Spelling.{cr, lf, plus, minus, colon, dollar, star, none, BeginsLine, length_in, integer_in, count_of, Spells, SpellsAll}
 use Rattle.resp_wire.specs.Faults.{FirstFault, bad_integer, bad_bulk_length, bad_array_length, long_bulk, too_deep, too_many, no_end, inside}
 use Rattle.resp_wire.specs.Reading.{Reading, whole, faulty, then_read, body_at, integer_at, bulk_at, array_at, items_at, items_in, value_at}
@@ -12,29 +12,29 @@ use Rattle.resp_wire.proofs.Sound.{then_is_whole, then_is_faulty, chosen, mapped
 use Rattle.resp_wire.proofs.SoundValue.{line_is, line_fault, of_plus, of_minus, of_colon, of_dollar, of_star, by_kind, is_null, no_length, has_length, by_length_of, IsBody, body_is, body_fault}
 
 -- the value is spelled at the front
-pub record Front (l : Bounds) (room : ℕ) (bytes : List ℕ) (v : Data) (after : List ℕ) : Type 0 where
+pub record Front (l : LimitsModel) (room : ℕ) (bytes : List ℕ) (v : Data) (after : List ℕ) : Type 0 where
   pub text : List ℕ
   pub spelled : Spells l room text v
   pub are : bytes ≡ text ++ after
 
-pub record Fronts (l : Bounds) (room n : ℕ) (bytes : List ℕ) (vs : Items) (after : List ℕ) : Type 0 where
+pub record Fronts (l : LimitsModel) (room n : ℕ) (bytes : List ℕ) (vs : Items) (after : List ℕ) : Type 0 where
   pub text : List ℕ
   pub spelled : SpellsAll l room text vs
   pub count : count_of vs ≡ n
   pub are : bytes ≡ text ++ after
 
 -- a line alone
-one_line : (l : Bounds) (room kind : ℕ) (text bytes more after : List ℕ) (v : Data) → BeginsLine l kind text bytes more → more ≡ after → ((front : List ℕ) → BeginsLine l kind text front [] → Spells l room front v) → Front l room bytes v after
+one_line : (l : LimitsModel) (room kind : ℕ) (text bytes more after : List ℕ) (v : Data) → BeginsLine l kind text bytes more → more ≡ after → ((front : List ℕ) → BeginsLine l kind text front [] → Spells l room front v) → Front l room bytes v after
 one_line l room kind text bytes more after v b e spells = record {
   text = kind ∷ (text ++ cr ∷ lf ∷ []);
   spelled = spells (kind ∷ (text ++ cr ∷ lf ∷ [])) (record { plain = b.plain; short = b.short; are = refl });
   are = b.are ∙ rw e (ap (λ (u : List ℕ). kind ∷ u) (sym (append_assoc text (cr ∷ lf ∷ []) after)));
 }
 
-pub same_front : {l : Bounds} {room : ℕ} {bytes after rest : List ℕ} {v w : Data} → Front l room bytes v after → v ≡ w → after ≡ rest → Front l room bytes w rest
+pub same_front : {l : LimitsModel} {room : ℕ} {bytes after rest : List ℕ} {v w : Data} → Front l room bytes v after → v ≡ w → after ≡ rest → Front l room bytes w rest
 same_front {l} {room} {bytes} {after} {rest} {v} {w} f e g = subst (λ (u : List ℕ). Front l room bytes w u) g (subst (λ (u : Data). Front l room bytes u after) e f)
 
-integer_front : (l : Bounds) (room : ℕ) (text bytes more after : List ℕ) (v : Data) → BeginsLine l colon text bytes more → integer_at text more ≡ whole v after → Front l room bytes v after
+integer_front : (l : LimitsModel) (room : ℕ) (text bytes more after : List ℕ) (v : Data) → BeginsLine l colon text bytes more → integer_at text more ≡ whole v after → Front l room bytes v after
 unfolding integer_at
 integer_front l room text bytes more after v b e =
     elim (mapped (λ z. whole (integer z) more) (integer_in text) (faulty BadNumber) (whole v after) e) [
@@ -44,7 +44,7 @@ integer_front l room text bytes more after v b e =
           same_front (one_line l room colon text bytes more more (integer h.0) b refl (λ front p. (text, h.1, p))) same.0 same.1
     ]
 
-integer_first : (l : Bounds) (room : ℕ) (text bytes more : List ℕ) (f : WireFault) → BeginsLine l colon text bytes more → integer_at text more ≡ faulty f → FirstFault l room bytes f
+integer_first : (l : LimitsModel) (room : ℕ) (text bytes more : List ℕ) (f : WireFault) → BeginsLine l colon text bytes more → integer_at text more ≡ faulty f → FirstFault l room bytes f
 unfolding integer_at
 integer_first l room text bytes more f b e =
     elim (mapped (λ z. whole (integer z) more) (integer_in text) (faulty BadNumber) (faulty f) e) [
@@ -52,17 +52,17 @@ integer_first l room text bytes more f b e =
       | inr h ↦ absurd (let z = h.2 in cc)
     ]
 
-bulk_body : Bounds → List ℕ → ℕ → Reading Data
+bulk_body : LimitsModel → List ℕ → ℕ → Reading Data
 bulk_body l more n = cond (ltb l.bulk n) (faulty TooLong) (then_read (body_at n more) (λ body after. whole (bulk body) after))
 
-whole_bulk : (l : Bounds) (room : ℕ) (text bytes more body after : List ℕ) (n : ℕ) → BeginsLine l dollar text bytes more → length_in text ≡ Some n → n ≤ l.bulk → IsBody n more body (cr ∷ lf ∷ after) → Front l room bytes (bulk body) after
+whole_bulk : (l : LimitsModel) (room : ℕ) (text bytes more body after : List ℕ) (n : ℕ) → BeginsLine l dollar text bytes more → length_in text ≡ Some n → n ≤ l.bulk → IsBody n more body (cr ∷ lf ∷ after) → Front l room bytes (bulk body) after
 whole_bulk l room text bytes more body after n b t h i = record {
   text = dollar ∷ (text ++ cr ∷ lf ∷ (body ++ cr ∷ lf ∷ []));
   spelled = (text, rw i.all t, omega (arith, i.all), record { plain = b.plain; short = b.short; are = refl });
   are = b.are ∙ rw (i.are, append_assoc text (cr ∷ lf ∷ (body ++ cr ∷ lf ∷ [])) after, append_assoc body (cr ∷ lf ∷ []) after) refl;
 }
 
-bulk_front : (l : Bounds) (room : ℕ) (text bytes more after : List ℕ) (v : Data) → BeginsLine l dollar text bytes more → bulk_at l text more ≡ whole v after → Front l room bytes v after
+bulk_front : (l : LimitsModel) (room : ℕ) (text bytes more after : List ℕ) (v : Data) → BeginsLine l dollar text bytes more → bulk_at l text more ≡ whole v after → Front l room bytes v after
 unfolding bulk_at bulk_body
 bulk_front l room text bytes more after v b e =
     elim (by_length_of text (whole null_bulk more) (bulk_body l more) (whole v after) e) [
@@ -80,7 +80,7 @@ bulk_front l room text bytes more after v b e =
       ]
     ]
 
-bulk_first : (l : Bounds) (room : ℕ) (text bytes more : List ℕ) (f : WireFault) → BeginsLine l dollar text bytes more → bulk_at l text more ≡ faulty f → FirstFault l room bytes f
+bulk_first : (l : LimitsModel) (room : ℕ) (text bytes more : List ℕ) (f : WireFault) → BeginsLine l dollar text bytes more → bulk_at l text more ≡ faulty f → FirstFault l room bytes f
 unfolding bulk_at bulk_body
 bulk_first l room text bytes more f b e =
     elim (by_length_of text (whole null_bulk more) (bulk_body l more) (faulty f) e) [
@@ -102,16 +102,16 @@ bulk_first l room text bytes more f b e =
 -- ---- arrays
 
 -- what the values of this room come to
-abbrev Sound : Bounds → ℕ → Type 0
+abbrev Sound : LimitsModel → ℕ → Type 0
 Sound l room = (bytes : List ℕ) (v : Data) (after : List ℕ) → value_at l room bytes ≡ whole v after → Front l room bytes v after
 
-abbrev First : Bounds → ℕ → Type 0
+abbrev First : LimitsModel → ℕ → Type 0
 First l room = (bytes : List ℕ) (f : WireFault) → value_at l room bytes ≡ faulty f → FirstFault l room bytes f
 
 joined : (a b c rest bytes : List ℕ) → bytes ≡ a ++ rest → rest ≡ b ++ c → bytes ≡ (a ++ b) ++ c
 joined a b c rest bytes e f = e ∙ ap (λ (u : List ℕ). a ++ u) f ∙ sym (append_assoc a b c)
 
-items_front : (l : Bounds) (room n : ℕ) → Sound l room → (bytes : List ℕ) (vs : Items) (after : List ℕ) → items_at (value_at l room) n bytes ≡ whole vs after → Fronts l room n bytes vs after
+items_front : (l : LimitsModel) (room n : ℕ) → Sound l room → (bytes : List ℕ) (vs : Items) (after : List ℕ) → items_at (value_at l room) n bytes ≡ whole vs after → Fronts l room n bytes vs after
 unfolding items_at
 items_front l room zero sound bytes vs after e =
     let same = whole_is no_items vs bytes after e in
@@ -132,7 +132,7 @@ items_front l room (suc n) sound bytes vs after e =
     subst (λ (u : Items). Fronts l room (suc n) bytes u after) same.0 (subst (λ (u : List ℕ). Fronts l room (suc n) bytes (item r.0 s.0) u) same.1 here)
 
 -- some items, and then a fault
-record Stops (l : Bounds) (room n : ℕ) (bytes : List ℕ) (f : WireFault) : Type 0 where
+record Stops (l : LimitsModel) (room n : ℕ) (bytes : List ℕ) (f : WireFault) : Type 0 where
   pub before : List ℕ
   pub after : List ℕ
   pub vs : Items
@@ -141,7 +141,7 @@ record Stops (l : Bounds) (room n : ℕ) (bytes : List ℕ) (f : WireFault) : Ty
   pub are : bytes ≡ before ++ after
   pub next : FirstFault l room after f
 
-items_stop : (l : Bounds) (room n : ℕ) → Sound l room → First l room → (bytes : List ℕ) (f : WireFault) → items_at (value_at l room) n bytes ≡ faulty f → Stops l room n bytes f
+items_stop : (l : LimitsModel) (room n : ℕ) → Sound l room → First l room → (bytes : List ℕ) (f : WireFault) → items_at (value_at l room) n bytes ≡ faulty f → Stops l room n bytes f
 unfolding items_at
 items_stop l room zero sound first bytes f e = absurd cc
 items_stop l room (suc n) sound first bytes f e =
@@ -164,19 +164,19 @@ items_stop l room (suc n) sound first bytes f e =
       ]
     ]
 
-null_front : (l : Bounds) (room : ℕ) (text bytes more after : List ℕ) (v : Data) → BeginsLine l star text bytes more → text ≡ none → (let r : Reading Data = whole null_array more in r) ≡ whole v after → Front l room bytes v after
+null_front : (l : LimitsModel) (room : ℕ) (text bytes more after : List ℕ) (v : Data) → BeginsLine l star text bytes more → text ≡ none → (let r : Reading Data = whole null_array more in r) ≡ whole v after → Front l room bytes v after
 null_front l room text bytes more after v b t h =
     let same = whole_is null_array v more after h in
     same_front (one_line l room star text bytes more more null_array b refl (λ front p. subst (λ (u : List ℕ). BeginsLine l star u front []) t p)) same.0 same.1
 
-whole_array : (l : Bounds) (inner : ℕ) (text bytes more after : List ℕ) (n : ℕ) (vs : Items) → BeginsLine l star text bytes more → length_in text ≡ Some n → n ≤ l.items → Fronts l inner n more vs after → Front l (suc inner) bytes (array vs) after
+whole_array : (l : LimitsModel) (inner : ℕ) (text bytes more after : List ℕ) (n : ℕ) (vs : Items) → BeginsLine l star text bytes more → length_in text ≡ Some n → n ≤ l.items → Fronts l inner n more vs after → Front l (suc inner) bytes (array vs) after
 whole_array l inner text bytes more after n vs b t h i = record {
   text = star ∷ (text ++ cr ∷ lf ∷ i.text);
   spelled = (text, i.text, inner, refl, rw i.count t, omega (arith, i.count), record { plain = b.plain; short = b.short; are = refl }, i.spelled);
   are = b.are ∙ rw (i.are, append_assoc text (cr ∷ lf ∷ i.text) after) refl;
 }
 
-array_front : (l : Bounds) (room : ℕ) (text bytes more after : List ℕ) (v : Data) → ((inner : ℕ) → room ≡ suc inner → Sound l inner) → BeginsLine l star text bytes more → array_at (items_in l room) text more ≡ whole v after → Front l room bytes v after
+array_front : (l : LimitsModel) (room : ℕ) (text bytes more after : List ℕ) (v : Data) → ((inner : ℕ) → room ≡ suc inner → Sound l inner) → BeginsLine l star text bytes more → array_at (items_in l room) text more ≡ whole v after → Front l room bytes v after
 unfolding array_at
 array_front l zero text bytes more after v below b e =
     elim (by_length_of text (whole null_array more) (λ n. then_read (items_in l zero n more) (λ vs rest. whole (array vs) rest)) (whole v after) e) [
@@ -197,7 +197,7 @@ array_front l (suc inner) text bytes more after v below b e =
           ]
     ]
 
-array_first : (l : Bounds) (room : ℕ) (text bytes more : List ℕ) (f : WireFault) → ((inner : ℕ) → room ≡ suc inner → Sound l inner) → ((inner : ℕ) → room ≡ suc inner → First l inner) → BeginsLine l star text bytes more → array_at (items_in l room) text more ≡ faulty f → FirstFault l room bytes f
+array_first : (l : LimitsModel) (room : ℕ) (text bytes more : List ℕ) (f : WireFault) → ((inner : ℕ) → room ≡ suc inner → Sound l inner) → ((inner : ℕ) → room ≡ suc inner → First l inner) → BeginsLine l star text bytes more → array_at (items_in l room) text more ≡ faulty f → FirstFault l room bytes f
 unfolding array_at
 array_first l zero text bytes more f below first b e =
     elim (by_length_of text (whole null_array more) (λ n. then_read (items_in l zero n more) (λ vs rest. whole (array vs) rest)) (faulty f) e) [
@@ -223,10 +223,10 @@ array_first l (suc inner) text bytes more f below first b e =
 
 -- ---- values
 
-of_kind : {l : Bounds} {kind other : ℕ} {text bytes more : List ℕ} → kind ≡ other → BeginsLine l kind text bytes more → BeginsLine l other text bytes more
+of_kind : {l : LimitsModel} {kind other : ℕ} {text bytes more : List ℕ} → kind ≡ other → BeginsLine l kind text bytes more → BeginsLine l other text bytes more
 of_kind {l} {kind} {other} {text} {bytes} {more} e b = subst (λ (k : ℕ). BeginsLine l k text bytes more) e b
 
-value_front : (l : Bounds) (room : ℕ) → ((inner : ℕ) → room ≡ suc inner → Sound l inner) → Sound l room
+value_front : (l : LimitsModel) (room : ℕ) → ((inner : ℕ) → room ≡ suc inner → Sound l inner) → Sound l room
 value_front l room below bytes v after e =
     let i = line_is l (items_in l room) bytes v after e in
     elim (by_kind l (items_in l room) i.kind i.text i.rest (whole v after) i.known i.then_is) [
@@ -237,7 +237,7 @@ value_front l room below bytes v after e =
       | of_star k h ↦ array_front l room i.text bytes i.rest after v below (of_kind k i.begins) h
     ]
 
-value_first : (l : Bounds) (room : ℕ) → ((inner : ℕ) → room ≡ suc inner → Sound l inner) → ((inner : ℕ) → room ≡ suc inner → First l inner) → First l room
+value_first : (l : LimitsModel) (room : ℕ) → ((inner : ℕ) → room ≡ suc inner → Sound l inner) → ((inner : ℕ) → room ≡ suc inner → First l inner) → First l room
 value_first l room below first bytes f e =
     elim (line_fault l room (items_in l room) bytes f e) [
       | inl x ↦ x
@@ -251,12 +251,12 @@ value_first l room below first bytes f e =
     ]
 
 -- what is read is spelled so
-pub read_sound : (l : Bounds) (room : ℕ) → Sound l room
+pub read_sound : (l : LimitsModel) (room : ℕ) → Sound l room
 read_sound l zero = value_front l zero (λ inner e. absurd (omega arith))
 read_sound l (suc room) = value_front l (suc room) (λ inner e. let same : room ≡ inner = omega arith in subst (λ (r : ℕ). Sound l r) same (read_sound l room))
 
 -- a fault that reading finds is the first
-pub fault_first : (l : Bounds) (room : ℕ) → First l room
+pub fault_first : (l : LimitsModel) (room : ℕ) → First l room
 fault_first l zero = value_first l zero (λ inner e. absurd (omega arith)) (λ inner e. absurd (omega arith))
 fault_first l (suc room) =
     value_first l (suc room)

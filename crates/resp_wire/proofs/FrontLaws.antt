@@ -1,7 +1,7 @@
 -- The front of a text is what spelling and first fault say.
 use Rattle.std.proofs.Common.{◌≡◌, ℕ, List, refl, sym, ap, ◌∙◌}
 use Rattle.resp_wire.specs.Data.{Data}
-use Rattle.resp_wire.specs.Bounds.{Bounds}
+use Rattle.resp_wire.specs.LimitsModel.{LimitsModel}
 use Rattle.resp_wire.specs.Reading.{Reading, whole, partial, faulty, value_at}
 use Rattle.resp_wire.specs.Front.{Whole, Partial, Faulty, front, front_of, front-is}
 use Rattle.resp_wire.specs.Stream.{Begins, NoneWhole, NoFault, HasFault}
@@ -13,27 +13,27 @@ use Rattle.resp_wire.proofs.Exact.{read_sound, fault_first}
 
 -- ---- reading, and what the public words say
 
-pub begins_reads : (l : Bounds) (rest after : List ℕ) (v : Data) → Begins l rest v after → value_at l l.depth rest ≡ whole v after
+pub begins_reads : (l : LimitsModel) (rest after : List ℕ) (v : Data) → Begins l rest v after → value_at l l.depth rest ≡ whole v after
 begins_reads l rest after v t = ap (λ (u : List ℕ). value_at l l.depth u) t.2 ∙ read_again l l.depth t.0 after v t.1
 
-pub reads_begins : (l : Bounds) (rest after : List ℕ) (v : Data) → value_at l l.depth rest ≡ whole v after → Begins l rest v after
+pub reads_begins : (l : LimitsModel) (rest after : List ℕ) (v : Data) → value_at l l.depth rest ≡ whole v after → Begins l rest v after
 reads_begins l rest after v e = let f = read_sound l l.depth rest v after e in (f.text, f.spelled, f.are)
 
-pub partial_none : (l : Bounds) (rest : List ℕ) → value_at l l.depth rest ≡ partial → NoneWhole l rest × NoFault l rest
+pub partial_none : (l : LimitsModel) (rest : List ℕ) → value_at l l.depth rest ≡ partial → NoneWhole l rest × NoFault l rest
 partial_none l rest e = ((λ v after t. let k = sym e ∙ begins_reads l rest after v t in cc), (λ f h. let k = sym e ∙ fault_found l l.depth rest f h in cc))
 
-pub faulty_is_first : (l : Bounds) (rest : List ℕ) (f : WireFault) → value_at l l.depth rest ≡ faulty f → NoneWhole l rest × HasFault l rest f
+pub faulty_is_first : (l : LimitsModel) (rest : List ℕ) (f : WireFault) → value_at l l.depth rest ≡ faulty f → NoneWhole l rest × HasFault l rest f
 faulty_is_first l rest f e = ((λ v after t. let k = sym e ∙ begins_reads l rest after v t in cc), fault_first l l.depth rest f e)
 
 -- ---- reading, and the front
 
-pub front_whole : (l : Bounds) (rest after : List ℕ) (v : Data) → value_at l l.depth rest ≡ whole v after → front l rest ≡ Whole v after
+pub front_whole : (l : LimitsModel) (rest after : List ℕ) (v : Data) → value_at l l.depth rest ≡ whole v after → front l rest ≡ Whole v after
 front_whole l rest after v e = front-is l rest ∙ ap front_of e
 
-pub front_partial : (l : Bounds) (rest : List ℕ) → value_at l l.depth rest ≡ partial → front l rest ≡ Partial
+pub front_partial : (l : LimitsModel) (rest : List ℕ) → value_at l l.depth rest ≡ partial → front l rest ≡ Partial
 front_partial l rest e = front-is l rest ∙ ap front_of e
 
-pub front_faulty : (l : Bounds) (rest : List ℕ) (f : WireFault) → value_at l l.depth rest ≡ faulty f → front l rest ≡ Faulty f
+pub front_faulty : (l : LimitsModel) (rest : List ℕ) (f : WireFault) → value_at l l.depth rest ≡ faulty f → front l rest ≡ Faulty f
 front_faulty l rest f e = front-is l rest ∙ ap front_of e
 
 of_whole : (r : Reading Data) (v : Data) (after : List ℕ) → front_of r ≡ Whole v after → r ≡ whole v after
@@ -51,17 +51,17 @@ of_faulty (whole w rest) f e = absurd (let k = e in cc)
 of_faulty partial f e = absurd (let k = e in cc)
 of_faulty (faulty g) f e = let same : g ≡ f = cc in ap (λ w. faulty w) same
 
-pub whole_reads : (l : Bounds) (rest after : List ℕ) (v : Data) → front l rest ≡ Whole v after → value_at l l.depth rest ≡ whole v after
+pub whole_reads : (l : LimitsModel) (rest after : List ℕ) (v : Data) → front l rest ≡ Whole v after → value_at l l.depth rest ≡ whole v after
 whole_reads l rest after v e = of_whole (value_at l l.depth rest) v after (sym (front-is l rest) ∙ e)
 
-pub partial_reads : (l : Bounds) (rest : List ℕ) → front l rest ≡ Partial → value_at l l.depth rest ≡ partial
+pub partial_reads : (l : LimitsModel) (rest : List ℕ) → front l rest ≡ Partial → value_at l l.depth rest ≡ partial
 partial_reads l rest e = of_partial (value_at l l.depth rest) (sym (front-is l rest) ∙ e)
 
-pub faulty_reads : (l : Bounds) (rest : List ℕ) (f : WireFault) → front l rest ≡ Faulty f → value_at l l.depth rest ≡ faulty f
+pub faulty_reads : (l : LimitsModel) (rest : List ℕ) (f : WireFault) → front l rest ≡ Faulty f → value_at l l.depth rest ≡ faulty f
 faulty_reads l rest f e = of_faulty (value_at l l.depth rest) f (sym (front-is l rest) ∙ e)
 
 -- neither a value nor a fault
-neither : (l : Bounds) (rest : List ℕ) (r : Reading Data) → value_at l l.depth rest ≡ r → NoneWhole l rest × NoFault l rest → r ≡ partial
+neither : (l : LimitsModel) (rest : List ℕ) (r : Reading Data) → value_at l l.depth rest ≡ r → NoneWhole l rest × NoFault l rest → r ≡ partial
 neither l rest (whole v after) e n = absurd (n.0 v after (reads_begins l rest after v e))
 neither l rest partial e n = refl
 neither l rest (faulty f) e n = absurd (n.1 f (faulty_is_first l rest f e).1)

@@ -1,7 +1,7 @@
 -- What begins a text begins it whatever comes behind.
 use Rattle.std.proofs.Common.{◌≡◌, ◌≢◌, ℕ, List, [], ◌∷◌, ◌++◌, refl, sym, ap, subst, ◌∙◌, append_assoc}
 use Rattle.resp_wire.specs.Data.{Data}
-use Rattle.resp_wire.specs.Bounds.{Bounds}
+use Rattle.resp_wire.specs.LimitsModel.{LimitsModel}
 use Rattle.resp_wire.specs.Spelling.{cr, lf, BeginsLine}
 use Rattle.resp_wire.specs.Faults.{IsNoEnd, FirstFault, unknown_kind, bare_lf, bare_cr, long_line, bad_integer, bad_bulk_length, bad_array_length, long_bulk, too_deep, too_many, no_end, inside}
 use Rattle.resp_wire.specs.Laws.{FrontKeepsValue, FrontKeepsFault}
@@ -19,10 +19,10 @@ no_end_more (b ∷ c ∷ after) more h = h
 longer : (bytes : List ℕ) (b : ℕ) (text after more : List ℕ) → bytes ≡ b ∷ (text ++ after) → bytes ++ more ≡ b ∷ (text ++ (after ++ more))
 longer bytes b text after more e = ap (λ (u : List ℕ). u ++ more) e ∙ ap (λ (u : List ℕ). b ∷ u) (append_assoc text after more)
 
-behind : (l : Bounds) (kind : ℕ) (text bytes front after more : List ℕ) → BeginsLine l kind text bytes (front ++ after) → BeginsLine l kind text (bytes ++ more) (front ++ (after ++ more))
+behind : (l : LimitsModel) (kind : ℕ) (text bytes front after more : List ℕ) → BeginsLine l kind text bytes (front ++ after) → BeginsLine l kind text (bytes ++ more) (front ++ (after ++ more))
 behind l kind text bytes front after more b = subst (λ (u : List ℕ). BeginsLine l kind text (bytes ++ more) u) (append_assoc front after more) (begins_more l kind text bytes (front ++ after) more b)
 
-pub fault_more : (l : Bounds) (room : ℕ) (bytes more : List ℕ) (f : WireFault) → FirstFault l room bytes f → FirstFault l room (bytes ++ more) f
+pub fault_more : (l : LimitsModel) (room : ℕ) (bytes more : List ℕ) (f : WireFault) → FirstFault l room bytes f → FirstFault l room (bytes ++ more) f
 fault_more l room bytes more f (unknown_kind b after k e) = unknown_kind b (after ++ more) k (ap (λ (u : List ℕ). u ++ more) e)
 fault_more l room bytes more f (bare_lf b text after k q h e) = bare_lf b text (after ++ more) k q h (longer bytes b text (lf ∷ after) more e)
 fault_more l room bytes more f (bare_cr b c text after k q h ne e) = bare_cr b c text (after ++ more) k q h ne (longer bytes b text (cr ∷ c ∷ after) more e)

@@ -4,7 +4,7 @@ use Rattle.std.proofs.lemmas.Bool.{ne_eqb, false≢true}
 use Rattle.std.proofs.lemmas.Bool.Decides.{eqb_tells}
 use Rattle.std.proofs.lemmas.List.{take_at, drop_at, drop_all, take_all, append-nil, take-take, get_or-drop, get_or-take, length-take, length-drop, take-append-drop}
 use Rattle.resp_wire.specs.Data.{Items}
-use Rattle.resp_wire.specs.Bounds.{Bounds}
+use Rattle.resp_wire.specs.LimitsModel.{LimitsModel}
 use Rattle.resp_wire.specs.Spelling.{cr, lf, none, BeginsLine, length_in}
 use Rattle.resp_wire.specs.Faults.{is_kind}
 use Rattle.resp_wire.specs.Reading.{Reading, whole, partial, faulty, then_read, end_at, text_at, body_at, is_none, by_length, after_line, value_with}
@@ -109,11 +109,11 @@ unfolding text_at
 text_whole t more left p h = text_front t (cr ∷ lf ∷ more) left p h ∙ ap (λ u. whole u more) (append-nil t)
 
 -- a line is read
-pub line_whole : (l : Bounds) (items : ℕ → List ℕ → Reading Items) (kind : ℕ) (text bytes more : List ℕ) → BeginsLine l kind text bytes more → is_kind kind ≡ true → value_with l items bytes ≡ after_line l items kind text more
+pub line_whole : (l : LimitsModel) (items : ℕ → List ℕ → Reading Items) (kind : ℕ) (text bytes more : List ℕ) → BeginsLine l kind text bytes more → is_kind kind ≡ true → value_with l items bytes ≡ after_line l items kind text more
 unfolding value_with
 line_whole l items kind text bytes more b k = rw (b.are, k, text_whole text more l.line b.plain b.short) refl
 
-pub begins_more : (l : Bounds) (kind : ℕ) (text bytes more after : List ℕ) → BeginsLine l kind text bytes more → BeginsLine l kind text (bytes ++ after) (more ++ after)
+pub begins_more : (l : LimitsModel) (kind : ℕ) (text bytes more after : List ℕ) → BeginsLine l kind text bytes more → BeginsLine l kind text (bytes ++ after) (more ++ after)
 begins_more l kind text bytes more after b = record { plain = b.plain; short = b.short; are = rw b.are (ap (λ (u : List ℕ). kind ∷ u) (append_assoc text (cr ∷ lf ∷ more) after)) }
 
 pub end_whole : (more : List ℕ) → end_at (cr ∷ lf ∷ more) ≡ whole tt more
@@ -158,16 +158,16 @@ pub empty_of : (bytes : List ℕ) → length bytes < 1 → bytes ≡ []
 empty_of [] h = refl
 empty_of (b ∷ bytes) h = absurd (omega arith)
 
-pub nothing_there : (l : Bounds) (items : ℕ → List ℕ → Reading Items) (bytes : List ℕ) → length bytes < 1 → value_with l items bytes ≡ partial
+pub nothing_there : (l : LimitsModel) (items : ℕ → List ℕ → Reading Items) (bytes : List ℕ) → length bytes < 1 → value_with l items bytes ≡ partial
 unfolding value_with
 nothing_there l items bytes h = rw (empty_of bytes h) refl
 
-pub unknown_there : (l : Bounds) (items : ℕ → List ℕ → Reading Items) (bytes : List ℕ) → 0 < length bytes → is_kind (get_or bytes 0 0) ≡ false → value_with l items bytes ≡ faulty BadType
+pub unknown_there : (l : LimitsModel) (items : ℕ → List ℕ → Reading Items) (bytes : List ℕ) → 0 < length bytes → is_kind (get_or bytes 0 0) ≡ false → value_with l items bytes ≡ faulty BadType
 unfolding value_with
 unknown_there l items bytes h k = ap (value_with l items) (front_of bytes h) ∙ rw k refl
 
 -- what the line's text comes to
-pub line_there : (l : Bounds) (items : ℕ → List ℕ → Reading Items) (bytes : List ℕ) (kind limit : ℕ) (more : List ℕ) (r : Reading (List ℕ)) → 0 < length bytes → is_kind (get_or bytes 0 0) ≡ true → get_or bytes 0 0 ≡ kind → limit ≡ l.line → more ≡ drop 1 bytes → text_at more limit ≡ r
+pub line_there : (l : LimitsModel) (items : ℕ → List ℕ → Reading Items) (bytes : List ℕ) (kind limit : ℕ) (more : List ℕ) (r : Reading (List ℕ)) → 0 < length bytes → is_kind (get_or bytes 0 0) ≡ true → get_or bytes 0 0 ≡ kind → limit ≡ l.line → more ≡ drop 1 bytes → text_at more limit ≡ r
     → value_with l items bytes ≡ then_read r (after_line l items kind)
 unfolding value_with
 line_there l items bytes kind limit more r h k e m d t = ap (value_with l items) (front_of bytes h) ∙ rw (k, ← m, ← d, t, e) refl

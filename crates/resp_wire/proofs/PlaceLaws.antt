@@ -7,7 +7,7 @@ use Rattle.std.proofs.lemmas.List.{append-nil, take_all, take_more, drop_at, dro
 use Rattle.std.proofs.lemmas.List.Folds.{list_all-append}
 use Rattle.resp_wire.specs.Data.{Data, Items}
 use Rattle.resp_wire.specs.Text.{is_one_line}
-use Rattle.resp_wire.specs.Bounds.{Bounds}
+use Rattle.resp_wire.specs.LimitsModel.{LimitsModel}
 use Rattle.resp_wire.specs.Spelling.{cr, lf}
 use Rattle.resp_wire.specs.Faults.{is_kind}
 use Rattle.resp_wire.specs.Reading.{Reading, whole, partial, faulty, then_read, end_at, text_at, value_at, value_with, items_in}
@@ -37,17 +37,17 @@ extent_whole partial rest e = absurd (let k = e in cc)
 extent_whole (faulty f) rest e = absurd (let k = e in cc)
 
 -- from the start of the value to where reading goes on
-at_start : (l : Bounds) (rest counts left : List ℕ) → GoesOn l (1 ∷ []) rest counts left → extent (value_at l l.depth rest) ≡ resume l l.depth counts left
+at_start : (l : LimitsModel) (rest counts left : List ℕ) → GoesOn l (1 ∷ []) rest counts left → extent (value_at l l.depth rest) ≡ resume l l.depth counts left
 at_start l rest counts left g =
     sym (resume_start l l.depth rest) ∙ ap (λ (u : List ℕ). resume l l.depth (1 ∷ []) u) (sym (append-nil rest)) ∙ g [] ∙ ap (λ (u : List ℕ). resume l l.depth counts u) (append-nil left)
 
-pub found_partial : (l : Bounds) (rest counts left : List ℕ) → GoesOn l (1 ∷ []) rest counts left → resume l l.depth counts left ≡ partial → value_at l l.depth rest ≡ partial
+pub found_partial : (l : LimitsModel) (rest counts left : List ℕ) → GoesOn l (1 ∷ []) rest counts left → resume l l.depth counts left ≡ partial → value_at l l.depth rest ≡ partial
 found_partial l rest counts left g e = extent_partial (value_at l l.depth rest) (at_start l rest counts left g ∙ e)
 
-pub found_faulty : (l : Bounds) (rest counts left : List ℕ) (f : WireFault) → GoesOn l (1 ∷ []) rest counts left → resume l l.depth counts left ≡ faulty f → value_at l l.depth rest ≡ faulty f
+pub found_faulty : (l : LimitsModel) (rest counts left : List ℕ) (f : WireFault) → GoesOn l (1 ∷ []) rest counts left → resume l l.depth counts left ≡ faulty f → value_at l l.depth rest ≡ faulty f
 found_faulty l rest counts left f g e = extent_faulty (value_at l l.depth rest) f (at_start l rest counts left g ∙ e)
 
-pub found_whole : (l : Bounds) (rest counts left : List ℕ) → GoesOn l (1 ∷ []) rest counts left → counts ≡ [] → (v : Data) × (value_at l l.depth rest ≡ whole v left)
+pub found_whole : (l : LimitsModel) (rest counts left : List ℕ) → GoesOn l (1 ∷ []) rest counts left → counts ≡ [] → (v : Data) × (value_at l l.depth rest ≡ whole v left)
 found_whole l rest counts left g e = extent_whole (value_at l l.depth rest) left (at_start l rest counts left g ∙ ap (λ (u : List ℕ). resume l l.depth u left) e ∙ resume_nil l l.depth left)
 
 -- ---- the position
@@ -118,11 +118,11 @@ wants_at counts now len h k e =
     let next : len ≡ len - 1 + 1 = omega arith in
     (take (len - 1) counts, last - 1, sym e ∙ ap (λ (n : ℕ). take n counts) next ∙ take_more counts (len - 1) 0 (omega arith) ∙ ap (λ (n : ℕ). take (len - 1) counts ++ n ∷ []) at))
 
-pub line_waits : (l : Bounds) (counts bytes : List ℕ) (limit : ℕ) → WantsItem counts → l.line ≡ limit → IsUnfinished bytes limit → Waits l counts bytes
+pub line_waits : (l : LimitsModel) (counts bytes : List ℕ) (limit : ℕ) → WantsItem counts → l.line ≡ limit → IsUnfinished bytes limit → Waits l counts bytes
 line_waits l counts bytes limit w e u =
     ap (λ (c : List ℕ). resume l l.depth c bytes) w.2 ∙ resume_partial l l.depth w.0 w.1 bytes (u l (items_in l (l.depth - length w.0)) e)
 
-pub some_waits : (l : Bounds) (counts bytes : List ℕ) (limit : ℕ) (o : Option ℕ) → WantsItem counts → limit ≡ l.line → IfSome o (λ plain. IsPlainTo bytes plain × IsUnfinished bytes limit) → IfSome o (λ plain. IsPlainTo bytes plain × Waits l counts bytes)
+pub some_waits : (l : LimitsModel) (counts bytes : List ℕ) (limit : ℕ) (o : Option ℕ) → WantsItem counts → limit ≡ l.line → IfSome o (λ plain. IsPlainTo bytes plain × IsUnfinished bytes limit) → IfSome o (λ plain. IsPlainTo bytes plain × Waits l counts bytes)
 some_waits l counts bytes limit None w e h = tt
 some_waits l counts bytes limit (Some plain) w e h = (h.0, line_waits l counts bytes limit w (sym e) h.1)
 
@@ -135,7 +135,7 @@ sliced bytes position = take_all (length bytes - position) (drop position bytes)
 abbrev pub place : ℕ → ℕ → List ℕ → Place
 place position plain counts = record { position = position; plain = plain; counts = counts }
 
-pub place_waits : (l : Bounds) (bytes rest : List ℕ) (p : Place) (plain : ℕ) → IsPlace l bytes p → rest ≡ drop p.position bytes → IsPlainTo rest plain → Waits l p.counts rest
+pub place_waits : (l : LimitsModel) (bytes rest : List ℕ) (p : Place) (plain : ℕ) → IsPlace l bytes p → rest ≡ drop p.position bytes → IsPlainTo rest plain → Waits l p.counts rest
     → IsPlace l bytes (place p.position plain p.counts) × (value_at l l.depth bytes ≡ partial)
 place_waits l bytes rest p plain i e k w = (
   record { within = i.within; few = i.few; goes_on = i.goes_on; known = subst (λ (u : List ℕ). IsPlainTo u plain) e k },
@@ -146,7 +146,7 @@ none_known : (bytes : List ℕ) → IsPlainTo bytes 0
 none_known bytes = record { within = omega arith; plain = refl }
 
 -- after a scan from the position
-pub record IsScan (l : Bounds) (bytes rest left : List ℕ) (p : Place) (counts : List ℕ) (next : ℕ) : Type 0 where
+pub record IsScan (l : LimitsModel) (bytes rest left : List ℕ) (p : Place) (counts : List ℕ) (next : ℕ) : Type 0 where
   pub was : IsPlace l bytes p
   pub rest_is : rest ≡ drop p.position bytes
   pub next_is : next ≡ length bytes - length left
@@ -154,7 +154,7 @@ pub record IsScan (l : Bounds) (bytes rest left : List ℕ) (p : Place) (counts 
   pub goes_on : GoesOn l p.counts rest counts left
   pub front : (front : List ℕ) × (rest ≡ front ++ left)
 
-left_is : {l : Bounds} {bytes rest left : List ℕ} {p : Place} {counts : List ℕ} {next : ℕ} → IsScan l bytes rest left p counts next → (next ≤ length bytes) × (drop next bytes ≡ left)
+left_is : {l : LimitsModel} {bytes rest left : List ℕ} {p : Place} {counts : List ℕ} {next : ℕ} → IsScan l bytes rest left p counts next → (next ≤ length bytes) × (drop next bytes ≡ left)
 left_is {l} {bytes} {rest} {left} {p} {counts} {next} s =
     let front = s.front in
     let rest_len : length rest ≡ length front.0 + length left = rw front.1 (length-append front.0 left) in
@@ -164,11 +164,11 @@ left_is {l} {bytes} {rest} {left} {p} {counts} {next} s =
       ap (λ (k : ℕ). drop k bytes) at ∙ sym (drop-drop (length front.0) p.position bytes) ∙ ap (λ (u : List ℕ). drop (length front.0) u) (sym s.rest_is ∙ front.1) ∙ drop_at front.0 left (length front.0) refl,
     )
 
-from_start : {l : Bounds} {bytes rest left : List ℕ} {p : Place} {counts : List ℕ} {next : ℕ} → IsScan l bytes rest left p counts next → GoesOn l (1 ∷ []) bytes counts left
+from_start : {l : LimitsModel} {bytes rest left : List ℕ} {p : Place} {counts : List ℕ} {next : ℕ} → IsScan l bytes rest left p counts next → GoesOn l (1 ∷ []) bytes counts left
 from_start {l} {bytes} {rest} {left} {p} {counts} {next} s = λ more.
     s.was.goes_on more ∙ ap (λ (u : List ℕ). resume l l.depth p.counts (u ++ more)) (sym s.rest_is) ∙ s.goes_on more
 
-pub place_after : (l : Bounds) (bytes rest left : List ℕ) (p : Place) (counts : List ℕ) (next : ℕ) → IsScan l bytes rest left p counts next → IsPlace l bytes (place next 0 counts)
+pub place_after : (l : LimitsModel) (bytes rest left : List ℕ) (p : Place) (counts : List ℕ) (next : ℕ) → IsScan l bytes rest left p counts next → IsPlace l bytes (place next 0 counts)
 place_after l bytes rest left p counts next s = let i = left_is s in record {
   within = i.0;
   few = s.few;
@@ -176,7 +176,7 @@ place_after l bytes rest left p counts next s = let i = left_is s in record {
   known = none_known (drop next bytes);
 }
 
-pub scan_finds : (l : Bounds) (bytes rest left : List ℕ) (p : Place) (counts : List ℕ) (next : ℕ) (result : Result Bool WireFault) → IsScan l bytes rest left p counts next → ComesTo l counts left result → Finds l bytes next result
+pub scan_finds : (l : LimitsModel) (bytes rest left : List ℕ) (p : Place) (counts : List ℕ) (next : ℕ) (result : Result Bool WireFault) → IsScan l bytes rest left p counts next → ComesTo l counts left result → Finds l bytes next result
 scan_finds l bytes rest left p counts next (Ok true) s c =
     let w = found_whole l bytes counts left (from_start s) c in (w.0, w.1 ∙ ap (λ (u : List ℕ). whole w.0 u) (sym (left_is s).1))
 scan_finds l bytes rest left p counts next (Ok false) s c = found_partial l bytes counts left (from_start s) c
@@ -190,7 +190,7 @@ plain_fed (b ∷ bytes) piece count k = record {
 }
 
 -- a piece comes
-pub place_fed : (l : Bounds) (bytes piece : List ℕ) (p : Place) → IsPlace l bytes p → IsPlace l (bytes ++ piece) p
+pub place_fed : (l : LimitsModel) (bytes piece : List ℕ) (p : Place) → IsPlace l bytes p → IsPlace l (bytes ++ piece) p
 place_fed l bytes piece p i =
     let rest : drop p.position (bytes ++ piece) ≡ drop p.position bytes ++ piece = drop-append-le p.position bytes piece i.within in
     record {
@@ -202,5 +202,5 @@ place_fed l bytes piece p i =
       known = subst (λ (u : List ℕ). IsPlainTo u p.plain) (sym rest) (plain_fed (drop p.position bytes) piece p.plain i.known);
     }
 
-pub place_start : (l : Bounds) (bytes : List ℕ) → IsPlace l bytes (place 0 0 (1 ∷ []))
+pub place_start : (l : LimitsModel) (bytes : List ℕ) → IsPlace l bytes (place 0 0 (1 ∷ []))
 place_start l bytes = record { within = omega arith; few = omega arith; goes_on = λ more. refl; known = none_known bytes }

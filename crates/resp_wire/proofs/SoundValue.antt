@@ -4,7 +4,7 @@ use Rattle.std.specs.Option.{option_map_or}
 use Rattle.std.proofs.lemmas.Bool.{false≢true, eqb-true}
 use Rattle.std.proofs.lemmas.List.{take-append-drop, length-take, length-drop}
 use Rattle.resp_wire.specs.Data.{Data, Items, simple, error}
-use Rattle.resp_wire.specs.Bounds.{Bounds}
+use Rattle.resp_wire.specs.LimitsModel.{LimitsModel}
 use Rattle.resp_wire.specs.Spelling.{cr, lf, plus, minus, colon, dollar, star, none, BeginsLine, length_in}
 use Rattle.resp_wire.specs.Faults.{is_kind, IsNoEnd, FirstFault, unknown_kind, bare_lf, bare_cr, long_line}
 use Rattle.resp_wire.specs.Reading.{Reading, whole, faulty, then_read, end_at, text_at, body_at, is_none, by_length, after_line, value_with, integer_at, bulk_at, array_at}
@@ -16,7 +16,7 @@ use Rattle.resp_wire.proofs.Sound.{then_is_whole, then_is_faulty, chosen, mapped
 -- ---- a line
 
 -- a whole line, and what comes of it
-pub record Line (l : Bounds) (items : ℕ → List ℕ → Reading Items) (bytes : List ℕ) (z : Reading Data) : Type 0 where
+pub record Line (l : LimitsModel) (items : ℕ → List ℕ → Reading Items) (bytes : List ℕ) (z : Reading Data) : Type 0 where
   pub kind : ℕ
   pub text : List ℕ
   pub rest : List ℕ
@@ -24,12 +24,12 @@ pub record Line (l : Bounds) (items : ℕ → List ℕ → Reading Items) (bytes
   pub begins : BeginsLine l kind text bytes rest
   pub then_is : after_line l items kind text rest ≡ z
 
-line_of : (l : Bounds) (items : ℕ → List ℕ → Reading Items) (b : ℕ) (bytes text rest : List ℕ) (z : Reading Data) → is_kind b ≡ true → text_at bytes l.line ≡ whole text rest → after_line l items b text rest ≡ z → Line l items (b ∷ bytes) z
+line_of : (l : LimitsModel) (items : ℕ → List ℕ → Reading Items) (b : ℕ) (bytes text rest : List ℕ) (z : Reading Data) → is_kind b ≡ true → text_at bytes l.line ≡ whole text rest → after_line l items b text rest ≡ z → Line l items (b ∷ bytes) z
 line_of l items b bytes text rest z k t e =
     let i = text_is bytes l.line text rest t in
     record { kind = b; text = text; rest = rest; known = k; begins = record { plain = i.plain; short = i.short; are = ap (λ (u : List ℕ). b ∷ u) i.are }; then_is = e }
 
-pub line_is : (l : Bounds) (items : ℕ → List ℕ → Reading Items) (bytes : List ℕ) (v : Data) (after : List ℕ) → value_with l items bytes ≡ whole v after → Line l items bytes (whole v after)
+pub line_is : (l : LimitsModel) (items : ℕ → List ℕ → Reading Items) (bytes : List ℕ) (v : Data) (after : List ℕ) → value_with l items bytes ≡ whole v after → Line l items bytes (whole v after)
 unfolding value_with
 line_is l items [] v after e = absurd cc
 line_is l items (b ∷ bytes) v after e =
@@ -38,12 +38,12 @@ line_is l items (b ∷ bytes) v after e =
       | inr h ↦ absurd (let z = h.1 in cc)
     ]
 
-bad_line : (l : Bounds) (room b : ℕ) (bytes : List ℕ) (f : WireFault) → is_kind b ≡ true → EndsBadly l.line bytes f → FirstFault l room (b ∷ bytes) f
+bad_line : (l : LimitsModel) (room b : ℕ) (bytes : List ℕ) (f : WireFault) → is_kind b ≡ true → EndsBadly l.line bytes f → FirstFault l room (b ∷ bytes) f
 bad_line l room b bytes f k (long text more p n e) = long_line b text more k p n (ap (λ (u : List ℕ). b ∷ u) e)
 bad_line l room b bytes f k (lf_alone text more p n e) = bare_lf b text more k p n (ap (λ (u : List ℕ). b ∷ u) e)
 bad_line l room b bytes f k (cr_alone c text more p n ne e) = bare_cr b c text more k p n ne (ap (λ (u : List ℕ). b ∷ u) e)
 
-pub line_fault : (l : Bounds) (room : ℕ) (items : ℕ → List ℕ → Reading Items) (bytes : List ℕ) (f : WireFault) → value_with l items bytes ≡ faulty f → FirstFault l room bytes f ⊎ Line l items bytes (faulty f)
+pub line_fault : (l : LimitsModel) (room : ℕ) (items : ℕ → List ℕ → Reading Items) (bytes : List ℕ) (f : WireFault) → value_with l items bytes ≡ faulty f → FirstFault l room bytes f ⊎ Line l items bytes (faulty f)
 unfolding value_with
 line_fault l room items [] f e = absurd cc
 line_fault l room items (b ∷ bytes) f e =
@@ -57,7 +57,7 @@ line_fault l room items (b ∷ bytes) f e =
 
 -- ---- which kind
 
-pub data ByKind (l : Bounds) (items : ℕ → List ℕ → Reading Items) (kind : ℕ) (text rest : List ℕ) (z : Reading Data) : Type 0 where
+pub data ByKind (l : LimitsModel) (items : ℕ → List ℕ → Reading Items) (kind : ℕ) (text rest : List ℕ) (z : Reading Data) : Type 0 where
   of_plus : kind ≡ plus → whole (simple text) rest ≡ z → ByKind l items kind text rest z
   of_minus : kind ≡ minus → whole (error text) rest ≡ z → ByKind l items kind text rest z
   of_colon : kind ≡ colon → integer_at text rest ≡ z → ByKind l items kind text rest z
@@ -67,7 +67,7 @@ pub data ByKind (l : Bounds) (items : ℕ → List ℕ → Reading Items) (kind 
 last_kind : (a b c d e : Bool) → (a || b || c || d || e) ≡ true → a ≡ false → b ≡ false → c ≡ false → d ≡ false → e ≡ true
 last_kind a b c d e h p q r s = let k = h in (rw (p, q, r, s) at k)
 
-pub by_kind : (l : Bounds) (items : ℕ → List ℕ → Reading Items) (kind : ℕ) (text rest : List ℕ) (z : Reading Data) → is_kind kind ≡ true → after_line l items kind text rest ≡ z → ByKind l items kind text rest z
+pub by_kind : (l : LimitsModel) (items : ℕ → List ℕ → Reading Items) (kind : ℕ) (text rest : List ℕ) (z : Reading Data) → is_kind kind ≡ true → after_line l items kind text rest ≡ z → ByKind l items kind text rest z
 unfolding after_line
 by_kind l items kind text rest z k e =
     elim (chosen (eqb kind 43) _ _ z e) [

@@ -2,13 +2,13 @@
 use Rattle.std.proofs.Common.{◌≡◌, ◌≢◌, ℕ, suc, ◌+◌, ◌-◌, ◌<◌, ◌≤◌, List, [], ◌∷◌, ◌++◌, length, refl, sym, ap, ◌∙◌, arith}
 use Rattle.std.proofs.lemmas.List.{append-nil, length-append}
 use Rattle.resp_wire.specs.Data.{Data, array}
-use Rattle.resp_wire.specs.Bounds.{Bounds}
+use Rattle.resp_wire.specs.LimitsModel.{LimitsModel}
 use Rattle.resp_wire.specs.Reading.{whole, partial, faulty, then_read, value_at, items_at}
 use Rattle.resp_wire.specs.Resume.{resume, Steps}
 use Rattle.resp_wire.specs.declared.fault.WireFault.{WireFault}
 use Rattle.resp_wire.proofs.ResumeLaws.{resume_end, resume_whole, resume_array, resume_partial, resume_faulty}
 
-pub step_end : (l : Bounds) (old outer bytes : List ℕ) (count : ℕ) → old ≡ outer ++ count ∷ [] → count ≡ 0 → length old ≤ l.depth + 1 → Steps l old bytes outer bytes
+pub step_end : (l : LimitsModel) (old outer bytes : List ℕ) (count : ℕ) → old ≡ outer ++ count ∷ [] → count ≡ 0 → length old ≤ l.depth + 1 → Steps l old bytes outer bytes
 step_end l old outer bytes count e z few =
     let len : length old ≡ length outer + 1 = rw e (length-append outer (count ∷ [])) in
     record {
@@ -18,7 +18,7 @@ step_end l old outer bytes count e z few =
       front = ([], refl);
     }
 
-pub step_whole : (l : Bounds) (old outer new bytes rest : List ℕ) (count room : ℕ) (v : Data) → old ≡ outer ++ count ∷ [] → new ≡ outer ++ (count - 1) ∷ [] → count ≢ 0 → room ≡ l.depth - length outer → length old ≤ l.depth + 1
+pub step_whole : (l : LimitsModel) (old outer new bytes rest : List ℕ) (count room : ℕ) (v : Data) → old ≡ outer ++ count ∷ [] → new ≡ outer ++ (count - 1) ∷ [] → count ≢ 0 → room ≡ l.depth - length outer → length old ≤ l.depth + 1
     → ((more : List ℕ) → value_at l room (bytes ++ more) ≡ whole v (rest ++ more)) → (front : List ℕ) × (0 < length front) × (bytes ≡ front ++ rest) → Steps l old bytes new rest
 step_whole l old outer new bytes rest count room v e f ne r few reads front =
     let pred : count ≡ suc (count - 1) = omega arith in
@@ -36,7 +36,7 @@ step_whole l old outer new bytes rest count room v e f ne r few reads front =
       front = (front.0, front.2);
     }
 
-pub step_array : (l : Bounds) (old outer new bytes rest : List ℕ) (count room m inner : ℕ) → old ≡ outer ++ count ∷ [] → new ≡ (outer ++ (count - 1) ∷ []) ++ m ∷ [] → count ≢ 0 → room ≡ l.depth - length outer → length old ≤ l.depth + 1 → room ≡ suc inner
+pub step_array : (l : LimitsModel) (old outer new bytes rest : List ℕ) (count room m inner : ℕ) → old ≡ outer ++ count ∷ [] → new ≡ (outer ++ (count - 1) ∷ []) ++ m ∷ [] → count ≢ 0 → room ≡ l.depth - length outer → length old ≤ l.depth + 1 → room ≡ suc inner
     → ((more : List ℕ) → value_at l room (bytes ++ more) ≡ then_read (items_at (value_at l inner) m (rest ++ more)) (λ vs after. whole (array vs) after)) → (front : List ℕ) × (0 < length front) × (bytes ≡ front ++ rest) → Steps l old bytes new rest
 step_array l old outer new bytes rest count room m inner e f ne r few k reads front =
     let pred : count ≡ suc (count - 1) = omega arith in
@@ -55,7 +55,7 @@ step_array l old outer new bytes rest count room m inner e f ne r few k reads fr
       front = (front.0, front.2);
     }
 
-pub step_partial : (l : Bounds) (old outer new bytes : List ℕ) (count room : ℕ) → old ≡ outer ++ count ∷ [] → new ≡ outer ++ count ∷ [] → count ≢ 0 → room ≡ l.depth - length outer
+pub step_partial : (l : LimitsModel) (old outer new bytes : List ℕ) (count room : ℕ) → old ≡ outer ++ count ∷ [] → new ≡ outer ++ count ∷ [] → count ≢ 0 → room ≡ l.depth - length outer
     → value_at l room (bytes ++ []) ≡ partial → (new ≡ old) × (resume l l.depth old bytes ≡ partial)
 step_partial l old outer new bytes count room e f ne r reads =
     let pred : count ≡ suc (count - 1) = omega arith in
@@ -65,7 +65,7 @@ step_partial l old outer new bytes count room e f ne r reads =
           ∙ resume_partial l l.depth outer (count - 1) bytes (ap (λ (n : ℕ). value_at l n bytes) (sym r) ∙ ap (λ (u : List ℕ). value_at l room u) (sym (append-nil bytes)) ∙ reads),
     )
 
-pub step_faulty : (l : Bounds) (old outer new bytes : List ℕ) (count room : ℕ) (g : WireFault) → old ≡ outer ++ count ∷ [] → new ≡ outer ++ count ∷ [] → count ≢ 0 → room ≡ l.depth - length outer
+pub step_faulty : (l : LimitsModel) (old outer new bytes : List ℕ) (count room : ℕ) (g : WireFault) → old ≡ outer ++ count ∷ [] → new ≡ outer ++ count ∷ [] → count ≢ 0 → room ≡ l.depth - length outer
     → value_at l room (bytes ++ []) ≡ faulty g → (new ≡ old) × (resume l l.depth old bytes ≡ faulty g)
 step_faulty l old outer new bytes count room g e f ne r reads =
     let pred : count ≡ suc (count - 1) = omega arith in

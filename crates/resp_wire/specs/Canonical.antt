@@ -1,4 +1,5 @@
 -- The one spelling that is written.
+-- No plus sign, no leading zero, no negative zero. Readers accept more spellings; none other is written.
 use Rattle.std.specs.Prelude.{ℕ, List, [], ◌∷◌, ◌++◌, length}
 use Rattle.std.specs.Fmt.{decimal, signed_decimal}
 use Rattle.resp_wire.specs.Data.{Data, Items, simple, error, integer, bulk, null_bulk, array, null_array, no_items, item}

@@ -1,7 +1,9 @@
 -- The first fault of a text, read from the left.
+-- The standard names no faults: the kinds and their order are this proxy's. A text has at most one first fault, and a
+-- text that has one begins with no value (Laws.antt, `OneFault`). NoMemory is not among them, since no bytes cause it.
 use Rattle.std.specs.Prelude.{IsTrue, ◌≡◌, ◌≢◌, ◌≤◌, ◌<◌, ◌+◌, ◌==◌, ◌||◌, ℕ, suc, Bool, true, false, List, [], ◌∷◌, ◌++◌, length, Some, None}
 use Rattle.resp_wire.specs.Data.{Items}
-use Rattle.resp_wire.specs.Bounds.{Bounds}
+use Rattle.resp_wire.specs.LimitsModel.{LimitsModel}
 use Rattle.resp_wire.specs.Spelling.{cr, lf, plus, minus, colon, dollar, star, none, BeginsLine, length_in, integer_in, count_of, SpellsAll}
 use Rattle.resp_wire.specs.declared.fault.WireFault.{WireFault}
 use Rattle.resp_wire.specs.declared.fault.WireFault.TheVariants.{BadType, BadNumber, TooLong, TooMany, TooDeep, BadEnd}
@@ -19,7 +21,7 @@ IsNoEnd (b ∷ c ∷ more) = b ≡ cr → c ≢ lf
 
 -- The first fault of the bytes from where a value begins, where so many arrays may still stand one inside another:
 -- all before it is well spelled.
-pub data FirstFault (l : Bounds) : ℕ → List ℕ → WireFault → Type 0 where
+pub data FirstFault (l : LimitsModel) : ℕ → List ℕ → WireFault → Type 0 where
   -- no value begins with this byte
   unknown_kind : {room : ℕ} {bytes : List ℕ} (b : ℕ) (more : List ℕ) → is_kind b ≡ false → bytes ≡ b ∷ more → FirstFault l room bytes BadType
   -- in a line an LF without a CR before it, a CR without an LF after it, one byte more than a line may have

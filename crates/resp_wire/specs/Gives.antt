@@ -1,10 +1,11 @@
 -- What a function of the code returned, against what reading gives.
+-- Only private functions cite it.
 use Rattle.std.specs.Prelude.{IsTrue, ◌≡◌, ℕ, List, ◌++◌, ◌<◌, length, Option, Some, None, Result, Ok, Err}
 use Rattle.std.specs.Borrow.{Bor}
 use Rattle.resp_wire.specs.Data.{Items}
 use Rattle.resp_wire.specs.Spelling.{plus, minus, colon, dollar, star, length_in}
 use Rattle.resp_wire.specs.Reading.{Reading, whole, partial, faulty, value_with, after_line, is_none}
-use Rattle.resp_wire.specs.Bounds.{Bounds}
+use Rattle.resp_wire.specs.LimitsModel.{LimitsModel}
 use Rattle.resp_wire.specs.Text.{is_one_line}
 use Rattle.std.specs.Prelude.{true, false}
 use Rattle.resp_wire.specs.declared.fault.WireFault.{WireFault}
@@ -38,7 +39,7 @@ BodyGives (Ok (Some x)) r = r ≡ whole x.0.now x.1.now
 BodyGives (Err f) r = r ≡ faulty f
 
 -- how a value that these bytes begin goes on
-abbrev pub LineGives : Bounds → List ℕ → Result (Option (Kind × Bor (List ℕ) × Bor (List ℕ))) WireFault → Type 0
+abbrev pub LineGives : LimitsModel → List ℕ → Result (Option (Kind × Bor (List ℕ) × Bor (List ℕ))) WireFault → Type 0
 LineGives l bytes (Ok None) = (items : ℕ → List ℕ → Reading Items) → value_with l items bytes ≡ partial
 LineGives l bytes (Ok (Some x)) = (items : ℕ → List ℕ → Reading Items) (more : List ℕ) → value_with l items (bytes ++ more) ≡ after_line l items (byte_of x.0) x.1.now (x.2.now ++ more)
 LineGives l bytes (Err f) = (items : ℕ → List ℕ → Reading Items) → value_with l items bytes ≡ faulty f

@@ -1,4 +1,5 @@
 -- Bytes, however they are held.
+-- The model of `Bytes`, which lie in place, in a vector, or in a shared vector.
 use Rattle.std.specs.Prelude.{List, ℕ}
 use Rattle.std.specs.Arc.{arc_value}
 use Rattle.resp_wire.specs.declared.bytes.Held.{Held}

@@ -6,12 +6,12 @@ pub mod Smaller
 pub mod Same
 pub mod Words
 pub mod Text
-pub mod Bounds
+pub mod LimitsModel
 pub mod Spelling
 pub mod Faults
 pub mod Canonical
 pub mod Reading
-pub mod Input
+pub mod ReaderModel
 pub mod Front
 pub mod Calls
 pub mod Stream

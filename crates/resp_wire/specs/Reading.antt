@@ -1,8 +1,9 @@
 -- Reading as a function on lists, from where a value begins: what the private functions compute.
+-- No contract of another crate cites it. `front` (Front.antt) is defined by it.
 use Rattle.std.specs.Prelude.{◌==◌, ◌-◌, ◌&&◌, ◌||◌, ℕ, suc, zero, Bool, false, List, [], ◌∷◌, take, drop, nat_lt, if◌then◌else◌}
 use Rattle.std.specs.Option.{option_map_or}
 use Rattle.resp_wire.specs.Data.{Data, Items, simple, error, integer, bulk, null_bulk, array, null_array, no_items, item}
-use Rattle.resp_wire.specs.Bounds.{Bounds}
+use Rattle.resp_wire.specs.LimitsModel.{LimitsModel}
 use Rattle.resp_wire.specs.Spelling.{cr, lf, plus, minus, colon, dollar, length_in, integer_in}
 use Rattle.resp_wire.specs.Faults.{is_kind}
 use Rattle.resp_wire.specs.declared.fault.WireFault.{WireFault}
@@ -51,10 +52,10 @@ unfoldable pub integer_at : List ℕ → List ℕ → Reading Data
 integer_at text rest = option_map_or (λ z. whole (integer z) rest) (integer_in text) (faulty BadNumber)
 
 -- a bulk string of so many bytes
-abbrev pub counted_bulk : Bounds → List ℕ → ℕ → Reading Data
+abbrev pub counted_bulk : LimitsModel → List ℕ → ℕ → Reading Data
 counted_bulk l rest n = if nat_lt l.bulk n then faulty TooLong else then_read (body_at n rest) (λ body after. whole (bulk body) after)
 
-unfoldable pub bulk_at : Bounds → List ℕ → List ℕ → Reading Data
+unfoldable pub bulk_at : LimitsModel → List ℕ → List ℕ → Reading Data
 bulk_at l text rest = by_length text (whole null_bulk rest) (counted_bulk l rest)
 
 -- an array of so many items
@@ -65,14 +66,14 @@ unfoldable pub array_at : (ℕ → List ℕ → Reading Items) → List ℕ → 
 array_at items text rest = by_length text (whole null_array rest) (counted_array items rest)
 
 -- what follows a line of this kind and text
-unfoldable pub after_line : Bounds → (ℕ → List ℕ → Reading Items) → ℕ → List ℕ → List ℕ → Reading Data
+unfoldable pub after_line : LimitsModel → (ℕ → List ℕ → Reading Items) → ℕ → List ℕ → List ℕ → Reading Data
 after_line l items kind text rest =
     if kind == plus then whole (simple text) rest
     else (if kind == minus then whole (error text) rest
     else (if kind == colon then integer_at text rest
     else (if kind == dollar then bulk_at l text rest else array_at items text rest)))
 
-unfoldable pub value_with : Bounds → (ℕ → List ℕ → Reading Items) → List ℕ → Reading Data
+unfoldable pub value_with : LimitsModel → (ℕ → List ℕ → Reading Items) → List ℕ → Reading Data
 value_with l items [] = partial
 value_with l items (b ∷ bytes) = if is_kind b then then_read (text_at bytes l.line) (after_line l items b) else faulty BadType
 
@@ -82,10 +83,10 @@ items_at read zero bytes = whole no_items bytes
 items_at read (suc n) bytes = then_read (read bytes) (λ v rest. then_read (items_at read n rest) (λ vs after. whole (item v vs) after))
 
 -- the items of an array where so many arrays may still stand one inside another
-abbrev pub items_in : Bounds → ℕ → ℕ → List ℕ → Reading Items
+abbrev pub items_in : LimitsModel → ℕ → ℕ → List ℕ → Reading Items
 items_in l zero n rest = faulty TooDeep
 items_in l (suc inner) n rest = if nat_lt l.items n then faulty TooMany else items_at (value_with l (items_in l inner)) n rest
 
 -- a value where so many arrays may still stand one inside another
-abbrev pub value_at : Bounds → ℕ → List ℕ → Reading Data
+abbrev pub value_at : LimitsModel → ℕ → List ℕ → Reading Data
 value_at l room bytes = value_with l (items_in l room) bytes

@@ -1,4 +1,5 @@
 -- When two values are the same.
+-- `==` of values makes this test. It answers true exactly for equal data (Laws.antt, `SameValues`).
 use Rattle.std.specs.Prelude.{◌≡◌, ◌&&◌, ◌==◌, ℕ, ℤ, Bool, true, false, List, [], refl, nat_eq, pos}
 use Rattle.std.specs.Bool.{Decides}
 use Rattle.std.specs.Ordering.{int_eq}

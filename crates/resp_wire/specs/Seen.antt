@@ -1,4 +1,5 @@
 -- The data that a `Value` stands for.
+-- Contracts compare values by it alone: how a value holds its bytes never shows.
 use Rattle.std.specs.Prelude.{ℕ, suc, List, map, max}
 use Rattle.std.specs.Prelude.{Vec}
 use Rattle.std.specs.declared.alloc.Global.{Global}

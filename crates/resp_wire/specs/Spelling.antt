@@ -1,10 +1,13 @@
 -- Which bytes spell a value (RESP2), within bounds.
+-- RESP2 specification, "RESP protocol description". More is read than is written: a plus sign, leading zeros, `-0`.
+-- Two things that the standard leaves open are settled: a length has one to ten digits, an integer one to twenty.
+-- `room` is how many arrays may still stand one inside another.
 use Rattle.std.specs.Prelude.{IsTrue, ◌≡◌, ◌≤◌, ℕ, suc, ℤ, Bool, List, [], ◌∷◌, ◌++◌, length, nat_lt, nat_le, ◌&&◌, if◌then◌else◌, Option, Some, None, pos}
 use Rattle.std.specs.Str.{all_ascii_digits}
 use Rattle.std.specs.Str.Parse.{digits_value, without_leading_sign, starts_with_minus}
 use Rattle.std.specs.Prelude.{neg_ℤ, true, false}
 use Rattle.resp_wire.specs.Data.{Data, Items, simple, error, integer, bulk, null_bulk, array, null_array, no_items, item}
-use Rattle.resp_wire.specs.Bounds.{Bounds}
+use Rattle.resp_wire.specs.LimitsModel.{LimitsModel}
 use Rattle.resp_wire.specs.Text.{is_one_line}
 
 abbrev pub cr : ℕ
@@ -29,15 +32,13 @@ dollar = 36
 abbrev pub star : ℕ
 star = 42
 
--- neither CR nor LF stands in the text
-
 -- the bytes begin with a line of this kind and text, and more follows it
-pub record BeginsLine (l : Bounds) (kind : ℕ) (text bytes more : List ℕ) : Type 0 where
+pub record BeginsLine (l : LimitsModel) (kind : ℕ) (text bytes more : List ℕ) : Type 0 where
   pub plain : IsTrue (is_one_line text)
   pub short : length text ≤ l.line
   pub are : bytes ≡ kind ∷ (text ++ cr ∷ lf ∷ more)
 
--- the text is one to so many decimal digits
+-- the text is one to `most` decimal digits
 abbrev pub is_digits : ℕ → List ℕ → Bool
 is_digits most text = nat_lt 0 (length text) && nat_le (length text) most && all_ascii_digits text
 
@@ -62,9 +63,9 @@ abbrev pub count_of : Items → ℕ
 count_of no_items = 0
 count_of (item v vs) = suc (count_of vs)
 
--- The bytes spell the value, where so many arrays may still stand one inside another.
+-- The bytes spell the value, where `room` arrays may still stand one inside another.
 abbrev mutual
-  pub Spells : Bounds → ℕ → List ℕ → Data → Type 0
+  pub Spells : LimitsModel → ℕ → List ℕ → Data → Type 0
   Spells l room bytes (simple text) = BeginsLine l plus text bytes []
   Spells l room bytes (error text) = BeginsLine l minus text bytes []
   Spells l room bytes (integer z) = (text : List ℕ) × (integer_in text ≡ Some z) × BeginsLine l colon text bytes []
@@ -74,6 +75,6 @@ abbrev mutual
   Spells l room bytes null_array = BeginsLine l star none bytes []
 
   -- one after another
-  pub SpellsAll : Bounds → ℕ → List ℕ → Items → Type 0
+  pub SpellsAll : LimitsModel → ℕ → List ℕ → Items → Type 0
   SpellsAll l room bytes no_items = bytes ≡ []
   SpellsAll l room bytes (item v vs) = (first : List ℕ) × (rest : List ℕ) × (bytes ≡ first ++ rest) × Spells l room first v × SpellsAll l room rest vs

@@ -11,6 +11,7 @@
 #![tactic(auto)]
 
 mod build;
+mod byte_queue;
 mod bytes;
 mod counts;
 mod fault;
@@ -24,11 +25,11 @@ mod reader;
 mod scan;
 mod short;
 mod text;
-mod unread;
 mod value;
 mod words;
 mod write;
 
+pub use byte_queue::ByteQueue;
 pub use bytes::Bytes;
 pub use fault::{NoMemory, WireFault};
 pub use limits::Limits;

@@ -1,15 +1,15 @@
 //! A stream of values in pieces.
 
 ghost use Rattle.std.specs.Prelude.{◌≡◌, [], None};
-ghost use Rattle.resp_wire.specs.Stream.{Answers};
-ghost use Rattle.resp_wire.specs.Front.{Feeds, Takes};
+ghost use Rattle.resp_wire.specs.Stream.{ReaderAnswers};
+ghost use Rattle.resp_wire.specs.Front.{Feeds, ReaderTakes};
 ghost use Rattle.resp_wire.specs.Taken.{TakesOff, TakesAtOnce, AnswersAndTakes};
 
 use crate::build::build;
+use crate::byte_queue::ByteQueue;
 use crate::fault::{NoMemory, WireFault};
 use crate::limits::Limits;
 use crate::place::Place;
-use crate::unread::Unread;
 use crate::value::Value;
 use std::alloc::Global;
 use std::marker::Model;
@@ -18,7 +18,7 @@ use std::marker::Model;
 #[derive(Drop)]
 pub struct Reader {
     limits: Limits,
-    unread: Unread,
+    unread: ByteQueue,
     /// How far the value at the front was read.
     place: Place,
     /// The fault that was found, and is answered from then on.
@@ -26,9 +26,9 @@ pub struct Reader {
 }
 
 impl Model for Reader {
-    ghost use Rattle.resp_wire.specs.Input.{Input};
+    ghost use Rattle.resp_wire.specs.ReaderModel.{ReaderModel};
 
-    ghost Value = { Input };
+    ghost Value = { ReaderModel };
 
     ghost use Rattle.resp_wire.specs.Places.{IsPlace, IsKept};
 
@@ -44,7 +44,7 @@ impl Reader {
     {
         Reader {
             limits,
-            unread: Unread::new(alloc),
+            unread: ByteQueue::new(alloc),
             place: Place::start(),
             fault: None,
         }
@@ -66,8 +66,8 @@ impl Reader {
     /// Takes the first value off the front, or None where no whole value is there yet. After a fault of the
     /// stream, each call answers it.
     pub fn next(&mut self) -> Result<Option<Value>, WireFault>
-        ensures exact { Answers self.old result self.new }
-        ensures takes { Takes self.old result self.new }
+        ensures exact { ReaderAnswers self.old result self.new }
+        ensures takes { ReaderTakes self.old result self.new }
     {
         if let Some(fault) = self.fault {
             return Err(fault);

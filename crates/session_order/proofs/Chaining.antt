@@ -1,7 +1,7 @@
 -- The parts of a slot, one after another, as the table of next parts changes.
 use Rattle.std.proofs.Common.{◌≡◌, ◌≢◌, ◌≤◌, ◌<◌, ◌+◌, ◌-◌, ◌++◌, ◌∷◌, [], ℕ, List, Bool, true, false, Option, Some, None, zero, suc, length, drop, ◌∙◌, arith, rules, refl}
 use Rattle.std.specs.Prelude.{slice_get, slice_set}
-use Rattle.session_order.specs.declared.queue.Stage.{Stage}
+use Rattle.session_order.specs.declared.queue.PartStage.{PartStage}
 use Rattle.session_order.specs.Turn.{blocks}
 use Rattle.session_order.specs.Tables.{in_front, open_parts, first_of, last_of, Chained}
 use Rattle.session_order.proofs.Lists.{get_drop, get_set_other, get_set_same, get_append}
@@ -20,7 +20,7 @@ climbs_in true n high rest less up = (omega arith, less, up)
 climbs_in false n high rest less up = climbs_less (suc n) n high rest (omega arith) up
 
 -- the parts of a slot stand in the order of their numbers
-pub open_climbs : (slot n high : ℕ) (stages : List Stage) → high ≡ n + length stages → Climbs n (open_parts slot n stages) high
+pub open_climbs : (slot n high : ℕ) (stages : List PartStage) → high ≡ n + length stages → Climbs n (open_parts slot n stages) high
 open_climbs slot n high [] sum = tt
 open_climbs slot n high (s ∷ ss) sum = climbs_in (blocks slot s) n high (open_parts slot (suc n) ss) (omega (arith, sum)) (open_climbs slot (suc n) high ss (omega (arith, sum)))
 

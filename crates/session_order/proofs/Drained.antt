@@ -4,9 +4,9 @@ use Rattle.std.specs.List.{list_all}
 use Rattle.session_order.proofs.Lists.{all_take}
 use Rattle.resp_wire.specs.declared.value.Value.{Value}
 use Rattle.key_split.specs.declared.travel.Ended.{Ended}
-use Rattle.session_order.specs.declared.queue.Stage.{Stage}
-use Rattle.session_order.specs.declared.replies.Owed.{Owed}
-use Rattle.session_order.specs.declared.replies.Owed.TheVariants.{Reply, Parts}
+use Rattle.session_order.specs.declared.queue.PartStage.{PartStage}
+use Rattle.session_order.specs.declared.replies.PendingReply.{PendingReply}
+use Rattle.session_order.specs.declared.replies.PendingReply.TheVariants.{Reply, Parts}
 use Rattle.session_order.specs.Turn.{is_done}
 use Rattle.session_order.specs.Replies.{joined, replies, replied, parts_of, AreJoinable}
 
@@ -20,7 +20,7 @@ counts-bounds true value n rest len total short few = (omega arith, omega arith)
 counts-bounds false value n rest len total short few = (omega arith, omega arith)
 
 -- no more is replied than is held
-pub replied_bounds : (requests : List Owed) (stages : List Stage) (ends : List Ended) → parts_of requests ≡ length stages
+pub replied_bounds : (requests : List PendingReply) (stages : List PartStage) (ends : List Ended) → parts_of requests ≡ length stages
     → ((replied requests stages ends).0 ≤ length requests) × ((replied requests stages ends).1 ≤ length stages)
 replied_bounds [] stages ends counted = (omega arith, omega arith)
 replied_bounds (Reply value ∷ rs) stages ends counted =
@@ -31,14 +31,14 @@ replied_bounds (Parts how n ∷ rs) stages ends counted =
     counts-bounds (list_all is_done (take n stages)) (joined how (take n ends)) n (λ k. replied rs (drop k stages) (drop k ends))
     (length rs) (length stages) rest.0 (omega (arith, rest.1, length-drop n stages, counted))
 
-counts-left : (b : Bool) (how : _) (value : Value) (n : ℕ) (rest : ℕ → ℕ × ℕ) (rs : List Owed) (total : ℕ)
+counts-left : (b : Bool) (how : _) (value : Value) (n : ℕ) (rest : ℕ → ℕ × ℕ) (rs : List PendingReply) (total : ℕ)
     → n + parts_of rs ≡ total → parts_of (drop (rest n).0 rs) + (n + (rest n).1) ≡ total
     → parts_of (drop (counts b value n rest).0 (Parts how n ∷ rs)) + (counts b value n rest).1 ≡ total
 counts-left true how value n rest rs total whole left = left
 counts-left false how value n rest rs total whole left = omega (arith, whole)
 
 -- the parts that are left are those of the requests that are left
-pub parts_of_drop : (requests : List Owed) (stages : List Stage) (ends : List Ended) → parts_of requests ≡ length stages
+pub parts_of_drop : (requests : List PendingReply) (stages : List PartStage) (ends : List Ended) → parts_of requests ≡ length stages
     → parts_of (drop (replied requests stages ends).0 requests) + (replied requests stages ends).1 ≡ length stages
 parts_of_drop [] stages ends counted = omega (arith, counted)
 parts_of_drop (Reply value ∷ rs) stages ends counted = omega (arith, parts_of_drop rs stages ends counted)
@@ -48,7 +48,7 @@ parts_of_drop (Parts how n ∷ rs) stages ends counted =
     counts-left (list_all is_done (take n stages)) how (joined how (take n ends)) n (λ k. replied rs (drop k stages) (drop k ends))
     rs (length stages) counted (omega (arith, rest, length-drop n stages, counted))
 
-pub joinable_drop : (requests : List Owed) (n : ℕ) → AreJoinable requests → AreJoinable (drop n requests)
+pub joinable_drop : (requests : List PendingReply) (n : ℕ) → AreJoinable requests → AreJoinable (drop n requests)
 joinable_drop [] zero j = j
 joinable_drop [] (suc n) j = j
 joinable_drop (Reply value ∷ rs) zero j = j
@@ -67,7 +67,7 @@ outcome-all true value n rest rest' count len last h all = ap (λ vs. value ∷ 
 outcome-all false value n rest rest' count len last h all = absurd (omega (arith, all))
 
 -- where every request has its reply, the last lines stand behind the replies
-pub replies_all : (requests : List Owed) (stages : List Stage) (ends : List Ended) (last : List Value)
+pub replies_all : (requests : List PendingReply) (stages : List PartStage) (ends : List Ended) (last : List Value)
     → length requests ≤ (replied requests stages ends).0
     → replies requests stages ends last ≡ replies requests stages ends [] ++ last
 replies_all [] stages ends last all = refl
@@ -84,7 +84,7 @@ outcome-part true value n rest rest' count len h part = ap (λ vs. value ∷ vs)
 outcome-part false value n rest rest' count len h part = refl
 
 -- where some request has none, no last line is written
-pub replies_part : (requests : List Owed) (stages : List Stage) (ends : List Ended) (last : List Value)
+pub replies_part : (requests : List PendingReply) (stages : List PartStage) (ends : List Ended) (last : List Value)
     → (replied requests stages ends).0 < length requests
     → replies requests stages ends last ≡ replies requests stages ends []
 replies_part [] stages ends last part = absurd (omega (arith, part))
@@ -94,14 +94,14 @@ replies_part (Parts how n ∷ rs) stages ends last part =
     (λ k. replies rs (drop k stages) (drop k ends) []) (λ k. replied rs (drop k stages) (drop k ends)) (length rs)
     (replies_part rs (drop n stages) (drop n ends) last) part
 
-counts_done : (b : Bool) (value : Value) (n : ℕ) (stages : List Stage) (rest : ℕ → ℕ × ℕ) → list_all is_done (take n stages) ≡ b
+counts_done : (b : Bool) (value : Value) (n : ℕ) (stages : List PartStage) (rest : ℕ → ℕ × ℕ) → list_all is_done (take n stages) ≡ b
     → list_all is_done (take (rest n).1 (drop n stages)) ≡ true
     → list_all is_done (take (counts b value n rest).1 stages) ≡ true
 counts_done true value n stages rest is others = all_take is_done stages n (rest n).1 (n + (rest n).1) refl is others
 counts_done false value n stages rest is others = refl
 
 -- the parts of the requests that have their replies are done
-pub replied_done : (requests : List Owed) (stages : List Stage) (ends : List Ended) → list_all is_done (take (replied requests stages ends).1 stages) ≡ true
+pub replied_done : (requests : List PendingReply) (stages : List PartStage) (ends : List Ended) → list_all is_done (take (replied requests stages ends).1 stages) ≡ true
 replied_done [] stages ends = refl
 replied_done (Reply value ∷ rs) stages ends =
     all_take is_done stages 0 (replied rs stages ends).1 (0 + (replied rs stages ends).1) refl refl (replied_done rs stages ends)

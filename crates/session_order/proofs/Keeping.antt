@@ -5,34 +5,35 @@ use Rattle.std.specs.List.{list_any, list_all}
 use Rattle.std.proofs.lemmas.List.{take-append-le, append-nil}
 use Rattle.std.proofs.lemmas.Option.{slice_get_within}
 use Rattle.slot_hash.specs.Slot.{slot_of}
-use Rattle.resp_wire.specs.declared.fault.NoMemory.{NoMemory as Refusal}
-use Rattle.key_split.specs.Command.{Command}
+use Rattle.resp_wire.specs.declared.fault.NoMemory.{NoMemory}
+use Rattle.key_split.specs.PartModel.{PartModel}
 use Rattle.key_split.specs.declared.travel.Ticket.{Ticket}
 use Rattle.key_split.specs.declared.travel.Ended.{Ended}
 use Rattle.key_split.specs.declared.planned.Planned.{Planned}
 use Rattle.key_split.specs.declared.planned.Planned.TheVariants as planned
 use Rattle.key_split.specs.declared.planned.PlanFault.{PlanFault}
-use Rattle.session_order.specs.declared.queue.Stage.{Stage}
-use Rattle.session_order.specs.declared.queue.Stage.TheVariants.{Waiting, Out, Done}
+use Rattle.session_order.specs.declared.queue.PartStage.{PartStage}
+use Rattle.session_order.specs.declared.queue.PartStage.TheVariants.{Waiting, Out, Done}
 use Rattle.session_order.specs.declared.closing.Broken.{Broken}
 use Rattle.session_order.specs.declared.closing.Broken.TheVariants as broken
 use Rattle.session_order.specs.declared.fault.SessionFault.{SessionFault}
-use Rattle.session_order.specs.declared.fault.SessionFault.TheVariants.{NoMemory, Wire, NotRequest}
-use Rattle.session_order.specs.Owed.{plan_for}
+use Rattle.session_order.specs.declared.fault.SessionFault.TheVariants as session_fault
+use Rattle.session_order.specs.declared.fault.SessionFault.TheVariants.{Wire, NotRequest}
+use Rattle.session_order.specs.PendingReply.{plan_for}
 use Rattle.session_order.specs.Turn.{is_done, blocks}
-use Rattle.session_order.specs.Incoming.{Incoming}
-use Rattle.session_order.specs.Held.{Held}
+use Rattle.session_order.specs.RequestReaderModel.{RequestReaderModel}
+use Rattle.session_order.specs.SessionModel.{SessionModel}
 use Rattle.session_order.specs.Replies.{replied, without, DrainOutcome}
 use Rattle.session_order.specs.Steps.{IsOut, KeepsOut, ReadyOutcome, IsHandedOut, EndOutcome, FeedOutcome, ReadOutcome, added, with_incoming, ReadsWords}
 use Rattle.session_order.proofs.Lists.{any_set, get_set_other, get_set_same, get_append, get_drop, any_drop, stands_behind}
 use Rattle.session_order.proofs.Drained.{replied_done}
 
 -- where no stage changes, what is out stays out
-kept_same : (old new : Held) → new.stages ≡ old.stages → new.first ≡ old.first → new.worker ≡ old.worker → new.client ≡ old.client → KeepsOut old new
+kept_same : (old new : SessionModel) → new.stages ≡ old.stages → new.first ≡ old.first → new.worker ≡ old.worker → new.client ≡ old.client → KeepsOut old new
 kept_same old new stages first worker client ticket (slot, le, at, its_worker, its_client, turn) =
     rw (stages, first, worker, client) (slot, le, at, its_worker, its_client, turn)
 
-kept_more : (old new : Held) (more : List Stage) → new.stages ≡ old.stages ++ more → new.first ≡ old.first → new.worker ≡ old.worker → new.client ≡ old.client → KeepsOut old new
+kept_more : (old new : SessionModel) (more : List PartStage) → new.stages ≡ old.stages ++ more → new.first ≡ old.first → new.worker ≡ old.worker → new.client ≡ old.client → KeepsOut old new
 kept_more old new more stages first worker client ticket (slot, le, at, its_worker, its_client, turn) =
     let i = ticket.part - old.first in
     let within : i ≤ length old.stages = omega (arith, slice_get_within old.stages i (Out slot) at) in
@@ -45,7 +46,7 @@ kept_more old new more stages first worker client ticket (slot, le, at, its_work
       rw (take-append-le i old.stages more within) turn,
     )
 
-pub handed_is_out : (old : Held) (given : Ticket × Command) (new : Held) → ReadyOutcome old (Some given) new → IsOut new given.0 × (IsOut old given.0 → ⊥)
+pub handed_is_out : (old : SessionModel) (given : Ticket × PartModel) (new : SessionModel) → ReadyOutcome old (Some given) new → IsOut new given.0 × (IsOut old given.0 → ⊥)
 handed_is_out old (ticket, part) new (i, (may, earliest, at), numbered, is) =
     let place : old.first + i - old.first ≡ i = omega arith in
     let waits : list_any (blocks (slot_of part.key)) (take i old.stages) ≡ false =
@@ -62,7 +63,7 @@ handed_is_out old (ticket, part) new (i, (may, earliest, at), numbered, is) =
       λ (slot, le, posted, w, c, turn). (let both : slice_get old.stages i ≡ Some (Out slot) = posted in cc),
     )
 
-pub handed_keeps : (old : Held) (given : Ticket × Command) (new : Held) → ReadyOutcome old (Some given) new → KeepsOut old new
+pub handed_keeps : (old : SessionModel) (given : Ticket × PartModel) (new : SessionModel) → ReadyOutcome old (Some given) new → KeepsOut old new
 handed_keeps old (given, part) new (i, (may, earliest, at), numbered, is) ticket (slot, le, posted, its_worker, its_client, turn) =
     let j = ticket.part - old.first in
     let apart : j ≢ i = λ same. (let both : slice_get old.stages i ≡ Some (Out slot) = subst (λ n. slice_get old.stages n ≡ Some (Out slot)) same posted in cc) in
@@ -75,11 +76,11 @@ handed_keeps old (given, part) new (i, (may, earliest, at), numbered, is) ticket
       any_set (blocks slot) old.stages j i (Waiting part) (Out (slot_of part.key)) at (λ h. h) turn,
     )
 
-pub ready_keeps : (old : Held) (result : Option (Ticket × Command)) (new : Held) → ReadyOutcome old result new → KeepsOut old new
+pub ready_keeps : (old : SessionModel) (result : Option (Ticket × PartModel)) (new : SessionModel) → ReadyOutcome old result new → KeepsOut old new
 ready_keeps old None new (none, is) = kept_same old new (rw is refl) (rw is refl) (rw is refl) (rw is refl)
 ready_keeps old (Some given) new does = handed_keeps old given new does
 
-pub ended_over : (old : Held) (ticket : Ticket) (end : Ended) (new : Held) → IsHandedOut old ticket → EndOutcome old ticket end new → IsOut new ticket → ⊥
+pub ended_over : (old : SessionModel) (ticket : Ticket) (end : Ended) (new : SessionModel) → IsHandedOut old ticket → EndOutcome old ticket end new → IsOut new ticket → ⊥
 ended_over old ticket end new (own, own_le, own_at, own_worker, own_client) is (slot, le, posted, w, c, turn) =
     let done : slice_get new.stages (ticket.part - old.first) ≡ Some Done =
     rw is (get_set_same old.stages (ticket.part - old.first) (Out own) Done own_at) in
@@ -91,7 +92,7 @@ same_part a b worker client part =
     let made : ℕ → ℕ → ℕ → Ticket = λ x y z. record { worker = x; client = y; part = z } in
     let same : made a.worker a.client a.part ≡ made b.worker b.client b.part = rw (worker, client, part) refl in same
 
-pub ended_keeps : (old : Held) (ticket : Ticket) (end : Ended) (new : Held) → IsHandedOut old ticket → EndOutcome old ticket end new
+pub ended_keeps : (old : SessionModel) (ticket : Ticket) (end : Ended) (new : SessionModel) → IsHandedOut old ticket → EndOutcome old ticket end new
     → (other : Ticket) → other ≢ ticket → IsOut old other → IsOut new other
 ended_keeps old ticket end new (own, own_le, own_at, own_worker, own_client) is other differs (slot, le, posted, its_worker, its_client, turn) =
     let i = ticket.part - old.first in
@@ -106,7 +107,7 @@ ended_keeps old ticket end new (own, own_le, own_at, own_worker, own_client) is 
       any_set (blocks slot) old.stages j i (Out own) Done own_at (λ h. refl) turn,
     )
 
-without_keeps : (old : Held) (n : ℕ × ℕ) → list_all is_done (take n.1 old.stages) ≡ true → KeepsOut old (without old n)
+without_keeps : (old : SessionModel) (n : ℕ × ℕ) → list_all is_done (take n.1 old.stages) ≡ true → KeepsOut old (without old n)
 without_keeps old n done ticket (slot, le, posted, its_worker, its_client, turn) =
     let i = ticket.part - old.first in
     let late : n.1 ≤ i = stands_behind is_done old.stages n.1 i (Out slot) done posted refl in
@@ -119,56 +120,56 @@ without_keeps old n done ticket (slot, le, posted, its_worker, its_client, turn)
       any_drop (blocks slot) old.stages n.1 (ticket.part - (old.first + n.1)) i place turn,
     )
 
-pub drain_keeps : (old : Held) (before : List ℕ) (result : Result ℕ Refusal) (new : Held) (after : List ℕ) → DrainOutcome old before result new after → KeepsOut old new
+pub drain_keeps : (old : SessionModel) (before : List ℕ) (result : Result ℕ NoMemory) (new : SessionModel) (after : List ℕ) → DrainOutcome old before result new after → KeepsOut old new
 drain_keeps old before (Ok n) new after (bytes, count, is) =
     subst (λ held. KeepsOut old held) (sym is) (without_keeps old (replied old.requests old.stages old.ends) (replied_done old.requests old.stages old.ends))
 drain_keeps old before (Err refused) new after (bytes, is) = kept_same old new (rw is refl) (rw is refl) (rw is refl) (rw is refl)
 
-pub ready_out : (old : Held) (result : Option (Ticket × Command)) (new : Held) → ReadyOutcome old result new
+pub ready_out : (old : SessionModel) (result : Option (Ticket × PartModel)) (new : SessionModel) → ReadyOutcome old result new
     → IfSome result (λ given. IsOut new given.0 × (IsOut old given.0 → ⊥))
 ready_out old None new does = tt
 ready_out old (Some given) new does = handed_is_out old given new does
 
-pub feed_keeps : (old : Held) (piece : List ℕ) (result : Result ℕ SessionFault) (new : Held) → FeedOutcome old piece result new → KeepsOut old new
+pub feed_keeps : (old : SessionModel) (piece : List ℕ) (result : Result ℕ SessionFault) (new : SessionModel) → FeedOutcome old piece result new → KeepsOut old new
 feed_keeps old piece (Ok n) new (inl (full, none, is, opened)) = kept_same old new (rw is refl) (rw is refl) (rw is refl) (rw is refl)
 feed_keeps old piece (Ok n) new (inr (few, all, inl (opened, is))) = kept_same old new (rw is refl) (rw is refl) (rw is refl) (rw is refl)
 feed_keeps old piece (Ok n) new (inr (few, all, inr (quit, is))) = kept_same old new (rw is refl) (rw is refl) (rw is refl) (rw is refl)
-feed_keeps old piece (Err NoMemory) new (may, is) = kept_same old new (rw is refl) (rw is refl) (rw is refl) (rw is refl)
+feed_keeps old piece (Err session_fault.NoMemory) new (may, is) = kept_same old new (rw is refl) (rw is refl) (rw is refl) (rw is refl)
 feed_keeps old piece (Err (Wire fault)) new (faulted, is) = kept_same old new (rw is refl) (rw is refl) (rw is refl) (rw is refl)
 feed_keeps old piece (Err NotRequest) new (faulted, is) = kept_same old new (rw is refl) (rw is refl) (rw is refl) (rw is refl)
 
 -- the stages grow, and the numbers stay
-record Grows (old new : Held) : Type 0 where
-  more : List Stage
+record Grows (old new : SessionModel) : Type 0 where
+  more : List PartStage
   stages : new.stages ≡ old.stages ++ more
   first : new.first ≡ old.first
   worker : new.worker ≡ old.worker
   client : new.client ≡ old.client
 
-keeps_of : (old new : Held) → Grows old new → KeepsOut old new
+keeps_of : (old new : SessionModel) → Grows old new → KeepsOut old new
 keeps_of old new grows = kept_more old new grows.more grows.stages grows.first grows.worker grows.client
 
-by_split : (b : Bool) (wide new : Held) → cond {A = Result Held Broken} b (Ok wide) (Err broken.NotRequest) ≡ Ok new → new ≡ wide
+by_split : (b : Bool) (wide new : SessionModel) → cond {A = Result SessionModel Broken} b (Ok wide) (Err broken.NotRequest) ≡ Ok new → new ≡ wide
 by_split true wide new is = cc
 by_split false wide new is = cc
 
-added_grows : (old : Held) (plan : Result Planned PlanFault) (new : Held) → added old plan ≡ Ok new → Grows old new
+added_grows : (old : SessionModel) (plan : Result Planned PlanFault) (new : SessionModel) → added old plan ≡ Ok new → Grows old new
 added_grows old (Err fault) new is = let now = by_split true _ new is in record { more = []; stages = rw now (sym (append-nil old.stages)); first = rw now refl; worker = rw now refl; client = rw now refl }
 added_grows old (Ok (planned.Local value)) new is = let now = by_split true _ new is in record { more = []; stages = rw now (sym (append-nil old.stages)); first = rw now refl; worker = rw now refl; client = rw now refl }
 added_grows old (Ok planned.Close) new is = let now = by_split true _ new is in record { more = []; stages = rw now (sym (append-nil old.stages)); first = rw now refl; worker = rw now refl; client = rw now refl }
 added_grows old (Ok (planned.Parts how parts)) new is = let now = by_split (nat_le (old.first + length old.stages + length parts) (2 ^ 48)) _ new is in
     record { more = map Waiting parts; stages = rw now refl; first = rw now refl; worker = rw now refl; client = rw now refl }
 
-with_keeps : (old : Held) (rest : Incoming) (new : Held) (words : List (List ℕ)) → ReadsWords old words (Ok new) rest → KeepsOut old new
+with_keeps : (old : SessionModel) (rest : RequestReaderModel) (new : SessionModel) (words : List (List ℕ)) → ReadsWords old words (Ok new) rest → KeepsOut old new
 with_keeps old rest new words (next, is) =
     let grows = added_grows (with_incoming old rest) (plan_for words) new is in
     kept_more old new grows.more grows.stages grows.first grows.worker grows.client
 
-pub read_keeps : (old : Held) (result : Result Bool SessionFault) (new : Held) → ReadOutcome old result new → KeepsOut old new
+pub read_keeps : (old : SessionModel) (result : Result Bool SessionFault) (new : SessionModel) → ReadOutcome old result new → KeepsOut old new
 read_keeps old (Ok true) new (may, inl (words, rest, reads)) = with_keeps old rest new words reads
 read_keeps old (Ok true) new (may, inr (takes, is)) = kept_same old new (rw is refl) (rw is refl) (rw is refl) (rw is refl)
 read_keeps old (Ok false) new (is, why) = kept_same old new (rw is refl) (rw is refl) (rw is refl) (rw is refl)
-read_keeps old (Err NoMemory) new (may, keeps, is) = kept_same old new (rw is refl) (rw is refl) (rw is refl) (rw is refl)
+read_keeps old (Err session_fault.NoMemory) new (may, keeps, is) = kept_same old new (rw is refl) (rw is refl) (rw is refl) (rw is refl)
 read_keeps old (Err (Wire fault)) new (inl (faulted, is)) = kept_same old new (rw is refl) (rw is refl) (rw is refl) (rw is refl)
 read_keeps old (Err (Wire fault)) new (inr (may, garbled, is)) = kept_same old new (rw is refl) (rw is refl) (rw is refl) (rw is refl)
 read_keeps old (Err NotRequest) new (inl (faulted, is)) = kept_same old new (rw is refl) (rw is refl) (rw is refl) (rw is refl)

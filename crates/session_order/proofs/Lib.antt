@@ -4,9 +4,12 @@ pub mod Lists
 pub mod Drained
 pub mod Added
 pub mod Keeping
+pub mod Told
+pub mod Quitting
 pub mod Lifelong
 pub mod Opening
 pub mod Chaining
+pub mod Blocking
 pub mod Tabling
 pub mod Turning
 pub mod Fronting

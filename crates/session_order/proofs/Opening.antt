@@ -2,8 +2,8 @@
 use Rattle.std.proofs.Common.{◌≡◌, ◌≤◌, ◌<◌, ◌+◌, ◌++◌, ◌∷◌, [], ℕ, List, Bool, true, false, Some, zero, suc, inl, inr, length, take, drop, sym, ap, ◌∙◌, arith, rules, refl, ◌||◌, ◌&&◌, ◌⊎◌}
 use Rattle.std.specs.Prelude.{slice_get, slice_set}
 use Rattle.std.specs.List.{list_any, list_all}
-use Rattle.session_order.specs.declared.queue.Stage.{Stage}
-use Rattle.session_order.specs.declared.queue.Stage.TheVariants.{Waiting, Out, Done}
+use Rattle.session_order.specs.declared.queue.PartStage.{PartStage}
+use Rattle.session_order.specs.declared.queue.PartStage.TheVariants.{Waiting, Out, Done}
 use Rattle.session_order.specs.Turn.{is_done, blocks}
 use Rattle.session_order.specs.Tables.{in_front, open_parts, first_of}
 
@@ -12,7 +12,7 @@ abbrev pub parts_at : Bool → ℕ → List ℕ → List ℕ
 parts_at b n rest = in_front b n rest
 
 -- another stage that blocks the slot as the one before changes nothing
-pub open_set : (slot n i : ℕ) (stages : List Stage) (s s' : Stage) → slice_get stages i ≡ Some s → blocks slot s' ≡ blocks slot s
+pub open_set : (slot n i : ℕ) (stages : List PartStage) (s s' : PartStage) → slice_get stages i ≡ Some s → blocks slot s' ≡ blocks slot s
     → open_parts slot n (slice_set stages i s') ≡ open_parts slot n stages
 open_set slot n i [] s s' at same = cc
 open_set slot n zero (h ∷ ss) s s' at same =
@@ -29,7 +29,7 @@ above_in true n m rest h is = let e : n ≡ m = (let f : Some n ≡ Some m = is 
 above_in false n m rest h is = omega (arith, h is)
 
 -- the first is one of the parts
-pub first_above : (slot n m : ℕ) (stages : List Stage) → first_of (open_parts slot n stages) ≡ Some m → n ≤ m
+pub first_above : (slot n m : ℕ) (stages : List PartStage) → first_of (open_parts slot n stages) ≡ Some m → n ≤ m
 first_above slot n m [] is = cc
 first_above slot n m (s ∷ ss) is = above_in (blocks slot s) n m (open_parts slot (suc n) ss) (λ h. omega (arith, first_above slot (suc n) m ss h)) is
 
@@ -38,7 +38,7 @@ any_first true rest none = cc
 any_first false rest none = (refl, none)
 
 -- the part at i is the first of its slot where no earlier one blocks it
-pub first_if_free : (slot n i k : ℕ) (stages : List Stage) (s : Stage) → k ≡ n + i → slice_get stages i ≡ Some s → blocks slot s ≡ true
+pub first_if_free : (slot n i k : ℕ) (stages : List PartStage) (s : PartStage) → k ≡ n + i → slice_get stages i ≡ Some s → blocks slot s ≡ true
     → list_any (blocks slot) (take i stages) ≡ false → first_of (open_parts slot n stages) ≡ Some k
 first_if_free slot n i k [] s sum at blocking free = cc
 first_if_free slot n zero k (h ∷ ss) s sum at blocking free =
@@ -51,7 +51,7 @@ first_if_free slot n (suc i) k (h ∷ ss) s sum at blocking free =
     ∙ first_if_free slot (suc n) i k ss s (omega (arith, sum)) at blocking both.1
 
 -- and no earlier one blocks it where it is the first
-pub free_if_first : (slot n i k : ℕ) (stages : List Stage) → k ≡ n + i → first_of (open_parts slot n stages) ≡ Some k → list_any (blocks slot) (take i stages) ≡ false
+pub free_if_first : (slot n i k : ℕ) (stages : List PartStage) → k ≡ n + i → first_of (open_parts slot n stages) ≡ Some k → list_any (blocks slot) (take i stages) ≡ false
 free_if_first slot n zero k stages sum is = refl
 free_if_first slot n (suc i) k [] sum is = refl
 free_if_first slot n (suc i) k (h ∷ ss) sum is =
@@ -61,7 +61,7 @@ free_if_first slot n (suc i) k (h ∷ ss) sum is =
     ]
 
 -- the first part of the slot ends: the others are left
-pub open_end : (slot n i k : ℕ) (stages : List Stage) (s : Stage) → k ≡ n + i → slice_get stages i ≡ Some s → blocks slot s ≡ true
+pub open_end : (slot n i k : ℕ) (stages : List PartStage) (s : PartStage) → k ≡ n + i → slice_get stages i ≡ Some s → blocks slot s ≡ true
     → first_of (open_parts slot n stages) ≡ Some k → open_parts slot n stages ≡ k ∷ open_parts slot n (slice_set stages i Done)
 open_end slot n i k [] s sum at blocking first = cc
 open_end slot n zero k (h ∷ ss) s sum at blocking first =
@@ -80,12 +80,12 @@ push_in true n rest more = refl
 push_in false n rest more = refl
 
 -- more parts stand behind
-pub open_append : (slot n k : ℕ) (stages more : List Stage) → k ≡ n + length stages → open_parts slot n (stages ++ more) ≡ open_parts slot n stages ++ open_parts slot k more
+pub open_append : (slot n k : ℕ) (stages more : List PartStage) → k ≡ n + length stages → open_parts slot n (stages ++ more) ≡ open_parts slot n stages ++ open_parts slot k more
 open_append slot n k [] more sum = let same : n ≡ k = omega (arith, sum) in ap (λ m. open_parts slot m more) same
 open_append slot n k (s ∷ ss) more sum =
     ap (in_front (blocks slot s) n) (open_append slot (suc n) k ss more (omega (arith, sum))) ∙ push_in (blocks slot s) n (open_parts slot (suc n) ss) (open_parts slot k more)
 
-done_blocks : (slot : ℕ) (s : Stage) → is_done s ≡ true → blocks slot s ≡ false
+done_blocks : (slot : ℕ) (s : PartStage) → is_done s ≡ true → blocks slot s ≡ false
 done_blocks slot (Waiting part) is = cc
 done_blocks slot (Out own) is = cc
 done_blocks slot Done is = refl
@@ -95,7 +95,7 @@ all_both true rest all = (refl, all)
 all_both false rest all = cc
 
 -- parts that are done leave
-pub open_drop : (slot n k count : ℕ) (stages : List Stage) → k ≡ n + count → list_all is_done (take count stages) ≡ true → count ≤ length stages
+pub open_drop : (slot n k count : ℕ) (stages : List PartStage) → k ≡ n + count → list_all is_done (take count stages) ≡ true → count ≤ length stages
     → open_parts slot k (drop count stages) ≡ open_parts slot n stages
 open_drop slot n k zero stages sum done fits = let same : k ≡ n = omega (arith, sum) in ap (λ m. open_parts slot m stages) same
 open_drop slot n k (suc count) [] sum done fits = absurd (omega (arith, fits))

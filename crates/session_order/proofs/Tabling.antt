@@ -1,124 +1,25 @@
 -- The tables stay right as parts are added, handed out, ended and dropped.
-use Rattle.std.proofs.Common.{◌≡◌, ◌≢◌, ◌≤◌, ◌<◌, ◌+◌, ◌-◌, ◌++◌, ◌∷◌, [], ℕ, List, Bool, true, false, Option, Some, None, zero, suc, inl, inr, length, take, drop, length-append, length-drop, sym, ap, subst, ◌∙◌, arith, rules, refl, cond, nat_eq, ◌⊎◌}
+use Rattle.std.proofs.Common.{◌≡◌, ◌≢◌, ◌≤◌, ◌<◌, ◌+◌, ◌-◌, ◌++◌, ◌∷◌, [], ℕ, List, Bool, true, false, Option, Some, None, zero, suc, inl, inr, length, take, drop, length-append, length-drop, sym, ap, subst, ◌∙◌, arith, rules, refl, cond, nat_eq}
 use Rattle.std.specs.Prelude.{slice_get, slice_set}
 use Rattle.std.specs.List.{list_any, list_all}
 use Rattle.std.proofs.lemmas.List.{length-set, take-append-le, append-nil}
 use Rattle.std.proofs.lemmas.Option.{slice_get_within}
 use Rattle.slot_hash.specs.Slot.{slot_of}
-use Rattle.key_split.specs.Command.{Command}
-use Rattle.session_order.specs.declared.queue.Stage.{Stage}
-use Rattle.session_order.specs.declared.queue.Stage.TheVariants.{Waiting, Out, Done}
+use Rattle.key_split.specs.PartModel.{PartModel}
+use Rattle.session_order.specs.declared.queue.PartStage.{PartStage}
+use Rattle.session_order.specs.declared.queue.PartStage.TheVariants.{Waiting, Out, Done}
 use Rattle.session_order.specs.Turn.{is_done, blocks, MayPost}
 use Rattle.session_order.specs.Tables.{in_front, open_parts, first_of, last_of, Chained, HasTurn, IsTabled, taken_up}
 use Rattle.session_order.proofs.Lists.{get_drop, get_set_other, get_append, stands_behind, eqb-no, eqb-yes}
-use Rattle.session_order.proofs.Opening.{open_set, first_if_free, free_if_first, open_end, open_append, open_drop}
-use Rattle.session_order.proofs.Chaining.{Climbs, open_climbs, Avoids, chained_other, chained_more, chained_drop, chained_push, get_last, last_push}
+use Rattle.session_order.proofs.Opening.{open_set, open_end, open_append, open_drop}
+use Rattle.session_order.proofs.Chaining.{Climbs, open_climbs, chained_other, chained_more, chained_drop, chained_push, get_last, last_push}
+use Rattle.session_order.proofs.Blocking.{set_back, append_back, nat_cases, eq_from, waits, may_first, first_may, blocks_one, At, first_at, last_at, avoids, last_none, first_more}
 
--- what stands at a place after another was set
-set_back : {A : Type 0} (xs : List A) (i j : ℕ) (y z : A) → slice_get (slice_set xs i y) j ≡ Some z → ((j ≡ i) × (z ≡ y)) ⊎ ((j ≢ i) × (slice_get xs j ≡ Some z))
-set_back [] i j y z at = cc
-set_back (h ∷ xs) zero zero y z at = inl (refl, (let e : Some y ≡ Some z = at in search rules))
-set_back (h ∷ xs) zero (suc j) y z at = inr (λ same. omega (arith, same), at)
-set_back (h ∷ xs) (suc i) zero y z at = inr (λ same. omega (arith, same), at)
-set_back (h ∷ xs) (suc i) (suc j) y z at =
-    elim (set_back xs i j y z at) [ inl here ↦ inl (ap suc here.0, here.1) | inr there ↦ inr (λ same. there.0 (omega (arith, same)), there.1) ]
-
-append_back : {A : Type 0} (xs : List A) (j : ℕ) (y z : A) → slice_get (xs ++ y ∷ []) j ≡ Some z → ((j ≡ length xs) × (z ≡ y)) ⊎ (slice_get xs j ≡ Some z)
-append_back [] zero y z at = inl (refl, (let e : Some y ≡ Some z = at in search rules))
-append_back [] (suc j) y z at = cc
-append_back (h ∷ xs) zero y z at = inr at
-append_back (h ∷ xs) (suc j) y z at = elim (append_back xs j y z at) [ inl here ↦ inl (omega (arith, here.0), here.1) | inr there ↦ inr there ]
-
-nat_cases : (a b : ℕ) → (a ≡ b) ⊎ (a ≢ b)
-nat_cases a b = elim (nat_eq a b) as (λ t. nat_eq a b ≡ t → (a ≡ b) ⊎ (a ≢ b)) [
-  | true ↦ λ is. inl (search rules)
-  | false ↦ λ is. inr (λ same. (let yes : nat_eq a b ≡ true = eqb-yes a b same in cc))
-] refl
-
-eq_from : (a b : ℕ) → nat_eq a b ≡ true → a ≡ b
-eq_from a b is = search rules
-
-waits : (part : Command) → blocks (slot_of part.key) (Waiting part) ≡ true
-waits part = eqb-yes (slot_of part.key) (slot_of part.key) refl
-
--- a part whose turn it is is the first of its slot, and the other way round
-may_first : (first i : ℕ) (stages : List Stage) (part : Command) → slice_get stages i ≡ Some (Waiting part)
-    → list_any (blocks (slot_of part.key)) (take i stages) ≡ false → first_of (open_parts (slot_of part.key) first stages) ≡ Some (first + i)
-may_first first i stages part at free = first_if_free (slot_of part.key) first i (first + i) stages (Waiting part) refl at (waits part) free
-
-first_may : (first i : ℕ) (stages : List Stage) (part : Command) → slice_get stages i ≡ Some (Waiting part)
-    → first_of (open_parts (slot_of part.key) first stages) ≡ Some (first + i) → MayPost stages i
-first_may first i stages part at is = (part, at, free_if_first (slot_of part.key) first i (first + i) stages refl is)
-
--- a part that blocks one slot blocks no other
-blocks_one : (slot other : ℕ) (s : Stage) → blocks slot s ≡ true → slot ≢ other → blocks other s ≡ false
-blocks_one slot other (Waiting part) is apart = eqb-no (slot_of part.key) other (λ same. apart (sym (eq_from (slot_of part.key) slot is) ∙ same))
-blocks_one slot other (Out own) is apart = eqb-no own other (λ same. apart (sym (eq_from own slot is) ∙ same))
-blocks_one slot other Done is apart = refl
-
--- the part of a number stands at its place and is for the slot
-record At (slot first number : ℕ) (stages : List Stage) : Type 0 where
-  i : ℕ
-  stage : Stage
-  numbered : number ≡ first + i
-  there : slice_get stages i ≡ Some stage
-  blocking : blocks slot stage ≡ true
-
-later_at : (slot n m : ℕ) (s : Stage) (ss : List Stage) → At slot (suc n) m ss → At slot n m (s ∷ ss)
-later_at slot n m s ss at = record { i = suc at.i; stage = at.stage; numbered = omega (arith, at.numbered); there = at.there; blocking = at.blocking }
-
-at_in : (slot n m : ℕ) (s : Stage) (ss : List Stage) (b : Bool) → blocks slot s ≡ b → (first_of (open_parts slot (suc n) ss) ≡ Some m → At slot (suc n) m ss)
-    → first_of (in_front b n (open_parts slot (suc n) ss)) ≡ Some m → At slot n m (s ∷ ss)
-at_in slot n m s ss true is rest first = let e : n ≡ m = (let f : Some n ≡ Some m = first in search rules) in
-    record { i = 0; stage = s; numbered = omega (arith, e); there = refl; blocking = is }
-at_in slot n m s ss false is rest first = later_at slot n m s ss (rest first)
-
-first_at : (slot n m : ℕ) (stages : List Stage) → first_of (open_parts slot n stages) ≡ Some m → At slot n m stages
-first_at slot n m [] is = cc
-first_at slot n m (s ∷ ss) is = at_in slot n m s ss (blocks slot s) refl (first_at slot (suc n) m ss) is
-
-last_in : (slot n m : ℕ) (s : Stage) (ss : List Stage) (b : Bool) (rest : List ℕ) → blocks slot s ≡ b → (last_of rest ≡ Some m → At slot (suc n) m ss)
-    → last_of (in_front b n rest) ≡ Some m → At slot n m (s ∷ ss)
-last_in slot n m s ss true [] is rest last = let e : n ≡ m = (let f : Some n ≡ Some m = last in search rules) in
-    record { i = 0; stage = s; numbered = omega (arith, e); there = refl; blocking = is }
-last_in slot n m s ss true (r ∷ rs) is rest last = later_at slot n m s ss (rest last)
-last_in slot n m s ss false rs is rest last = later_at slot n m s ss (rest last)
-
-last_at : (slot n m : ℕ) (stages : List Stage) → last_of (open_parts slot n stages) ≡ Some m → At slot n m stages
-last_at slot n m [] is = cc
-last_at slot n m (s ∷ ss) is = last_in slot n m s ss (blocks slot s) (open_parts slot (suc n) ss) refl (last_at slot (suc n) m ss) is
-
-avoids_in : (b : Bool) (n m : ℕ) (rest : List ℕ) → n ≢ m → Avoids m rest → Avoids m (in_front b n rest)
-avoids_in true n m rest apart others = (apart, others)
-avoids_in false n m rest apart others = others
-
-avoids_low : (slot n m : ℕ) (stages : List Stage) → m < n → Avoids m (open_parts slot n stages)
-avoids_low slot n m [] less = tt
-avoids_low slot n m (s ∷ ss) less = avoids_in (blocks slot s) n m (open_parts slot (suc n) ss) (λ same. omega (arith, same, less)) (avoids_low slot (suc n) m ss (omega (arith, less)))
-
--- a part that does not block the slot is none of its parts
-avoids : (slot n i m : ℕ) (stages : List Stage) (s : Stage) → m ≡ n + i → slice_get stages i ≡ Some s → blocks slot s ≡ false → Avoids m (open_parts slot n stages)
-avoids slot n i m [] s sum at free = cc
-avoids slot n zero m (h ∷ ss) s sum at free =
-    let is : h ≡ s = search rules in
-    subst (λ (b : Bool). Avoids m (in_front b n (open_parts slot (suc n) ss))) (sym (ap (blocks slot) is ∙ free)) (avoids_low slot (suc n) m ss (omega (arith, sum)))
-avoids slot n (suc i) m (h ∷ ss) s sum at free =
-    avoids_in (blocks slot h) n m (open_parts slot (suc n) ss) (λ same. omega (arith, same, sum)) (avoids slot (suc n) i m ss s (omega (arith, sum)) at free)
-
-last_none : (ns : List ℕ) → last_of ns ≡ None → ns ≡ []
-last_none [] is = refl
-last_none (n ∷ []) is = cc
-last_none (n ∷ m ∷ rest) is = (let h : m ∷ rest ≡ [] = last_none (m ∷ rest) is in cc)
-
-first_more : (ns more : List ℕ) (m : ℕ) → first_of ns ≡ Some m → first_of (ns ++ more) ≡ Some m
-first_more [] more m is = cc
-first_more (n ∷ ns) more m is = is
-
-waiting_out : (stages : List Stage) (i : ℕ) (part : Command) (slot : ℕ) → slice_get stages i ≡ Some (Waiting part) → slice_get stages i ≡ Some (Out slot) → ⊥
+waiting_out : (stages : List PartStage) (i : ℕ) (part : PartModel) (slot : ℕ) → slice_get stages i ≡ Some (Waiting part) → slice_get stages i ≡ Some (Out slot) → ⊥
 waiting_out stages i part slot a b = cc
 
 -- the part at i is handed out
-pub handed : (first i : ℕ) (stages : List Stage) (later : List (Option ℕ)) (last : ℕ → Option ℕ) (turns turns' : ℕ → ℕ) (part : Command)
+pub handed : (first i : ℕ) (stages : List PartStage) (later : List (Option ℕ)) (last : ℕ → Option ℕ) (turns turns' : ℕ → ℕ) (part : PartModel)
     → slice_get stages i ≡ Some (Waiting part) → MayPost stages i → ((m : ℕ) → turns m ≡ cond (nat_eq m (first + i)) 1 0 + turns' m)
     → IsTabled first stages later last turns → IsTabled first (slice_set stages i (Out (slot_of part.key))) later last turns'
 handed first i stages later last turns turns' part at may left t =
@@ -165,9 +66,9 @@ nat_zero (suc n) none = absurd (none (omega arith))
 some_is : (a b : ℕ) → (let o : Option ℕ = Some a in o ≡ Some b) → a ≡ b
 some_is a b is = search rules
 
-next_stage : (first i j slot : ℕ) (stages : List Stage) (s : Stage) → slice_get (slice_set stages i Done) j ≡ Some s → blocks slot s ≡ true → slice_get stages i ≡ Some (Out slot)
+next_stage : (first i j slot : ℕ) (stages : List PartStage) (s : PartStage) → slice_get (slice_set stages i Done) j ≡ Some s → blocks slot s ≡ true → slice_get stages i ≡ Some (Out slot)
     → ((j own : ℕ) → slice_get stages j ≡ Some (Out own) → first_of (open_parts own first stages) ≡ Some (first + j)) → first_of (open_parts slot first stages) ≡ Some (first + i)
-    → (part : Command) × (slice_get (slice_set stages i Done) j ≡ Some (Waiting part)) × (slot_of part.key ≡ slot)
+    → (part : PartModel) × (slice_get (slice_set stages i Done) j ≡ Some (Waiting part)) × (slot_of part.key ≡ slot)
 next_stage first i j slot stages (Waiting part) there blocking out outs head = (part, there, eq_from (slot_of part.key) slot blocking)
 next_stage first i j slot stages Done there blocking out outs head = cc
 next_stage first i j slot stages (Out own) there blocking out outs head =
@@ -181,9 +82,9 @@ next_stage first i j slot stages (Out own) there blocking out outs head =
     ]
 
 -- what stands at a part of the slot, once the first of them has ended
-next_waits : (first i x : ℕ) (slot : ℕ) (stages : List Stage) (at : At slot first x (slice_set stages i Done)) → slice_get stages i ≡ Some (Out slot)
+next_waits : (first i x : ℕ) (slot : ℕ) (stages : List PartStage) (at : At slot first x (slice_set stages i Done)) → slice_get stages i ≡ Some (Out slot)
     → ((j own : ℕ) → slice_get stages j ≡ Some (Out own) → first_of (open_parts own first stages) ≡ Some (first + j)) → first_of (open_parts slot first stages) ≡ Some (first + i)
-    → (part : Command) × (slice_get (slice_set stages i Done) at.i ≡ Some (Waiting part)) × (slot_of part.key ≡ slot)
+    → (part : PartModel) × (slice_get (slice_set stages i Done) at.i ≡ Some (Waiting part)) × (slot_of part.key ≡ slot)
 next_waits first i x slot stages at out outs head =
     next_stage first i at.i slot stages at.stage at.there at.blocking out outs head
 
@@ -218,7 +119,7 @@ last_left (Some x) was now n [] following is was_last = cc
 last_left (Some x) was now n (m ∷ rest) following is was_last = is ∙ was_last
 
 -- the part that follows was not put on before
-fresh_turn : (first i slot m : ℕ) (stages : List Stage) (later : List (Option ℕ)) (last : ℕ → Option ℕ) (turns : ℕ → ℕ) → IsTabled first stages later last turns
+fresh_turn : (first i slot m : ℕ) (stages : List PartStage) (later : List (Option ℕ)) (last : ℕ → Option ℕ) (turns : ℕ → ℕ) → IsTabled first stages later last turns
     → slice_get stages i ≡ Some (Out slot) → first_of (open_parts slot first stages) ≡ Some (first + i) → first_of (open_parts slot first (slice_set stages i Done)) ≡ Some m → turns m ≡ 0
 fresh_turn first i slot m stages later last turns t out head following = nat_zero (turns m) (λ pos.
     let turn = t.sound m pos in
@@ -239,7 +140,7 @@ fresh_turn first i slot m stages later last turns t out head following = nat_zer
     ])
 
 -- what was put on has its turn
-sound_more : (first i slot m now : ℕ) (stages : List Stage) (later : List (Option ℕ)) (last : ℕ → Option ℕ) (turns : ℕ → ℕ) (next : Option ℕ) → IsTabled first stages later last turns
+sound_more : (first i slot m now : ℕ) (stages : List PartStage) (later : List (Option ℕ)) (last : ℕ → Option ℕ) (turns : ℕ → ℕ) (next : Option ℕ) → IsTabled first stages later last turns
     → slice_get stages i ≡ Some (Out slot) → first_of (open_parts slot first stages) ≡ Some (first + i) → first_of (open_parts slot first (slice_set stages i Done)) ≡ next
     → ((q : ℕ) → slot ≢ q → open_parts q first (slice_set stages i Done) ≡ open_parts q first stages)
     → now ≡ taken_up next m + turns m → 0 < now → HasTurn first (slice_set stages i Done) m
@@ -265,7 +166,7 @@ sound_more first i slot m now stages later last turns next t out head following 
     ]
 
 -- the part at i has ended
-pub ended : (first i slot : ℕ) (stages : List Stage) (later : List (Option ℕ)) (last last' : ℕ → Option ℕ) (turns turns' : ℕ → ℕ) (next : Option ℕ)
+pub ended : (first i slot : ℕ) (stages : List PartStage) (later : List (Option ℕ)) (last last' : ℕ → Option ℕ) (turns turns' : ℕ → ℕ) (next : Option ℕ)
     → slice_get stages i ≡ Some (Out slot) → slice_get later i ≡ Some next
     → last' slot ≡ (elim next as (λ _. Option ℕ) [ None ↦ None | Some m ↦ last slot ]) → ((q : ℕ) → slot ≢ q → last' q ≡ last q)
     → ((m : ℕ) → turns' m ≡ taken_up next m + turns m)
@@ -319,10 +220,10 @@ ended first i slot stages later last last' turns turns' next out followed its_la
       ];
     }
 
-tail_of : (slot first : ℕ) (part : Command) (q : ℕ) → slot ≡ slot_of part.key → slot ≢ q → open_parts q first (Waiting part ∷ []) ≡ []
+tail_of : (slot first : ℕ) (part : PartModel) (q : ℕ) → slot ≡ slot_of part.key → slot ≢ q → open_parts q first (Waiting part ∷ []) ≡ []
 tail_of slot first part q is apart = ap (λ (b : Bool). in_front b first []) (eqb-no (slot_of part.key) q (λ same. apart (is ∙ same)))
 
-own_tail : (first : ℕ) (part : Command) → open_parts (slot_of part.key) first (Waiting part ∷ []) ≡ first ∷ []
+own_tail : (first : ℕ) (part : PartModel) → open_parts (slot_of part.key) first (Waiting part ∷ []) ≡ first ∷ []
 own_tail first part = ap (λ (b : Bool). in_front b first []) (waits part)
 
 -- the table of next parts with one more part behind the last of its slot
@@ -345,7 +246,7 @@ own_chain first number later [] None sum is up chain = (omega (arith, sum), get_
 own_chain first number later (n ∷ ns) None sum is up chain = (let e : n ∷ ns ≡ [] = last_none (n ∷ ns) (sym is) in cc)
 own_chain first number later ns (Some l) sum is up chain = chained_push first first number l later ns (omega arith) sum up (sym is) chain
 
-other_chain : (first number : ℕ) (stages : List Stage) (later : List (Option ℕ)) (slot q : ℕ) (before : Option ℕ) → before ≡ last_of (open_parts slot first stages) → slot ≢ q
+other_chain : (first number : ℕ) (stages : List PartStage) (later : List (Option ℕ)) (slot q : ℕ) (before : Option ℕ) → before ≡ last_of (open_parts slot first stages) → slot ≢ q
     → Chained first later (open_parts q first stages) → Chained first (linked first later before number) (open_parts q first stages)
 other_chain first number stages later slot q None is apart chain = chained_more first later (None ∷ []) (open_parts q first stages) chain
 other_chain first number stages later slot q (Some l) is apart chain =
@@ -363,7 +264,7 @@ alone_is first number [] before is up its = is
 alone_is first number (n ∷ ns) before is up its = (let e : n ≡ number = some_is n number its in absurd (omega (arith, e, up.1)))
 
 -- one more part is added
-pub pushed : (first number : ℕ) (stages : List Stage) (later : List (Option ℕ)) (last last' : ℕ → Option ℕ) (turns turns' : ℕ → ℕ) (part : Command)
+pub pushed : (first number : ℕ) (stages : List PartStage) (later : List (Option ℕ)) (last last' : ℕ → Option ℕ) (turns turns' : ℕ → ℕ) (part : PartModel)
     → number ≡ first + length stages
     → last' (slot_of part.key) ≡ Some number → ((q : ℕ) → slot_of part.key ≢ q → last' q ≡ last q)
     → ((m : ℕ) → turns' m ≡ taken_up (at_once (last (slot_of part.key)) number) m + turns m)
@@ -433,7 +334,7 @@ pushed first number stages later last last' turns turns' part sum its_last other
     }
 
 -- parts at the front, which are done, leave
-pub dropped : (first first' count : ℕ) (stages : List Stage) (later : List (Option ℕ)) (last : ℕ → Option ℕ) (turns : ℕ → ℕ)
+pub dropped : (first first' count : ℕ) (stages : List PartStage) (later : List (Option ℕ)) (last : ℕ → Option ℕ) (turns : ℕ → ℕ)
     → first' ≡ first + count → list_all is_done (take count stages) ≡ true → count ≤ length stages
     → IsTabled first stages later last turns → IsTabled first' (drop count stages) (drop count later) last turns
 dropped first first' count stages later last turns sum done fits t =

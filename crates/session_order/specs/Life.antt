@@ -1,47 +1,50 @@
--- A session over its whole life: what was drained, as a function of the requests that were read and the ends that were told.
+-- A session over its whole life: what was drained, as a function of the requests that were read and the ends that were
+-- told.
+-- It holds for any list of calls in any order, and names nothing that a session keeps: only what went in and came out.
 use Rattle.std.specs.Prelude.{◌≡◌, List, [], ◌∷◌, ◌++◌, ℕ, Bool, true, false, Option, Some, None, Result, Ok, Err}
 use Rattle.std.specs.List.{FoldsTo, flat_map, list_any}
-use Rattle.resp_wire.specs.declared.fault.NoMemory.{NoMemory as Refusal}
-use Rattle.resp_wire.specs.Bounds.{Bounds}
-use Rattle.key_split.specs.Command.{Command}
+use Rattle.resp_wire.specs.declared.fault.NoMemory.{NoMemory}
+use Rattle.resp_wire.specs.LimitsModel.{LimitsModel}
+use Rattle.key_split.specs.PartModel.{PartModel}
 use Rattle.key_split.specs.declared.travel.Ticket.{Ticket}
 use Rattle.key_split.specs.declared.travel.Ended.{Ended}
 use Rattle.session_order.specs.Output.{until_quit, output_of}
 use Rattle.session_order.specs.declared.closing.Closing.TheVariants.{Open}
 use Rattle.session_order.specs.declared.fault.SessionFault.{SessionFault}
-use Rattle.session_order.specs.declared.fault.SessionFault.TheVariants.{NoMemory, Wire, NotRequest}
+use Rattle.session_order.specs.declared.fault.SessionFault.TheVariants as session_fault
+use Rattle.session_order.specs.declared.fault.SessionFault.TheVariants.{Wire, NotRequest}
 use Rattle.session_order.specs.Requests.{Skipped}
-use Rattle.session_order.specs.Incoming.{Incoming, TakesValue}
-use Rattle.session_order.specs.Held.{Held}
+use Rattle.session_order.specs.RequestReaderModel.{RequestReaderModel, TakesValue}
+use Rattle.session_order.specs.SessionModel.{SessionModel}
 use Rattle.session_order.specs.Replies.{output, DrainOutcome}
 use Rattle.session_order.specs.Steps.{MayRead, ReadsWords, with_incoming, FeedOutcome, ReadOutcome, ReadyOutcome, IsHandedOut, EndOutcome}
 
 -- A call with its answer; a call of read with the words of the request that it read, if it read one.
-pub data Call : Type 0 where
-  Fed : List ℕ → Result ℕ SessionFault → Call
-  Read : Result Bool SessionFault → Option (List (List ℕ)) → Call
-  Handed : Option (Ticket × Command) → Call
-  Told : Ticket → Ended → Call
-  Drained : Result ℕ Refusal → List ℕ → Call
+pub data SessionCall : Type 0 where
+  Fed : List ℕ → Result ℕ SessionFault → SessionCall
+  Read : Result Bool SessionFault → Option (List (List ℕ)) → SessionCall
+  Handed : Option (Ticket × PartModel) → SessionCall
+  Told : Ticket → Ended → SessionCall
+  Drained : Result ℕ NoMemory → List ℕ → SessionCall
 
 -- a call of read by the request that it read
-abbrev pub Reads : Held → Result Bool SessionFault → Option (List (List ℕ)) → Held → Type 0
-Reads old (Ok true) (Some words) new = MayRead old × (rest : Incoming) × ReadsWords old words (Ok new) rest
+abbrev pub Reads : SessionModel → Result Bool SessionFault → Option (List (List ℕ)) → SessionModel → Type 0
+Reads old (Ok true) (Some words) new = MayRead old × (rest : RequestReaderModel) × ReadsWords old words (Ok new) rest
 Reads old (Ok true) None new = MayRead old × TakesValue old.incoming Skipped new.incoming × (new ≡ with_incoming old new.incoming)
 Reads old (Ok false) None new = ReadOutcome old (Ok false) new
 Reads old (Ok false) (Some words) new = ⊥
 Reads old (Err fault) None new = ReadOutcome old (Err fault) new
 Reads old (Err fault) (Some words) new = ⊥
 
-abbrev pub Does : Held → Call → Held → Type 0
-Does old (Fed piece result) new = FeedOutcome old piece result new
-Does old (Read result words) new = Reads old result words new
-Does old (Handed given) new = ReadyOutcome old given new
-Does old (Told ticket end) new = IsHandedOut old ticket × EndOutcome old ticket end new
-Does old (Drained result bytes) new = DrainOutcome old [] result new bytes
+abbrev pub SessionDoes : SessionModel → SessionCall → SessionModel → Type 0
+SessionDoes old (Fed piece result) new = FeedOutcome old piece result new
+SessionDoes old (Read result words) new = Reads old result words new
+SessionDoes old (Handed given) new = ReadyOutcome old given new
+SessionDoes old (Told ticket end) new = IsHandedOut old ticket × EndOutcome old ticket end new
+SessionDoes old (Drained result bytes) new = DrainOutcome old [] result new bytes
 
 -- the requests that the calls read
-abbrev pub read_by : Call → List (List (List ℕ))
+abbrev pub read_by : SessionCall → List (List (List ℕ))
 read_by (Fed piece result) = []
 read_by (Read result None) = []
 read_by (Read result (Some words)) = words ∷ []
@@ -50,7 +53,7 @@ read_by (Told ticket end) = []
 read_by (Drained result bytes) = []
 
 -- the ends that the calls told
-abbrev pub told_by : Call → List (Ticket × Ended)
+abbrev pub told_by : SessionCall → List (Ticket × Ended)
 told_by (Fed piece result) = []
 told_by (Read result words) = []
 told_by (Handed given) = []
@@ -58,7 +61,7 @@ told_by (Told ticket end) = (ticket, end) ∷ []
 told_by (Drained result bytes) = []
 
 -- the bytes that the calls drained
-abbrev pub drained_by : Call → List ℕ
+abbrev pub drained_by : SessionCall → List ℕ
 drained_by (Fed piece result) = []
 drained_by (Read result words) = []
 drained_by (Handed given) = []
@@ -66,21 +69,21 @@ drained_by (Told ticket end) = []
 drained_by (Drained result bytes) = bytes
 
 -- a call of read that met a fault of the client's
-abbrev pub met_fault : Call → Bool
+abbrev pub met_fault : SessionCall → Bool
 met_fault (Read (Err (Wire fault)) words) = true
 met_fault (Read (Err NotRequest) words) = true
-met_fault (Read (Err NoMemory) words) = false
+met_fault (Read (Err session_fault.NoMemory) words) = false
 met_fault (Read (Ok read) words) = false
 met_fault (Fed piece result) = false
 met_fault (Handed given) = false
 met_fault (Told ticket end) = false
 met_fault (Drained result bytes) = false
 
-abbrev pub output_for : List Call → List ℕ
+abbrev pub output_for : List SessionCall → List ℕ
 output_for calls = output_of (flat_map read_by calls) (flat_map told_by calls) (list_any met_fault calls)
 
 -- a session to which nothing was fed
-abbrev pub fresh : ℕ → ℕ → Bounds → Held
+abbrev pub fresh : ℕ → ℕ → LimitsModel → SessionModel
 fresh worker client bounds = record {
   worker = worker;
   client = client;
@@ -96,12 +99,12 @@ fresh worker client bounds = record {
 -- and the ends told. After a drain that answered Ok nothing is left to append. And each call of read is by a request
 -- that it read, or by none. Nothing is read after a request that ends the session.
 pub record DrainsOutput : Type 0 where
-  pub balance : (worker client : ℕ) (bounds : Bounds) (calls : List Call) (held : Held)
-      → FoldsTo Does (fresh worker client bounds) calls held → flat_map drained_by calls ++ output held ≡ output_for calls
-  pub all_drained : (worker client : ℕ) (bounds : Bounds) (calls : List Call) (n : ℕ) (bytes : List ℕ) (held : Held)
-      → FoldsTo Does (fresh worker client bounds) (calls ++ Drained (Ok n) bytes ∷ []) held
+  pub balance : (worker client : ℕ) (bounds : LimitsModel) (calls : List SessionCall) (held : SessionModel)
+      → FoldsTo SessionDoes (fresh worker client bounds) calls held → flat_map drained_by calls ++ output held ≡ output_for calls
+  pub all_drained : (worker client : ℕ) (bounds : LimitsModel) (calls : List SessionCall) (n : ℕ) (bytes : List ℕ) (held : SessionModel)
+      → FoldsTo SessionDoes (fresh worker client bounds) (calls ++ Drained (Ok n) bytes ∷ []) held
       → flat_map drained_by (calls ++ Drained (Ok n) bytes ∷ []) ≡ output_for (calls ++ Drained (Ok n) bytes ∷ [])
-  pub reads : (old : Held) (result : Result Bool SessionFault) (new : Held) → ReadOutcome old result new
+  pub reads : (old : SessionModel) (result : Result Bool SessionFault) (new : SessionModel) → ReadOutcome old result new
       → (words : Option (List (List ℕ))) × Reads old result words new
-  pub quit_is_last : (worker client : ℕ) (bounds : Bounds) (calls : List Call) (held : Held)
-      → FoldsTo Does (fresh worker client bounds) calls held → until_quit (flat_map read_by calls) ≡ flat_map read_by calls
+  pub quit_is_last : (worker client : ℕ) (bounds : LimitsModel) (calls : List SessionCall) (held : SessionModel)
+      → FoldsTo SessionDoes (fresh worker client bounds) calls held → until_quit (flat_map read_by calls) ≡ flat_map read_by calls

@@ -1,11 +1,13 @@
 -- Output: what a client is written, by its requests and the ends of their parts.
+-- RESP2 specification, "Request-response model" (pipelining); Redis command reference, QUIT. It names nothing that a
+-- session keeps: only requests, tickets and ends. Life.antt ties a session's calls to it.
 use Rattle.std.specs.Prelude.{◌+◌, suc, zero, List, [], ◌∷◌, ℕ, Bool, Option, Some, None, if◌then◌else◌, nat_eq, map, option_map}
 use Rattle.resp_wire.specs.declared.value.Value.{Value}
 use Rattle.key_split.specs.declared.travel.Ticket.{Ticket}
 use Rattle.key_split.specs.declared.travel.Ended.{Ended}
-use Rattle.session_order.specs.declared.replies.Owed.{Owed}
-use Rattle.session_order.specs.declared.replies.Owed.TheVariants.{Reply, Parts}
-use Rattle.session_order.specs.Owed.{owed_for, plan_for, ends_session}
+use Rattle.session_order.specs.declared.replies.PendingReply.{PendingReply}
+use Rattle.session_order.specs.declared.replies.PendingReply.TheVariants.{Reply, Parts}
+use Rattle.session_order.specs.PendingReply.{owed_for, plan_for, ends_session}
 use Rattle.session_order.specs.Replies.{bytes_of, lines_owed, joined}
 
 -- the requests up to the first that ends the session
@@ -28,7 +30,7 @@ ends_from told number (suc n) = elim (end_of told number) [
 
 -- The replies in the order of the requests, up to the first request with a part that has not ended; the last lines
 -- follow when every request has its reply. The parts are numbered on from the given number.
-abbrev pub replies_told : List (Ticket × Ended) → ℕ → List Owed → List Value → List Value
+abbrev pub replies_told : List (Ticket × Ended) → ℕ → List PendingReply → List Value → List Value
 replies_told told number [] last = last
 replies_told told number (Reply value ∷ rs) last = value ∷ replies_told told number rs last
 replies_told told number (Parts how n ∷ rs) last = elim (ends_from told number n) [

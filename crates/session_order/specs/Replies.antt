@@ -1,4 +1,5 @@
 -- A session's output: the replies in the order of the requests, up to the first that has a part which has not ended.
+-- A drain writes all replies that are next in order, or none for want of memory.
 use Rattle.std.specs.Prelude.{◌≡◌, ◌≤◌, ◌+◌, suc, List, [], ◌∷◌, ◌++◌, ℕ, Bool, true, false, Option, Some, None, Result, Ok, Err, if◌then◌else◌, take, drop, length, flat_map, nat_le}
 use Rattle.std.specs.List.{list_all}
 use Rattle.resp_wire.specs.declared.value.Value.{Value}
@@ -7,15 +8,15 @@ use Rattle.resp_wire.specs.Canonical.{canonical}
 use Rattle.key_split.specs.declared.travel.Ended.{Ended}
 use Rattle.key_split.specs.declared.planned.Joining.{Joining}
 use Rattle.key_split.specs.Join.{join_of, CanJoin}
-use Rattle.session_order.specs.Owed.{protocol_error}
-use Rattle.session_order.specs.declared.queue.Stage.{Stage}
-use Rattle.session_order.specs.declared.replies.Owed.{Owed}
-use Rattle.session_order.specs.declared.replies.Owed.TheVariants.{Reply, Parts}
+use Rattle.session_order.specs.PendingReply.{protocol_error}
+use Rattle.session_order.specs.declared.queue.PartStage.{PartStage}
+use Rattle.session_order.specs.declared.replies.PendingReply.{PendingReply}
+use Rattle.session_order.specs.declared.replies.PendingReply.TheVariants.{Reply, Parts}
 use Rattle.session_order.specs.declared.closing.Closing.{Closing}
 use Rattle.session_order.specs.declared.closing.Closing.TheVariants.{Open, Quit, Faulted}
 use Rattle.resp_wire.specs.declared.fault.NoMemory.{NoMemory}
 use Rattle.session_order.specs.Turn.{is_done}
-use Rattle.session_order.specs.Held.{Held}
+use Rattle.session_order.specs.SessionModel.{SessionModel}
 
 -- the canonical spelling of a reply
 unfoldable pub spelling : Value → List ℕ
@@ -27,12 +28,12 @@ joined how ends = join_of how ends
 
 -- A request's reply and how many parts it has, once all of them have ended. The stages and ends are those of its
 -- parts and of the parts after them.
-abbrev pub reply_of : Owed → List Stage → List Ended → Option (Value × ℕ)
+abbrev pub reply_of : PendingReply → List PartStage → List Ended → Option (Value × ℕ)
 reply_of (Reply value) stages ends = Some (value, 0)
 reply_of (Parts how n) stages ends = if list_all is_done (take n stages) then Some (joined how (take n ends), n) else None
 
 -- the replies that are next in order; the last line follows when every request has its reply
-abbrev pub replies : List Owed → List Stage → List Ended → List Value → List Value
+abbrev pub replies : List PendingReply → List PartStage → List Ended → List Value → List Value
 replies [] stages ends last = last
 replies (owed ∷ rs) stages ends last = elim (reply_of owed stages ends) [
   | Some reply ↦ reply.0 ∷ replies rs (drop reply.1 stages) (drop reply.1 ends) last
@@ -40,7 +41,7 @@ replies (owed ∷ rs) stages ends last = elim (reply_of owed stages ends) [
 ]
 
 -- how many requests have their reply in order, and how many parts these have
-abbrev pub replied : List Owed → List Stage → List Ended → ℕ × ℕ
+abbrev pub replied : List PendingReply → List PartStage → List Ended → ℕ × ℕ
 replied [] stages ends = (0, 0)
 replied (owed ∷ rs) stages ends = elim (reply_of owed stages ends) [
   | Some reply ↦ (suc (replied rs (drop reply.1 stages) (drop reply.1 ends)).0, reply.1 + (replied rs (drop reply.1 stages) (drop reply.1 ends)).1)
@@ -59,13 +60,13 @@ lines_owed true = protocol_error ∷ []
 lines_owed false = []
 
 -- how many parts the requests have
-abbrev pub parts_of : List Owed → ℕ
+abbrev pub parts_of : List PendingReply → ℕ
 parts_of [] = 0
 parts_of (Reply value ∷ rs) = parts_of rs
 parts_of (Parts how n ∷ rs) = n + parts_of rs
 
 -- each request with parts can be joined
-abbrev pub AreJoinable : List Owed → Type 0
+abbrev pub AreJoinable : List PendingReply → Type 0
 AreJoinable [] = Unit {0}
 AreJoinable (Reply value ∷ rs) = AreJoinable rs
 AreJoinable (Parts how n ∷ rs) = CanJoin how n × AreJoinable rs
@@ -75,7 +76,7 @@ abbrev pub bytes_of : List Value → List ℕ
 bytes_of values = flat_map spelling values
 
 -- what the next drain appends
-abbrev pub output : Held → List ℕ
+abbrev pub output : SessionModel → List ℕ
 output held = bytes_of (replies held.requests held.stages held.ends (last_line held.closing))
 
 -- the error line was drained
@@ -85,7 +86,7 @@ said Quit = Quit
 said (Faulted why owed) = Faulted why false
 
 -- what is held after these many requests and parts were drained
-abbrev pub without : Held → ℕ × ℕ → Held
+abbrev pub without : SessionModel → ℕ × ℕ → SessionModel
 without held n = record held {
   requests = drop n.0 held.requests;
   stages = drop n.1 held.stages;
@@ -94,22 +95,22 @@ without held n = record held {
   closing = if nat_le (length held.requests) n.0 then said held.closing else held.closing;
 }
 
-abbrev pub drained : Held → Held
+abbrev pub drained : SessionModel → SessionModel
 drained held = without held (replied held.requests held.stages held.ends)
 
 -- the parts of a request are among these many, and can be joined
-abbrev pub HasParts : Owed → ℕ → Type 0
+abbrev pub HasParts : PendingReply → ℕ → Type 0
 HasParts (Reply value) n = Unit {0}
 HasParts (Parts how count) n = (count ≤ n) × CanJoin how count
 
 -- what writing one request's reply does
-abbrev pub ReplyOutcome : Owed → List Stage → List Ended → List ℕ → Result (Option ℕ) NoMemory → List ℕ → Type 0
+abbrev pub ReplyOutcome : PendingReply → List PartStage → List Ended → List ℕ → Result (Option ℕ) NoMemory → List ℕ → Type 0
 ReplyOutcome owed stages ends old (Ok (Some n)) new =
     (value : Value) × (reply_of owed stages ends ≡ Some (value, n)) × (new ≡ old ++ spelling value)
 ReplyOutcome owed stages ends old (Ok None) new = (reply_of owed stages ends ≡ None) × (new ≡ old)
 ReplyOutcome owed stages ends old (Err refused) new = new ≡ old
 
 -- what draining does: all replies that are next in order, or nothing
-abbrev pub DrainOutcome : Held → List ℕ → Result ℕ NoMemory → Held → List ℕ → Type 0
+abbrev pub DrainOutcome : SessionModel → List ℕ → Result ℕ NoMemory → SessionModel → List ℕ → Type 0
 DrainOutcome old before (Ok n) new after = (after ≡ before ++ output old) × (n ≡ length (output old)) × (new ≡ drained old)
 DrainOutcome old before (Err refused) new after = (after ≡ before) × (new ≡ old)

@@ -1,14 +1,15 @@
 -- What is true of what a session holds.
+-- Private: the invariant of `Session`.
 use Rattle.std.specs.Prelude.{◌≡◌, ◌≤◌, List, None, length}
 use Rattle.key_split.specs.declared.travel.Ended.{Ended}
-use Rattle.session_order.specs.declared.replies.Owed.{Owed}
+use Rattle.session_order.specs.declared.replies.PendingReply.{PendingReply}
 use Rattle.session_order.specs.declared.closing.Closing.{Closing}
 use Rattle.session_order.specs.declared.closing.Closing.TheVariants.{Open}
-use Rattle.session_order.specs.Incoming.{Incoming}
-use Rattle.session_order.specs.Turn.{Queued}
+use Rattle.session_order.specs.RequestReaderModel.{RequestReaderModel}
+use Rattle.session_order.specs.Turn.{QueueModel}
 use Rattle.session_order.specs.Replies.{parts_of, AreJoinable}
 
-pub record IsSound (incoming : Incoming) (requests : List Owed) (queue : Queued) (ends : List Ended) (closing : Closing) : Type 0 where
+pub record IsSoundSession (incoming : RequestReaderModel) (requests : List PendingReply) (queue : QueueModel) (ends : List Ended) (closing : Closing) : Type 0 where
   -- the parts are those of the requests, each with a place for its end
   pub counted : parts_of requests ≡ length queue.stages
   pub places : length ends ≡ length queue.stages

@@ -1,4 +1,5 @@
 -- The tables by which a part whose turn it is is found: what they say of the parts.
+-- Only private functions cite it: the next part to post is found without a search.
 use Rattle.std.specs.Prelude.{◌≡◌, ◌<◌, ◌≤◌, ◌+◌, ◌-◌, List, [], ◌∷◌, ℕ, suc, Bool, true, false, Option, Some, None, if◌then◌else◌, length, slice_get, nat_eq}
 use Rattle.std.specs.declared.cmp.Reverse.{Reverse}
 use Rattle.std.specs.declared.cmp.Ordering.{Ordering}
@@ -7,15 +8,15 @@ use Rattle.std.specs.VecDeque.{deque_len, deque_capacity}
 use Rattle.std.specs.BinaryHeap.{heap_items, heap_len, heap_capacity, IsHeap}
 use Rattle.std.specs.HashMap.{get, spare}
 use Rattle.session_order.specs.declared.queue.Tables.{Tables}
-use Rattle.session_order.specs.declared.queue.Stage.{Stage}
-use Rattle.session_order.specs.declared.queue.Stage.TheVariants.{Waiting, Out, Done}
-use Rattle.session_order.specs.Turn.{blocks, MayPost, Queued}
+use Rattle.session_order.specs.declared.queue.PartStage.{PartStage}
+use Rattle.session_order.specs.declared.queue.PartStage.TheVariants.{Waiting, Out, Done}
+use Rattle.session_order.specs.Turn.{blocks, MayPost, QueueModel}
 
 abbrev pub in_front : Bool → ℕ → List ℕ → List ℕ
 in_front b n rest = if b then n ∷ rest else rest
 
 -- the numbers of the parts for a slot that have not ended, where the first part has this number
-abbrev pub open_parts : ℕ → ℕ → List Stage → List ℕ
+abbrev pub open_parts : ℕ → ℕ → List PartStage → List ℕ
 open_parts slot number [] = []
 open_parts slot number (stage ∷ stages) = in_front (blocks slot stage) number (open_parts slot (suc number) stages)
 
@@ -34,7 +35,7 @@ Chained first later [] = Unit {0}
 Chained first later (n ∷ rest) = (first ≤ n) × (slice_get later (n - first) ≡ Some (first_of rest)) × Chained first later rest
 
 -- the part of this number may be posted
-abbrev pub HasTurn : ℕ → List Stage → ℕ → Type 0
+abbrev pub HasTurn : ℕ → List PartStage → ℕ → Type 0
 HasTurn first stages number = (i : ℕ) × (number ≡ first + i) × MayPost stages i
 
 -- how often a number is put on
@@ -44,7 +45,7 @@ taken_up (Some n) number = if nat_eq number n then 1 else 0
 
 -- The tables are those of the parts: `later` has the next part of each one's slot, `last` the last open part of each slot,
 -- and `turns` says how often a number stands among those whose turn it is.
-pub record IsTabled (first : ℕ) (stages : List Stage) (later : List (Option ℕ)) (last : ℕ → Option ℕ) (turns : ℕ → ℕ) : Type 0 where
+pub record IsTabled (first : ℕ) (stages : List PartStage) (later : List (Option ℕ)) (last : ℕ → Option ℕ) (turns : ℕ → ℕ) : Type 0 where
   pub places : length later ≡ length stages
   pub chained : (slot : ℕ) → Chained first later (open_parts slot first stages)
   pub lasts : (slot : ℕ) → last slot ≡ last_of (open_parts slot first stages)
@@ -59,19 +60,19 @@ abbrev pub tally : List (Reverse ℕ) → ℕ → ℕ
 tally [] number = 0
 tally (turn ∷ turns) number = (if nat_eq number turn.0 then 1 else 0) + tally turns number
 
-abbrev pub is_out : Stage → Bool
+abbrev pub is_out : PartStage → Bool
 is_out (Waiting part) = false
 is_out (Out slot) = true
 is_out Done = false
 
-abbrev pub outs : List Stage → ℕ
+abbrev pub outs : List PartStage → ℕ
 outs [] = 0
 outs (stage ∷ stages) = (if is_out stage then 1 else 0) + outs stages
 
 abbrev pub earliest_first : Reverse ℕ → Reverse ℕ → Ordering
 earliest_first a b = nat_cmp b.0 a.0
 
-abbrev pub parts_in : Tables → Queued
+abbrev pub parts_in : Tables → QueueModel
 parts_in t = record { first = t.first; stages = t.stages.items }
 
 -- The tables are those of the parts. The heap has room for the number that follows each part that is out.

@@ -13,15 +13,16 @@
 
 mod closing;
 mod fault;
-mod intake;
 mod laws;
 mod queue;
 mod replies;
+mod request_kind;
+mod request_plan;
+mod request_reader;
 mod session;
-mod step;
-mod wish;
 
 pub use fault::SessionFault;
 pub use laws::drains_output;
+pub use request_kind::{RequestKind, kind_of};
+pub use request_plan::{goodbye, protocol_error};
 pub use session::Session;
-pub use wish::{Wish, wish_of};

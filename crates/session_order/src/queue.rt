@@ -3,7 +3,7 @@
 ghost use Rattle.std.specs.Prelude.{◌≡◌, ◌<◌, ◌≤◌, ◌+◌, ◌^◌, ◌↔◌, IsTrue, OnOk, OnErr, length, map, take, drop, true, Some, slice_get, slice_set, ℕ, MatchOption, IfSome, ◌++◌, ◌-◌, ◌≢◌, [], vec_len, ◌∷◌, suc};
 ghost use Rattle.std.specs.List.{list_all};
 ghost use Rattle.slot_hash.specs.Slot.{slot_of};
-ghost use Rattle.session_order.specs.Turn.{is_done, IsWaiting, IsOutAt, IsNumbered, HandOutcome};
+ghost use Rattle.session_order.specs.Turn.{is_done, IsWaiting, IsOutAt, IsNumbered, HandOutcome, NextPlace};
 ghost use Rattle.session_order.specs.Tables.{AreSound, SameParts, HasRoom, parts_in};
 ghost use Rattle.session_order.specs.Front.{done_at_front};
 
@@ -18,7 +18,7 @@ use std::mem;
 
 /// How far a part is.
 #[derive(Drop)]
-pub enum Stage {
+pub enum PartStage {
     /// It was not handed out.
     Waiting(Part),
     /// It was handed out, and has not ended.
@@ -26,11 +26,11 @@ pub enum Stage {
     Done,
 }
 
-impl Stage {
+impl PartStage {
     fn is_done(&self) -> bool
         ensures { result ≡ is_done self.now }
     {
-        matches!(self, Stage::Done)
+        matches!(self, PartStage::Done)
     }
 }
 
@@ -38,7 +38,7 @@ impl Stage {
 #[derive(Drop)]
 struct Tables {
     first: u64,
-    stages: VecDeque<Stage>,
+    stages: VecDeque<PartStage>,
     /// For each part the number of the next one for its slot.
     later: VecDeque<Option<u64>>,
     /// For each slot with a part that has not ended the number of the last one.
@@ -56,9 +56,9 @@ pub struct Queue {
 }
 
 impl Model for Queue {
-    ghost use Rattle.session_order.specs.Turn.{Queued};
+    ghost use Rattle.session_order.specs.Turn.{QueueModel};
 
-    ghost Value = { Queued };
+    ghost Value = { QueueModel };
 
     ghost use Rattle.session_order.specs.Turn.{IsNumbered};
     ghost use Rattle.session_order.specs.Tables.{AreSound};
@@ -71,8 +71,8 @@ impl Model for Queue {
 }
 
 impl Queue {
-    ghost use Rattle.session_order.specs.Turn.{Queued, HandOutcome};
-    ghost use Rattle.session_order.specs.declared.queue.Stage.TheVariants.{Waiting, Done};
+    ghost use Rattle.session_order.specs.Turn.{QueueModel, HandOutcome, NextPlace};
+    ghost use Rattle.session_order.specs.declared.queue.PartStage.TheVariants.{Waiting, Done};
 
     pub fn new(alloc: Global) -> Queue
         ensures { result ≡ record { first = 0; stages = [] } }
@@ -122,7 +122,7 @@ impl Queue {
         }
         matches!(
             &self.tables.stages[(number - first) as usize],
-            Stage::Out(_)
+            PartStage::Out(_)
         )
     }
 
@@ -138,10 +138,17 @@ impl Queue {
     }
 
     /// Hands out the earliest part whose turn it is.
-    pub fn hand_out(&mut self) -> Option<(u64, Part)>
+    pub fn next_part(&mut self) -> Option<(u64, Part)>
         ensures { HandOutcome self.old result self.new }
     {
-        hand_out(&mut self.tables)
+        take_next(&mut self.tables)
+    }
+
+    /// The place of the earliest part whose turn it is.
+    pub fn next_place(&self) -> Option<u64>
+        ensures { NextPlace self.now.stages result }
+    {
+        next_place(&self.tables)
     }
 
     /// Notes that a part has ended.
@@ -168,7 +175,7 @@ impl Queue {
 const MAX_PARTS: u64 = 1 << 48;
 
 // Counts the parts at the front that are done, these many of which are known.
-fn count_done(stages: &VecDeque<Stage>, known: usize) -> usize
+fn count_done(stages: &VecDeque<PartStage>, known: usize) -> usize
     requires fits { known ≤ length stages.now.items }
     requires known { list_all is_done (take known stages.now.items) ≡ true }
     ensures { result ≡ done_at_front stages.now.items }
@@ -206,7 +213,7 @@ fn push_parts(tables: &mut Tables, parts: Vec<Part>)
     requires room { HasRoom tables.old (vec_len parts) }
     ensures sound { AreSound tables.new }
     ensures first { tables.new.first ≡ tables.old.first }
-    ensures stages { tables.new.stages.items ≡ tables.old.stages.items ++ map Stage.Waiting parts.items }
+    ensures stages { tables.new.stages.items ≡ tables.old.stages.items ++ map PartStage.Waiting parts.items }
 {
     for part in parts {
         push_part(tables, part);
@@ -220,12 +227,12 @@ fn push_part(tables: &mut Tables, part: Part)
     requires room { HasRoom tables.old 1 }
     ensures sound { AreSound tables.new }
     ensures first { tables.new.first ≡ tables.old.first }
-    ensures stages { tables.new.stages.items ≡ tables.old.stages.items ++ Stage.Waiting part ∷ [] }
+    ensures stages { tables.new.stages.items ≡ tables.old.stages.items ++ PartStage.Waiting part ∷ [] }
     ensures room { (n : ℕ) → HasRoom tables.old (suc n) → HasRoom tables.new n }
 {
     let slot = part.slot().number();
     let number = tables.first + tables.stages.len() as u64;
-    tables.stages.push_back_reserved(Stage::Waiting(part));
+    tables.stages.push_back_reserved(PartStage::Waiting(part));
     tables.later.push_back_reserved(None);
     match tables.last.insert(slot, number) {
         Ok(Some(before)) => tables.later[(before - tables.first) as usize] = Some(number),
@@ -237,7 +244,7 @@ fn push_part(tables: &mut Tables, part: Part)
 }
 
 // Hands out the earliest part whose turn it is.
-fn hand_out(tables: &mut Tables) -> Option<(u64, Part)>
+fn take_next(tables: &mut Tables) -> Option<(u64, Part)>
     requires { AreSound tables.old }
     ensures sound { AreSound tables.new }
     ensures does { HandOutcome (parts_in tables.old) result (parts_in tables.new) }
@@ -250,16 +257,27 @@ fn hand_out(tables: &mut Tables) -> Option<(u64, Part)>
     Some((number, part))
 }
 
+// The place of the earliest part whose turn it is.
+fn next_place(tables: &Tables) -> Option<u64>
+    requires { AreSound tables.now }
+    ensures { NextPlace tables.now.stages.items result }
+{
+    let Some(Reverse(number)) = tables.turns.peek() else {
+        return None;
+    };
+    Some(*number - tables.first)
+}
+
 // Notes that a part has ended, so that it is the turn of the next one for its slot.
 fn end(tables: &mut Tables, number: u64)
     requires sound { AreSound tables.old }
     requires out { IsOutAt (parts_in tables.old) number }
     ensures sound { AreSound tables.new }
     ensures first { tables.new.first ≡ tables.old.first }
-    ensures stages { tables.new.stages.items ≡ slice_set tables.old.stages.items (number - tables.old.first) Stage.Done }
+    ensures stages { tables.new.stages.items ≡ slice_set tables.old.stages.items (number - tables.old.first) PartStage.Done }
 {
     let i = (number - tables.first) as usize;
-    let Stage::Out(slot) = mem::replace(&mut tables.stages[i], Stage::Done) else {
+    let PartStage::Out(slot) = mem::replace(&mut tables.stages[i], PartStage::Done) else {
         unreachable!()
     };
     match tables.later[i] {
@@ -287,17 +305,17 @@ fn drop_front(tables: &mut Tables, count: usize)
 }
 
 // Hands out the part at i.
-fn take_part(stages: &mut VecDeque<Stage>, i: usize) -> Part
+fn take_part(stages: &mut VecDeque<PartStage>, i: usize) -> Part
     requires { IsWaiting (slice_get stages.old.items i) }
-    ensures part { slice_get stages.old.items i ≡ Some (Stage.Waiting result) }
-    ensures stages { stages.new.items ≡ slice_set stages.old.items i (Stage.Out (slot_of result.key)) }
+    ensures part { slice_get stages.old.items i ≡ Some (PartStage.Waiting result) }
+    ensures stages { stages.new.items ≡ slice_set stages.old.items i (PartStage.Out (slot_of result.key)) }
 {
-    let Stage::Waiting(part) = &stages[i] else {
+    let PartStage::Waiting(part) = &stages[i] else {
         unreachable!()
     };
     let slot = part.slot();
-    match mem::replace(&mut stages[i], Stage::Out(slot)) {
-        Stage::Waiting(part) => part,
+    match mem::replace(&mut stages[i], PartStage::Out(slot)) {
+        PartStage::Waiting(part) => part,
         _ => unreachable!(),
     }
 }

@@ -7,7 +7,7 @@ ghost use Rattle.key_split.specs.Join.{CanJoin};
 ghost use Rattle.session_order.specs.Replies.{HasParts, joined, ReplyOutcome, parts_of, AreJoinable, bytes_of, replies, replied, lines_owed, spelling};
 
 use crate::queue::Queue;
-use crate::step::protocol_error;
+use crate::request_plan::protocol_error;
 use key_split::{Ended, Joining, join};
 use resp_wire::{NoMemory, Value, write_value};
 use std::alloc::Global;
@@ -15,7 +15,7 @@ use std::collections::VecDeque;
 
 /// What a request is owed: its reply, or one that is joined from the ends of its parts.
 #[derive(Drop)]
-pub enum Owed {
+pub enum PendingReply {
     Reply(Value),
     Parts(Joining, usize),
 }
@@ -25,7 +25,7 @@ pub enum Owed {
 #[tactic(auto, using(crate::proofs::Drained::replied_bounds, crate::proofs::Drained::replies_all, crate::proofs::Drained::replies_part, crate::proofs::Drained::parts_of_drop, crate::proofs::Drained::joinable_drop, crate::proofs::Drained::replied_done))]
 pub fn write_output(
     alloc: Global,
-    requests: &VecDeque<Owed>,
+    requests: &VecDeque<PendingReply>,
     queue: &Queue,
     ends: &mut VecDeque<Ended>,
     line_owed: bool,
@@ -53,7 +53,7 @@ pub fn write_output(
 // Writes the replies that are next in order, and answers how many requests and parts these are of.
 fn write_replies(
     alloc: Global,
-    requests: &VecDeque<Owed>,
+    requests: &VecDeque<PendingReply>,
     queue: &Queue,
     ends: &mut VecDeque<Ended>,
     out: &mut Vec<u8>,
@@ -81,7 +81,7 @@ fn write_replies(
 // parts, which are done.
 fn write_reply(
     alloc: Global,
-    owed: &Owed,
+    owed: &PendingReply,
     queue: &Queue,
     ends: &mut VecDeque<Ended>,
     from: usize,
@@ -96,11 +96,11 @@ fn write_reply(
     ensures done { IfOk result (λ r. IfSome r (λ count. list_all is_done (take count (drop from queue.now.stages)) ≡ true)) }
 {
     match owed {
-        Owed::Reply(value) => {
+        PendingReply::Reply(value) => {
             write_value(out, value)?;
             Ok(Some(0))
         }
-        Owed::Parts(how, count) => {
+        PendingReply::Parts(how, count) => {
             if !queue.are_done(from, *count) {
                 return Ok(None);
             }

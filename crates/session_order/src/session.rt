@@ -1,14 +1,14 @@
 //! A client's session.
 
-ghost use Rattle.std.specs.Prelude.{◌≡◌, ◌≢◌, ◌<◌, ◌≤◌, ◌+◌, ◌++◌, ◌↔◌, [], ◌∷◌, None, IsTrue, IfSome, true, length, drop, replicate};
+ghost use Rattle.std.specs.Prelude.{◌≡◌, ◌≢◌, ◌<◌, ◌≤◌, ◌+◌, ◌++◌, ◌↔◌, [], ◌∷◌, None, IsTrue, IfSome, true, length, drop, take, replicate};
 ghost use Rattle.std.specs.VecDeque.{deque_len, deque_capacity};
 
 use crate::closing::{Broken, Closing};
 use crate::fault::SessionFault;
-use crate::intake::{Intake, Next};
 use crate::queue::Queue;
-use crate::replies::{Owed, write_output};
-use crate::step::{Step, step_for};
+use crate::replies::{PendingReply, write_output};
+use crate::request_plan::{RequestPlan, plan_request};
+use crate::request_reader::{NextRequest, RequestReader};
 use key_split::{Ended, Part, Ticket};
 use resp_wire::{Limits, NoMemory, Words};
 use std::alloc::Global;
@@ -24,29 +24,29 @@ pub struct Session {
     alloc: Global,
     worker: u16,
     client: u32,
-    intake: Intake,
-    requests: VecDeque<Owed>,
+    reader: RequestReader,
+    requests: VecDeque<PendingReply>,
     queue: Queue,
     ends: VecDeque<Ended>,
     closing: Closing,
 }
 
 impl Model for Session {
-    ghost use Rattle.session_order.specs.Held.{Held};
+    ghost use Rattle.session_order.specs.SessionModel.{SessionModel};
 
-    ghost Value = { Held };
+    ghost Value = { SessionModel };
 
     ghost use Rattle.std.specs.Coded.{codes};
     ghost use Rattle.resp_wire.specs.Stored.{coded_data};
 
     ghost coded = { Prim.hlevel (codes, coded_data) };
 
-    ghost use Rattle.session_order.specs.Sound.{IsSound};
+    ghost use Rattle.session_order.specs.Sound.{IsSoundSession};
 
     ghost view = { λ a. record {
       worker = a.worker;
       client = a.client;
-      incoming = a.intake;
+      incoming = a.reader;
       requests = a.requests.items;
       stages = a.queue.stages;
       ends = a.ends.items;
@@ -54,13 +54,14 @@ impl Model for Session {
       closing = a.closing;
     } };
 
-    ghost invariant = { λ a. IsSound a.intake a.requests.items a.queue a.ends.items a.closing };
+    ghost invariant = { λ a. IsSoundSession a.reader a.requests.items a.queue a.ends.items a.closing };
 }
 
 impl Session {
     ghost use Rattle.key_split.specs.declared.travel.Ticket.{Ticket};
     ghost use Rattle.session_order.specs.Life.{fresh};
-    ghost use Rattle.session_order.specs.Replies.{DrainOutcome};
+    ghost use Rattle.session_order.specs.Replies.{DrainOutcome, parts_of};
+    ghost use Rattle.session_order.specs.Turn.{NextPlace};
     ghost use Rattle.session_order.specs.Steps.{FeedOutcome, ReadOutcome, ReadyOutcome, IsHandedOut, EndOutcome, IsFinished, IsOut, KeepsOut};
 
     /// A session to which nothing was fed.
@@ -71,7 +72,7 @@ impl Session {
             alloc,
             worker,
             client,
-            intake: Intake::new(alloc, limits),
+            reader: RequestReader::new(alloc, limits),
             requests: VecDeque::new(alloc),
             queue: Queue::new(alloc),
             ends: VecDeque::new(alloc),
@@ -101,7 +102,24 @@ impl Session {
         ensures out { IfSome result (λ given. IsOut self.new given.0 × (IsOut self.old given.0 → ⊥)) }
         ensures kept { KeepsOut self.old self.new }
     {
-        self.hand_out()
+        self.take_ready()
+    }
+
+    /// Where the part stands that `ready` would hand out, among those whose replies were not drained.
+    pub fn next_place(&self) -> Option<u64>
+        ensures { NextPlace self.now.stages result }
+    {
+        self.queue.next_place()
+    }
+
+    /// How many parts the oldest request has whose reply was not drained.
+    pub fn parts_of_oldest(&self) -> usize
+        ensures { result ≡ parts_of (take 1 self.now.requests) }
+    {
+        match self.requests.front() {
+            Some(PendingReply::Parts(_, count)) => *count,
+            _ => 0,
+        }
     }
 
     /// Whether the ticket is of a part that was handed out and has not ended.
@@ -156,7 +174,7 @@ impl Session {
             Closing::Quit => return Ok(piece.len()),
             Closing::Open => {}
         }
-        match self.intake.feed(piece) {
+        match self.reader.feed(piece) {
             Ok(()) => Ok(piece.len()),
             Err(_) => Err(SessionFault::NoMemory),
         }
@@ -173,10 +191,10 @@ impl Session {
         if self.requests.len() == MAX_UNANSWERED {
             return Ok(false);
         }
-        match self.intake.next() {
-            Ok(Next::Words(words)) => self.add(words),
-            Ok(Next::Skipped) => Ok(true),
-            Ok(Next::Nothing) => Ok(false),
+        match self.reader.next() {
+            Ok(NextRequest::Words(words)) => self.add(words),
+            Ok(NextRequest::Skipped) => Ok(true),
+            Ok(NextRequest::Nothing) => Ok(false),
             Err(SessionFault::NoMemory) => Err(SessionFault::NoMemory),
             Err(SessionFault::Wire(fault)) => {
                 self.closing = Closing::Faulted(Broken::Wire(fault), true);
@@ -189,10 +207,10 @@ impl Session {
         }
     }
 
-    fn hand_out(&mut self) -> Option<(Ticket, Part)>
+    fn take_ready(&mut self) -> Option<(Ticket, Part)>
         ensures { ReadyOutcome self.old result self.new }
     {
-        let Some((number, part)) = self.queue.hand_out() else {
+        let Some((number, part)) = self.queue.next_part() else {
             return None;
         };
         let ticket = Ticket {
@@ -247,8 +265,8 @@ impl Session {
         requires words { 0 < length words }
         ensures { AddOutcome self.old words result self.new }
     {
-        let Ok(step) = step_for(self.alloc, words.as_slice()) else {
-            self.intake.put_back(words);
+        let Ok(step) = plan_request(self.alloc, words.as_slice()) else {
+            self.reader.put_back(words);
             return Err(SessionFault::NoMemory);
         };
         let count = step.parts();
@@ -257,21 +275,24 @@ impl Session {
             return Err(SessionFault::NotRequest);
         }
         if !make_room(&mut self.requests, &mut self.ends, count) {
-            self.intake.put_back(words);
+            self.reader.put_back(words);
             return Err(SessionFault::NoMemory);
         }
         match step {
-            Step::Reply(value) => self.requests.push_back_reserved(Owed::Reply(value)),
-            Step::Close(value) => {
-                self.requests.push_back_reserved(Owed::Reply(value));
+            RequestPlan::Reply(value) => self
+                .requests
+                .push_back_reserved(PendingReply::Reply(value)),
+            RequestPlan::Close(value) => {
+                self.requests.push_back_reserved(PendingReply::Reply(value));
                 self.closing = Closing::Quit;
             }
-            Step::Parts(how, parts) => {
+            RequestPlan::Parts(how, parts) => {
                 if self.queue.add(parts.into_vec()).is_err() {
-                    self.intake.put_back(words);
+                    self.reader.put_back(words);
                     return Err(SessionFault::NoMemory);
                 }
-                self.requests.push_back_reserved(Owed::Parts(how, count));
+                self.requests
+                    .push_back_reserved(PendingReply::Parts(how, count));
                 push_lost(&mut self.ends, count);
             }
         }
@@ -288,7 +309,11 @@ fn drop_front<T: Drop>(items: &mut VecDeque<T>, n: usize)
 }
 
 // Makes room for one more request with so many parts.
-fn make_room(requests: &mut VecDeque<Owed>, ends: &mut VecDeque<Ended>, parts: usize) -> bool
+fn make_room(
+    requests: &mut VecDeque<PendingReply>,
+    ends: &mut VecDeque<Ended>,
+    parts: usize,
+) -> bool
     ensures requests { requests.new.items ≡ requests.old.items }
     ensures ends { ends.new.items ≡ ends.old.items }
     ensures requests_room { result ≡ true → deque_len requests.new < deque_capacity requests.new }

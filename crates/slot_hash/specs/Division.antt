@@ -1,4 +1,6 @@
 -- Each polynomial has exactly one remainder.
+-- `IsRemainder` (Polynomial.antt) says what a remainder is. There is at most one (`one_remainder`) and at least one
+-- (`IsRemainder-remainder`), so `remainder` names it.
 use Rattle.std.specs.Prelude.{◌≡◌, ℕ, zero, suc, ◌+◌, ◌-◌, ◌*◌, ◌/◌, ◌^◌, ◌<◌, ◌≤◌, bit_xor}
 use Rattle.std.proofs.Common.{refl, sym, ◌∙◌, ap, subst, arith, add-zero, ⊎_elim}
 use Rattle.std.proofs.lemmas.Bool.{cases_lt}

@@ -1,4 +1,6 @@
 -- The hash slot of a key: Redis Cluster specification, "Key distribution model" and "Hash tags".
+-- `crc16_of` and `slot_of` are computed; `IsSlotNumber` says the same without computing. Braces behind the first pair
+-- do not count. Every key has a slot, the empty one too.
 use Rattle.std.specs.Prelude.{◌≡◌, ℕ, ◌+◌, ◌*◌, ◌^◌, ◌%◌, List, zero, suc, Bool, ◌==◌, take, position, Option, None, Some}
 use Rattle.std.specs.List.{fold, after_first}
 use Rattle.slot_hash.specs.Division.{remainder, IsRemainder-remainder}

@@ -15,6 +15,3 @@ mod tag;
 
 pub use slot::{SLOT_COUNT, Slot, slot_of};
 pub use tag::tag_of;
-
-#[cfg(test)]
-mod tests;

@@ -8,10 +8,10 @@ use Rattle.resp_wire.specs.declared.value.Value.{Value}
 use Rattle.resp_wire.specs.Seen.{data_of}
 use Rattle.std.proofs.lemmas.List.{take_all}
 use Rattle.slot_map.specs.Table.{Endpoint, endpoint_of, host_of, Grows}
-use Rattle.slot_map.specs.Slots.{Reading, Step, before, go_on, range_in, read_entries, step_from}
+use Rattle.slot_map.specs.Slots.{SlotsReading, ReadStep, before, go_on, range_in, read_entries, step_from}
 use Rattle.slot_map.specs.Passes.{after, fault_of, StepsAs}
 
-pub fault_of_before : (op : MapOp) (reading : Result Reading MapFault) → fault_of (before op reading) ≡ fault_of reading
+pub fault_of_before : (op : MapOp) (reading : Result SlotsReading MapFault) → fault_of (before op reading) ≡ fault_of reading
 fault_of_before op (Err e) = refl
 fault_of_before op (Ok r) = refl
 
@@ -21,16 +21,16 @@ endpoint_of_more old more node known = grind (arith, common_steps)
 pub host_of_more : (old more : List Endpoint) (node : ℕ) → node < length old → host_of (old ++ more) node ≡ host_of old node
 host_of_more old more node known = ap (λ (at : Endpoint). at.host) (endpoint_of_more old more node known)
 
-one_more : (ops : List MapOp) (op : MapOp) (reading : Result Reading MapFault) → after ops (before op reading) ≡ after (ops ++ op ∷ []) reading
+one_more : (ops : List MapOp) (op : MapOp) (reading : Result SlotsReading MapFault) → after ops (before op reading) ≡ after (ops ++ op ∷ []) reading
 one_more ops op (Err e) = refl
 one_more ops op (Ok r) = ap (λ (os : List MapOp). Ok (record { ops = os; table = r.table })) (sym (append_assoc ops (op ∷ []) r.ops))
 
-step_on : (step : Result Step MapFault) (next : List Endpoint → Result Reading MapFault) (ops : List MapOp) (op : MapOp) (old new : List Endpoint) → StepsAs step old (Ok op) new → after ops (go_on step next) ≡ after (ops ++ op ∷ []) (next new)
+step_on : (step : Result ReadStep MapFault) (next : List Endpoint → Result SlotsReading MapFault) (ops : List MapOp) (op : MapOp) (old new : List Endpoint) → StepsAs step old (Ok op) new → after ops (go_on step next) ≡ after (ops ++ op ∷ []) (next new)
 step_on (Err e) next ops op old new steps = absurd (let no : Ok op ≡ Err e = steps.0 in cc)
 step_on (Ok s) next ops op old new steps = one_more ops s.op (next s.table) ∙ ap (λ (o : MapOp). after (ops ++ o ∷ []) (next s.table)) (sym steps.0) ∙ ap (λ (t : List Endpoint). after (ops ++ op ∷ []) (next t)) (sym steps.1)
 
 -- an entry more was read
-pub read_on : (asked : ℕ) (values : List Value) (entry : Value) (all : Result Reading MapFault) (ops more : List MapOp) (op : MapOp) (old new : List Endpoint)
+pub read_on : (asked : ℕ) (values : List Value) (entry : Value) (all : Result SlotsReading MapFault) (ops more : List MapOp) (op : MapOp) (old new : List Endpoint)
     → 1 ≤ length values → entry ≡ get_or values 0 entry → all ≡ after ops (read_entries asked (map data_of values) old)
     → StepsAs (step_from (host_of old asked) old (range_in (data_of entry))) old (Ok op) new → more ≡ ops ++ op ∷ []
     → all ≡ after more (read_entries asked (map data_of (take (length values - 1) (drop 1 values))) new)

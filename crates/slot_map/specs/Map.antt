@@ -1,4 +1,6 @@
 -- The slot map: which node a list of operations shows for a slot.
+-- Redis Cluster specification, "MOVED Redirection": one slot's node, or that of a range. The last operation counts. A
+-- slot that none covers has no node, as every slot at the start.
 use Rattle.std.specs.Prelude.{◌≡◌, ℕ, ◌<◌, List, Bool, ◌&&◌, ◌==◌, nat_le, Option, None, reverse, slice_index_or, length}
 use Rattle.std.specs.List.{find}
 use Rattle.std.specs.Option.{option_map}
@@ -18,6 +20,6 @@ abbrev pub node_after : List MapOp → ℕ → Option ℕ
 node_after ops slot = option_map node_in (find (covers slot) (reverse ops))
 
 -- the table has, for each slot, the node that the operations show
-pub record Shows (table : List (Option ℕ)) (ops : List MapOp) : Type 0 where
+pub record MapShows (table : List (Option ℕ)) (ops : List MapOp) : Type 0 where
   pub size : length table ≡ 16384
   pub node : (slot : ℕ) → slot < 16384 → slice_index_or table slot None ≡ node_after ops slot

@@ -1,4 +1,6 @@
 -- The table of the nodes: a node's number is its place.
+-- Nodes are never forgotten, so a number means one node in every link and thread. The limit of 64 is this proxy's; one
+-- node more is refused (`TooManyNodes`) and changes nothing.
 use Rattle.std.specs.Prelude.{◌≡◌, ℕ, List, [], ◌∷◌, ◌++◌, length, Bool, true, false, ◌&&◌, ◌==◌, nat_lt, Option, None, Some, Result, Ok, Err, if◌then◌else◌, position, slice_index_or}
 use Rattle.std.specs.Str.{bytes_eq}
 use Rattle.slot_map.specs.declared.fault.MapFault.{MapFault}

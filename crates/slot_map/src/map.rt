@@ -28,11 +28,11 @@ impl Model for SlotMap {
 
 impl SlotMap {
     ghost use Rattle.slot_map.specs.declared.ops.MapOp.{MapOp};
-    ghost use Rattle.slot_map.specs.Map.{node_after, Shows};
+    ghost use Rattle.slot_map.specs.Map.{node_after, MapShows};
 
     /// A map in which no slot has a node.
     pub fn new(alloc: Global) -> Result<SlotMap, NoMemory>
-        ensures { IfOk result (λ map. Shows map []) }
+        ensures { IfOk result (λ map. MapShows map []) }
     {
         let mut nodes = Vec::with_capacity(alloc, usize::from(SLOT_COUNT))?;
         for slot in 0..SLOT_COUNT {
@@ -43,7 +43,7 @@ impl SlotMap {
 
     /// Makes one change. It takes no memory.
     pub fn apply(&mut self, op: MapOp)
-        ensures { (ops : List MapOp) → Shows self.old ops → Shows self.new (ops ++ op ∷ []) }
+        ensures { (ops : List MapOp) → MapShows self.old ops → MapShows self.new (ops ++ op ∷ []) }
     {
         match op {
             MapOp::SetRange(first, last, node) => {
@@ -57,7 +57,7 @@ impl SlotMap {
 
     /// The node that the slot lives on, where one is known.
     pub fn node_of(&self, slot: Slot) -> Option<NodeId>
-        ensures { (ops : List MapOp) → Shows self.now ops → result ≡ node_after ops slot }
+        ensures { (ops : List MapOp) → MapShows self.now ops → result ≡ node_after ops slot }
     {
         self.nodes[slot.number() as usize]
     }

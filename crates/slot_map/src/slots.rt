@@ -122,9 +122,9 @@ impl<'a> Model for Primary<'a> {
     ghost use Rattle.std.specs.Prelude.{IsTrue};
     ghost use Rattle.std.specs.Option.{option_copied, ForSome};
     ghost use Rattle.resp_wire.specs.Text.{is_one_line};
-    ghost use Rattle.slot_map.specs.Slots.{Primary as Said};
+    ghost use Rattle.slot_map.specs.Slots.{PrimaryModel};
 
-    ghost Value = { Said };
+    ghost Value = { PrimaryModel };
 
     ghost view = { λ p. record { host = option_copied p.host; port = p.port } };
 
@@ -133,21 +133,21 @@ impl<'a> Model for Primary<'a> {
 
 /// What an entry says.
 #[derive(Drop)]
-struct Entry<'a> {
+struct SlotsEntry<'a> {
     first: i64,
     last: i64,
     primary: Primary<'a>,
 }
 
-impl<'a> Model for Entry<'a> {
-    ghost use Rattle.slot_map.specs.Slots.{Entry as Said};
+impl<'a> Model for SlotsEntry<'a> {
+    ghost use Rattle.slot_map.specs.Slots.{SlotsEntryModel};
 
-    ghost Value = { Said };
+    ghost Value = { SlotsEntryModel };
 
     ghost view = { λ e. record { first = e.first; last = e.last; primary = e.primary } };
 }
 
-fn entry_in(entry: &Value) -> Option<Entry<'_>>
+fn entry_in(entry: &Value) -> Option<SlotsEntry<'_>>
     ensures { result ≡ entry_in (data_of entry.now) }
 {
     let Value::Array(items) = entry else {
@@ -156,7 +156,7 @@ fn entry_in(entry: &Value) -> Option<Entry<'_>>
     entry_in_items(items)
 }
 
-fn entry_in_items(items: &Values) -> Option<Entry<'_>>
+fn entry_in_items(items: &Values) -> Option<SlotsEntry<'_>>
     ensures { result ≡ entry_in_items items.now }
 {
     match items.as_slice() {
@@ -167,7 +167,7 @@ fn entry_in_items(items: &Values) -> Option<Entry<'_>>
             ..
         ] => {
             let primary = primary_in(primary)?;
-            Some(Entry {
+            Some(SlotsEntry {
                 first: *first,
                 last: *last,
                 primary,
@@ -223,9 +223,9 @@ impl<'a> Model for SlotRange<'a> {
     ghost use Rattle.std.specs.Prelude.{IsTrue};
     ghost use Rattle.std.specs.Option.{option_copied, ForSome};
     ghost use Rattle.resp_wire.specs.Text.{is_one_line};
-    ghost use Rattle.slot_map.specs.Slots.{Located};
+    ghost use Rattle.slot_map.specs.Slots.{SlotRangeModel};
 
-    ghost Value = { Located };
+    ghost Value = { SlotRangeModel };
 
     ghost view = { λ r. record { first = r.first; last = r.last; host = option_copied r.host; port = r.port } };
 
@@ -263,7 +263,7 @@ impl<'a> SlotRange<'a> {
     }
 }
 
-fn located<'a>(said: Entry<'a>) -> Option<SlotRange<'a>>
+fn located<'a>(said: SlotsEntry<'a>) -> Option<SlotRange<'a>>
     ensures { result ≡ located said.entry }
 {
     let first = slot_at(said.first)?;

@@ -1,6 +1,6 @@
 -- What the steps look up is there, in every world that events reach.
-use Rattle.std.proofs.Common.{◌≡◌, inl, inr, ℕ, zero, suc, ◌+◌, ◌<◌, ◌≤◌, ◌==◌, Bool, true, false, List, [], ◌∷◌, Some, refl, sym, ap, ◌∙◌, subst, arith}
-use Rattle.std.specs.Prelude.{slice_get, slice_set, remove, if◌then◌else◌}
+use Rattle.std.proofs.Common.{◌≡◌, inl, inr, ℕ, zero, suc, ◌+◌, ◌<◌, ◌≤◌, ◌==◌, Bool, true, false, List, [], ◌∷◌, ◌++◌, Some, refl, sym, ap, ◌∙◌, subst, arith}
+use Rattle.std.specs.Prelude.{slice_get, slice_set, remove, map, if◌then◌else◌}
 use Rattle.std.specs.List.{position_from}
 use Rattle.std.proofs.lemmas.Iterator.Adapters.{position_from-zero}
 use Rattle.key_split.specs.Same.{same_ticket}
@@ -11,13 +11,18 @@ use Rattle.key_split.specs.declared.travel.Ended.{Ended}
 use Rattle.key_split.specs.declared.travel.Ended.TheVariants.{Answered, GaveUp}
 use Rattle.command_future.specs.declared.stage.Stage.{Stage}
 use Rattle.command_future.specs.declared.stage.Stage.TheVariants.{Wants, WantsAsking, Awaits, Over}
-use Rattle.world_laws.specs.State.{World, Arrival, Posted, Link, Request, Back, after_told, replied}
-use Rattle.world_laws.specs.declared.state.Request.TheVariants.{Asking, Runs}
-use Rattle.world_laws.specs.declared.state.Back.TheVariants.{Welcome, To}
-use Rattle.world_laws.specs.Places.{Item, total, in_requests, in_backs, in_link, tally, is}
+use Rattle.world_laws.specs.State.{WorldModel, Arrival, Posted, Link, LinkRequest, LinkReply, after_told, replied, all_replied, tickets_told, parts_told, tolds_of}
+use Rattle.key_split.specs.PartModel.{PartModel}
+use Rattle.node_model.specs.Store.{StoreModel, store_after, reply_to}
+use Rattle.node_model.specs.Nodes.{ClusterModel, store_at, with_store}
+use Rattle.node_model.specs.declared.role.Deed.{Deed}
+use Rattle.node_model.specs.declared.role.Deed.TheVariants.{Executes, Says}
+use Rattle.node_model.specs.Runs.{deed_for, DoesRun, AreReplies, AllTold, store_after_all}
+use Rattle.world_laws.specs.declared.state.LinkRequest.TheVariants.{Asking, Runs}
+use Rattle.world_laws.specs.declared.state.LinkReply.TheVariants.{Welcome, To}
+use Rattle.world_laws.specs.Places.{Item, total, in_requests, in_backs, in_lane, in_link, tally, is}
 use Rattle.world_laws.specs.Places.Item.{Stands, Lies, Sent, Comes}
-use Rattle.node_model.specs.Serving.{deed_at}
-use Rattle.world_laws.specs.World.{IsFirst, IsOf, recorded}
+use Rattle.world_laws.specs.World.{IsFirst, IsOf, AreOf, entries_of}
 use Rattle.world_laws.specs.declared.event.Event.TheVariants.{Serve}
 use Rattle.world_laws.specs.Headline.{At}
 use Rattle.world_laws.specs.Allowed.{IsAllowed, TakeIsAllowed, Fits, ServeIsAllowed}
@@ -26,7 +31,7 @@ use Rattle.world_laws.proofs.Counted.{if_awaits, here, awaits, stray, ran, owned
 use Rattle.world_laws.proofs.Placed.{Placed}
 use Rattle.world_laws.proofs.Kept.{is-refl, unique}
 use Rattle.world_laws.proofs.Lives.{ticket-is, sent_only, sent-le}
-use Rattle.world_laws.proofs.Nodes.{outcome}
+use Rattle.world_laws.proofs.Nodes.{reply-for}
 use Rattle.world_laws.proofs.Runs.{reached-sound}
 
 -- the first that passes is there, where one that passes is
@@ -51,21 +56,25 @@ no-total : {X : Type 0} (xs : List X) → total (λ (x : X). 0) xs ≡ 0
 no-total [] = refl
 no-total (x ∷ xs) = omega (arith, no-total xs)
 
-module _ (f : Item → ℕ) (lies : (b : Posted) → f (Lies b) ≡ 0) (sends : (o : Bool) (n : ℕ) (a : Bool) (t : Ticket) → f (Sent o n a t) ≡ 0) (comes : (t : Ticket) (told : Told) → f (Comes t told) ≡ 0) where
-  no-ups : (bs : List Posted) → total (λ b. f (Lies b)) bs ≡ 0
+no-tickets : (g : Ticket → ℕ) → ((t : Ticket) → g t ≡ 0) → (ts : List Ticket) → total g ts ≡ 0
+no-tickets g e [] = refl
+no-tickets g e (t ∷ ts) = omega (arith, e t, no-tickets g e ts)
+
+module _ (f : Item → ℕ) (lies : (n : ℕ) (a : Bool) (t : Ticket) → f (Lies n a t) ≡ 0) (sends : (o : Bool) (n : ℕ) (a : Bool) (t : Ticket) → f (Sent o n a t) ≡ 0) (comes : (t : Ticket) (told : Told) → f (Comes t told) ≡ 0) where
+  no-ups : (bs : List Posted) → total (in_lane f) bs ≡ 0
   no-ups [] = refl
-  no-ups (b ∷ bs) = omega (arith, lies b, no-ups bs)
+  no-ups (b ∷ bs) = omega (arith, no-tickets (λ t. f (Lies b.node b.asking t)) (lies b.node b.asking) b.tickets, no-ups bs)
 
   no-downs : (ps : List (Ticket × Told)) → total (λ p. f (Comes p.0 p.1)) ps ≡ 0
   no-downs [] = refl
   no-downs (p ∷ ps) = omega (arith, comes p.0 p.1, no-downs ps)
 
-  no-requests : (o : Bool) (n : ℕ) (flag : Bool) (rs : List Request) → in_requests f o n flag rs ≡ 0
+  no-requests : (o : Bool) (n : ℕ) (flag : Bool) (rs : List LinkRequest) → in_requests f o n flag rs ≡ 0
   no-requests o n flag [] = refl
   no-requests o n flag (Asking ∷ rs) = no-requests o n true rs
-  no-requests o n flag (Runs t ∷ rs) = omega (arith, sends o n flag t, no-requests o n false rs)
+  no-requests o n flag (Runs ts ∷ rs) = omega (arith, no-tickets (λ t. f (Sent o n flag t)) (sends o n flag) ts, no-requests o n false rs)
 
-  no-backs : (bs : List Back) → in_backs f bs ≡ 0
+  no-backs : (bs : List LinkReply) → in_backs f bs ≡ 0
   no-backs [] = refl
   no-backs (Welcome ∷ bs) = no-backs bs
   no-backs (To t told ∷ bs) = omega (arith, comes t told, no-backs bs)
@@ -74,7 +83,7 @@ module _ (f : Item → ℕ) (lies : (b : Posted) → f (Lies b) ≡ 0) (sends : 
   no-links [] = refl
   no-links (l ∷ ls) = omega (arith, no-requests l.is_open l.node l.asking l.requests, no-backs l.backs, no-links ls)
 
-  commands-alone : (w : World) → tally f w ≡ total (λ c. f (Stands c)) w.commands
+  commands-alone : (w : WorldModel) → tally f w ≡ total (λ c. f (Stands c)) w.commands
   commands-alone w = omega (arith, no-ups w.ups, no-links w.links, no-downs w.downs)
 
 -- the command that a ticket awaits, and the one that it has
@@ -92,10 +101,10 @@ is-so t u lt = go (same_ticket t u) lt
     go true lt = refl
     go false lt = absurd (omega arith)
 
-module _ (w : World) (h : Placed w) where
+module _ (w : WorldModel) (h : Placed w) where
   awaited : (t : Ticket) → 0 < tally (awaits t) w → (i : ℕ) × (c : Arrival) × At w.commands i c × (c.command.stage ≡ Awaits) × (same_ticket t c.command.ticket ≡ true)
   awaited t lt =
-      let f = total-found (λ c. awaits t (Stands c)) w.commands (omega (arith, commands-alone (awaits t) (λ _. refl) (λ _ _ _ _. refl) (λ _ _. refl) w)) in
+      let f = total-found (λ c. awaits t (Stands c)) w.commands (omega (arith, commands-alone (awaits t) (λ _ _ _. refl) (λ _ _ _ _. refl) (λ _ _. refl) w)) in
       let a = awaiting-one (f.1).command.stage (is t (f.1).command.ticket) f.3 in
       (f.0, f.1, f.2, a.0, is-so t (f.1).command.ticket a.1)
 
@@ -123,7 +132,7 @@ ran-owned t (Stands c) = stage c.command.stage
     stage (Over (Answered v)) = omega arith
     stage (Over GaveUp) = omega arith
     stage (Over Ended.Lost) = omega arith
-ran-owned t (Lies b) = omega arith
+ran-owned t (Lies n a u) = omega arith
 ran-owned t (Sent o n a u) = omega arith
 ran-owned t (Comes u told) = go told
   where
@@ -145,14 +154,14 @@ awaits-owned t (Stands c) = stage c.command.stage
     stage (WantsAsking m) = omega arith
     stage Awaits = omega arith
     stage (Over e) = omega arith
-awaits-owned t (Lies b) = omega arith
+awaits-owned t (Lies n a u) = omega arith
 awaits-owned t (Sent o n a u) = omega arith
 awaits-owned t (Comes u told) = omega arith
 
-nothing : (w : World) → tally (λ _. 0) w ≡ 0
-nothing w = omega (arith, commands-alone (λ _. 0) (λ _. refl) (λ _ _ _ _. refl) (λ _ _. refl) w, no-total w.commands)
+nothing : (w : WorldModel) → tally (λ _. 0) w ≡ 0
+nothing w = omega (arith, commands-alone (λ _. 0) (λ _ _ _. refl) (λ _ _ _ _. refl) (λ _ _. refl) w, no-total w.commands)
 
-module _ (w : World) (h : Placed w) where
+module _ (w : WorldModel) (h : Placed w) where
   -- who stands somewhere has a command
   owner : (t : Ticket) → 1 ≤ tally (here t) w + tally (stray t) w → (i : ℕ) × (c : Arrival) × At w.commands i c × (same_ticket t c.command.ticket ≡ true)
   owner t lt =
@@ -164,29 +173,82 @@ module _ (w : World) (h : Placed w) where
         nothing w,
         tally-le (ran t) (λ _. 0) (owned (same_ticket t)) (here t) (ran-owned t) w,
         tally-le (awaits t) (λ _. 0) (owned (same_ticket t)) (λ _. 0) (awaits-owned t) w,
-        commands-alone (owned (same_ticket t)) (λ _. refl) (λ _ _ _ _. refl) (λ _ _. refl) w,
+        commands-alone (owned (same_ticket t)) (λ _ _ _. refl) (λ _ _ _ _. refl) (λ _ _. refl) w,
       ) in
       let f = total-found (λ c. owned (same_ticket t) (Stands c)) w.commands some in
       (f.0, f.1, f.2, is-so t (f.1).command.ticket f.3)
 
 -- an item of a lane, and of a link, counts
 
-down-here : (w : World) (i : ℕ) (t : Ticket) (told : Told) → slice_get w.downs i ≡ Some (t, told) → 1 ≤ tally (here t) w
+down-here : (w : WorldModel) (i : ℕ) (t : Ticket) (told : Told) → slice_get w.downs i ≡ Some (t, told) → 1 ≤ tally (here t) w
 down-here w i t told e = omega (arith, total-one (λ (p : Ticket × Told). here t (Comes p.0 p.1)) w.downs i (t, told) e, is-refl t)
 
-request-here : (w : World) (link : ℕ) (l : Link) (t : Ticket) (rest : List Request) → slice_get w.links link ≡ Some l → l.requests ≡ Runs t ∷ rest → 1 ≤ tally (here t) w + tally (stray t) w
-request-here w link l t rest e r =
-    let inside : 1 ≤ in_link (sent_only t) l = omega (arith, ap (in_requests (sent_only t) l.is_open l.node l.asking) r, is-refl t) in
+request-here : (w : WorldModel) (link : ℕ) (l : Link) (ts : List Ticket) (rest : List LinkRequest) → slice_get w.links link ≡ Some l → l.requests ≡ Runs ts ∷ rest → (k : ℕ) (t : Ticket) → slice_get ts k ≡ Some t → 1 ≤ tally (here t) w + tally (stray t) w
+request-here w link l ts rest e r k t at_t =
+    let one : 1 ≤ total (λ u. sent_only t (Sent l.is_open l.node l.asking u)) ts = omega (arith, total-one (λ (u : Ticket). sent_only t (Sent l.is_open l.node l.asking u)) ts k t at_t, is-refl t) in
+    let inside : 1 ≤ in_link (sent_only t) l = omega (arith, ap (in_requests (sent_only t) l.is_open l.node l.asking) r, one) in
     omega (arith, inside, total-one (in_link (sent_only t)) w.links link l e, nothing w, tally-le (sent_only t) (λ _. 0) (here t) (stray t) (sent-le t) w)
+
+-- the commands of a run, and what they are told
+
+abbrev pub Stand : List Arrival → List Arrival → Type 0
+Stand commands [] = Unit {0}
+Stand commands (c ∷ cs) = ((i : ℕ) × IsOf c.command.ticket commands i c) × Stand commands cs
+
+abbrev pub Known : List Arrival → List Ticket → Type 0
+Known commands ts = (cs : List Arrival) × (map (λ c. c.command.ticket) cs ≡ ts) × Stand commands cs
+
+-- a run of these commands, served so
+abbrev pub Served : List Arrival → List Arrival → StoreModel → Deed → ClusterModel → ℕ → Type 0
+Served commands cs store deed k node =
+    (run : List (Arrival × Told)) × (tickets_told run ≡ map (λ c. c.command.ticket) cs) × (parts_told run ≡ map (λ c. c.command.part) cs) × AreOf run commands
+    × (k' : ClusterModel) × DoesRun deed k node (parts_told run) (tolds_of run) k'
+
+abbrev pub Executable : List Arrival → List Arrival → StoreModel → Type 0
+Executable commands cs store =
+    (run : List (Arrival × Told)) × (tickets_told run ≡ map (λ c. c.command.ticket) cs) × (parts_told run ≡ map (λ c. c.command.part) cs) × AreOf run commands
+    × AreReplies store (parts_told run) (tolds_of run)
+
+executed : (commands cs : List Arrival) (store : StoreModel) → Stand commands cs → Executable commands cs store
+executed commands [] store h = ([], refl, refl, tt, tt)
+executed commands (c ∷ cs) store h =
+    let r = executed commands cs (store_after store c.command.part) h.1 in
+    let told = reply-for (reply_to store c.command.part) in
+    ((c, told.0) ∷ r.0, ap (λ ts. c.command.ticket ∷ ts) r.1, ap (λ ps. c.command.part ∷ ps) r.2, (h.0, r.3), (told.1, r.4))
+
+abbrev pub Refusable : List Arrival → List Arrival → Told → Type 0
+Refusable commands cs said =
+    (run : List (Arrival × Told)) × (tickets_told run ≡ map (λ c. c.command.ticket) cs) × (parts_told run ≡ map (λ c. c.command.part) cs) × AreOf run commands
+    × AllTold said (parts_told run) (tolds_of run)
+
+refused : (commands cs : List Arrival) (said : Told) → Stand commands cs → Refusable commands cs said
+refused commands [] said h = ([], refl, refl, tt, tt)
+refused commands (c ∷ cs) said h =
+    let r = refused commands cs said h.1 in
+    ((c, said) ∷ r.0, ap (λ ts. c.command.ticket ∷ ts) r.1, ap (λ ps. c.command.part ∷ ps) r.2, (h.0, r.3), (refl, r.4))
+
+served : (commands cs : List Arrival) (k : ClusterModel) (node : ℕ) (deed : Deed) → Stand commands cs → Served commands cs (store_at k node) deed k node
+served commands cs k node Executes h = let r = executed commands cs (store_at k node) h in (r.0, r.1, r.2, r.3, with_store k node (store_after_all (store_at k node) (parts_told r.0)), (r.4, refl))
+served commands cs k node (Says said) h = let r = refused commands cs said h in (r.0, r.1, r.2, r.3, k, (r.4, refl))
+
+module _ (w : WorldModel) (h : Placed w) where
+  known : (ts : List Ticket) → ((k : ℕ) (t : Ticket) → slice_get ts k ≡ Some t → 1 ≤ tally (here t) w + tally (stray t) w) → Known w.commands ts
+  known [] f = ([], refl, tt)
+  known (t ∷ ts) f =
+      let a = owner w h t (f 0 t refl) in
+      let o = found w h t a.0 a.1 a.2 a.3 in
+      let same : (a.1).command.ticket ≡ t = ticket-is t (a.1).command.ticket a.3 in
+      let r = known ts (λ k u e. f (suc k) u e) in
+      (a.1 ∷ r.0, (λ i. same i ∷ r.1 i), ((o.0, subst (λ (u : Ticket). IsOf u w.commands o.0 a.1) (sym same) o.1), r.2))
 
 -- the laws
 
-ticked : (w : World) → Placed w → Placed (record w { moment = w.moment + 1 })
+ticked : (w : WorldModel) → Placed w → Placed (record w { moment = w.moment + 1 })
 ticked w x = record { single = x.single; below = x.below; place = x.place; once = x.once; replied = x.replied; tidy = x.tidy }
 
 pub take-is-allowed : TakeIsAllowed
 take-is-allowed w lane i ticket told reached lt first =
-    let w1 : World = record w { moment = w.moment + 1 } in
+    let w1 : WorldModel = record w { moment = w.moment + 1 } in
     let h : Placed w1 = ticked w (reached-sound w reached).placed in
     let a = awaited w1 h ticket (omega (arith, h.place ticket, down-here w1 i ticket told first.1)) in
     let o = found w1 h ticket a.0 a.1 a.2 a.4 in
@@ -210,19 +272,21 @@ take-is-allowed w lane i ticket told reached lt first =
 pub serve-is-allowed : ServeIsAllowed
 serve-is-allowed w link v l first rest reached lt at_l r fits = go first r fits
   where
-    w1 : World
+    w1 : WorldModel
     w1 = record w { moment = w.moment + 1 }
 
     h : Placed w1
     h = ticked w (reached-sound w reached).placed
 
-    go : (first : Request) → l.requests ≡ first ∷ rest → Fits w v first → IsAllowed w (Serve link v)
+    go : (first : LinkRequest) → l.requests ≡ first ∷ rest → Fits w v first → IsAllowed w (Serve link v)
     go Asking r fits = (record w1 { links = slice_set w1.links link (replied (record l { requests = rest; asking = true }) Welcome) }, (lt, (l, at_l, inl (rest, r, fits, refl))))
-    go (Runs t) r fits =
-        let a = owner w1 h t (request-here w1 link l t rest at_l r) in
-        let o = found w1 h t a.0 a.1 a.2 a.3 in
-        let same : t ≡ (a.1).command.ticket = sym (ticket-is t (a.1).command.ticket a.3) in
-        let d = outcome w.cluster l.node (a.1).command.part (deed_at w.cluster l.node l.asking (a.1).command.part v) in (
-          record w1 { cluster = d.1; links = slice_set w1.links link (replied (record l { requests = rest; asking = false }) (To (a.1).command.ticket d.0)); history = recorded w1 (a.1) d.0 },
-          (lt, (l, at_l, inr (rest, o.0, a.1, d.0, d.1, r ∙ ap (λ u. Runs u ∷ rest) same, subst (λ (u : Ticket). IsOf u w.commands o.0 a.1) same o.1, fits, d.2, refl))),
+    go (Runs ts) r fits =
+        let a = known w1 h ts (request-here w1 link l ts rest at_l r) in
+        let parts : List PartModel = map (λ (c : Arrival). c.command.part) a.0 in
+        let s = served w1.commands a.0 w.cluster l.node (deed_for w.cluster l.node l.asking parts v) a.2 in
+        let same : ts ≡ tickets_told s.0 = sym (s.1 ∙ a.1) in
+        let did : DoesRun (deed_for w.cluster l.node l.asking (parts_told s.0) v) w.cluster l.node (parts_told s.0) (tolds_of s.0) s.4
+        = subst (λ z. DoesRun (deed_for w.cluster l.node l.asking z v) w.cluster l.node (parts_told s.0) (tolds_of s.0) s.4) (sym s.2) s.5 in (
+          record w1 { cluster = s.4; links = slice_set w1.links link (all_replied (record l { requests = rest; asking = false }) s.0); history = w1.history ++ entries_of w1.moment s.0 },
+          (lt, (l, at_l, inr (rest, s.0, s.4, r ∙ ap (λ u. Runs u ∷ rest) same, s.3, fits, did, refl))),
         )

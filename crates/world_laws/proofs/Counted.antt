@@ -8,13 +8,13 @@ use Rattle.key_split.specs.declared.travel.Told.{Told}
 use Rattle.key_split.specs.declared.travel.Told.TheVariants.{Reply, Moved, Ask, TryAgain, ClusterDown, Unclear, Unsent}
 use Rattle.key_split.specs.declared.travel.Ended.{Ended}
 use Rattle.key_split.specs.declared.travel.Ended.TheVariants.{Answered, GaveUp}
-use Rattle.command_future.specs.Progress.{MayPost, refused_at}
+use Rattle.command_future.specs.CommandModel.{MayPostTo, refused_at}
 use Rattle.command_future.specs.declared.stage.Stage.{Stage}
 use Rattle.command_future.specs.declared.stage.Stage.TheVariants.{Wants, WantsAsking, Awaits, Over}
 use Rattle.world_laws.specs.State.{Arrival, after_told}
 use Rattle.world_laws.specs.Places.{Item, is}
 use Rattle.world_laws.specs.Places.Item.{Stands, Lies, Sent, Comes}
-use Rattle.node_model.specs.History.{Entry}
+use Rattle.node_model.specs.History.{EntryModel}
 
 abbrev pub one_if : Bool → ℕ
 one_if b = if b then 1 else 0
@@ -74,7 +74,7 @@ if_replied_told p Unsent n = 0
 -- the items in which t is under way
 abbrev pub here : Ticket → Item → ℕ
 here t (Stands c) = 0
-here t (Lies b) = is t b.ticket
+here t (Lies n a u) = is t u
 here t (Sent true n a u) = is t u
 here t (Sent false n a u) = 0
 here t (Comes u told) = is t u
@@ -82,14 +82,14 @@ here t (Comes u told) = is t u
 -- the command of t, while it awaits
 abbrev pub awaits : Ticket → Item → ℕ
 awaits t (Stands c) = if_awaits c.command.stage (is t c.command.ticket)
-awaits t (Lies b) = 0
+awaits t (Lies n a u) = 0
 awaits t (Sent o n a u) = 0
 awaits t (Comes u told) = 0
 
 -- t among the requests of closed links
 abbrev pub stray : Ticket → Item → ℕ
 stray t (Stands c) = 0
-stray t (Lies b) = 0
+stray t (Lies n a u) = 0
 stray t (Sent true n a u) = 0
 stray t (Sent false n a u) = is t u
 stray t (Comes u told) = 0
@@ -97,26 +97,26 @@ stray t (Comes u told) = 0
 -- t where it is told, or was told, a reply or Told.Lost
 abbrev pub ran : Ticket → Item → ℕ
 ran t (Stands c) = if_ran c.command.stage (is t c.command.ticket)
-ran t (Lies b) = 0
+ran t (Lies n a u) = 0
 ran t (Sent o n a u) = 0
 ran t (Comes u told) = if_ran_told told (is t u)
 
 -- t where it is told, or was told, a reply that passes
 abbrev pub replied_by : (Data → Bool) → Ticket → Item → ℕ
 replied_by p t (Stands c) = if_replied p c.command.stage (is t c.command.ticket)
-replied_by p t (Lies b) = 0
+replied_by p t (Lies n a u) = 0
 replied_by p t (Sent o n a u) = 0
 replied_by p t (Comes u told) = if_replied_told p told (is t u)
 
 -- commands whose ticket passes
 abbrev pub owned : (Ticket → Bool) → Item → ℕ
 owned p (Stands c) = one_if (p c.command.ticket)
-owned p (Lies b) = 0
+owned p (Lies n a u) = 0
 owned p (Sent o n a u) = 0
 owned p (Comes u told) = 0
 
 -- an entry of t, with a reply that passes
-abbrev pub entry_by : (Data → Bool) → Ticket → Entry → ℕ
+abbrev pub entry_by : (Data → Bool) → Ticket → EntryModel → ℕ
 entry_by p t e = if_passes p e.reply (is t e.ticket)
 
 -- being told
@@ -195,19 +195,19 @@ replied-after_told p t c Unsent = refused-is (λ (d : Arrival). replied_by p t (
 
 -- who may be posted awaits nothing and has not ended
 
-pub awaits-may_post : (s : Stage) (node n : ℕ) → MayPost s node → if_awaits s n ≡ 0
+pub awaits-may_post : (s : Stage) (node n : ℕ) → MayPostTo s node → if_awaits s n ≡ 0
 awaits-may_post (Wants m) node n h = refl
 awaits-may_post (WantsAsking m) node n h = refl
 awaits-may_post Awaits node n h = absurd h
 awaits-may_post (Over e) node n h = absurd h
 
-pub ran-may_post : (s : Stage) (node n : ℕ) → MayPost s node → if_ran s n ≡ 0
+pub ran-may_post : (s : Stage) (node n : ℕ) → MayPostTo s node → if_ran s n ≡ 0
 ran-may_post (Wants m) node n h = refl
 ran-may_post (WantsAsking m) node n h = refl
 ran-may_post Awaits node n h = absurd h
 ran-may_post (Over e) node n h = absurd h
 
-pub replied-may_post : (p : Data → Bool) (s : Stage) (node n : ℕ) → MayPost s node → if_replied p s n ≡ 0
+pub replied-may_post : (p : Data → Bool) (s : Stage) (node n : ℕ) → MayPostTo s node → if_replied p s n ≡ 0
 replied-may_post p (Wants m) node n h = refl
 replied-may_post p (WantsAsking m) node n h = refl
 replied-may_post p Awaits node n h = absurd h

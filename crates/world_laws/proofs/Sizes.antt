@@ -1,31 +1,31 @@
 -- No event changes how many workers and nodes there are.
 use Rattle.std.proofs.Common.{◌≡◌, ◌⊎◌, inl, inr, length, refl, ap, ◌∙◌}
-use Rattle.node_model.specs.Serving.{deed_at}
-use Rattle.world_laws.specs.State.{World}
-use Rattle.world_laws.specs.World.{Does, ServesAsking, ServesCommand, FetchesWelcome, FetchesReply}
+use Rattle.node_model.specs.Runs.{deed_for}
+use Rattle.world_laws.specs.State.{WorldModel, parts_told, tolds_of}
+use Rattle.world_laws.specs.World.{WorldDoes, ServesAsking, ServesRun, FetchesWelcome, FetchesReply}
 use Rattle.world_laws.specs.declared.event.Event.{Event}
 use Rattle.world_laws.specs.declared.event.Event.TheVariants.{Arrive, Post, Carry, Refuse, Serve, Fetch, Take, Drop, Discard, Import, Migrate, MoveKey, Own, Release, Forget, Stay}
 use Rattle.world_laws.specs.declared.event.Event.TheVariants as ev
-use Rattle.world_laws.proofs.Nodes.{set-size, serves-size}
+use Rattle.world_laws.proofs.Nodes.{set-size, runs-size}
 
-abbrev SameSizes : World → World → Type 0
+abbrev SameSizes : WorldModel → WorldModel → Type 0
 SameSizes w w' = (w'.workers ≡ w.workers) × (length w'.cluster.stores ≡ length w.cluster.stores)
 
 -- where the new world is known, and has them
-same : (w w' v : World) → w' ≡ v → v.workers ≡ w.workers → length v.cluster.stores ≡ length w.cluster.stores → SameSizes w w'
-same w w' v e workers nodes = (ap (λ (x : World). x.workers) e ∙ workers, ap (λ (x : World). length x.cluster.stores) e ∙ nodes)
+same : (w w' v : WorldModel) → w' ≡ v → v.workers ≡ w.workers → length v.cluster.stores ≡ length w.cluster.stores → SameSizes w w'
+same w w' v e workers nodes = (ap (λ (x : WorldModel). x.workers) e ∙ workers, ap (λ (x : WorldModel). length x.cluster.stores) e ∙ nodes)
 
 -- every event keeps them
-pub does-sizes : (e : Event) (w w' : World) → Does w e w' → SameSizes w w'
+pub does-sizes : (e : Event) (w w' : WorldModel) → WorldDoes w e w' → SameSizes w w'
 does-sizes (Arrive client part) w w' d = same w w' _ d.1 refl refl
-does-sizes (Post ticket node) w w' d = same w w' _ d.6 refl refl
+does-sizes (Post tickets node) w w' d = same w w' _ d.5 refl refl
 does-sizes (Carry lane link) w w' d = same w w' _ d.5 refl refl
 does-sizes (Refuse lane) w w' d = same w w' _ d.3 refl refl
 does-sizes (Serve link v) w w' d = go d.2
   where
-    go : ServesAsking w link d.0 v w' ⊎ ServesCommand w link d.0 v w' → SameSizes w w'
+    go : ServesAsking w link d.0 v w' ⊎ ServesRun w link d.0 v w' → SameSizes w w'
     go (inl x) = same w w' _ x.3 refl refl
-    go (inr x) = same w w' _ x.9 refl (serves-size w.cluster x.4 (d.0).node (x.2).command.part (deed_at w.cluster (d.0).node (d.0).asking (x.2).command.part v) x.3 x.8)
+    go (inr x) = same w w' _ x.7 refl (runs-size w.cluster x.2 (d.0).node (parts_told x.1) (deed_for w.cluster (d.0).node (d.0).asking (parts_told x.1) v) (tolds_of x.1) x.6)
 does-sizes (Fetch link) w w' d = go d.3
   where
     go : FetchesWelcome w link d.0 w' ⊎ FetchesReply w link d.0 w' → SameSizes w w'

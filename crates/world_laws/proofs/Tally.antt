@@ -3,10 +3,10 @@ use Rattle.std.proofs.Common.{◌≡◌, ℕ, zero, suc, ◌+◌, ◌<◌, ◌�
 use Rattle.std.specs.Prelude.{slice_get, slice_set, remove}
 use Rattle.key_split.specs.declared.travel.Ticket.{Ticket}
 use Rattle.key_split.specs.declared.travel.Told.{Told}
-use Rattle.world_laws.specs.State.{World, Arrival, Posted, Link, Request, Back}
-use Rattle.world_laws.specs.declared.state.Request.TheVariants.{Asking, Runs}
-use Rattle.world_laws.specs.declared.state.Back.TheVariants.{Welcome, To}
-use Rattle.world_laws.specs.Places.{Item, total, in_requests, in_backs, in_link, tally}
+use Rattle.world_laws.specs.State.{WorldModel, Arrival, Posted, Link, LinkRequest, LinkReply}
+use Rattle.world_laws.specs.declared.state.LinkRequest.TheVariants.{Asking, Runs}
+use Rattle.world_laws.specs.declared.state.LinkReply.TheVariants.{Welcome, To}
+use Rattle.world_laws.specs.Places.{Item, total, in_requests, in_backs, in_lane, in_link, tally}
 use Rattle.world_laws.specs.Places.Item.{Stands, Lies, Sent, Comes}
 
 pub total-append : {X : Type 0} (f : X → ℕ) (xs ys : List X) → total f (xs ++ ys) ≡ total f xs + total f ys
@@ -24,7 +24,7 @@ total-remove f (z ∷ xs) zero x e = let same : z ≡ x = cc in omega (arith, ap
 total-remove f (z ∷ xs) (suc i) x e = omega (arith, total-remove f xs i x e)
 
 -- the flag after these requests
-abbrev pub flag_after : Bool → List Request → Bool
+abbrev pub flag_after : Bool → List LinkRequest → Bool
 flag_after flag [] = flag
 flag_after flag (Asking ∷ rs) = flag_after true rs
 flag_after flag (Runs t ∷ rs) = flag_after false rs
@@ -42,34 +42,37 @@ total-rest f g a b h (z ∷ xs) zero x e = let same : z ≡ x = cc in omega (ari
 total-rest f g a b h (z ∷ xs) (suc i) x e = omega (arith, h z, total-rest f g a b h xs i x e)
 
 module _ (f g a b : Item → ℕ) (h : (i : Item) → f i + g i ≤ a i + b i) where
-  requests-le : (o : Bool) (n : ℕ) (flag : Bool) (rs : List Request) → in_requests f o n flag rs + in_requests g o n flag rs ≤ in_requests a o n flag rs + in_requests b o n flag rs
+  requests-le : (o : Bool) (n : ℕ) (flag : Bool) (rs : List LinkRequest) → in_requests f o n flag rs + in_requests g o n flag rs ≤ in_requests a o n flag rs + in_requests b o n flag rs
   requests-le o n flag [] = omega arith
   requests-le o n flag (Asking ∷ rs) = requests-le o n true rs
-  requests-le o n flag (Runs t ∷ rs) = omega (arith, h (Sent o n flag t), requests-le o n false rs)
+  requests-le o n flag (Runs ts ∷ rs) = omega (arith, total-le (λ (t : Ticket). f (Sent o n flag t)) (λ t. g (Sent o n flag t)) (λ t. a (Sent o n flag t)) (λ t. b (Sent o n flag t)) (λ t. h (Sent o n flag t)) ts, requests-le o n false rs)
 
-  backs-le : (bs : List Back) → in_backs f bs + in_backs g bs ≤ in_backs a bs + in_backs b bs
+  backs-le : (bs : List LinkReply) → in_backs f bs + in_backs g bs ≤ in_backs a bs + in_backs b bs
   backs-le [] = omega arith
   backs-le (Welcome ∷ bs) = backs-le bs
   backs-le (To t told ∷ bs) = omega (arith, h (Comes t told), backs-le bs)
+
+  lane-le : (x : Posted) → in_lane f x + in_lane g x ≤ in_lane a x + in_lane b x
+  lane-le x = total-le (λ (t : Ticket). f (Lies x.node x.asking t)) (λ t. g (Lies x.node x.asking t)) (λ t. a (Lies x.node x.asking t)) (λ t. b (Lies x.node x.asking t)) (λ t. h (Lies x.node x.asking t)) x.tickets
 
   links-le : (ls : List Link) → total (in_link f) ls + total (in_link g) ls ≤ total (in_link a) ls + total (in_link b) ls
   links-le [] = omega arith
   links-le (l ∷ ls) = omega (arith, requests-le l.is_open l.node l.asking l.requests, backs-le l.backs, links-le ls)
 
-  pub tally-le : (w : World) → tally f w + tally g w ≤ tally a w + tally b w
+  pub tally-le : (w : WorldModel) → tally f w + tally g w ≤ tally a w + tally b w
   tally-le w = omega (
     arith,
     total-le (λ (c : Arrival). f (Stands c)) (λ c. g (Stands c)) (λ c. a (Stands c)) (λ c. b (Stands c)) (λ c. h (Stands c)) w.commands,
-    total-le (λ (x : Posted). f (Lies x)) (λ x. g (Lies x)) (λ x. a (Lies x)) (λ x. b (Lies x)) (λ x. h (Lies x)) w.ups,
+    total-le (in_lane f) (in_lane g) (in_lane a) (in_lane b) lane-le w.ups,
     links-le w.links,
     total-le (λ (p : Ticket × Told). f (Comes p.0 p.1)) (λ p. g (Comes p.0 p.1)) (λ p. a (Comes p.0 p.1)) (λ p. b (Comes p.0 p.1)) (λ p. h (Comes p.0 p.1)) w.downs,
   )
 
-  pub tally-rest : (w : World) (i : ℕ) (c : Arrival) → slice_get w.commands i ≡ Some c → tally f w + tally g w + a (Stands c) + b (Stands c) ≤ tally a w + tally b w + f (Stands c) + g (Stands c)
+  pub tally-rest : (w : WorldModel) (i : ℕ) (c : Arrival) → slice_get w.commands i ≡ Some c → tally f w + tally g w + a (Stands c) + b (Stands c) ≤ tally a w + tally b w + f (Stands c) + g (Stands c)
   tally-rest w i c e = omega (
     arith,
     total-rest (λ (c : Arrival). f (Stands c)) (λ c. g (Stands c)) (λ c. a (Stands c)) (λ c. b (Stands c)) (λ c. h (Stands c)) w.commands i c e,
-    total-le (λ (x : Posted). f (Lies x)) (λ x. g (Lies x)) (λ x. a (Lies x)) (λ x. b (Lies x)) (λ x. h (Lies x)) w.ups,
+    total-le (in_lane f) (in_lane g) (in_lane a) (in_lane b) lane-le w.ups,
     links-le w.links,
     total-le (λ (p : Ticket × Told). f (Comes p.0 p.1)) (λ p. g (Comes p.0 p.1)) (λ p. a (Comes p.0 p.1)) (λ p. b (Comes p.0 p.1)) (λ p. h (Comes p.0 p.1)) w.downs,
   )

@@ -2,26 +2,26 @@
 use Rattle.std.proofs.Common.{◌≡◌, ◌≢◌, ◌⊎◌, inl, inr, ℕ, zero, suc, ◌<◌, Bool, true, false, List, [], ◌∷◌, length, Some, refl, sym, ◌∙◌, subst, arith}
 use Rattle.std.specs.Prelude.{slice_get, slice_set, remove, All, IsSome, unwrap_or}
 use Rattle.std.proofs.lemmas.List.Elements.{All-set, All-append}
-use Rattle.command_future.specs.Progress.{batch_of}
-use Rattle.world_laws.specs.State.{World, Posted, Link, Back, posted, new_link, sent, replied}
-use Rattle.world_laws.specs.declared.state.Back.TheVariants.{Welcome, To}
+use Rattle.world_laws.specs.State.{WorldModel, Arrival, Posted, Link, LinkReply, new_link, sent, replied, all_replied, parts_told, tolds_of}
+use Rattle.world_laws.specs.declared.state.LinkReply.TheVariants.{Welcome}
 use Rattle.world_laws.specs.Places.{is}
-use Rattle.node_model.specs.Standings.{Standing, in_phase, imported, released, stayed}
-use Rattle.node_model.specs.Nodes.{Nodes, standing_at, with_standing}
-use Rattle.node_model.specs.Serving.{deed_at}
+use Rattle.node_model.specs.Standings.{SlotStandingModel, in_phase, imported, released, stayed}
+use Rattle.node_model.specs.Nodes.{ClusterModel, standing_at, with_standing}
+use Rattle.node_model.specs.Runs.{deed_for}
+use Rattle.key_split.specs.declared.travel.Told.{Told}
 use Rattle.node_model.specs.declared.standing.Phase.{Phase}
 use Rattle.node_model.specs.declared.standing.Phase.TheVariants.{Settled, Imported, Migrated, Owned, Released, Forgotten}
 use Rattle.world_laws.specs.World.{IsNode}
 use Rattle.node_model.specs.Standings.{after_own, after_release}
 use Rattle.node_model.specs.Moves.{phase_at, move_key_done}
-use Rattle.world_laws.specs.World.{Does, CarriesOver, ServesAsking, ServesCommand, FetchesWelcome, FetchesReply}
+use Rattle.world_laws.specs.World.{WorldDoes, CarriesOver, ServesAsking, ServesRun, FetchesWelcome, FetchesReply}
 use Rattle.world_laws.specs.declared.event.Event.{Event}
 use Rattle.world_laws.specs.declared.event.Event.TheVariants.{Arrive, Post, Carry, Refuse, Serve, Fetch, Take, Drop, Discard, Import, Migrate, MoveKey, Own, Release, Forget, Stay}
 use Rattle.world_laws.specs.declared.event.Event.TheVariants as ev
 use Rattle.world_laws.proofs.Flow.{all_at}
-use Rattle.world_laws.proofs.Nodes.{pick-slot, set-size, serves-size, serves-slots}
+use Rattle.world_laws.proofs.Nodes.{pick-slot, set-size, runs-size, runs-slots}
 
-pub record There (w : World) : Type 0 where
+pub record There (w : WorldModel) : Type 0 where
   pub ups : All (λ b. IsNode w.cluster b.node) w.ups
   pub links : All (λ l. IsNode w.cluster l.node) w.links
   pub targets : (slot : ℕ) → (standing_at w.cluster slot).phase ≢ Settled → IsNode w.cluster (standing_at w.cluster slot).target
@@ -37,10 +37,17 @@ All-remove P (x ∷ xs) zero h k d lt = h (suc k) d (omega arith)
 All-remove P (x ∷ xs) (suc i) h zero d lt = h zero d (omega arith)
 All-remove P (x ∷ xs) (suc i) h (suc k) d lt = All-remove P xs i (λ k d lt. h (suc k) d (omega arith)) k d (omega arith)
 
-node-replied : (l : Link) (b : Back) → (replied l b).node ≡ l.node
+node-replied : (l : Link) (b : LinkReply) → (replied l b).node ≡ l.node
 node-replied l b = go l.is_open
   where
     go : (o : Bool) → (replied (record l { is_open = o }) b).node ≡ l.node
+    go true = refl
+    go false = refl
+
+node-all_replied : (l : Link) (run : List (Arrival × Told)) → (all_replied l run).node ≡ l.node
+node-all_replied l run = go l.is_open
+  where
+    go : (o : Bool) → (all_replied (record l { is_open = o }) run).node ≡ l.node
     go true = refl
     go false = refl
 
@@ -48,13 +55,13 @@ node-replied l b = go l.is_open
 moved_on : (n m : ℕ) → m ≡ n → (k : ℕ) → k < n → k < m
 moved_on n m e k lt = omega arith
 
-module _ (w w' : World) (h : There w) where
+module _ (w w' : WorldModel) (h : There w) where
   -- a link changes, and leads to the same node
   set-link : (link : ℕ) (l l' : Link) → slice_get w.links link ≡ Some l → l'.node ≡ l.node → All (λ x. IsNode w.cluster x.node) (slice_set w.links link l')
   set-link link l l' at_l same = All-set (λ (x : Link). IsNode w.cluster x.node) w.links link l' (subst (IsNode w.cluster) (sym same) (all_at (λ (x : Link). IsNode w.cluster x.node) w.links link l at_l h.links)) h.links
 
   -- the nodes change, and no link or batch does
-  stepped : (k : Nodes) → w' ≡ record w { cluster = k } → length k.stores ≡ length w.cluster.stores → ((slot : ℕ) → (standing_at k slot).phase ≢ Settled → IsNode w.cluster (standing_at k slot).target) → There w'
+  stepped : (k : ClusterModel) → w' ≡ record w { cluster = k } → length k.stores ≡ length w.cluster.stores → ((slot : ℕ) → (standing_at k slot).phase ≢ Settled → IsNode w.cluster (standing_at k slot).target) → There w'
   stepped k e size targets = subst There (sym e) (record {
     ups = λ j d lt. moved_on _ _ size _ (h.ups j d lt);
     links = λ j d lt. moved_on _ _ size _ (h.links j d lt);
@@ -62,8 +69,8 @@ module _ (w w' : World) (h : There w) where
   })
 
   -- a slot changes
-  slotted : (slot : ℕ) (s' : Standing) → w' ≡ record w { cluster = with_standing w.cluster slot s' } → (s'.phase ≢ Settled → IsNode w.cluster s'.target) → There w'
-  slotted slot s' is new = stepped (with_standing w.cluster slot s') is refl (λ q. pick-slot (λ (s : Standing). s.phase ≢ Settled → IsNode w.cluster s.target) w.cluster slot s' q (λ _. new) (h.targets q))
+  slotted : (slot : ℕ) (s' : SlotStandingModel) → w' ≡ record w { cluster = with_standing w.cluster slot s' } → (s'.phase ≢ Settled → IsNode w.cluster s'.target) → There w'
+  slotted slot s' is new = stepped (with_standing w.cluster slot s') is refl (λ q. pick-slot (λ (s : SlotStandingModel). s.phase ≢ Settled → IsNode w.cluster s.target) w.cluster slot s' q (λ _. new) (h.targets q))
 
 moving : (p q : Phase) → p ≡ q → q ≢ Settled → p ≢ Settled
 moving p q e ne f = ne (sym e ∙ f)
@@ -85,10 +92,11 @@ releasing Released h = λ x. absurd (cc)
 releasing Forgotten h = λ x. absurd (cc)
 
 -- every event keeps it
-pub does-there : (e : Event) (w w' : World) → There w → Does w e w' → There w'
+pub does-there : (e : Event) (w w' : WorldModel) → There w → WorldDoes w e w' → There w'
 does-there (Arrive client part) w w' h d = subst There (sym d.1) (record { ups = h.ups; links = h.links; targets = h.targets })
-does-there (Post ticket node) w w' h d =
-    subst There (sym d.6) (record { ups = All-append (λ (b : Posted). IsNode w.cluster b.node) w.ups (posted (batch_of (d.1).command node) ∷ []) h.ups (one (λ (b : Posted). IsNode w.cluster b.node) (posted (batch_of (d.1).command node)) d.5); links = h.links; targets = h.targets })
+does-there (Post tickets node) w w' h d =
+    let b : Posted = record { tickets = tickets; node = node; asking = (d.0).asking } in
+    subst There (sym d.5) (record { ups = All-append (λ (b : Posted). IsNode w.cluster b.node) w.ups (b ∷ []) h.ups (one (λ (b : Posted). IsNode w.cluster b.node) b d.3); links = h.links; targets = h.targets })
 does-there (Carry lane link) w w' h d = subst There (sym d.5) (record { ups = All-remove (λ (b : Posted). IsNode w.cluster b.node) w.ups d.0 h.ups; links = links d.4; targets = h.targets })
   where
     links : CarriesOver w link d.1 d.2 → All (λ l. IsNode w.cluster l.node) d.2
@@ -98,16 +106,16 @@ does-there (Carry lane link) w w' h d = subst There (sym d.5) (record { ups = Al
 does-there (Refuse lane) w w' h d = subst There (sym d.3) (record { ups = All-remove (λ (b : Posted). IsNode w.cluster b.node) w.ups d.0 h.ups; links = h.links; targets = h.targets })
 does-there (Serve link v) w w' h d = go d.2
   where
-    go : ServesAsking w link d.0 v w' ⊎ ServesCommand w link d.0 v w' → There w'
+    go : ServesAsking w link d.0 v w' ⊎ ServesRun w link d.0 v w' → There w'
     go (inl x) = subst There (sym x.3) (record { ups = h.ups; links = set-link w w' h link d.0 (replied (record (d.0) { requests = x.0; asking = true }) Welcome) d.1 (node-replied (record (d.0) { requests = x.0; asking = true }) Welcome); targets = h.targets })
     go (inr x) =
         let l' : Link = record (d.0) { requests = x.0; asking = false } in
-        let size : length (x.4).stores ≡ length w.cluster.stores = serves-size w.cluster x.4 (d.0).node (x.2).command.part (deed_at w.cluster (d.0).node (d.0).asking (x.2).command.part v) x.3 x.8 in
-        let slots : (x.4).slots ≡ w.cluster.slots = serves-slots w.cluster x.4 (d.0).node (x.2).command.part (deed_at w.cluster (d.0).node (d.0).asking (x.2).command.part v) x.3 x.8 in
-        subst There (sym x.9) (record {
+        let size : length (x.2).stores ≡ length w.cluster.stores = runs-size w.cluster x.2 (d.0).node (parts_told x.1) (deed_for w.cluster (d.0).node (d.0).asking (parts_told x.1) v) (tolds_of x.1) x.6 in
+        let slots : (x.2).slots ≡ w.cluster.slots = runs-slots w.cluster x.2 (d.0).node (parts_told x.1) (deed_for w.cluster (d.0).node (d.0).asking (parts_told x.1) v) (tolds_of x.1) x.6 in
+        subst There (sym x.7) (record {
           ups = λ j b lt. moved_on _ _ size _ (h.ups j b lt);
-          links = λ j b lt. moved_on _ _ size _ (set-link w w' h link d.0 (replied l' (To (x.2).command.ticket x.3)) d.1 (node-replied l' (To (x.2).command.ticket x.3)) j b lt);
-          targets = λ slot ne. moved_on _ _ size _ (subst (λ (ss : List Standing). (standing_at (record w.cluster { slots = ss }) slot).phase ≢ Settled → IsNode w.cluster (standing_at (record w.cluster { slots = ss }) slot).target) (sym slots) (h.targets slot) ne);
+          links = λ j b lt. moved_on _ _ size _ (set-link w w' h link d.0 (all_replied l' x.1) d.1 (node-all_replied l' x.1) j b lt);
+          targets = λ slot ne. moved_on _ _ size _ (subst (λ (ss : List SlotStandingModel). (standing_at (record w.cluster { slots = ss }) slot).phase ≢ Settled → IsNode w.cluster (standing_at (record w.cluster { slots = ss }) slot).target) (sym slots) (h.targets slot) ne);
         })
 does-there (Fetch link) w w' h d = go d.3
   where

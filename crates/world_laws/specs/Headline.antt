@@ -1,8 +1,11 @@
 -- What holds after every schedule of clients, workers, nodes, slot moves and dropped connections:
---     each answered command for keys of one slot stands exactly once in one legal history of one key-value store,
---     between its arrival and its answer, in its client's order for each slot, with that store's reply;
---     one that ends in a connection fault stands there at most once, and one refused by the proxy never.
-use Rattle.std.specs.Prelude.{◌≡◌, ◌↔◌, ℕ, ◌<◌, List, Some, None, slice_get}
+--     each command for keys of one slot that ended with a reply stands exactly once in one legal history of one key-value
+--     store, between its arrival and its answer, in its client's order for each slot, with that store's reply;
+--     one that ended in a connection fault stands there at most once, and one refused by the proxy never.
+-- It speaks of commands that have ended, whether their clients have been answered yet or not. The history is in the order
+-- of its moments, and those of one run share theirs; a command is answered at most once.
+-- Nothing is said of progress: a schedule may leave any command unanswered.
+use Rattle.std.specs.Prelude.{◌≡◌, ◌≢◌, ◌↔◌, ℕ, ◌<◌, ◌≤◌, List, Some, None, slice_get}
 use Rattle.std.specs.FinMap.{empty, get}
 use Rattle.resp_wire.specs.Seen.{data_of}
 use Rattle.resp_wire.specs.declared.value.Value.{Value}
@@ -10,13 +13,13 @@ use Rattle.key_split.specs.declared.travel.Ticket.{Ticket}
 use Rattle.key_split.specs.declared.travel.Ended.{Ended}
 use Rattle.key_split.specs.declared.travel.Ended.TheVariants.{Answered, GaveUp}
 use Rattle.command_future.specs.declared.stage.Stage.TheVariants.{Over}
-use Rattle.node_model.specs.Store.{Content}
-use Rattle.node_model.specs.History.{Entry, IsLegal, left_by}
+use Rattle.node_model.specs.Store.{StoreModel}
+use Rattle.node_model.specs.History.{EntryModel, IsLegal, left_by}
 use Rattle.node_model.specs.Moves.{phase_at}
-use Rattle.node_model.specs.Nodes.{Nodes, at}
+use Rattle.node_model.specs.Nodes.{ClusterModel, at}
 use Rattle.node_model.specs.declared.standing.Phase.TheVariants.{Settled}
-use Rattle.world_laws.specs.State.{World, Arrival, slot_for, start}
-use Rattle.world_laws.specs.World.{Run}
+use Rattle.world_laws.specs.State.{WorldModel, Arrival, slot_for, start}
+use Rattle.world_laws.specs.World.{SameTurn, WorldRun}
 use Rattle.world_laws.specs.declared.event.Event.{Event}
 use Rattle.world_laws.specs.declared.history.Answer.{Answer}
 
@@ -29,49 +32,60 @@ abbrev pub IsIn : {X : Type 0} → List X → X → Type 0
 IsIn xs x = (k : ℕ) × At xs k x
 
 -- the store that the history leaves, from the empty one
-abbrev pub store_of : World → Content
+abbrev pub store_of : WorldModel → StoreModel
 store_of w = left_by empty w.history
 
 -- at most one entry has the ticket
-abbrev pub HasOne : World → Ticket → Type 0
-HasOne w ticket = (k l : ℕ) (e f : Entry) → At w.history k e → At w.history l f → e.ticket ≡ ticket → f.ticket ≡ ticket → k ≡ l
+abbrev pub HasOne : WorldModel → Ticket → Type 0
+HasOne w ticket = (k l : ℕ) (e f : EntryModel) → At w.history k e → At w.history l f → e.ticket ≡ ticket → f.ticket ≡ ticket → k ≡ l
 
--- e is the entry of an answered command
-abbrev pub IsEntryOf : World → Entry → Answer → Value → Type 0
-IsEntryOf w e a reply = IsIn w.history e × IsIn w.answers a × (e.ticket ≡ a.ticket) × (a.ended ≡ Answered reply)
+-- c is a command, and has ended so
+abbrev pub EndedAs : WorldModel → Arrival → Ended → Type 0
+EndedAs w c ended = IsIn w.commands c × (c.command.stage ≡ Over ended)
 
-pub record Headline (w : World) : Type 0 where
+-- e is an entry, of the command c
+abbrev pub IsEntryOf : WorldModel → EntryModel → Arrival → Type 0
+IsEntryOf w e c = IsIn w.history e × IsIn w.commands c × (e.ticket ≡ c.command.ticket)
+
+pub record Headline (w : WorldModel) : Type 0 where
   -- the history is one legal history of one store,
   pub legal : IsLegal empty w.history
+  -- in the order of its moments,
+  pub timed : (k l : ℕ) (e f : EntryModel) → At w.history k e → At w.history l f → k < l → e.moment ≤ f.moment
+  -- where only those of one run, one client's for one slot, share a moment,
+  pub together : (k l : ℕ) (e f : EntryModel) → At w.history k e → At w.history l f → e.moment ≡ f.moment
+      → (e.ticket.client ≡ f.ticket.client) × (slot_for e.part ≡ slot_for f.part)
   -- which is what the nodes hold together, each key at one node
   pub one_node : (key : List ℕ) (n m : ℕ) (a b : List ℕ) → at w.cluster n key ≡ Some a → at w.cluster m key ≡ Some b → n ≡ m
   pub union : (key value : List ℕ) → (get (store_of w) key ≡ Some value) ↔ ((n : ℕ) × (at w.cluster n key ≡ Some value))
-  -- each command has a ticket of its own, and each answer tells the end of one, and when it arrived
+  -- each command has a ticket of its own, each answer tells the end of one, and when it arrived, and none has two answers
   pub own_ticket : (i j : ℕ) (c d : Arrival) → At w.commands i c → At w.commands j d → c.command.ticket ≡ d.command.ticket → i ≡ j
-  pub told : (a : Answer) → IsIn w.answers a → (c : Arrival) × IsIn w.commands c × (c.command.ticket ≡ a.ticket) × (c.command.stage ≡ Over a.ended) × (c.arrived ≡ a.arrived)
+  pub told : (a : Answer) → IsIn w.answers a → (c : Arrival) × EndedAs w c a.ended × (c.command.ticket ≡ a.ticket) × (c.arrived ≡ a.arrived)
+  pub answered_once : (k l : ℕ) (a b : Answer) → At w.answers k a → At w.answers l b → a.ticket ≡ b.ticket → k ≡ l
   -- each entry is of a command that arrived earlier, and no command has two
-  pub arrived : (e : Entry) → IsIn w.history e → (c : Arrival) × IsIn w.commands c × (c.command.ticket ≡ e.ticket) × (c.command.part ≡ e.part) × (c.arrived < e.moment)
+  pub arrived : (e : EntryModel) → IsIn w.history e → (c : Arrival) × IsEntryOf w e c × (e.part ≡ c.command.part) × (c.arrived < e.moment)
   pub once : (ticket : Ticket) → HasOne w ticket
-  -- an answered command has its entry, with that reply, between its arrival and its answer
-  pub answered : (a : Answer) (reply : Value) → IsIn w.answers a → a.ended ≡ Answered reply
-      → (e : Entry) × IsIn w.history e × (e.ticket ≡ a.ticket) × (e.reply ≡ data_of reply) × (a.arrived < e.moment) × (e.moment < a.answered)
-  -- of one client's answered commands for one slot, the one that arrived first has the earlier entry
-  pub in_order : (e f : Entry) (a b : Answer) (v u : Value) → IsEntryOf w e a v → IsEntryOf w f b u
-      → a.ticket.client ≡ b.ticket.client → slot_for e.part ≡ slot_for f.part → a.arrived < b.arrived → e.moment < f.moment
+  -- a command that ended with a reply has its entry, with that reply, between its arrival and its answer
+  pub answered : (c : Arrival) (reply : Value) → EndedAs w c (Answered reply)
+      → (e : EntryModel) × IsEntryOf w e c × (e.reply ≡ data_of reply) × (c.arrived < e.moment)
+      × ((a : Answer) → IsIn w.answers a → a.ticket ≡ c.command.ticket → e.moment < a.answered)
+  -- of one client's commands for one slot the one that arrived first has the earlier entry, unless it ended in a connection fault
+  pub in_order : (k l : ℕ) (e f : EntryModel) (c d : Arrival) → At w.history k e → At w.history l f → IsEntryOf w e c → IsEntryOf w f d
+      → SameTurn c d → c.arrived < d.arrived → c.command.stage ≢ Over Ended.Lost → k < l
   -- one that ended in a connection fault has at most one entry
-  pub lost : (a : Answer) → IsIn w.answers a → a.ended ≡ Ended.Lost → HasOne w a.ticket
+  pub lost : (c : Arrival) → EndedAs w c Ended.Lost → HasOne w c.command.ticket
   -- one that was refused by the proxy has none
-  pub refused : (a : Answer) → IsIn w.answers a → a.ended ≡ GaveUp → (e : Entry) → IsIn w.history e → e.ticket ≡ a.ticket → ⊥
+  pub refused : (c : Arrival) → EndedAs w c GaveUp → (e : EntryModel) → IsEntryOf w e c → ⊥
 
 -- settled slots and no keys
-pub record IsNew (k : Nodes) : Type 0 where
+pub record IsNew (k : ClusterModel) : Type 0 where
   pub settled : (slot : ℕ) → phase_at k slot ≡ Settled
   pub no_keys : (node : ℕ) (key : List ℕ) → at k node key ≡ None
 
 -- a world that some schedule leaves, from settled slots and no keys
-abbrev pub IsReached : World → Type 0
-IsReached w = (workers : ℕ) × (cluster : Nodes) × (events : List Event) × IsNew cluster × Run (start workers cluster) events w
+abbrev pub IsReached : WorldModel → Type 0
+IsReached w = (workers : ℕ) × (run_limit : ℕ) × (cluster : ClusterModel) × (events : List Event) × IsNew cluster × WorldRun (start workers run_limit cluster) events w
 
 -- the headline holds after every schedule
 abbrev pub EverySchedule : Type 0
-EverySchedule = (workers : ℕ) (cluster : Nodes) (events : List Event) (w : World) → IsNew cluster → Run (start workers cluster) events w → Headline w
+EverySchedule = (workers run_limit : ℕ) (cluster : ClusterModel) (events : List Event) (w : WorldModel) → IsNew cluster → WorldRun (start workers run_limit cluster) events w → Headline w

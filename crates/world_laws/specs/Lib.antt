@@ -5,3 +5,5 @@ pub mod World
 pub mod Headline
 pub mod Allowed
 pub mod Bare
+pub mod Alone
+pub mod RunOfTwo

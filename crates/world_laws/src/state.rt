@@ -1,5 +1,6 @@
 //! What a world holds of its commands: where each stands, and what is on its way.
 
+use crate::tickets::Tickets;
 use command_future::Command;
 use key_split::{Ticket, Told};
 use slot_map::NodeId;
@@ -13,25 +14,26 @@ pub struct Arrival {
     pub answered: bool,
 }
 
-/// A batch in a lane; its part stands with the command.
-#[derive(Clone, Copy, Debug)]
+/// A run in a lane: commands of one client for one slot, in order; their parts stand with the commands.
+#[derive(Debug, Drop)]
 pub struct Posted {
-    pub ticket: Ticket,
+    pub tickets: Tickets,
     pub node: NodeId,
     /// Whether ASKING goes before it.
     pub asking: bool,
 }
 
 /// What a link carries to its node.
-#[derive(Clone, Copy, Debug)]
-pub enum Request {
+#[derive(Debug, Drop)]
+pub enum LinkRequest {
     Asking,
-    Runs(Ticket),
+    /// The commands of these tickets, all or none of them: one alone, or several between MULTI and EXEC.
+    Runs(Tickets),
 }
 
 /// What comes back over a link.
 #[derive(Drop)]
-pub enum Back {
+pub enum LinkReply {
     /// The reply to ASKING.
     Welcome,
     To(Ticket, Told),

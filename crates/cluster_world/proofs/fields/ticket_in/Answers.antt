@@ -1,5 +1,5 @@
 use Rattle.std.proofs.Common.{◌∙◌}
-use Rattle.cluster_world.proofs.Tickets.{no_ticket}
+use Rattle.cluster_world.proofs.TicketWords.{no_ticket}
 use Rattle.cluster_world.proofs.fields.ticket_in.Goals as goal
 
 pub returns-in_err-client : goal.returns-in_err-client

@@ -1,11 +1,11 @@
 use Rattle.std.proofs.Common.{◌≡◌, List, Any, sym, subst, refl}
-use Rattle.key_split.specs.Command.{Command as Part}
+use Rattle.key_split.specs.PartModel.{PartModel}
 use Rattle.key_split.specs.declared.travel.Ticket.{Ticket}
 use Rattle.key_split.specs.declared.travel.Ended.{Ended}
 use Rattle.cluster_world.proofs.Lists.{never, all-more}
 use Rattle.cluster_world.proofs.lawful.ends_have_parts.Goals as goal
 
-abbrev HasPart : List (Ticket × Part) → Ticket × Ended → Type 0
+abbrev HasPart : List (Ticket × PartModel) → Ticket × Ended → Type 0
 HasPart parts end = Any (λ part. part.0 ≡ end.0) parts
 
 pub returns-then-not-has_ticket : goal.returns-then-not-has_ticket

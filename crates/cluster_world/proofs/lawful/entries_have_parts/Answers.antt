@@ -1,11 +1,11 @@
 use Rattle.std.proofs.Common.{◌≡◌, List, Any, sym, subst, refl}
-use Rattle.key_split.specs.Command.{Command as Part}
+use Rattle.key_split.specs.PartModel.{PartModel}
 use Rattle.key_split.specs.declared.travel.Ticket.{Ticket}
-use Rattle.node_model.specs.History.{Entry}
+use Rattle.node_model.specs.History.{EntryModel}
 use Rattle.cluster_world.proofs.Lists.{never, all-more}
 use Rattle.cluster_world.proofs.lawful.entries_have_parts.Goals as goal
 
-abbrev HasPart : List (Ticket × Part) → Entry → Type 0
+abbrev HasPart : List (Ticket × PartModel) → EntryModel → Type 0
 HasPart parts e = Any (λ part. (part.0 ≡ e.ticket) × (part.1 ≡ e.part)) parts
 
 pub returns-then-not-has_part : goal.returns-then-not-has_part

@@ -1,7 +1,7 @@
 use Rattle.std.proofs.Common.{◌≡◌, ◌∙◌, sym, ap, refl, arith, subst, length}
 use Rattle.std.specs.Prelude.{slice_get, is_none, cond, Some}
 use Rattle.std.proofs.lemmas.Option.{slice_get_read}
-use Rattle.node_model.specs.History.{Entry}
+use Rattle.node_model.specs.History.{EntryModel}
 use Rattle.cluster_world.specs.declared.places.Key.{Key}
 use Rattle.cluster_world.specs.Index.{found, place_in, same_key, ticket_key, IsIndexTo}
 use Rattle.cluster_world.proofs.Indexes.{index-start, index-more, index-repeats, index-differ, is-none}
@@ -10,7 +10,7 @@ use Rattle.cluster_world.proofs.places.places_of_entries.Goals as goal
 
 pub returns-then-not-branch : goal.returns-then-not-branch
 returns-then-not-branch c =
-    let e : Entry = c.index-history-place.result in
+    let e : EntryModel = c.index-history-place.result in
     let at : slice_get c.args.history.now c.loop-place.place ≡ Some e = slice_get_read _ _ _ _ refl c.loop-place-test.true c.index-history-place.is in
     let same : c.entry.inside.ticket ≡ e.ticket = ap (λ x. x.ticket) c.entry.view_is in
     index-repeats of-entry c.args.history.now c.loop-place.place e (place_in c.loop-place.places.entries) at c.loop-place.invariant (ap (λ t. is_none (place_in c.loop-place.places.entries t)) (sym same) ∙ sym c.in_ok-add.ensures.0 ∙ c.if-not-branch.true)
@@ -20,7 +20,7 @@ loop-place-init c = rw c.new-places.ensures.empty (index-start _ _)
 
 pub loop-place-preserved : goal.loop-place-preserved
 loop-place-preserved c =
-    let e : Entry = c.index-history-place.result in
+    let e : EntryModel = c.index-history-place.result in
     let at : slice_get c.args.history.now c.loop-place.place ≡ Some e = slice_get_read _ _ _ _ refl c.loop-place-test.true c.index-history-place.is in
     let same : c.entry.inside.ticket ≡ e.ticket = ap (λ x. x.ticket) c.entry.view_is in
     index-more of-entry c.args.history.now c.loop-place.place e c.loop-place.places.entries c.add.new.places.entries at c.loop-place.invariant

@@ -2,7 +2,7 @@ use Rattle.std.proofs.Common.{◌∙◌, ap, sym, arith, length, ◌++◌, ◌�
 use Rattle.std.specs.Ordering.{nat_cmp}
 use Rattle.std.specs.Map.{lookup}
 use Rattle.std.specs.BTreeMap.{is_at}
-use Rattle.key_split.specs.Command.{takes_group}
+use Rattle.key_split.specs.PartModel.{takes_group}
 use Rattle.slot_hash.specs.Slot.{slot_of}
 use Rattle.key_split.proofs.groups.grouped.Goals.{in-Some-get+in_ok-push-in-Some-get, in-None-get+in_ok-insert-in-None-get+in_ok-push-in-None-get}
 use Rattle.key_split.proofs.Grouping.{part-at, few-slots, made-own, made-new, length-parts}

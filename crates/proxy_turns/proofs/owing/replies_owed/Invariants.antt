@@ -1,5 +1,5 @@
 use Rattle.std.proofs.Common.{◌≡◌, ◌≤◌, ◌+◌, ◌^◌, None, length}
-use Rattle.resp_wire.specs.Bounds.{full}
+use Rattle.resp_wire.specs.LimitsModel.{full}
 use Rattle.proxy_turns.proofs.Counting.{GoesOn}
 use Rattle.proxy_turns.proofs.owing.replies_owed.Given as goal
 

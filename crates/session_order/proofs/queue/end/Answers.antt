@@ -3,7 +3,7 @@ use Rattle.std.specs.Prelude.{slice_get}
 use Rattle.std.proofs.lemmas.Option.{slice_get_within}
 use Rattle.std.specs.HashMap.{get}
 use Rattle.std.specs.BinaryHeap.{heap_items}
-use Rattle.session_order.specs.declared.queue.Stage.TheVariants.{Out, Done}
+use Rattle.session_order.specs.declared.queue.PartStage.TheVariants.{Out, Done}
 use Rattle.session_order.specs.Tables.{tally}
 use Rattle.session_order.proofs.Lists.{eqb-no, eqb-yes}
 use Rattle.session_order.proofs.Tabling.{ended}

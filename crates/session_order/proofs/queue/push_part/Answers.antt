@@ -2,7 +2,7 @@ use Rattle.std.proofs.Common.{arith, refl, sym, ap, subst, ◌∙◌, ◌+◌, �
 use Rattle.std.specs.HashMap.{get}
 use Rattle.std.specs.BinaryHeap.{heap_items}
 use Rattle.slot_hash.specs.Slot.{slot_of}
-use Rattle.session_order.specs.declared.queue.Stage.TheVariants.{Waiting}
+use Rattle.session_order.specs.declared.queue.PartStage.TheVariants.{Waiting}
 use Rattle.session_order.specs.Tables.{tally, taken_up, last_of, open_parts, IsTabled}
 use Rattle.session_order.proofs.Lists.{eqb-no, eqb-yes}
 use Rattle.session_order.proofs.Chaining.{open_climbs, last_climbs}

@@ -1,7 +1,7 @@
 use Rattle.std.proofs.Common.{arith, ap, subst, ◌∙◌, ◌≡◌, ◌∷◌, [], length, length-append, suc}
 use Rattle.std.proofs.lemmas.Grind.{common_steps}
 use Rattle.std.specs.Vec.Iter.{into_iter_items}
-use Rattle.session_order.specs.declared.queue.Stage.TheVariants.{Waiting}
+use Rattle.session_order.specs.declared.queue.PartStage.TheVariants.{Waiting}
 use Rattle.session_order.specs.Tables.{HasRoom}
 use Rattle.session_order.proofs.queue.push_parts.Goals as goal
 

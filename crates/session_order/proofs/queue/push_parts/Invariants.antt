@@ -1,6 +1,6 @@
 use Rattle.std.proofs.Common.{◌≡◌, ◌≤◌, ◌+◌, ◌++◌, ◌^◌, length, map}
 use Rattle.std.specs.Vec.Iter.{into_iter_items}
-use Rattle.session_order.specs.declared.queue.Stage.TheVariants.{Waiting}
+use Rattle.session_order.specs.declared.queue.PartStage.TheVariants.{Waiting}
 use Rattle.session_order.specs.Tables.{AreSound, HasRoom}
 use Rattle.session_order.proofs.queue.push_parts.Given as goal
 

@@ -1,7 +1,7 @@
 use Rattle.std.proofs.Common.{◌≡◌, ◌<◌, ◌≤◌, ◌+◌, ◌^◌, ◌++◌, ◌∷◌, [], ℕ, length, List, rules, refl, arith, sym, ap, ◌∙◌, subst, false}
 use Rattle.std.specs.Vec.{vec_len, vec_capacity}
 use Rattle.world_laws.specs.State.{slot_for}
-use Rattle.command_future.specs.Progress.{Progress, fresh}
+use Rattle.command_future.specs.CommandModel.{CommandModel, fresh}
 use Rattle.world_laws.specs.declared.state.Arrival.{Arrival}
 use Rattle.cluster_world.specs.declared.tables.TurnKey.{TurnKey}
 use Rattle.cluster_world.specs.declared.tables.Tables.{Tables}

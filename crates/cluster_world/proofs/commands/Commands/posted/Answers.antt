@@ -3,7 +3,7 @@ use Rattle.std.specs.Prelude.{slice_get}
 use Rattle.std.specs.Vec.{vec_len}
 use Rattle.std.proofs.lemmas.Option.{slice_get_within}
 use Rattle.world_laws.specs.declared.state.Arrival.{Arrival}
-use Rattle.command_future.specs.Progress.{MayPost}
+use Rattle.command_future.specs.CommandModel.{MayPostTo}
 use Rattle.world_laws.specs.State.{awaiting}
 use Rattle.cluster_world.specs.Commands.{HasTurn, MayPostAt}
 use Rattle.cluster_world.proofs.Lookups.{at-place, same-item}
@@ -22,7 +22,7 @@ posted-requires c =
     let xs : List Arrival = c.self.inside.arrivals.items in
     let may : MayPostAt xs c.args.place c.args.node = subst (λ (cs : List Arrival). MayPostAt cs c.args.place c.args.node) (sym c.self.view_is) c.requires in
     let at : slice_get xs c.args.place ≡ Some c.index_mut.result.now = at-place xs c.args.place c.index_mut.result.now (slice_get_within xs c.args.place may.0 may.1) c.index_mut.ensures.value in
-    subst (λ (x : Arrival). MayPost x.command.stage c.args.node) (same-item xs c.args.place may.0 c.index_mut.result.now may.1 at) may.2
+    subst (λ (x : Arrival). MayPostTo x.command.stage c.args.node) (same-item xs c.args.place may.0 c.index_mut.result.now may.1 at) may.2
 
 pub invariant_of-self : goal.invariant_of-self
 invariant_of-self c =
@@ -33,7 +33,7 @@ invariant_of-self c =
     let same : may.0 ≡ now = same-item xs c.args.place may.0 now may.1 at in
     let y : Arrival = record { command = c.posted.new.self; arrived = now.arrived; answered = now.answered } in
     let is : y ≡ awaiting now = λ i. record { command = c.posted.ensures.progress i; arrived = now.arrived; answered = now.answered } in
-    find-posted xs c.self.inside.tables c.self.invariant c.args.place now at y c.args.node is (subst (λ (x : Arrival). MayPost x.command.stage c.args.node) same may.2) (subst (HasTurn xs c.args.place) same may.3)
+    find-posted xs c.self.inside.tables c.self.invariant c.args.place now at y c.args.node is (subst (λ (x : Arrival). MayPostTo x.command.stage c.args.node) same may.2) (subst (HasTurn xs c.args.place) same may.3)
 
 pub returns : goal.returns
 returns c =

@@ -5,7 +5,7 @@ use Rattle.std.proofs.lemmas.Option.{slice_get_within}
 use Rattle.world_laws.specs.declared.state.Arrival.{Arrival}
 use Rattle.command_future.specs.declared.stage.Stage.TheVariants.{Awaits}
 use Rattle.world_laws.specs.State.{slot_for, after_told}
-use Rattle.command_future.specs.Progress.{Progress, IsOver}
+use Rattle.command_future.specs.CommandModel.{CommandModel, IsOver}
 use Rattle.cluster_world.specs.declared.rows.Row.{Row}
 use Rattle.cluster_world.specs.declared.tables.TurnKey.{TurnKey}
 use Rattle.cluster_world.specs.Tables.{turn_in, turn_key_of, NotedTold}

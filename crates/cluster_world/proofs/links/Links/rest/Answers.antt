@@ -1,18 +1,18 @@
 use Rattle.std.proofs.Common.{List, sym, subst}
 use Rattle.std.specs.Prelude.{All}
-use Rattle.node_model.specs.History.{Entry as Executed}
-use Rattle.cluster_world.specs.Kept.{Line}
-use Rattle.cluster_world.specs.Links.{Linked}
+use Rattle.node_model.specs.History.{EntryModel}
+use Rattle.cluster_world.specs.Kept.{LinkModel}
+use Rattle.cluster_world.specs.Links.{LinksModel}
 use Rattle.cluster_world.specs.Rests.{LineRests, LinkRests}
 use Rattle.cluster_world.proofs.Shown.{all-rest, rest-all}
 use Rattle.cluster_world.proofs.links.Links.rest.Goals as goal
 
 pub returns : goal.returns
 returns c =
-    let ls : List Line = c.self.inside.links.items in
-    let h : List Executed = c.self.inside.history.items in (
-      (λ t. subst (λ (x : Linked). All (λ l. LinkRests l c.args.node c.args.ticket) x.links) c.self.view_is
-          (all-rest ls h c.args.node c.args.ticket (subst (λ (xs : List Line). All (λ l. LineRests l c.args.node c.args.ticket) xs) c.deref.ensures.value (c.lines_rest.ensures.0 t)))),
-      (λ a. c.lines_rest.ensures.1 (subst (λ (xs : List Line). All (λ l. LineRests l c.args.node c.args.ticket) xs) (sym c.deref.ensures.value)
-          (rest-all ls h c.args.node c.args.ticket (subst (λ (x : Linked). All (λ l. LinkRests l c.args.node c.args.ticket) x.links) (sym c.self.view_is) a)))),
+    let ls : List LinkModel = c.self.inside.links.items in
+    let h : List EntryModel = c.self.inside.history.items in (
+      (λ t. subst (λ (x : LinksModel). All (λ l. LinkRests l c.args.node c.args.ticket) x.links) c.self.view_is
+          (all-rest ls h c.args.node c.args.ticket (subst (λ (xs : List LinkModel). All (λ l. LineRests l c.args.node c.args.ticket) xs) c.deref.ensures.value (c.lines_rest.ensures.0 t)))),
+      (λ a. c.lines_rest.ensures.1 (subst (λ (xs : List LinkModel). All (λ l. LineRests l c.args.node c.args.ticket) xs) (sym c.deref.ensures.value)
+          (rest-all ls h c.args.node c.args.ticket (subst (λ (x : LinksModel). All (λ l. LinkRests l c.args.node c.args.ticket) x.links) (sym c.self.view_is) a)))),
     )

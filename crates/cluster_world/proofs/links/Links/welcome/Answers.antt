@@ -1,25 +1,27 @@
-use Rattle.std.proofs.Common.{rules, ◌≡◌, ◌<◌, List, ◌∷◌, length, Some, Err, true, sym, ap, ◌∙◌, subst}
+use Rattle.std.proofs.Common.{rules, ◌≡◌, ◌<◌, List, ◌∷◌, length, map, Some, Err, true, sym, ap, ◌∙◌, subst}
 use Rattle.std.specs.Prelude.{slice_get, slice_set, Result}
 use Rattle.std.proofs.lemmas.List.Elements.{All-set}
-use Rattle.node_model.specs.History.{Entry as Executed}
+use Rattle.node_model.specs.History.{EntryModel}
 use Rattle.world_laws.specs.State.{Link, replied}
-use Rattle.world_laws.specs.declared.state.Request.{Request}
-use Rattle.world_laws.specs.declared.state.Request.TheVariants.{Asking}
-use Rattle.world_laws.specs.declared.state.Back.TheVariants as back
-use Rattle.cluster_world.specs.Kept.{Line, KeepsBelow, shown}
-use Rattle.cluster_world.specs.Links.{Linked, linked, with_link, Begins, Welcomes}
+use Rattle.world_laws.specs.declared.state.LinkRequest.{LinkRequest}
+use Rattle.world_laws.specs.declared.state.LinkRequest.TheVariants as request
+use Rattle.cluster_world.specs.Alone.{as_request}
+use Rattle.cluster_world.specs.declared.alone.RequestAlone.TheVariants.{Asking}
+use Rattle.world_laws.specs.declared.state.LinkReply.TheVariants as back
+use Rattle.cluster_world.specs.Kept.{LinkModel, KeepsBelow, shown}
+use Rattle.cluster_world.specs.Links.{LinksModel, linked, with_link, Begins, Welcomes}
 use Rattle.cluster_world.specs.declared.link.Kept.TheVariants.{Welcome}
 use Rattle.cluster_world.specs.declared.fault.WorldFault.{WorldFault}
 use Rattle.cluster_world.specs.declared.fault.WorldFault.TheVariants.{NoMemory}
 use Rattle.cluster_world.proofs.Lookups.{at-place}
-use Rattle.cluster_world.proofs.Shown.{there, here, there-within, set-linked, set-same, line-at, tails, some-request, done-shown, done-below}
+use Rattle.cluster_world.proofs.Shown.{there, here, there-within, set-linked, set-same, line-at, behind, some-request, done-shown, done-below}
 use Rattle.cluster_world.proofs.links.Links.welcome.Goals as goal
 
 pub returns-in_err-reserve : goal.returns-in_err-reserve
 returns-in_err-reserve c =
-    let ls : List Line = c.self.inside.links.items in
-    let h : List Executed = c.self.inside.history.items in
-    let l : Line = c.index_mut-link.result.now in
+    let ls : List LinkModel = c.self.inside.links.items in
+    let h : List EntryModel = c.self.inside.history.items in
+    let l : LinkModel = c.index_mut-link.result.now in
     let lt : c.args.at < length ls = there-within ls h c.args.self.now c.args.at (Begins Asking) c.self.view_is c.requires in
     let at : slice_get ls c.args.at ≡ Some l = at-place ls c.args.at l lt c.index_mut-link.ensures.value in
     let is : c.from_residual.result ≡ Err NoMemory = search rules in
@@ -28,19 +30,19 @@ returns-in_err-reserve c =
 
 pub take_request-requires : goal.take_request-requires
 take_request-requires c =
-    let ls : List Line = c.self.inside.links.items in
-    let h : List Executed = c.self.inside.history.items in
-    let l : Line = c.index_mut-link.result.now in
+    let ls : List LinkModel = c.self.inside.links.items in
+    let h : List EntryModel = c.self.inside.history.items in
+    let l : LinkModel = c.index_mut-link.result.now in
     let lt : c.args.at < length ls = there-within ls h c.args.self.now c.args.at (Begins Asking) c.self.view_is c.requires in
     let at : slice_get ls c.args.at ≡ Some l = at-place ls c.args.at l lt c.index_mut-link.ensures.value in
     let first = here ls h c.args.self.now c.self.view_is c.args.at l at (Begins Asking) c.requires in
-    some-request l.requests c.reserve.new.self.requests first.0 Asking (ap (λ (x : Line). x.requests) c.in_ok-reserve.ensures.same) first.1
+    some-request l.requests c.reserve.new.self.requests first.0 request.Asking (ap (λ (x : LinkModel). x.requests) c.in_ok-reserve.ensures.same) first.1
 
 pub invariant_of-self-2 : goal.invariant_of-self-2
 invariant_of-self-2 c =
-    let ls : List Line = c.self.inside.links.items in
-    let h : List Executed = c.self.inside.history.items in
-    let l : Line = c.index_mut-link.result.now in
+    let ls : List LinkModel = c.self.inside.links.items in
+    let h : List EntryModel = c.self.inside.history.items in
+    let l : LinkModel = c.index_mut-link.result.now in
     let lt : c.args.at < length ls = there-within ls h c.args.self.now c.args.at (Begins Asking) c.self.view_is c.requires in
     let at : slice_get ls c.args.at ≡ Some l = at-place ls c.args.at l lt c.index_mut-link.ensures.value in
     All-set (KeepsBelow (length h)) ls c.args.at c.keep.new.self
@@ -49,18 +51,18 @@ invariant_of-self-2 c =
 
 pub returns : goal.returns
 returns c =
-    let ls : List Line = c.self.inside.links.items in
-    let h : List Executed = c.self.inside.history.items in
-    let l : Line = c.index_mut-link.result.now in
+    let ls : List LinkModel = c.self.inside.links.items in
+    let h : List EntryModel = c.self.inside.history.items in
+    let l : LinkModel = c.index_mut-link.result.now in
     let lt : c.args.at < length ls = there-within ls h c.args.self.now c.args.at (Begins Asking) c.self.view_is c.requires in
     let at : slice_get ls c.args.at ≡ Some l = at-place ls c.args.at l lt c.index_mut-link.ensures.value in
     let first = here ls h c.args.self.now c.self.view_is c.args.at l at (Begins Asking) c.requires in
-    let requests : l.requests ≡ c.take_request.result ∷ c.take_request.new.self.requests = sym (ap (λ (x : Line). x.requests) c.in_ok-reserve.ensures.same) ∙ c.take_request.ensures.first in
+    let requests : l.requests ≡ c.take_request.result ∷ c.take_request.new.self.requests = sym (ap (λ (x : LinkModel). x.requests) c.in_ok-reserve.ensures.same) ∙ c.take_request.ensures.first in
     there ls h c.args.self.now c.self.view_is c.args.at l at
-    (λ (k : Linked) (x : Link).
-    (rest : List Request) × (x.requests ≡ Asking ∷ rest) × (linked (slice_set ls c.args.at c.keep.new.self) h ≡ with_link k c.args.at (replied (record x { requests = rest; asking = true }) back.Welcome))) (
-      c.take_request.new.self.requests,
-      tails l.requests first.0 c.take_request.new.self.requests Asking c.take_request.result first.1 requests,
+    (λ (k : LinksModel) (x : Link).
+    (rest : List LinkRequest) × (x.requests ≡ request.Asking ∷ rest) × (linked (slice_set ls c.args.at c.keep.new.self) h ≡ with_link k c.args.at (replied (record x { requests = rest; asking = true }) back.Welcome))) (
+      map as_request c.take_request.new.self.requests,
+      behind l.requests c.take_request.new.self.requests first.0 request.Asking c.take_request.result first.1 requests,
       set-linked ls h c.args.at c.keep.new.self
           ∙ ap (with_link (linked ls h) c.args.at) (done-shown l c.reserve.new.self c.take_request.new.self c.keep.new.self true Welcome c.in_ok-reserve.ensures.same c.take_request.ensures.rest c.keep.ensures h),
     )

@@ -1,10 +1,10 @@
 use Rattle.std.proofs.Common.{rules, Err, ◌≡◌, ℕ, ◌==◌, ◌&&◌, not, List, [], ◌∷◌, ◌++◌, take, Some, None, Bool, true, false, refl, sym, ap, ◌∙◌, subst}
 use Rattle.std.specs.Prelude.{slice_get, slice_set, position, All}
 use Rattle.key_split.specs.declared.travel.Ended.{Ended}
-use Rattle.command_future.specs.Progress.{IsOver}
+use Rattle.command_future.specs.CommandModel.{IsOver}
 use Rattle.command_future.specs.declared.stage.Stage.{Stage}
 use Rattle.command_future.specs.declared.stage.Stage.TheVariants.{Over}
-use Rattle.world_laws.specs.State.{World}
+use Rattle.world_laws.specs.State.{WorldModel}
 use Rattle.world_laws.specs.World.{IsFirst}
 use Rattle.world_laws.specs.declared.event.Event.TheVariants as event
 use Rattle.cluster_world.specs.declared.fault.WorldFault.TheVariants.{NoMemory}
@@ -49,7 +49,7 @@ returns-in_default-end c =
       refl,
     )
 
-could : (w : World) (client i : ℕ) (c : Arrival) (ended : Ended) → IsFirst (mine client) w.commands i c → c.command.stage ≡ Over ended → Can w (event.Answer client)
+could : (w : WorldModel) (client i : ℕ) (c : Arrival) (ended : Ended) → IsFirst (mine client) w.commands i c → c.command.stage ≡ Over ended → Can w (event.Answer client)
 could w client i c ended its stage =
     let own = open-so c.command.ticket.client client c.answered (first-passes (mine client) w.commands i c its) in (
       record w { commands = slice_set w.commands i (record c { answered = true }); answers = w.answers ++ record { ticket = c.command.ticket; ended = ended; arrived = c.arrived; answered = w.moment } ∷ [] },
@@ -68,13 +68,13 @@ could w client i c ended its stage =
 
 pub returns-in_err-copy : goal.returns-in_err-copy
 returns-in_err-copy c =
-    let w : World = state_of c.args.self.now in
+    let w : WorldModel = state_of c.args.self.now in
     let is : c.from_residual.result ≡ Err NoMemory = search rules in
     no-memory w w (event.Answer c.args.client) c.from_residual.result is (could w c.args.client c.in-Some.place c.at-arrival.result.now c.in-Some-end.end.now (sym c.in-Some.ensures, c.at-arrival.ensures) c.in-Some-end.ensures.progress) refl
 
 pub returns-in_err-reserve : goal.returns-in_err-reserve
 returns-in_err-reserve c =
-    let w : World = state_of c.args.self.now in
+    let w : WorldModel = state_of c.args.self.now in
     let is : c.from_residual-in_err-reserve.result ≡ Err NoMemory = search rules in
     no-memory w (record w { answers = c.reserve.new.self.items }) (event.Answer c.args.client) c.from_residual-in_err-reserve.result is
     (could w c.args.client c.in-Some.place c.at-arrival.result.now c.in-Some-end.end.now (sym c.in-Some.ensures, c.at-arrival.ensures) c.in-Some-end.ensures.progress) (λ i. record w { answers = c.in_err-reserve.ensures.items i })

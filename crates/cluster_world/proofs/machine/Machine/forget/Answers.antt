@@ -1,6 +1,6 @@
 use Rattle.std.proofs.Common.{◌≡◌, Err, rules, refl}
-use Rattle.node_model.specs.Moves.{MayForget, forget_done}
-use Rattle.world_laws.specs.State.{World}
+use Rattle.node_model.specs.Moves.{MayForget, NeedsNone, forget_done}
+use Rattle.world_laws.specs.State.{WorldModel}
 use Rattle.world_laws.specs.declared.event.Event.TheVariants as event
 use Rattle.cluster_world.specs.Fault.{of_move}
 use Rattle.cluster_world.specs.Machine.{state_of}
@@ -9,6 +9,6 @@ use Rattle.cluster_world.proofs.machine.Machine.forget.Goals as goal
 
 pub returns-in_err-forget_slot : goal.returns-in_err-forget_slot
 returns-in_err-forget_slot c =
-    let w : World = state_of c.args.self.now in
+    let w : WorldModel = state_of c.args.self.now in
     let is : c.from_residual.result ≡ Err (of_move c.in_err-forget_slot.field-0.0) = search rules in
-    not-moved w (event.Forget c.args.slot) (MayForget w.cluster c.args.slot) (forget_done w.cluster c.args.slot) c.forget_slot.new.self c.in_err-forget_slot.field-0.0 c.from_residual.result is (λ v d. d.0) (λ m. (m, refl)) c.in_err-forget_slot.ensures
+    not-moved w (event.Forget c.args.slot) (MayForget w.cluster c.args.slot) NeedsNone (forget_done w.cluster c.args.slot) c.forget_slot.new.self c.in_err-forget_slot.field-0.0 c.from_residual.result is (λ v d. d.0) (λ m. (m, refl)) c.in_err-forget_slot.ensures

@@ -1,6 +1,6 @@
 use Rattle.std.proofs.Common.{◌≡◌, Err, rules, true, false, refl, ap}
-use Rattle.node_model.specs.Moves.{MayImport, import_done}
-use Rattle.world_laws.specs.State.{World}
+use Rattle.node_model.specs.Moves.{MayImport, NeedsNone, import_done}
+use Rattle.world_laws.specs.State.{WorldModel}
 use Rattle.world_laws.specs.declared.event.Event.TheVariants as event
 use Rattle.cluster_world.specs.Fault.{of_move}
 use Rattle.cluster_world.proofs.Allowing.{not-moved}
@@ -17,9 +17,9 @@ returns-then-not-none_asks c = (
 
 pub returns-in_err-import_slot : goal.returns-in_err-import_slot
 returns-in_err-import_slot c =
-    let w : World = state_of c.args.self.now in
+    let w : WorldModel = state_of c.args.self.now in
     let is : c.from_residual.result ≡ Err (of_move c.in_err-import_slot.field-0.0) = search rules in
-    not-moved w (event.Import c.args.slot c.args.target) (MayImport w.cluster c.args.slot c.args.target) (import_done w.cluster c.args.slot c.args.target) c.import_slot.new.self c.in_err-import_slot.field-0.0 c.from_residual.result is
+    not-moved w (event.Import c.args.slot c.args.target) (MayImport w.cluster c.args.slot c.args.target) NeedsNone (import_done w.cluster c.args.slot c.args.target) c.import_slot.new.self c.in_err-import_slot.field-0.0 c.from_residual.result is
     (λ v d. d.1) (λ m. ((λ k x lt e. rests-none w c.args.target _ (c.if-not-none_asks.ensures.0 refl k x lt e)), m, refl)) c.in_err-import_slot.ensures
 
 pub returns : goal.returns

@@ -1,6 +1,7 @@
 use Rattle.std.proofs.Common.{◌≡◌, Err, rules, refl}
-use Rattle.node_model.specs.Moves.{MayRelease, release_done}
-use Rattle.world_laws.specs.State.{World}
+use Rattle.node_model.specs.Nodes.{standing_at}
+use Rattle.node_model.specs.Moves.{MayRelease, NeedsToSend, release_done}
+use Rattle.world_laws.specs.State.{WorldModel}
 use Rattle.world_laws.specs.declared.event.Event.TheVariants as event
 use Rattle.cluster_world.specs.Fault.{of_move}
 use Rattle.cluster_world.specs.Machine.{state_of}
@@ -9,6 +10,6 @@ use Rattle.cluster_world.proofs.machine.Machine.release.Goals as goal
 
 pub returns-in_err-release_slot : goal.returns-in_err-release_slot
 returns-in_err-release_slot c =
-    let w : World = state_of c.args.self.now in
+    let w : WorldModel = state_of c.args.self.now in
     let is : c.from_residual.result ≡ Err (of_move c.in_err-release_slot.field-0.0) = search rules in
-    not-moved w (event.Release c.args.slot) (MayRelease w.cluster c.args.slot) (release_done w.cluster c.args.slot) c.release_slot.new.self c.in_err-release_slot.field-0.0 c.from_residual.result is (λ v d. d.0) (λ m. (m, refl)) c.in_err-release_slot.ensures
+    not-moved w (event.Release c.args.slot) (MayRelease w.cluster c.args.slot) (NeedsToSend w.cluster c.args.slot (standing_at w.cluster c.args.slot).source) (release_done w.cluster c.args.slot) c.release_slot.new.self c.in_err-release_slot.field-0.0 c.from_residual.result is (λ v d. d.0) (λ m. (m, refl)) c.in_err-release_slot.ensures

@@ -7,9 +7,12 @@ use Rattle.cluster_world.specs.declared.fault.WorldFault.TheVariants.{NoMemory}
 use Rattle.cluster_world.proofs.Allowing.{no-memory}
 use Rattle.world_laws.specs.declared.state.Arrival.{Arrival}
 use Rattle.cluster_world.specs.Machine.{state_of}
-use Rattle.cluster_world.proofs.Linking.{executes, serves-can, serve-refused}
+use Rattle.cluster_world.proofs.Linking.{executes, serves-can, serve-nowhere, serve-refused}
 use Rattle.cluster_world.proofs.Lookups.{first-passes, place-within}
 use Rattle.cluster_world.proofs.machine.Machine.serve_command.Goals as goal
+
+pub returns-in_default : goal.returns-in_default
+returns-in_default c = (serve-nowhere (state_of c.args.self.now) c.args.link c.args.verdict c.args.ticket c.requires.first c.in_default.ensures, refl)
 
 pub at-requires : goal.at-requires
 at-requires c = (place-within (λ (x : Arrival). same_ticket c.args.ticket x.command.ticket) c.args.self.now.commands c.in-Some.place (sym c.in-Some.ensures)).1

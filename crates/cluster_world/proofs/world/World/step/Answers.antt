@@ -1,7 +1,7 @@
 use Rattle.std.proofs.Common.{rules, ◌≡◌, ℕ, ◌-◌, ◌<◌, length, sym, ap, ◌∙◌, subst}
 use Rattle.world_laws.specs.Headline.{IsReached}
-use Rattle.world_laws.specs.State.{World}
-use Rattle.world_laws.specs.World.{Step, last_moment}
+use Rattle.world_laws.specs.State.{WorldModel}
+use Rattle.world_laws.specs.World.{WorldStep, last_moment}
 use Rattle.cluster_world.specs.Machine.{state_of}
 use Rattle.cluster_world.specs.Steps.{RefusedFor}
 use Rattle.cluster_world.proofs.Stepping.{undone, refused-for}
@@ -12,10 +12,10 @@ happen-requires-clause-links c = c.links_lead_to_nodes.ensures (state_of c.self.
 
 pub invariant_of-self : goal.invariant_of-self
 invariant_of-self c =
-    let w : World = state_of c.self.inside.machine in
-    let w' : World = state_of c.happen.new.self in
+    let w : WorldModel = state_of c.self.inside.machine in
+    let w' : WorldModel = state_of c.happen.new.self in
     let lt : w.moment < last_moment = search rules in
-    let step : Step w c.args.event.now w' = (lt, c.in-Ok.ensures) in
+    let step : WorldStep w c.args.event.now w' = (lt, c.in-Ok.ensures) in
     let sizes : (w'.workers ≡ w.workers) × (length w'.cluster.stores ≡ length w.cluster.stores) = c.sizes_stay.ensures w w' c.args.event.now step in
     record {
       reached = c.reached_worlds.ensures.goes_on w w' c.args.event.now c.self.invariant.reached step;
@@ -25,18 +25,18 @@ invariant_of-self c =
 
 pub invariant_of-self-in-Err : goal.invariant_of-self-in-Err
 invariant_of-self-in-Err c =
-    let w : World = state_of c.self.inside.machine in
+    let w : WorldModel = state_of c.self.inside.machine in
     let same : record (state_of c.happen.new.self) { moment = c.happen.new.self.moment - 1 } ≡ w = undone Unit w (state_of c.happen.new.self) c.args.event.now c.in-Err.fault c.in-Err.ensures in
     record {
       reached = subst IsReached (sym same) c.self.invariant.reached;
-      workers = subst (λ (n : ℕ). 0 < n) (sym (ap (λ (v : World). v.workers) same)) c.self.invariant.workers;
-      nodes = c.self.invariant.nodes ∙ sym (ap (λ (v : World). length v.cluster.stores) same);
+      workers = subst (λ (n : ℕ). 0 < n) (sym (ap (λ (v : WorldModel). v.workers) same)) c.self.invariant.workers;
+      nodes = c.self.invariant.nodes ∙ sym (ap (λ (v : WorldModel). length v.cluster.stores) same);
     }
 
 pub returns-in-Err : goal.returns-in-Err
 returns-in-Err c =
-    let w : World = state_of c.self.inside.machine in
+    let w : WorldModel = state_of c.self.inside.machine in
     let lt : w.moment < last_moment = search rules in (
-      subst (λ (v : World). RefusedFor v c.args.event.now c.in-Err.fault) c.self.view_is (refused-for Unit w (state_of c.happen.new.self) c.args.event.now c.in-Err.fault lt c.in-Err.ensures),
+      subst (λ (v : WorldModel). RefusedFor v c.args.event.now c.in-Err.fault) c.self.view_is (refused-for Unit w (state_of c.happen.new.self) c.args.event.now c.in-Err.fault lt c.in-Err.ensures),
       undone Unit w (state_of c.happen.new.self) c.args.event.now c.in-Err.fault c.in-Err.ensures ∙ c.self.view_is,
     )

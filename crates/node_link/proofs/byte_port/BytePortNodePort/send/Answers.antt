@@ -1,7 +1,7 @@
-use Rattle.std.proofs.Common.{[], refl, inr, sym, ◌∙◌, ap}
+use Rattle.std.proofs.Common.{[], refl, inl, inr, sym, ◌∙◌, ap}
 use Rattle.std.proofs.lemmas.List.{append-nil}
 use Rattle.key_split.specs.Requests.{requests_of}
-use Rattle.node_link.specs.Bytes.{Outgoing, spelled}
+use Rattle.node_link.specs.Bytes.{OutboxModel, spelled}
 use Rattle.node_link.proofs.Moves.{appended}
 use Rattle.node_link.proofs.byte_port.BytePortNodePort.send.Goals as goal
 
@@ -13,6 +13,15 @@ returns-in-Err-clause-does g c =
 pub returns-clause-does : goal.returns-clause-does
 returns-clause-does g c =
     let wrote = c.in_default.ensures.written in
-    let all = ap (λ (o : Outgoing). o.unsent) c.in_default-append_batch.ensures.ok in
+    let all = ap (λ (o : OutboxModel). o.unsent) c.in_default-append_batch.ensures.ok in
     rw (← c.self.view_is)
-    (wrote.0, [], wrote.1, appended c.self.inside.outbox.unsent wrote.0 c.go_on.new.self.unsent (spelled (requests_of c.args.batch.now)) _ wrote.2 all, append-nil _, refl)
+    (wrote.0, [], wrote.1, appended c.self.inside.outbox.unsent wrote.0 c.flush_before_send.new.self.unsent (spelled (requests_of c.args.batch.now)) _ wrote.2 all, append-nil _, refl)
+
+pub returns-in-Err-clause-offers : goal.returns-in-Err-clause-offers
+returns-in-Err-clause-offers g c = rw (← c.self.view_is) (c.flush_before_send.new.stream, c.flush_before_send.ensures.offers, inl refl)
+
+pub returns-in-Err-append_batch-clause-offers : goal.returns-in-Err-append_batch-clause-offers
+returns-in-Err-append_batch-clause-offers g c = rw (← c.self.view_is) (c.flush_before_send.new.stream, c.flush_before_send.ensures.offers, inl refl)
+
+pub returns-clause-offers : goal.returns-clause-offers
+returns-clause-offers g c = rw (← c.self.view_is) (c.flush_before_send.new.stream, c.flush_before_send.ensures.offers, inl refl)

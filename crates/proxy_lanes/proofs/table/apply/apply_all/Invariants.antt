@@ -1,7 +1,7 @@
 use Rattle.std.proofs.Common.{List, ◌++◌, take}
 use Rattle.slot_map.specs.declared.ops.MapOp.{MapOp}
-use Rattle.slot_map.specs.Map.{Shows}
+use Rattle.slot_map.specs.Map.{MapShows}
 use Rattle.proxy_lanes.proofs.table.apply.apply_all.Given as goal
 
 abbrev pub invariant-loop-op : goal.invariant-loop-op
-invariant-loop-op l = (before : List MapOp) → Shows l.initial.map before → Shows l.map (before ++ take l.op-index l.ops)
+invariant-loop-op l = (before : List MapOp) → MapShows l.initial.map before → MapShows l.map (before ++ take l.op-index l.ops)

@@ -1,6 +1,6 @@
 use Rattle.std.proofs.Common.{◌∙◌, ap, sym, subst}
 use Rattle.std.specs.Prelude.{is_some}
-use Rattle.command_future.specs.Progress.{Progress, IsOver}
+use Rattle.command_future.specs.CommandModel.{CommandModel, IsOver}
 use Rattle.proxy_turns.proofs.Posting.{some_same}
 use Rattle.proxy_turns.proofs.commands.Commands.finish.Goals as goal
 
@@ -12,7 +12,7 @@ pub unreachable-requires : goal.unreachable-requires
 unreachable-requires c =
     let ends = rw (← c.self.view_is) at c.requires in
     let one = some_same ends.2.0 c.take_at.result (sym ends.2.1 ∙ c.take_at.ensures.held) in
-    c.in-Err.ensures.progress.1 (subst (λ (x : Progress). IsOver x.stage) one (subst IsOver (sym ends.2.3) tt))
+    c.in-Err.ensures.progress.1 (subst (λ (x : CommandModel). IsOver x.stage) one (subst IsOver (sym ends.2.3) tt))
 
 pub returns : goal.returns
 returns c =

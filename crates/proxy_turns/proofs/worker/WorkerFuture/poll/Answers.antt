@@ -1,6 +1,6 @@
 use Rattle.std.proofs.Common.{sym, subst, Some}
 use Rattle.proxy_turns.specs.declared.worker_end.WorkerOutcome.{WorkerOutcome}
-use Rattle.proxy_turns.specs.Worker.{StepOutcome, floor_under}
+use Rattle.proxy_turns.specs.Worker.{StepOutcome, worker_model}
 use Rattle.proxy_turns.proofs.Polling.{gives_at_end, gives_later}
 use Rattle.proxy_turns.proofs.worker.WorkerFuture.poll.Goals as goal
 
@@ -13,8 +13,8 @@ pub returns-in-Some-clause-polled : goal.returns-in-Some-clause-polled
 returns-in-Some-clause-polled g c =
     let gate = c.args.self.now.gate.now in
     let P : WorkerOutcome → Type 0 =
-    λ outcome. StepOutcome g.C.ClientPort.moves (g.G.Gate.says gate) (g.G.Gate.rests gate) (floor_under c.args.self.now) (Some outcome) (floor_under c.step.new.self) in
-    (floor_under c.step.new.self, subst P (sym c.end.ensures.outcome) c.in-Some.ensures.does, c.end.ensures.back)
+    λ outcome. StepOutcome g.C.ClientPort.moves (g.G.Gate.says gate) (g.G.Gate.rests gate) (worker_model c.args.self.now) (Some outcome) (worker_model c.step.new.self) in
+    (worker_model c.step.new.self, subst P (sym c.end.ensures.outcome) c.in-Some.ensures.does, c.end.ensures.back)
 
 pub returns-in-None-clause-again : goal.returns-in-None-clause-again
 returns-in-None-clause-again g c = rw c.yield_now.ensures.pending (c.in-None.ensures.runs c.requires)

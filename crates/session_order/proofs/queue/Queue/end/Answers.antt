@@ -1,7 +1,7 @@
 use Rattle.std.proofs.Common.{arith, sym, ap, subst, ◌≡◌, ◌-◌, true, length, take}
 use Rattle.std.specs.List.{list_all}
 use Rattle.std.proofs.lemmas.List.{length-set}
-use Rattle.session_order.specs.declared.queue.Stage.TheVariants.{Done}
+use Rattle.session_order.specs.declared.queue.PartStage.TheVariants.{Done}
 use Rattle.session_order.specs.Turn.{is_done}
 use Rattle.session_order.proofs.Fronting.{front_fits, front_done, front_kept}
 use Rattle.session_order.proofs.queue.Queue.end.Goals as goal

@@ -1,6 +1,6 @@
 use Rattle.std.proofs.Common.{arith}
 use Rattle.std.proofs.lemmas.Grind.{common_steps}
-use Rattle.session_order.specs.declared.replies.Owed.TheVariants.{Parts}
+use Rattle.session_order.specs.declared.replies.PendingReply.TheVariants.{Parts}
 use Rattle.session_order.proofs.Added.{parts_of_push, joinable_push}
 use Rattle.session_order.proofs.session.Session.add.Goals as goal
 

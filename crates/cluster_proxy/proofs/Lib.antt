@@ -1,4 +1,0 @@
-mod Ends
-mod Openings
-mod Digits
-mod Colon

@@ -1,0 +1,229 @@
+//! An operation on keys of one slot.
+
+ghost use Rattle.std.specs.Prelude.{◌≡◌, ◌⊎◌, ◌↔◌, All, IsTrue, IfOk, OnOk, OnErr, [], ◌∷◌, ◌++◌};
+ghost use Rattle.slot_hash.specs.Slot.{slot_of};
+ghost use Rattle.key_split.specs.PartModel.{takes_group, HasFitKeys, HasOneSlot};
+
+use resp_wire::{Bytes, NoMemory};
+use slot_hash::Slot;
+use std::alloc::Global;
+use std::marker::Model;
+
+/// When SET writes.
+#[derive(Clone, Copy, Debug, PartialEq, Eq)]
+pub enum Mode {
+    Always,
+    /// NX
+    IfAbsent,
+    /// XX
+    IfPresent,
+}
+
+/// What is done at the keys of a part, by the Redis command of that name.
+#[derive(Clone, Copy, Debug, PartialEq, Eq)]
+pub enum Op {
+    Get,
+    Set(Mode),
+    SetNx,
+    GetSet,
+    GetDel,
+    Append,
+    StrLen,
+    Incr,
+    Decr,
+    IncrBy(i64),
+    Del,
+    Exists,
+    MGet,
+    MSet,
+}
+
+impl Op {
+    /// Whether the operation may have more than one key.
+    pub fn takes_group(self) -> bool
+        ensures { result ≡ takes_group self }
+    {
+        matches!(self, Op::Del | Op::Exists | Op::MGet | Op::MSet)
+    }
+}
+
+/// A key with its value, empty where it has none.
+pub type Pair = (Bytes, Bytes);
+
+/// An operation with its keys, all of one slot, and their values where it has them. Further keys are there only where the operation
+/// takes a group.
+#[derive(Debug, Drop)]
+pub struct Part {
+    op: Op,
+    key: Bytes,
+    arg: Bytes,
+    rest: Vec<Pair>,
+    slot: Slot,
+}
+
+impl Model for Part {
+    ghost use Rattle.key_split.specs.PartModel.{PartModel};
+
+    ghost Value = { PartModel };
+
+    ghost view = { λ part. record { op = part.op; key = part.key; arg = part.arg; rest = part.rest.items } };
+
+    ghost use Rattle.std.specs.Prelude.{◌≡◌, ◌⊎◌, All, IsTrue, []};
+    ghost use Rattle.slot_hash.specs.Slot.{slot_of};
+    ghost use Rattle.key_split.specs.PartModel.{takes_group};
+
+    ghost invariant = { λ part.
+        (part.slot ≡ slot_of part.key)
+        × All (λ pair. slot_of pair.0 ≡ slot_of part.key) part.rest.items
+        × (IsTrue (takes_group part.op) ⊎ (part.rest.items ≡ [])) };
+}
+
+impl Part {
+    /// The operation on one key; `arg` is its value, empty where it has none. Takes no memory: `alloc` is for further keys.
+    pub fn new(alloc: Global, op: Op, key: Bytes, arg: Bytes) -> Part
+        ensures { result ≡ record { op = op; key = key; arg = arg; rest = [] } }
+    {
+        let slot = slot_hash::slot_of(key.as_slice());
+        Part {
+            op,
+            key,
+            arg,
+            rest: Vec::new(alloc),
+            slot,
+        }
+    }
+
+    /// Adds a further key with its value.
+    pub fn push(&mut self, key: Bytes, arg: Bytes) -> Result<(), NoMemory>
+        requires group { IsTrue (takes_group self.old.op) }
+        requires same_slot { slot_of key ≡ slot_of self.old.key }
+        ensures ok { OnOk result (self.new ≡ record self.old { rest = self.old.rest ++ (key, arg) ∷ [] }) }
+        ensures err { OnErr result (self.new ≡ self.old) }
+    {
+        self.rest.push((key, arg))?;
+        Ok(())
+    }
+
+    pub fn op(&self) -> Op
+        ensures { result ≡ self.now.op }
+    {
+        self.op
+    }
+
+    /// The first key.
+    pub fn key(&self) -> &Bytes
+        ensures { result.now ≡ self.now.key }
+    {
+        &self.key
+    }
+
+    /// The first key's value.
+    pub fn arg(&self) -> &Bytes
+        ensures { result.now ≡ self.now.arg }
+    {
+        &self.arg
+    }
+
+    /// The further keys, with their values.
+    pub fn rest(&self) -> &[Pair]
+        ensures value { result.now ≡ self.now.rest }
+        ensures same_slot { All (λ pair. slot_of pair.0 ≡ slot_of self.now.key) self.now.rest }
+        ensures fit { HasFitKeys self.now }
+    {
+        self.rest.as_slice()
+    }
+
+    /// The slot of all the keys.
+    pub fn slot(&self) -> Slot
+        ensures value { result ≡ slot_of self.now.key }
+        ensures of_all { HasOneSlot self.now }
+    {
+        self.slot
+    }
+
+    /// The same part in memory of its own.
+    pub fn copy(&self, alloc: Global) -> Result<Part, NoMemory>
+        ensures { IfOk result (λ copy. copy ≡ self.now) }
+    {
+        Ok(Part {
+            op: self.op,
+            key: self.key.copy(alloc)?,
+            arg: self.arg.copy(alloc)?,
+            rest: copies(alloc, &self.rest)?,
+            slot: self.slot,
+        })
+    }
+}
+
+/// The same keys and values in memory of their own.
+fn copies(alloc: Global, pairs: &[Pair]) -> Result<Vec<Pair>, NoMemory>
+    ensures { IfOk result (λ copies. copies.items ≡ pairs.now) }
+{
+    let mut copies = Vec::with_capacity(alloc, pairs.len())?;
+    for (key, arg) in pairs {
+        copies.push((key.copy(alloc)?, arg.copy(alloc)?))?;
+    }
+    Ok(copies)
+}
+
+impl PartialEq for Part {
+    ghost use Rattle.std.specs.Prelude.{◌≡◌, ◌↔◌, IsTrue};
+    ghost use Rattle.std.specs.Cmp.{decided, partial_equiv_from_equiv};
+    ghost use Rattle.key_split.specs.Same.{same_part, same_part-Decides};
+
+    ghost eq = { same_part };
+
+    ghost laws = { partial_equiv_from_equiv (decided same_part same_part-Decides) };
+
+    fn eq(&self, other: &Part) -> bool
+        ensures value { result ≡ same_part self.now other.now }
+        ensures same { IsTrue result ↔ (self.now ≡ other.now) }
+    {
+        self.op == other.op
+            && self.key == other.key
+            && self.arg == other.arg
+            && self.rest == other.rest
+    }
+}
+
+impl Eq for Part {
+    ghost use Rattle.std.specs.Cmp.{decided};
+    ghost use Rattle.key_split.specs.Same.{same_part, same_part-Decides};
+
+    ghost laws = { decided same_part same_part-Decides };
+}
+
+/// The parts of a request, in order.
+#[derive(Debug, Drop)]
+pub struct Parts {
+    items: Vec<Part>,
+}
+
+impl Model for Parts {
+    ghost use Rattle.std.specs.Prelude.{List};
+    ghost use Rattle.key_split.specs.PartModel.{PartModel};
+
+    ghost Value = { List PartModel };
+
+    ghost view = { λ parts. parts.items.items };
+}
+
+impl Parts {
+    pub fn new(items: Vec<Part>) -> Parts
+        ensures { result ≡ items.items }
+    {
+        Parts { items }
+    }
+
+    pub fn as_slice(&self) -> &[Part]
+        ensures { result.now ≡ self.now }
+    {
+        self.items.as_slice()
+    }
+
+    pub fn into_vec(self) -> Vec<Part>
+        ensures { result.items ≡ self }
+    {
+        self.items
+    }
+}

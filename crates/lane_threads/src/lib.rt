@@ -1,0 +1,9 @@
+//! Lanes and the published map between threads, and what is left in a lane that was finished.
+#![tactic(auto)]
+
+#[cfg(test)]
+mod batches;
+#[cfg(test)]
+mod lanes;
+#[cfg(test)]
+mod maps;

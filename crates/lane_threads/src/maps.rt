@@ -1,0 +1,130 @@
+//! The map, published while other threads look.
+
+ghost use Rattle.std.specs.Prelude.{◌≡◌, ◌<◌};
+ghost use Rattle.proxy_lanes.specs.Opened.{book_of};
+
+use proxy_lanes::{Front, MapView, Naming, Opened, Publisher, WorkerEnds, lanes};
+use resp_wire::NoMemory;
+use slot_hash::Slot;
+use slot_map::{MapOp, NodeId};
+use std::alloc::AllocGlobal;
+use std::marker::Brand;
+use std::sync::Wait;
+use std::test::Fail;
+use std::thread::{self, JoinHandle, Threads};
+
+fn slot() -> Slot {
+    Slot::new(3300).unwrap()
+}
+
+#[test]
+fn another_thread_sees_what_it_learnt(rt: HostRuntime) -> Result<(), Fail> {
+    let seen = learns::<Brand, _>(rt, Opened::new())?;
+    assert!(rt; seen);
+    Ok(())
+}
+
+// A view in another thread learns two fronts, the later first: whether it shows the later.
+fn learns<J, R>(rt: R, opened: Opened) -> Result<bool, Fail>
+where
+    J: Naming + Send + Sync + 'static,
+    R: Threads + Wait + AllocGlobal + Copy + Drop + 'static,
+    requires { book_of opened ≡ J.book }
+{
+    let (ends, mut carrier) = lanes::<u32, J, R>(rt.alloc(), rt, opened, 1)?;
+    let worker = ends.into_iter().next().ok_or("a worker")?;
+    let first = publish_at(&mut carrier.map, 1)?;
+    let second = publish_at(&mut carrier.map, 2)?;
+    let WorkerEnds { view, .. } = worker;
+    let Ok(child) = thread::spawn(&rt, move || last_seen(view, first, second)) else {
+        return Err(Fail::new("a thread"));
+    };
+    Ok(child.join(&rt) == NodeId::new(2))
+}
+
+// Publishes that the slot is at this node, and tells what was published.
+fn publish_at<J, R>(map: &mut Publisher<J, R>, node: u8) -> Result<Front<J>, Fail>
+where
+    J: Naming,
+    R: Wait + Drop,
+{
+    let node = NodeId::new(node).ok_or("a node")?;
+    map.publish(&[MapOp::SetSlot(slot(), node)])?;
+    Ok(map.tell().ok_or("a front")?)
+}
+
+// Where a view sees the slot that learns these fronts, the second first.
+fn last_seen<J: Naming>(mut view: MapView<J>, first: Front<J>, second: Front<J>) -> Option<NodeId> {
+    view.learn(second);
+    view.learn(first);
+    view.node_of(slot()).ok().flatten()
+}
+
+const LISTS: u64 = 100_000;
+
+// The node that the k-th list names: it never falls, and the last is 63.
+fn node_at(k: u64) -> NodeId
+    requires { k < 100000 }
+{
+    NodeId::new((k * 64 / LISTS) as u8).unwrap()
+}
+
+// Whether the slot's node never falls, until it is the last one.
+fn never_falls<J: Naming>(mut view: MapView<J>) -> bool {
+    let mut last = 0u8;
+    for _ in 0..u64::MAX {
+        if last == 63 {
+            return true;
+        }
+        let Ok(Some(node)) = view.node_of(slot()) else {
+            continue;
+        };
+        if node.number() < last {
+            return false;
+        }
+        last = node.number();
+    }
+    false
+}
+
+#[test]
+fn no_answer_is_older_than_the_one_before(rt: HostRuntime) -> Result<(), Fail> {
+    let fell = looks::<Brand, _>(rt, Opened::new())?;
+    assert!(rt; !fell);
+    Ok(())
+}
+
+// Publishes 100,000 lists while two readers look: whether one of them saw an older list than before.
+fn looks<J, R>(rt: R, opened: Opened) -> Result<bool, Fail>
+where
+    J: Naming + Send + Sync + 'static,
+    R: Threads + Wait + AllocGlobal + Copy + Drop + 'static,
+    requires { book_of opened ≡ J.book }
+{
+    let (ends, mut carrier) = lanes::<u32, J, R>(rt.alloc(), rt, opened, 2)?;
+    let mut readers = Vec::new(rt.alloc());
+    for worker in ends {
+        let WorkerEnds { view, .. } = worker;
+        let Ok(reader) = thread::spawn(&rt, move || never_falls(view)) else {
+            return Err(Fail::new("a thread"));
+        };
+        readers.push(reader)?;
+    }
+    publish_all(&mut carrier.map)?;
+    let mut fell = false;
+    for reader in readers {
+        fell = !reader.join(&rt) || fell;
+    }
+    Ok(fell)
+}
+
+fn publish_all<J, R>(map: &mut Publisher<J, R>) -> Result<(), NoMemory>
+where
+    J: Naming,
+    R: Wait + Drop,
+{
+    for k in 0..LISTS {
+        map.publish(&[MapOp::SetSlot(slot(), node_at(k))])?;
+    }
+    Ok(())
+}

@@ -1,0 +1,5 @@
+use Rattle.local_cluster.proofs.Sound.{sound}
+use Rattle.local_cluster.proofs.local.LocalState.cluster.Goals as goal
+
+pub returns-clause-sound : goal.returns-clause-sound
+returns-clause-sound g c = rw (← c.self.view_is) (sound _ c.self.invariant)

@@ -1,0 +1,18 @@
+-- A dial of a node of a cluster in one process.
+-- Nobody is called, so a dial is over at once.
+use Rattle.std.specs.Prelude.{◌≡◌, ℕ, Option, Some, None, Result, Ok, Err}
+use Rattle.slot_map.specs.Table.{Endpoint}
+use Rattle.proxy_turns.specs.declared.dial.DialFault.{DialFault}
+use Rattle.proxy_turns.specs.declared.dial.DialFault.TheVariants.{NoMemory, Failed}
+use Rattle.local_cluster.specs.Addresses.{IsListedAt, address}
+use Rattle.local_cluster.specs.Conversation.{LocalPortModel, fresh_with}
+
+-- a new connection to the node that is listed there
+abbrev pub IsNewAt : Endpoint → LocalPortModel → Type 0
+IsNewAt at port = (node : ℕ) × (at ≡ address node) × (port ≡ fresh_with node)
+
+-- of so many nodes the one that is listed there is reached; it failed only where none is
+abbrev pub DialledLocally : ℕ → Endpoint → Result LocalPortModel DialFault → Type 0
+DialledLocally nodes at (Ok port) = (node : ℕ) × IsListedAt nodes at (Some node) × (port ≡ fresh_with node)
+DialledLocally nodes at (Err Failed) = IsListedAt nodes at None
+DialledLocally nodes at (Err NoMemory) = IsListedAt nodes at None

@@ -1,0 +1,10 @@
+pub mod Local
+pub mod Kept
+pub mod Laws
+pub mod Foresight
+pub mod Addresses
+pub mod Held
+pub mod Conversation
+pub mod Waiting
+pub mod Dialled
+pub mod Example

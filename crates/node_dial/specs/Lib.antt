@@ -1,0 +1,2 @@
+pub mod AskSchedule
+pub mod DialPause

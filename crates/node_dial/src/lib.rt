@@ -1,0 +1,40 @@
+//! Connections to the nodes of a cluster, over sockets.
+//!
+//! ```text
+//! let look_ups = LookUps::new(alloc, registry.try_clone()?)?;
+//! let connector = Connector::new(rt, alloc, ready, registry, look_ups.clone()?, credentials);
+//! let mut dial = SocketDial::new(alloc, connector)?;
+//! let port = dial.open(node, b"127.0.0.1", 7001)?;
+//! ```
+//!
+//! A port is given for a connection that stands, and whose node has accepted AUTH. A node that can't be reached is left alone
+//! for a while, and another is asked where its slots are. A host's name is looked up in a thread of its own, which
+//! `advance_look_ups` starts; meanwhile no port is given.
+//!
+//! Promise: `SocketDial` keeps the contract of `Dial`. `Credentials` is AUTH, byte by byte; that each connection begins with it
+//! is not proved. The pauses of dials and of requests after a loss are exact. Of the sockets nothing more is proved.
+#![tactic(auto)]
+
+mod addresses;
+mod ask_schedule;
+mod connection;
+mod connector;
+mod credentials;
+mod dial;
+mod dial_pause;
+mod handshake;
+mod known_node;
+mod link_watch;
+mod look_up;
+mod look_ups;
+mod lost_nodes;
+mod node_port;
+mod node_stream;
+mod slot_owners;
+
+pub use connector::Connector;
+pub use credentials::Credentials;
+pub use dial::{NodeSocket, SocketDial};
+pub use look_ups::{LookUps, SharedLookUps, advance_look_ups};
+pub use node_port::CountedPort;
+pub use node_stream::NodeStream;

@@ -1,0 +1,50 @@
+//! Whether a node owes replies for too long.
+
+use polled_sockets::ReadySet;
+use std::alloc::Global;
+use std::cell::Cell;
+use std::sync::Arc;
+
+/// How long a node may owe replies and give none, in milliseconds.
+const REPLY_LIMIT_MILLIS: u64 = 30_000;
+
+/// What a node owes over one connection: its port counts, and its stream ends where that takes too long.
+#[derive(Drop)]
+pub(crate) struct LinkWatch {
+    ready: Arc<ReadySet, Global>,
+    owed: Cell<u64>,
+    /// When the last reply came, or the first of the requests was sent that are owed one.
+    since: Cell<u64>,
+}
+
+impl LinkWatch {
+    /// Nothing is owed.
+    pub(crate) fn new(ready: Arc<ReadySet, Global>) -> LinkWatch {
+        LinkWatch {
+            ready,
+            owed: Cell::new(0),
+            since: Cell::new(0),
+        }
+    }
+
+    /// So many requests were sent.
+    pub(crate) fn note_sent(&self, requests: u64) {
+        let owed = self.owed.get();
+        if owed == 0 {
+            self.since.set(self.ready.time());
+        }
+        self.owed.set(owed.saturating_add(requests));
+    }
+
+    /// A reply came.
+    pub(crate) fn note_reply(&self) {
+        self.owed.set(self.owed.get().saturating_sub(1));
+        self.since.set(self.ready.time());
+    }
+
+    /// Whether replies are owed, and none came for too long.
+    pub(crate) fn is_overdue(&self) -> bool {
+        self.owed.get() > 0
+            && self.ready.time().saturating_sub(self.since.get()) >= REPLY_LIMIT_MILLIS
+    }
+}

@@ -1,0 +1,3 @@
+pub mod NodeAnswers
+pub mod NodeSaying
+pub mod NodeConnections

@@ -1,0 +1,111 @@
+//! What a node answers to a request.
+
+ghost use Rattle.std.specs.Prelude.{◌≡◌, ◌<◌, IfOk, OnErr, length};
+ghost use Rattle.node_server.specs.NodeAnswers.{one_key_only, planned, Answers, AnswersParts, AnswersPlan, Executes, KeepsData};
+
+use crate::call::{Call, call_of};
+use crate::caller::Caller;
+use crate::told_value::{cluster_down, error_line, simple_line, value_of_told};
+use key_split::{Part, Planned, plan, refusal};
+use local_cluster::{GhostHistory, LocalState};
+use node_model::ServeFault;
+use resp_wire::{Bytes, NoMemory, Value};
+use slot_map::NodeTable;
+use std::alloc::Global;
+
+/// What a node answers.
+#[derive(Drop)]
+pub enum Answer {
+    Says(Value),
+    /// The reply to QUIT, after which the connection is closed.
+    Closes(Value),
+}
+
+/// Answers the caller's next request.
+pub(crate) fn answer_request(
+    alloc: Global,
+    caller: &mut Caller,
+    state: &mut LocalState<GhostHistory>,
+    table: &NodeTable,
+    words: &[Bytes],
+) -> Result<Answer, NoMemory>
+    requires { 0 < length words.now }
+    ensures { Answers table.now caller.old state.old words.now result caller.new state.new }
+{
+    let call = call_of(words);
+    let answer = match call {
+        Call::Asking => Answer::Says(simple_line(alloc, b"OK")?),
+        Call::Slots => Answer::Says(state.cluster().slots_value(table)?),
+        Call::Command => answer_command(alloc, *caller, state, table, words)?,
+    };
+    *caller = caller.after_request(call.is_asking());
+    Ok(answer)
+}
+
+/// Answers a command.
+fn answer_command(
+    alloc: Global,
+    caller: Caller,
+    state: &mut LocalState<GhostHistory>,
+    table: &NodeTable,
+    words: &[Bytes],
+) -> Result<Answer, NoMemory>
+    requires { 0 < length words.now }
+    ensures answer { IfOk result (λ answer. AnswersPlan table.now caller state.old (planned words.now) answer state.new) }
+    ensures refused { OnErr result (KeepsData state.old state.new) }
+{
+    match plan(alloc, words) {
+        Ok(Planned::Local(reply)) => Ok(Answer::Says(reply)),
+        Ok(Planned::Close) => Ok(Answer::Closes(simple_line(alloc, b"OK")?)),
+        Ok(Planned::Parts(_, parts)) => {
+            answer_parts(alloc, caller, state, table, parts.into_vec())
+        }
+        Err(why) => Ok(Answer::Says(refusal(alloc, &why)?)),
+    }
+}
+
+/// Answers a command of these parts: only one is executed.
+fn answer_parts(
+    alloc: Global,
+    caller: Caller,
+    state: &mut LocalState<GhostHistory>,
+    table: &NodeTable,
+    mut parts: Vec<Part>,
+) -> Result<Answer, NoMemory>
+    ensures answer { IfOk result (λ answer. AnswersParts table.now caller state.old parts.items answer state.new) }
+    ensures refused { OnErr result (KeepsData state.old state.new) }
+{
+    let Some(part) = parts.pop() else {
+        return refuse_several(alloc);
+    };
+    if !parts.is_empty() {
+        return refuse_several(alloc);
+    }
+    Ok(Answer::Says(execute(alloc, caller, state, table, part)?))
+}
+
+/// The answer to a command that has not one part.
+fn refuse_several(alloc: Global) -> Result<Answer, NoMemory>
+    ensures { IfOk result (λ answer. answer ≡ Answer.Says one_key_only) }
+{
+    Ok(Answer::Says(error_line(alloc, b"ERR node: one key only")?))
+}
+
+/// Executes the part at the caller's node, if the node has its slot.
+fn execute(
+    alloc: Global,
+    caller: Caller,
+    state: &mut LocalState<GhostHistory>,
+    table: &NodeTable,
+    part: Part,
+) -> Result<Value, NoMemory>
+    ensures answer { IfOk result (λ value. Executes table.now caller state.old part value state.new) }
+    ensures refused { OnErr result (KeepsData state.old state.new) }
+{
+    match state.serve(&caller.batch(part)) {
+        Ok(told) => value_of_told(alloc, told, table),
+        Err(ServeFault::NoMemory) => Err(NoMemory),
+        Err(ServeFault::NoSuchNode) => cluster_down(alloc),
+        Err(ServeFault::NotThisVerdict) => cluster_down(alloc),
+    }
+}

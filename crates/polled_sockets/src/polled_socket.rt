@@ -1,0 +1,123 @@
+//! A socket that is tried only where it is ready.
+
+ghost use Rattle.std.specs.Prelude.{◌≡◌, ◌≤◌};
+
+use crate::keepalive::keep_alive;
+use crate::ready_set::Registration;
+use mio::Registry;
+use mio::net::TcpStream;
+use node_link::{Flow, Stream};
+use proxy_report::{Event, Figure};
+use proxy_runtime::Socket;
+use std::io;
+use std::io::ErrorKind;
+
+/// A socket with its registration. A call where the socket is not ready makes no call of the system's.
+#[derive(Drop)]
+pub struct PolledSocket {
+    socket: Socket,
+    registration: Registration,
+}
+
+impl PolledSocket {
+    /// The connection, which already does not block, watched by the poll of this registry.
+    pub fn new(
+        stream: TcpStream,
+        registration: Registration,
+        registry: &Registry,
+    ) -> io::Result<PolledSocket> {
+        keep_alive(&stream);
+        let mut socket = Socket::new(stream)?;
+        registration.watch(&mut socket, registry)?;
+        Ok(PolledSocket {
+            socket,
+            registration,
+        })
+    }
+
+    /// Whether the other end sends no more.
+    pub fn has_ended(&self) -> bool {
+        self.socket.has_ended()
+    }
+
+    /// Why the connection failed or ended.
+    pub fn reason(&self) -> io::Error {
+        if let Some(error) = self.socket.reason() {
+            return error;
+        }
+        if self.socket.has_ended() {
+            return io::Error::new(ErrorKind::UnexpectedEof, "closed by the other end");
+        }
+        io::Error::new(ErrorKind::WriteZero, "the connection takes no bytes")
+    }
+
+    /// Whether a call failed, or the other end sends no more.
+    pub fn has_failed(&self) -> bool {
+        self.socket.has_ended() || self.socket.reason().is_some()
+    }
+
+    /// Counts so many more of this figure.
+    pub fn count(&self, figure: Figure, more: u64) {
+        self.registration.count(figure, more);
+    }
+
+    /// Keeps an event for the log.
+    pub fn tell(&self, event: Event) {
+        self.registration.tell(event);
+    }
+
+    /// Ends the connection both ways.
+    pub fn shut(&self) {
+        self.socket.shut();
+    }
+}
+
+impl Stream for PolledSocket {
+    ghost failures = { λ polled. polled.socket.failures };
+
+    ghost moved = { λ _ _ _ _. Unit {0} };
+
+    ghost still = { λ _. tt };
+
+    ghost joined = { λ _ _ _ _ _ _ _ _ _. tt };
+
+    fn read(&mut self, buffer: &mut [u8]) -> Flow {
+        if !self.registration.may_read() {
+            return Flow::Nothing;
+        }
+        match self.socket.read(buffer) {
+            Flow::Bytes(count) => {
+                self.registration.note_read(count);
+                if count < buffer.len() {
+                    self.registration.clear_readable();
+                }
+                Flow::Bytes(count)
+            }
+            Flow::Nothing => {
+                self.registration.clear_readable();
+                Flow::Nothing
+            }
+            Flow::Gone => Flow::Gone,
+        }
+    }
+
+    fn write(&mut self, bytes: &[u8]) -> Flow {
+        if !self.registration.may_write() {
+            return Flow::Nothing;
+        }
+        match self.socket.write(bytes) {
+            Flow::Bytes(count) => {
+                self.registration.note_written(count);
+                if count < bytes.len() {
+                    self.registration.clear_writable();
+                }
+                Flow::Bytes(count)
+            }
+            Flow::Nothing => {
+                self.registration.clear_writable();
+                Flow::Nothing
+            }
+            Flow::Gone => Flow::Gone,
+        }
+    }
+}

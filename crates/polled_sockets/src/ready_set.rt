@@ -1,0 +1,235 @@
+//! Which sockets of a thread are ready, and what time it is there.
+
+use mio::{Registry, Token, event};
+use proxy_report::{Event, Figure, ThreadReport};
+use proxy_runtime::Socket;
+use resp_wire::NoMemory;
+use std::alloc::Global;
+use std::io;
+use std::sync::Arc;
+use std::sync::atomic::{AtomicBool, AtomicU64, Ordering};
+use std::time::Clock;
+
+/// How many sockets of a thread have an entry. Those beyond are tried at each turn.
+const SOCKETS: usize = 4096;
+
+/// What is known of one socket.
+#[derive(Drop)]
+struct Readiness {
+    claimed: AtomicBool,
+    /// A read may give bytes.
+    readable: AtomicBool,
+    /// A write may take bytes.
+    writable: AtomicBool,
+    /// The other end has closed: reads go on until they say so.
+    ended: AtomicBool,
+}
+
+impl Readiness {
+    fn new() -> Readiness {
+        Readiness {
+            claimed: AtomicBool::new(false),
+            readable: AtomicBool::new(true),
+            writable: AtomicBool::new(true),
+            ended: AtomicBool::new(false),
+        }
+    }
+
+    /// Claims the entry, where it is free. Nothing is known yet, so reads and writes are tried.
+    fn claim(&self) -> bool {
+        if self.claimed.swap(true, Ordering::SeqCst) {
+            return false;
+        }
+        self.ended.store(false, Ordering::SeqCst);
+        self.readable.store(true, Ordering::SeqCst);
+        self.writable.store(true, Ordering::SeqCst);
+        true
+    }
+
+    fn note_event(&self, event: &event::Event) {
+        let failed = event.is_error();
+        if failed || event.is_read_closed() {
+            self.ended.store(true, Ordering::SeqCst);
+        }
+        if failed || event.is_read_closed() || event.is_readable() {
+            self.readable.store(true, Ordering::SeqCst);
+        }
+        if failed || event.is_write_closed() || event.is_writable() {
+            self.writable.store(true, Ordering::SeqCst);
+        }
+    }
+}
+
+/// What is known of the sockets that a thread polls.
+#[derive(Drop)]
+pub struct ReadySet {
+    /// Milliseconds on the system's clock, as the thread last saw it.
+    time: AtomicU64,
+    /// A socket gave or took bytes since the thread last asked.
+    traffic: AtomicBool,
+    sockets: Vec<Readiness>,
+    /// Where the search for a free entry goes on.
+    next: AtomicU64,
+    report: Arc<ThreadReport, Global>,
+}
+
+impl ReadySet {
+    /// The set of a thread that reports so.
+    pub fn new(alloc: Global, report: Arc<ThreadReport, Global>) -> Result<ReadySet, NoMemory> {
+        let mut sockets = Vec::with_capacity(alloc, SOCKETS)?;
+        for _ in 0..SOCKETS {
+            sockets.push(Readiness::new())?;
+        }
+        Ok(ReadySet {
+            time: AtomicU64::new(0),
+            traffic: AtomicBool::new(false),
+            sockets,
+            next: AtomicU64::new(0),
+            report,
+        })
+    }
+
+    fn claim_entry(&self) -> Option<usize> {
+        let sockets = self.sockets.as_slice();
+        for _ in 0..sockets.len() {
+            let at = self.next.fetch_add(1, Ordering::SeqCst) as usize % SOCKETS;
+            if sockets.get(at)?.claim() {
+                return Some(at);
+            }
+        }
+        None
+    }
+
+    /// Notes what time it is. A clock that can't be read leaves the time as it was.
+    pub fn update_time<R: Clock>(&self, rt: &R) {
+        if let Ok(time) = rt.monotonic() {
+            let millis = u64::try_from(time.as_millis()).unwrap_or(u64::MAX);
+            self.time.store(millis, Ordering::Relaxed);
+        }
+    }
+
+    /// What time it is, in milliseconds, as the thread last saw it.
+    pub fn time(&self) -> u64 {
+        self.time.load(Ordering::Relaxed)
+    }
+
+    /// What the thread reports.
+    pub fn report(&self) -> &Arc<ThreadReport, Global> {
+        &self.report
+    }
+
+    /// Whether a socket gave or took bytes since this was asked last. There may be more.
+    pub fn had_traffic(&self) -> bool {
+        let traffic = self.traffic.load(Ordering::Relaxed);
+        if traffic {
+            self.traffic.store(false, Ordering::Relaxed);
+        }
+        traffic
+    }
+
+    /// Notes what a poll reported.
+    pub(crate) fn note_event(&self, event: &event::Event) {
+        if let Some(entry) = self.sockets.get(event.token().0) {
+            entry.note_event(event);
+        }
+    }
+}
+
+/// A socket's entry in the ready set of the thread that polls it, where one was free.
+pub struct Registration {
+    ready: Arc<ReadySet, Global>,
+    at: Option<usize>,
+}
+
+impl Drop for Registration {
+    fn drop(self) {
+        if let Some(entry) = self.entry() {
+            entry.claimed.store(false, Ordering::SeqCst);
+        }
+        let Registration { ready, at: _ } = self;
+        drop(ready);
+    }
+}
+
+impl Registration {
+    /// A registration for one more socket.
+    pub fn new(ready: &Arc<ReadySet, Global>) -> Result<Registration, NoMemory> {
+        let ready = Arc::try_clone(ready)?;
+        let at = ready.claim_entry();
+        Ok(Registration { ready, at })
+    }
+
+    fn entry(&self) -> Option<&Readiness> {
+        self.ready.sockets.get(self.at?)
+    }
+
+    /// Has the poll of this registry report on the socket.
+    pub(crate) fn watch(&self, socket: &mut Socket, registry: &Registry) -> io::Result<()> {
+        socket.watch(registry, self.token())
+    }
+
+    pub fn token(&self) -> Token {
+        Token(self.at.unwrap_or(SOCKETS))
+    }
+
+    /// Whether a read may give something.
+    pub fn may_read(&self) -> bool {
+        match self.entry() {
+            Some(entry) => entry.readable.load(Ordering::SeqCst),
+            None => true,
+        }
+    }
+
+    /// Whether a write may take something.
+    pub(crate) fn may_write(&self) -> bool {
+        match self.entry() {
+            Some(entry) => entry.writable.load(Ordering::SeqCst),
+            None => true,
+        }
+    }
+
+    /// The socket gave so many bytes.
+    pub(crate) fn note_read(&self, count: usize) {
+        self.ready.traffic.store(true, Ordering::Relaxed);
+        self.count(Figure::BytesIn, count as u64);
+    }
+
+    /// The socket took so many bytes.
+    pub(crate) fn note_written(&self, count: usize) {
+        self.ready.traffic.store(true, Ordering::Relaxed);
+        self.count(Figure::BytesOut, count as u64);
+    }
+
+    /// Counts so many more of this figure.
+    pub fn count(&self, figure: Figure, more: u64) {
+        self.ready.report.count(figure, more);
+    }
+
+    /// Keeps an event for the log.
+    pub fn tell(&self, event: Event) {
+        self.ready.report.tell(event);
+    }
+
+    /// A read gave all that there was. What comes later is reported.
+    pub fn clear_readable(&self) {
+        if let Some(entry) = self.entry()
+            && !entry.ended.load(Ordering::SeqCst)
+        {
+            entry.readable.store(false, Ordering::SeqCst);
+        }
+    }
+
+    /// A read is to be tried, whatever was reported.
+    pub fn set_readable(&self) {
+        if let Some(entry) = self.entry() {
+            entry.readable.store(true, Ordering::SeqCst);
+        }
+    }
+
+    /// A write took no more. When there is room again it is reported.
+    pub(crate) fn clear_writable(&self) {
+        if let Some(entry) = self.entry() {
+            entry.writable.store(false, Ordering::SeqCst);
+        }
+    }
+}

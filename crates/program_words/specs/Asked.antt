@@ -1,0 +1,50 @@
+-- What the words of `nodes` and `serve` ask for. A port is one to five decimal digits, from 1 to 65,535.
+-- This project's choice. A host is not looked up here. Digits may begin with zeros, so `064` workers are 64.
+use Rattle.std.specs.Prelude.{ℕ, List, [], ◌∷◌, Bool, Option, Some, None, ◌&&◌, nat_eq, nat_le, length, codes, option_and_then, option_map, if◌then◌else◌}
+use Rattle.std.specs.List.{before_first, after_first}
+use Rattle.slot_map.specs.Table.{Endpoint}
+use Rattle.resp_wire.specs.Text.{is_one_line}
+use Rattle.node_link.specs.Line.{number_within, endpoint_in}
+
+abbrev pub is_colon : ℕ → Bool
+is_colon byte = nat_eq byte 58
+
+abbrev pub is_comma : ℕ → Bool
+is_comma byte = nat_eq byte 44
+
+abbrev pub port_in : List ℕ → Option ℕ
+port_in text = number_within 1 65535 text
+
+-- an endpoint whose host is not empty, and has no CR or LF
+abbrev pub with_host : Option Endpoint → Option Endpoint
+with_host None = None
+with_host (Some at) = if nat_le 1 (length at.host) && is_one_line at.host then Some at else None
+
+-- HOST:PORT, cut at its last colon
+abbrev pub address_in : List ℕ → Option Endpoint
+address_in text = with_host (endpoint_in text)
+
+-- A,B,C: three ports
+abbrev pub three : Option ℕ → Option ℕ → Option ℕ → Option (List ℕ)
+three a b c = option_and_then (λ first. option_and_then (λ second. option_map (λ third. first ∷ second ∷ third ∷ []) c) b) a
+
+abbrev pub ports_in : List ℕ → Option (List ℕ)
+ports_in text =
+    let rest = after_first is_comma text in
+    three (port_in (before_first is_comma text)) (port_in (before_first is_comma rest)) (port_in (after_first is_comma rest))
+
+-- where the proxy listens, a node of its cluster, and how many workers it has
+pub record Asked : Type 0 where
+  pub listen : Endpoint
+  pub seed : Endpoint
+  pub workers : ℕ
+
+abbrev pub asked : Option Endpoint → Option Endpoint → Option ℕ → Option Asked
+asked (Some listen) (Some seed) (Some workers) = Some (record { listen = listen; seed = seed; workers = workers })
+asked _ _ _ = None
+
+-- the words of `serve`, each by its name: 1 to 64 workers
+abbrev pub serving_in : (List ℕ → Option (List ℕ)) → Option Asked
+serving_in word =
+    asked (option_and_then address_in (word (codes "listen"))) (option_and_then address_in (word (codes "seed")))
+    (option_and_then (number_within 1 64) (word (codes "workers")))

@@ -1,0 +1,71 @@
+//! `serve`: an address, a node of the cluster and a number of workers.
+
+ghost use Rattle.std.specs.Prelude.{◌≡◌, ◌<◌, ◌≤◌, None, Some, MatchOption, codes};
+ghost use Rattle.clap.specs.Matches.{first_value, found_of};
+ghost use Rattle.program_words.specs.Asked.{serving_in};
+
+use crate::address::{Address, address_of};
+use crate::number::workers_of;
+use clap::{Arg, ArgAction, ArgMatches, Command};
+use std::alloc::{AllocError, Global};
+
+/// Where the proxy listens, a node of its cluster, and how many workers it has.
+#[derive(Clone, Copy, Debug, PartialEq, Eq)]
+pub struct Serving<'a> {
+    pub listen: Address<'a>,
+    pub seed: Address<'a>,
+    pub workers: u16,
+    pub ghost in_range: { (0 < workers) × (workers ≤ 64) },
+}
+
+/// What stands below the options of `serve --help`.
+const AFTER_HELP: &str = "\
+Example:
+  cluster_proxy serve --listen 127.0.0.1:7000 --seed 10.0.0.5:6379 --workers 2
+  redis-cli -p 7000 set greeting hello";
+
+/// The subcommand and its words.
+pub(crate) fn serve_command<'a>(alloc: Global) -> Result<Command<'a>, AllocError> {
+    Command::new(alloc, "serve")
+        .about("Serve Redis clients from a Redis Cluster, until the process is ended")
+        .after_help(AFTER_HELP)
+        .arg(
+            word(alloc, "listen")
+                .value_name("HOST:PORT")
+                .help("Address to accept clients on"),
+        )?
+        .arg(
+            word(alloc, "seed")
+                .value_name("HOST:PORT")
+                .help("Address of any primary of the cluster"),
+        )?
+        .arg(
+            word(alloc, "workers").value_name("N").help(
+                "Threads that serve clients, 1 to 64; one more talks to the nodes",
+            ),
+        )
+}
+
+/// An option that takes a word, which has to be there.
+fn word<'a>(alloc: Global, name: &'static str) -> Arg<'a> {
+    Arg::new(alloc, name)
+        .long(name)
+        .required(true)
+        .action(ArgAction::Set)
+}
+
+/// What the words of `serve` ask for, where they can be read.
+pub fn serving_of<'a>(words: &ArgMatches<'a>) -> Option<Serving<'a>>
+    ensures { MatchOption result (serving_in (first_value (found_of words.now)) ≡ None)
+        (λ s. serving_in (first_value (found_of words.now)) ≡ Some (record {
+          listen = record { host = s.listen.host.now; port = s.listen.port };
+          seed = record { host = s.seed.host.now; port = s.seed.port };
+          workers = s.workers;
+        })) }
+{
+    Some(Serving {
+        listen: address_of(words.get_str("listen")?)?,
+        seed: address_of(words.get_str("seed")?)?,
+        workers: workers_of(words.get_str("workers")?)?,
+    })
+}

@@ -1,0 +1,199 @@
+//! What the log tells of.
+
+use event_log::Line;
+use resp_wire::NoMemory;
+use session_order::SessionFault;
+use slot_map::NodeId;
+use std::alloc::{AllocError, Global};
+use std::fmt::Display;
+use std::io;
+use std::net::SocketAddr;
+use std::sync::Arc;
+
+/// So many bytes of a node's host are shown at most.
+const HOST_SHOWN: usize = 128;
+
+/// A node, as the log names it.
+#[derive(Drop)]
+pub struct NodeName {
+    number: u8,
+    /// Its host and port.
+    address: Arc<String, Global>,
+}
+
+impl NodeName {
+    /// The name of the node of this number, at this address.
+    pub fn new(alloc: Global, node: NodeId, host: &[u8], port: u16) -> Result<NodeName, NoMemory> {
+        let shown = host.get(..HOST_SHOWN).unwrap_or(host);
+        let shown = std::str::from_utf8(shown).unwrap_or("?");
+        let address = format!(in alloc; "{shown}:{port}")?;
+        Ok(NodeName {
+            number: node.number(),
+            address: Arc::new(alloc, address)?,
+        })
+    }
+
+    /// The same name once more.
+    pub fn again(&self) -> Result<NodeName, NoMemory> {
+        Ok(NodeName {
+            number: self.number,
+            address: Arc::try_clone(&self.address)?,
+        })
+    }
+
+    /// Whether it names the node of this number.
+    pub fn is_of(&self, node: NodeId) -> bool {
+        self.number == node.number()
+    }
+
+    /// Whether both name one node.
+    pub fn is_same(&self, other: &NodeName) -> bool {
+        self.number == other.number
+    }
+
+    /// Whether the node listens at this host and port.
+    pub fn is_at(&self, host: &[u8], port: u16) -> bool {
+        match self.address.rsplit_once(':') {
+            Some((own, digits)) => own.as_bytes() == host && digits.parse::<u16>() == Ok(port),
+            None => false,
+        }
+    }
+}
+
+/// Something that an operator may want to know of.
+#[derive(Drop)]
+pub enum Event {
+    LinkOpened(NodeName),
+    LinkLost(NodeName, io::Error),
+    DialFailed(NodeName, io::Error),
+    /// A node told which nodes serve which slots.
+    SlotsTold(NodeName, SlotsTold),
+    /// A connection was not accepted, or closed at once.
+    ClientRefused(io::Error),
+    /// So many clients are there that others wait until some leave.
+    ClientsFull(u64),
+    /// A client sent what is no request, for this reason.
+    ProtocolError(SocketAddr, SessionFault),
+    /// A client was closed whose unfinished request had so many bytes.
+    UnfinishedRequest(SocketAddr, u64),
+}
+
+/// What an answer to CLUSTER SLOTS told.
+#[derive(Clone, Copy)]
+pub struct SlotsTold {
+    pub ranges: usize,
+    /// How many slots it gave another owner than the answers before, where that is known.
+    pub slots_changed: Option<usize>,
+}
+
+/// How many nodes an event may be of: the most that a table holds.
+const NODES: usize = 64;
+// Where the limits of each kind of event begin. Those of a node's events have one for each node.
+const CLIENTS_REFUSED: usize = 0;
+
+const PROTOCOL_ERRORS: usize = 1;
+
+const UNFINISHED_REQUESTS: usize = 2;
+
+const CLIENTS_FULL: usize = 3;
+
+const LINKS_OPENED: usize = 4;
+
+const LINKS_LOST: usize = LINKS_OPENED + NODES;
+
+const DIALS_FAILED: usize = LINKS_LOST + NODES;
+
+const SLOTS_TOLD: usize = DIALS_FAILED + NODES;
+/// How many limits keep events from being written too often.
+pub(crate) const EVENT_LIMITS: usize = SLOTS_TOLD + NODES;
+
+impl Event {
+    /// The place of the limit that counts events of this kind and node.
+    pub(crate) fn limit_place(&self) -> usize {
+        match self {
+            Event::ClientRefused(_) => CLIENTS_REFUSED,
+            Event::ProtocolError(..) => PROTOCOL_ERRORS,
+            Event::UnfinishedRequest(..) => UNFINISHED_REQUESTS,
+            Event::ClientsFull(_) => CLIENTS_FULL,
+            Event::LinkOpened(node) => LINKS_OPENED + usize::from(node.number),
+            Event::LinkLost(node, _) => LINKS_LOST + usize::from(node.number),
+            Event::DialFailed(node, _) => DIALS_FAILED + usize::from(node.number),
+            Event::SlotsTold(node, _) => SLOTS_TOLD + usize::from(node.number),
+        }
+    }
+
+    fn name(&self) -> &'static str {
+        match self {
+            Event::LinkOpened(_) => "link_opened",
+            Event::LinkLost(..) => "link_lost",
+            Event::DialFailed(node, _) if node.number == 0 => "seed_unreachable",
+            Event::DialFailed(..) => "dial_failed",
+            Event::SlotsTold(..) => "slot_map_renewed",
+            Event::ClientRefused(_) => "client_refused",
+            Event::ClientsFull(_) => "clients_full",
+            Event::ProtocolError(..) => "protocol_error",
+            Event::UnfinishedRequest(..) => "unfinished_request",
+        }
+    }
+
+    fn level(&self) -> &'static str {
+        match self {
+            Event::LinkOpened(_) | Event::SlotsTold(..) => "info",
+            _ => "warn",
+        }
+    }
+
+    /// The event's line, without the count of those that were left out.
+    pub(crate) fn line(&self, alloc: Global, time: &str) -> Result<Line, AllocError> {
+        let line = Line::new(alloc, time.as_bytes(), self.level(), self.name())?;
+        match self {
+            Event::LinkOpened(node) => line.pair("node", node.address.as_bytes()),
+            Event::LinkLost(node, reason) | Event::DialFailed(node, reason) => {
+                let line = line.pair("node", node.address.as_bytes())?;
+                pair_shown(alloc, line, "reason", reason)
+            }
+            Event::SlotsTold(node, told) => {
+                let line = line.pair("node", node.address.as_bytes())?;
+                pair_slots(alloc, line, told)
+            }
+            Event::ClientRefused(reason) => pair_shown(alloc, line, "reason", reason),
+            Event::ClientsFull(clients) => pair_shown(alloc, line, "clients", clients),
+            Event::ProtocolError(client, fault) => {
+                let line = pair_shown(alloc, line, "client", client)?;
+                pair_fault(alloc, line, fault)
+            }
+            Event::UnfinishedRequest(client, bytes) => {
+                let line = pair_shown(alloc, line, "client", client)?;
+                pair_shown(alloc, line, "bytes", bytes)
+            }
+        }
+    }
+}
+
+/// The line with what an answer to CLUSTER SLOTS told.
+fn pair_slots(alloc: Global, line: Line, told: &SlotsTold) -> Result<Line, AllocError> {
+    let line = pair_shown(alloc, line, "ranges", &told.ranges)?;
+    match &told.slots_changed {
+        Some(changed) => pair_shown(alloc, line, "slots_changed", changed),
+        None => Ok(line),
+    }
+}
+
+/// The line with a client's fault, where there is one with that of the reader.
+fn pair_fault(alloc: Global, line: Line, fault: &SessionFault) -> Result<Line, AllocError> {
+    match fault {
+        SessionFault::Wire(fault) => pair_shown(alloc, line, "fault", fault),
+        _ => pair_shown(alloc, line, "fault", fault),
+    }
+}
+
+/// The line with a value as it is displayed.
+pub(crate) fn pair_shown<D: Display>(
+    alloc: Global,
+    line: Line,
+    key: &str,
+    value: &D,
+) -> Result<Line, AllocError> {
+    let text = format!(in alloc; "{value}")?;
+    line.pair(key, text.as_bytes())
+}

@@ -1,0 +1,70 @@
+//! What writes the lines of events.
+
+use crate::event::{EVENT_LIMITS, Event, pair_shown};
+use crate::journal::EVENTS_WAITING;
+use crate::thread_report::ThreadReport;
+use event_log::{ErrorStream, Line, RateLimit, utc_text};
+use resp_wire::NoMemory;
+use std::alloc::{AllocError, Global};
+use std::time::Clock;
+
+/// Events of one kind and node are written at most once in so many milliseconds.
+const EVENT_INTERVAL_MILLIS: u64 = 1_000;
+
+/// Writes events to a stream, those of one kind and node not too often.
+#[derive(Drop)]
+pub(crate) struct EventWriter<'a> {
+    alloc: Global,
+    stream: &'a ErrorStream,
+    limits: Vec<RateLimit>,
+}
+
+impl<'a> EventWriter<'a> {
+    pub(crate) fn new(alloc: Global, stream: &'a ErrorStream) -> Result<EventWriter<'a>, NoMemory> {
+        let mut limits = Vec::with_capacity(alloc, EVENT_LIMITS)?;
+        for _ in 0..EVENT_LIMITS {
+            limits.push(RateLimit::new())?;
+        }
+        Ok(EventWriter {
+            alloc,
+            stream,
+            limits,
+        })
+    }
+
+    /// Writes the events that wait in a thread. The time is in milliseconds.
+    pub(crate) fn write_events<R: Clock>(&mut self, rt: &R, thread: &ThreadReport, now: u64) {
+        for _ in 0..EVENTS_WAITING {
+            let Some(event) = thread.take_event() else {
+                return;
+            };
+            self.write_event(rt, &event, now);
+        }
+    }
+
+    fn write_event<R: Clock>(&mut self, rt: &R, event: &Event, now: u64) {
+        let Some(limit) = self.limits.get_mut(event.limit_place()) else {
+            return;
+        };
+        let Some(left_out) = limit.admit(now, EVENT_INTERVAL_MILLIS) else {
+            return;
+        };
+        if let Ok(line) = self.event_line(rt, event, left_out) {
+            self.stream.write_line(line);
+        }
+    }
+
+    fn event_line<R: Clock>(
+        &self,
+        rt: &R,
+        event: &Event,
+        left_out: u64,
+    ) -> Result<Line, AllocError> {
+        let time = utc_text(rt, self.alloc)?;
+        let line = event.line(self.alloc, &time)?;
+        if left_out == 0 {
+            return Ok(line);
+        }
+        pair_shown(self.alloc, line, "left_out", &left_out)
+    }
+}

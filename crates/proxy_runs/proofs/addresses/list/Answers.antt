@@ -1,5 +1,0 @@
-use Rattle.proxy_runs.proofs.Addressed.{listed}
-use Rattle.proxy_runs.proofs.addresses.list.Goals as goal
-
-pub returns-in-Ok : goal.returns-in-Ok
-returns-in-Ok c = listed c.args.node _ c.args.table.now c.intern.new.self c.requires.room c.requires.table c.in-Ok.ensures.interns

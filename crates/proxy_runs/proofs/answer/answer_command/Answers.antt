@@ -1,5 +1,0 @@
-use Rattle.proxy_runs.proofs.Told.{was_said}
-use Rattle.proxy_runs.proofs.answer.answer_command.Goals as goal
-
-pub write-requires-clause-said : goal.write-requires-clause-said
-write-requires-clause-said g c = was_said _ _ c.in_ok-said.ensures

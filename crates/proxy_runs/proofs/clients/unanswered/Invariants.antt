@@ -1,5 +1,0 @@
-use Rattle.std.proofs.Common.{◌≡◌, [], replicate}
-use Rattle.proxy_runs.proofs.clients.unanswered.Given as goal
-
-abbrev pub invariant-loop : goal.invariant-loop
-invariant-loop l = l.replies.items ≡ replicate l.counter []

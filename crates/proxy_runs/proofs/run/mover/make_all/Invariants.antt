@@ -1,7 +1,0 @@
-use Rattle.std.proofs.Common.{◌≤◌, take}
-use Rattle.proxy_runs.specs.Mover.{AllEnd}
-use Rattle.proxy_runs.proofs.run.mover.make_all.Given as goal
-
--- of the steps so far
-abbrev pub invariant-loop-step : goal.invariant-loop-step
-invariant-loop-step g l = AllEnd (take l.step-index l.moves) l.skipped × (l.skipped ≤ l.step-index)

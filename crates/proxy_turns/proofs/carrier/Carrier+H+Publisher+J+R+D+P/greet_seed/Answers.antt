@@ -1,9 +1,0 @@
-use Rattle.std.proofs.lemmas.Result.{err_from_is_err_and}
-use Rattle.proxy_turns.proofs.Carrying.{goes_then, turns_err}
-use Rattle.proxy_turns.proofs.carrier.Carrier+H+Publisher+J+R+D+P.greet_seed.Goals as goal
-
-pub returns-in_err-greeted : goal.returns-in_err-greeted
-returns-in_err-greeted g c = turns_err g.P.NodePort.failures g.P.NodePort.is_garbled g.P.NodePort.exchange _ _ _ _ _ _ _ c.in_ok-reached.ensures c.in_err-greeted.ensures (err_from_is_err_and c.from_residual-in_err-greeted.result c.from_residual-in_err-greeted.ensures.1).1
-
-pub returns : goal.returns
-returns g c = (goes_then g.P.NodePort.failures g.P.NodePort.is_garbled g.P.NodePort.exchange _ _ _ _ _ c.in_ok-reached.ensures c.in_ok-greeted.ensures)

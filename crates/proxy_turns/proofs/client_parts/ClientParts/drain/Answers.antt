@@ -1,0 +1,18 @@
+use Rattle.std.proofs.Common.{refl}
+use Rattle.proxy_turns.specs.ClientTurn.{is_drain}
+use Rattle.proxy_turns.proofs.Going.{drained}
+use Rattle.proxy_turns.proofs.Sound.{sound_kept}
+use Rattle.proxy_turns.proofs.ClientResting.{drain_none, undrained}
+use Rattle.proxy_turns.proofs.client_parts.ClientParts.drain.Goals as goal
+
+pub invariant_of-self-2 : goal.invariant_of-self-2
+invariant_of-self-2 g c = sound_kept c.self.inside.session c.drain.new.session c.self.inside.commands c.drain.ensures.kept c.self.invariant
+
+pub returns-clause-drains : goal.returns-clause-drains
+returns-clause-drains g c = λ outlet view. rw (← c.self.view_is) (drained g.C.ClientPort.moves is_drain _ outlet view (λ n. refl) _ c.in_ok-count.count _ _ c.in_ok-count.ensures.does refl)
+
+pub returns-clause-none : goal.returns-clause-none
+returns-clause-none g c = rw (← c.self.view_is) (drain_none _ _ _ c.in_ok-count.count c.in_ok-count.ensures.does)
+
+pub returns-then-not-may_drain-clause-none : goal.returns-then-not-may_drain-clause-none
+returns-then-not-may_drain-clause-none g c = undrained _ c.may_drain.result c.may_drain.ensures c.if-not-may_drain.true

@@ -1,0 +1,32 @@
+use Rattle.std.proofs.Common.{refl, rules, Ok}
+use Rattle.proxy_turns.specs.ClientTurn.{is_feed}
+use Rattle.proxy_turns.proofs.Going.{fed}
+use Rattle.proxy_turns.proofs.Sound.{sound_kept}
+use Rattle.proxy_turns.proofs.ClientResting.{fed_still, feed_fault, unfed_none}
+use Rattle.proxy_turns.proofs.client_parts.ClientParts.feed.Goals as goal
+
+pub invariant_of-self : goal.invariant_of-self
+invariant_of-self g c = sound_kept c.self.inside.session c.feed.new.self c.self.inside.commands c.feed.ensures.kept c.self.invariant
+
+pub returns-in-Ok-clause-feeds : goal.returns-in-Ok-clause-feeds
+returns-in-Ok-clause-feeds g c = λ outlet view.
+    let done = rw c.as_slice.ensures.value at c.in-Ok.ensures.does in
+    rw (← c.self.view_is) (fed g.C.ClientPort.moves is_feed _ outlet view (λ result. refl) _ (Ok c.in-Ok.count) _ _ done c.take_off.ensures refl)
+
+pub returns-in-Ok-clause-none : goal.returns-in-Ok-clause-none
+returns-in-Ok-clause-none g c =
+    let done = rw c.as_slice.ensures.value at c.in-Ok.ensures.does in
+    rw (← c.self.view_is) (fed_still _ _ _ c.in-Ok.count done c.take_off.ensures)
+
+pub returns-then-is_empty-clause-none : goal.returns-then-is_empty-clause-none
+returns-then-is_empty-clause-none g c = rw (← c.self.view_is) (unfed_none _ (search rules))
+
+pub returns-in-Err-Wire-clause-none : goal.returns-in-Err-Wire-clause-none
+returns-in-Err-Wire-clause-none g c =
+    let done = rw c.in-Err-Wire.field-0-is at c.in-Err-Wire.ensures.does in
+    rw (← c.self.view_is) (feed_fault _ _ _ done.0 done.1)
+
+pub returns-in-Err-NotRequest-clause-none : goal.returns-in-Err-NotRequest-clause-none
+returns-in-Err-NotRequest-clause-none g c =
+    let done = rw c.in-Err-NotRequest.field-0-is at c.in-Err-NotRequest.ensures.does in
+    rw (← c.self.view_is) (feed_fault _ _ _ done.0 done.1)

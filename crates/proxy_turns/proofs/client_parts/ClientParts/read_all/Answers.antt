@@ -1,0 +1,24 @@
+use Rattle.std.proofs.Common.{◌≡◌, rules, Err}
+use Rattle.proxy_turns.specs.ClientTurn.{is_read}
+use Rattle.proxy_turns.proofs.Going.{goes_then, turns_err}
+use Rattle.proxy_turns.proofs.client_parts.ClientParts.read_all.Goals as goal
+
+pub returns-then-not-first-clause-reads : goal.returns-then-not-first-clause-reads
+returns-then-not-first-clause-reads g c = rw c.if-not-first.true at c.in_ok-first.ensures.reads
+
+pub returns-then-not-first-clause-none : goal.returns-then-not-first-clause-none
+returns-then-not-first-clause-none g c = rw c.if-not-first.true at c.in_ok-first.ensures.none
+
+pub returns-in_err-read-clause-reads : goal.returns-in_err-read-clause-reads
+returns-in_err-read-clause-reads g c = λ outlet view.
+    let is : c.from_residual-in_err-read.result ≡ Err c.in_err-read.field-0.0 = search rules in
+    turns_err g.C.ClientPort.moves is_read _ _ _ _ _ _ _ (c.loop-count.invariant outlet view) (c.in_err-read.ensures.reads outlet view) is
+
+pub returns-then-not-read-clause-reads : goal.returns-then-not-read-clause-reads
+returns-then-not-read-clause-reads g c = λ outlet view. goes_then g.C.ClientPort.moves is_read _ _ _ _ _ (c.loop-count.invariant outlet view) (c.in_ok-read.ensures.reads outlet view)
+
+pub loop-count-init : goal.loop-count-init
+loop-count-init g c = λ outlet view. rw c.if-not-first.false at (c.in_ok-first.ensures.reads outlet view)
+
+pub loop-count-preserved : goal.loop-count-preserved
+loop-count-preserved g c = λ outlet view. goes_then g.C.ClientPort.moves is_read _ _ _ _ _ (c.loop-count.invariant outlet view) (c.in_ok-read.ensures.reads outlet view)

@@ -1,6 +1,0 @@
-use Rattle.proxy_turns.specs.Floor.{GoesAll}
-use Rattle.proxy_turns.specs.Room.{floor_of}
-use Rattle.proxy_turns.proofs.room.Room.settle_due.Given as goal
-
-abbrev pub invariant-loop : goal.invariant-loop
-invariant-loop g l = GoesAll g.C.ClientPort.moves (floor_of l.initial.self) l.moved (floor_of l.self)

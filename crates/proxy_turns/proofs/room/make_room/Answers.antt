@@ -1,6 +1,0 @@
-use Rattle.std.proofs.Common.{ap}
-use Rattle.proxy_turns.specs.Floor.{clients_in}
-use Rattle.proxy_turns.proofs.room.make_room.Goals as goal
-
-pub returns-clause-clients : goal.returns-clause-clients
-returns-clause-clients g c = ap clients_in c.reserve-2.ensures.entries

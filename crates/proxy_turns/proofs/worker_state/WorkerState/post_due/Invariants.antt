@@ -1,0 +1,13 @@
+use Rattle.std.proofs.Common.{◌≡◌, length}
+use Rattle.proxy_turns.specs.WorkerModel.{WorkerGoesBy, settles}
+use Rattle.proxy_turns.specs.WorkerState.{state_model}
+use Rattle.proxy_turns.proofs.worker_state.WorkerState.post_due.Given as goal
+
+abbrev pub invariant-loop-ticket : goal.invariant-loop-ticket
+invariant-loop-ticket g l = record {
+  goes : WorkerGoesBy g.C.ClientPort.moves settles (state_model l.initial.self) l.moved (state_model l.self);
+  ended : l.self.due.ended ≡ l.initial.self.due.ended;
+}
+
+abbrev pub decreases-loop-ticket : goal.decreases-loop-ticket
+decreases-loop-ticket g l = length l.self.due.due.items

@@ -1,0 +1,70 @@
+-- One client of a worker.
+-- A client that is gone keeps its posted commands until they end, since their nodes may execute them. A command that
+-- was never posted is dropped.
+use Rattle.std.specs.Prelude.{◌≡◌, ◌≢◌, ◌⊎◌, ℕ, List, [], Bool, true, false, Some, None, Result, Ok, Err, length}
+use Rattle.std.specs.FinMap.{empty, get}
+use Rattle.resp_wire.specs.LimitsModel.{LimitsModel}
+use Rattle.resp_wire.specs.declared.fault.NoMemory.{NoMemory}
+use Rattle.node_link.specs.declared.stream.Flow.{Flow}
+use Rattle.node_link.specs.declared.stream.Flow.TheVariants.{Bytes, Nothing, Gone}
+use Rattle.command_future.specs.CommandModel.{CommandModel}
+use Rattle.session_order.specs.SessionModel.{SessionModel}
+use Rattle.session_order.specs.declared.fault.SessionFault.{SessionFault}
+use Rattle.session_order.specs.declared.fault.SessionFault.TheVariants as fault
+use Rattle.session_order.specs.Life.{fresh}
+use Rattle.session_order.specs.Steps.{IsOut, IsFinished}
+use Rattle.proxy_turns.specs.Commands.{CommandsModel}
+use Rattle.proxy_turns.specs.Port.{Moves}
+
+-- Its port, its session and its commands; the bytes that were pulled and not fed to the session, and those that it drained
+-- and that were not pushed; and whether the client is gone.
+pub record ClientModel (C : Type 0) : Type 0 where
+  pub port : C
+  pub session : SessionModel
+  pub commands : CommandsModel
+  pub unfed : List ℕ
+  pub unpushed : List ℕ
+  pub gone : Bool
+
+-- Each command is of a part that is out, and no two are of one part.
+pub record IsSoundClient (session : SessionModel) (commands : CommandsModel) : Type 0 where
+  pub posted : (number : ℕ) (c : CommandModel) → get commands.posted number ≡ Some c → (c.ticket.part ≡ number) × IsOut session c.ticket
+  pub fresh : (c : CommandModel) → commands.fresh ≡ Some c → IsOut session c.ticket
+  pub apart : (c : CommandModel) → commands.fresh ≡ Some c → (number : ℕ) (d : CommandModel) → get commands.posted number ≡ Some d → d.ticket ≢ c.ticket
+
+-- a client with which nothing has happened
+abbrev pub new_client : {C : Type 0} → ℕ → ℕ → LimitsModel → C → ClientModel C
+new_client worker number bounds port = record {
+  port = port;
+  session = fresh worker number bounds;
+  commands = record { fresh = None; posted = empty };
+  unfed = [];
+  unpushed = [];
+  gone = false;
+}
+
+-- its session is finished, and all its bytes were pushed
+abbrev pub IsClientServed : {C : Type 0} → ClientModel C → Type 0
+IsClientServed client = IsFinished client.session × (client.unpushed ≡ [])
+
+-- it is gone, and no command is left
+abbrev pub IsLeft : {C : Type 0} → ClientModel C → Type 0
+IsLeft client = (client.gone ≡ true) × (client.commands ≡ record { fresh = None; posted = empty })
+
+-- nothing is left to do for it
+abbrev pub IsDone : {C : Type 0} → ClientModel C → Type 0
+IsDone client = IsClientServed client ⊎ IsLeft client
+
+-- bytes are pulled where none were waiting to be fed
+abbrev pub Takings : {C : Type 0} → Moves C → C → Result Flow NoMemory → C → List ℕ → Type 0
+Takings moves old (Ok (Bytes n)) new unfed = moves old unfed [] [] new × (n ≡ length unfed)
+Takings moves old (Ok Nothing) new unfed = moves old [] [] [] new × (unfed ≡ [])
+Takings moves old (Ok Gone) new unfed = moves old [] [] [] new × (unfed ≡ [])
+Takings moves old (Err refused) new unfed = ((new ≡ old) ⊎ moves old [] [] [] new) × (unfed ≡ [])
+
+-- whether a call of `read` read a request
+abbrev pub read_answer : Result Bool SessionFault → Result Bool NoMemory
+read_answer (Ok read) = Ok read
+read_answer (Err fault.NoMemory) = Err (record {})
+read_answer (Err (fault.Wire why)) = Ok false
+read_answer (Err fault.NotRequest) = Ok false

@@ -1,0 +1,286 @@
+-- What happens to one client in a worker's turn, at the lane into which the worker posts, and at its view of the slot
+-- map.
+-- A turn is a list of events, and moved exactly where one of them is a move. Nothing says that a turn makes any.
+use Rattle.std.specs.Prelude.{◌||◌, ◌≡◌, ◌↔◌, ◌++◌, ◌∷◌, [], ℕ, List, Bool, true, false, IsTrue, Option, Some, None, Result, Ok, Err, length, drop, nat_lt}
+use Rattle.std.specs.List.{FoldsTo, list_all, list_any}
+use Rattle.std.specs.FinMap.{get, remove}
+use Rattle.slot_hash.specs.Slot.{slot_of}
+use Rattle.slot_map.specs.declared.ops.MapOp.{MapOp}
+use Rattle.resp_wire.specs.declared.fault.NoMemory.{NoMemory}
+use Rattle.key_split.specs.PartModel.{PartModel}
+use Rattle.key_split.specs.declared.travel.Batch.{Batch}
+use Rattle.key_split.specs.declared.travel.Ticket.{Ticket}
+use Rattle.key_split.specs.declared.travel.Ended.{Ended}
+use Rattle.command_future.specs.declared.stage.Stage.TheVariants.{Awaits}
+use Rattle.command_future.specs.CommandModel.{CommandModel, fresh, batch_of}
+use Rattle.session_order.specs.declared.fault.SessionFault.{SessionFault}
+use Rattle.session_order.specs.Replies.{DrainOutcome}
+use Rattle.session_order.specs.Steps.{IsOut, FeedOutcome, ReadOutcome, ReadyOutcome, EndOutcome}
+use Rattle.proxy_lanes.specs.declared.map_view.NotEntered.{NotEntered}
+use Rattle.proxy_lanes.specs.declared.ring.Outlet.{Outlet}
+use Rattle.proxy_lanes.specs.Lane.{Posts}
+use Rattle.proxy_turns.specs.Port.{Moves}
+use Rattle.proxy_turns.specs.Commands.{CommandsModel, TakesCommand, with_command, HasEndAt, HasEnd, Looks, GoesTo}
+use Rattle.proxy_turns.specs.declared.turned.Turned.{Turned}
+use Rattle.proxy_turns.specs.declared.turned.Settled.{Settled}
+use Rattle.proxy_turns.specs.declared.turned.Settled.TheVariants as settled
+use Rattle.proxy_turns.specs.ClientModel.{ClientModel, IsDone}
+
+pub record ClientContext (C : Type 0) : Type 0 where
+  pub client : ClientModel C
+  pub outlet : Outlet Batch
+  pub view : List MapOp
+
+pub data ClientEvent : Type 0 where
+  Pulled : List ℕ → ClientEvent
+  Fed : Result ℕ SessionFault → ClientEvent
+  Read : Result Bool SessionFault → ClientEvent
+  HandedOut : Ticket → PartModel → ClientEvent
+  Looked : ℕ → ClientEvent
+  CameBack : Batch → ClientEvent
+  Posted : Batch → ClientEvent
+  Drained : ℕ → ClientEvent
+  Pushed : List ℕ → ClientEvent
+  Tried : ClientEvent
+  Parted : ClientEvent
+  Dropped : Ticket → ClientEvent
+
+-- Whether it moved something: a look at the map does not, nor a batch that came back, nor a call that found nothing.
+abbrev pub is_client_move : ClientEvent → Bool
+is_client_move (Pulled bytes) = nat_lt 0 (length bytes)
+is_client_move (Fed (Ok n)) = nat_lt 0 n
+is_client_move (Fed (Err fault)) = false
+is_client_move (Read (Ok read)) = read
+is_client_move (Read (Err fault)) = false
+is_client_move (HandedOut ticket part) = true
+is_client_move (Looked slot) = false
+is_client_move (CameBack batch) = false
+is_client_move (Posted batch) = true
+is_client_move (Drained n) = nat_lt 0 n
+is_client_move (Pushed bytes) = nat_lt 0 (length bytes)
+is_client_move Tried = false
+is_client_move Parted = true
+is_client_move (Dropped ticket) = true
+
+-- Which events one part of a turn may make.
+
+-- bytes are pulled, or the client is gone
+abbrev pub is_pull : ClientEvent → Bool
+is_pull (Pulled bytes) = true
+is_pull Tried = true
+is_pull Parted = true
+is_pull event = false
+
+-- bytes are fed to the session
+abbrev pub is_feed : ClientEvent → Bool
+is_feed (Fed result) = true
+is_feed event = false
+
+-- the session reads
+abbrev pub is_read : ClientEvent → Bool
+is_read (Read result) = true
+is_read event = false
+
+-- a command begins
+abbrev pub is_begin : ClientEvent → Bool
+is_begin (HandedOut ticket part) = true
+is_begin event = false
+
+-- the command of a client that is gone is dropped
+abbrev pub is_drop : ClientEvent → Bool
+is_drop (Dropped ticket) = true
+is_drop event = false
+
+-- a command is posted, or only tried
+abbrev pub is_post : ClientEvent → Bool
+is_post (Looked slot) = true
+is_post (CameBack batch) = true
+is_post (Posted batch) = true
+is_post event = false
+
+-- the session is drained
+abbrev pub is_drain : ClientEvent → Bool
+is_drain (Drained n) = true
+is_drain event = false
+
+-- bytes are pushed, or the client is gone
+abbrev pub is_push : ClientEvent → Bool
+is_push (Pushed bytes) = true
+is_push Tried = true
+is_push Parted = true
+is_push event = false
+
+-- commands begin and are posted, or are dropped
+abbrev pub is_send : ClientEvent → Bool
+is_send event = is_begin event || (is_drop event || is_post event)
+
+-- the session is drained, and bytes are pushed
+abbrev pub is_write : ClientEvent → Bool
+is_write event = is_drain event || is_push event
+
+-- all that is done for a client but to pull
+abbrev pub is_work : ClientEvent → Bool
+is_work event = is_feed event || (is_read event || (is_send event || is_write event))
+
+-- the bytes that are left after a call of `feed`
+abbrev pub left_of : List ℕ → Result ℕ SessionFault → List ℕ
+left_of unfed (Ok n) = drop n unfed
+left_of unfed (Err fault) = unfed
+
+module _ {C : Type 0} where
+  abbrev pub with_client : ClientContext C → ClientModel C → ClientContext C
+  with_client context client = record context { client = client }
+
+  module _ (moves : Moves C) where
+    abbrev pub ClientDoes : ClientContext C → ClientEvent → ClientContext C → Type 0
+    -- bytes come from the client
+    ClientDoes old (Pulled bytes) new =
+        moves old.client.port bytes [] [] new.client.port
+        × (new ≡ with_client old (record old.client { port = new.client.port; unfed = old.client.unfed ++ bytes }))
+    -- they are fed to its session
+    ClientDoes old (Fed result) new =
+        FeedOutcome old.client.session old.client.unfed result new.client.session
+        × (new ≡ with_client old (record old.client { session = new.client.session; unfed = left_of old.client.unfed result }))
+    -- the session reads a request, or none
+    ClientDoes old (Read result) new =
+        ReadOutcome old.client.session result new.client.session
+        × (new ≡ with_client old (record old.client { session = new.client.session }))
+    -- the session of a client that is there hands out a part, whose command begins
+    ClientDoes old (HandedOut ticket part) new =
+        (old.client.gone ≡ false) × (old.client.commands.fresh ≡ None)
+        × ReadyOutcome old.client.session (Some (ticket, part)) new.client.session
+        × (new ≡ with_client old (record old.client { session = new.client.session; commands = record old.client.commands { fresh = Some (fresh ticket part) } }))
+    -- a look at the map
+    ClientDoes old (Looked slot) new =
+        ((answer : Result (Option ℕ) NotEntered) × Looks old.view slot answer new.view) × (new ≡ record old { view = new.view })
+    -- the lane takes no batch
+    ClientDoes old (CameBack batch) new = Posts old.outlet new.outlet batch (Err batch) × (new ≡ record old { outlet = new.outlet })
+    -- A command that wants to be posted, in the turn of its part, is posted as it wants. For a client that is gone this is one that
+    -- was posted before.
+    ClientDoes old (Posted batch) new =
+        (number : ℕ) × (c : CommandModel) × (rest : CommandsModel)
+        × TakesCommand old.client.commands number c rest
+        × (old.client.gone ≡ true → get old.client.commands.posted number ≡ Some c)
+        × IsOut old.client.session c.ticket
+        × GoesTo c.stage (slot_of c.part.key) old.view batch.node new.view
+        × (batch ≡ batch_of c batch.node)
+        × Posts old.outlet new.outlet batch (Ok tt)
+        × (new ≡ record { client = record old.client { commands = with_command rest number (record c { stage = Awaits }) }; outlet = new.outlet; view = new.view })
+    -- the session drains the replies that are next in order
+    ClientDoes old (Drained n) new =
+        DrainOutcome old.client.session old.client.unpushed (Ok n) new.client.session new.client.unpushed
+        × (new ≡ with_client old (record old.client { session = new.client.session; unpushed = new.client.unpushed }))
+    -- bytes go to the client
+    ClientDoes old (Pushed bytes) new =
+        moves old.client.port [] bytes [] new.client.port
+        × (old.client.unpushed ≡ bytes ++ new.client.unpushed)
+        × (new ≡ with_client old (record old.client { port = new.client.port; unpushed = new.client.unpushed }))
+    -- a call of the port moves nothing
+    ClientDoes old Tried new = moves old.client.port [] [] [] new.client.port × (new ≡ with_client old (record old.client { port = new.client.port }))
+    -- the client is gone: of what was pulled and not fed, and of what was drained and not pushed, nothing is kept
+    ClientDoes old Parted new = (old.client.gone ≡ false) × (new ≡ with_client old (record old.client { gone = true; unfed = []; unpushed = [] }))
+    -- the command of a client that is gone is dropped before its first post
+    ClientDoes old (Dropped ticket) new =
+        (old.client.gone ≡ true) × (c : CommandModel) × (old.client.commands.fresh ≡ Some c) × (c.ticket ≡ ticket)
+        × (new ≡ with_client old (record old.client { commands = record old.client.commands { fresh = None } }))
+
+    -- some events took one to the other, and this says whether one of them moved something
+    abbrev pub ClientGoes : ClientContext C → Bool → ClientContext C → Type 0
+    ClientGoes old moved new = (events : List ClientEvent) × FoldsTo ClientDoes old events new × (moved ≡ list_any is_client_move events)
+
+    -- what a call that may find no memory did: all of it, or what was done before
+    abbrev pub ClientTurns : ClientContext C → Result Bool NoMemory → ClientContext C → Type 0
+    ClientTurns old (Ok moved) new = ClientGoes old moved new
+    ClientTurns old (Err refused) new = (moved : Bool) × ClientGoes old moved new
+
+    -- the same for a client's turn, which also says whether nothing is left to do for the client
+    abbrev pub TurnOutcome : ClientContext C → Result Turned NoMemory → ClientContext C → Type 0
+    TurnOutcome old (Ok turned) new = ClientGoes old turned.moved new × (IsTrue turned.done ↔ IsDone new.client)
+    TurnOutcome old (Err refused) new = (moved : Bool) × ClientGoes old moved new
+
+    -- the same by events of one kind alone
+    abbrev pub ClientGoesBy : (ClientEvent → Bool) → ClientContext C → Bool → ClientContext C → Type 0
+    ClientGoesBy may old moved new =
+        (events : List ClientEvent) × FoldsTo ClientDoes old events new × (moved ≡ list_any is_client_move events) × (list_all may events ≡ true)
+
+    abbrev pub ClientTurnsBy : (ClientEvent → Bool) → ClientContext C → Result Bool NoMemory → ClientContext C → Type 0
+    ClientTurnsBy may old (Ok moved) new = ClientGoesBy may old moved new
+    ClientTurnsBy may old (Err refused) new = (moved : Bool) × ClientGoesBy may old moved new
+
+    abbrev pub ClientTurnsAloneBy : (ClientEvent → Bool) → ClientModel C → Result Bool NoMemory → ClientModel C → Type 0
+    ClientTurnsAloneBy may old result new = (outlet : Outlet Batch) (view : List MapOp)
+        → ClientTurnsBy may (record { client = old; outlet = outlet; view = view }) result (record { client = new; outlet = outlet; view = view })
+
+    -- bytes are pulled
+    abbrev pub PullsBytes : ClientModel C → Result Bool NoMemory → ClientModel C → Type 0
+    PullsBytes = ClientTurnsAloneBy is_pull
+
+    -- the session is fed
+    abbrev pub FeedsSession : ClientModel C → Result Bool NoMemory → ClientModel C → Type 0
+    FeedsSession = ClientTurnsAloneBy is_feed
+
+    -- requests are read
+    abbrev pub ReadsRequests : ClientModel C → Result Bool NoMemory → ClientModel C → Type 0
+    ReadsRequests = ClientTurnsAloneBy is_read
+
+    -- a command begins
+    abbrev pub BeginsCommand : ClientModel C → Result Bool NoMemory → ClientModel C → Type 0
+    BeginsCommand = ClientTurnsAloneBy is_begin
+
+    -- the command of a client that is gone is dropped
+    abbrev pub DropsCommand : ClientModel C → Result Bool NoMemory → ClientModel C → Type 0
+    DropsCommand = ClientTurnsAloneBy is_drop
+
+    -- the session is drained
+    abbrev pub DrainsReplies : ClientModel C → Result Bool NoMemory → ClientModel C → Type 0
+    DrainsReplies = ClientTurnsAloneBy is_drain
+
+    -- bytes are pushed
+    abbrev pub PushesBytes : ClientModel C → Result Bool NoMemory → ClientModel C → Type 0
+    PushesBytes = ClientTurnsAloneBy is_push
+
+    -- the session is drained, and bytes are pushed
+    abbrev pub WritesReplies : ClientModel C → Result Bool NoMemory → ClientModel C → Type 0
+    WritesReplies = ClientTurnsAloneBy is_write
+
+    -- a command is posted, or only tried
+    abbrev pub PostsCommand : ClientContext C → Result Bool NoMemory → ClientContext C → Type 0
+    PostsCommand = ClientTurnsBy is_post
+
+    -- commands begin and are posted
+    abbrev pub SendsCommands : ClientContext C → Result Bool NoMemory → ClientContext C → Type 0
+    SendsCommands = ClientTurnsBy is_send
+
+    -- all is done for the client but to pull
+    abbrev pub DoesWork : ClientContext C → Result Bool NoMemory → ClientContext C → Type 0
+    DoesWork = ClientTurnsBy is_work
+
+    -- A command has ended: in one step the port notes the end, the session learns it, and the command leaves.
+    abbrev pub Finishes : ClientModel C → Ticket → Ended → ClientModel C → Type 0
+    Finishes old ticket end new =
+        HasEnd old.commands ticket.part ticket end
+        × moves old.port [] [] ((ticket, end) ∷ []) new.port
+        × EndOutcome old.session ticket end new.session
+        × (new ≡ record old { port = new.port; session = new.session; commands = record old.commands { posted = remove old.commands.posted ticket.part } })
+
+    -- the command for the part of this number, where it has ended; where the port finds no memory for the end nothing happens
+    abbrev pub FinishOutcome : ClientModel C → ℕ → Result Bool NoMemory → ClientModel C → Type 0
+    FinishOutcome old number (Ok true) new = (ticket : Ticket) × (end : Ended) × (ticket.part ≡ number) × Finishes old ticket end new
+    FinishOutcome old number (Ok false) new = (HasEndAt old.commands number → ⊥) × (new ≡ old)
+    FinishOutcome old number (Err refused) new = moves old.port [] [] [] new.port × (new ≡ record old { port = new.port })
+
+    -- the command for the part of this number ends, or is posted again, or neither
+    abbrev pub SettleOutcome : ClientContext C → ℕ → Result Settled NoMemory → ClientContext C → Type 0
+    SettleOutcome old number (Ok settled.Finished) new =
+        (ticket : Ticket) × (end : Ended) × (ticket.part ≡ number) × Finishes old.client ticket end new.client × (new ≡ with_client old new.client)
+    SettleOutcome old number (Ok settled.Posted) new = ClientGoes old true new
+    SettleOutcome old number (Ok settled.Held) new = ClientGoes old false new
+    SettleOutcome old number (Ok settled.Nothing) new = ClientGoes old false new
+    SettleOutcome old number (Err refused) new = (moved : Bool) × ClientGoes old moved new
+
+-- whether it moved something
+abbrev pub is_settled : Settled → Bool
+is_settled settled.Finished = true
+is_settled settled.Posted = true
+is_settled settled.Held = false
+is_settled settled.Nothing = false

@@ -1,0 +1,46 @@
+-- When nothing is left to do for a worker but to wait.
+-- That a pause ends when its time has come is not said: no model has the time.
+use Rattle.std.specs.Prelude.{◌≡◌, ◌⊎◌, ◌<◌, ℕ, Some, None, IsSomeAnd}
+use Rattle.std.specs.FinMap.{get}
+use Rattle.key_split.specs.declared.travel.Batch.{Batch}
+use Rattle.command_future.specs.declared.stage.Stage.TheVariants.{Awaits}
+use Rattle.command_future.specs.CommandModel.{CommandModel, WantsPost}
+use Rattle.proxy_lanes.specs.declared.ring.Inlet.{Inlet}
+use Rattle.proxy_lanes.specs.declared.ring.Outlet.{Outlet}
+use Rattle.proxy_lanes.specs.Lane.{Takes}
+use Rattle.proxy_turns.specs.Arrivals.{AreToCome}
+use Rattle.proxy_turns.specs.ClientModel.{ClientModel, IsDone}
+use Rattle.proxy_turns.specs.ClientRest.{HasNoPlace, IsClientAtRest}
+use Rattle.proxy_turns.specs.Pause.{pause_at}
+use Rattle.proxy_turns.specs.WorkerModel.{WorkerModel}
+
+-- the last look into the lane found nothing
+abbrev pub FoundNothing : {T : Type 0} → Inlet T → Type 0
+FoundNothing {T} inlet = (before : Inlet T) × Takes before inlet None
+
+-- no new client waits that is to come
+abbrev pub HasNoNewcomer : {C J : Type 0} → WorkerModel C J → Type 0
+HasNoNewcomer model = AreToCome model.left → FoundNothing model.newcomers
+
+-- nothing that came down the lane waits to be told
+abbrev pub HasNothingToTell : {C J : Type 0} → WorkerModel C J → Type 0
+HasNothingToTell model = FoundNothing model.inlet
+
+-- each client that the worker has is at rest, and none is done
+abbrev pub AreClientsAtRest : {C J : Type 0} → (C → Type 0) → (C → Type 0) → WorkerModel C J → Type 0
+AreClientsAtRest {C} gives_none takes_none model =
+    (number : ℕ) (client : ClientModel C) → get model.clients number ≡ Some client → (IsDone client → ⊥) × IsClientAtRest gives_none takes_none client model.outlet
+
+-- it was refused, and pauses before its next post
+abbrev pub IsPaused : CommandModel → Type 0
+IsPaused command = IsSomeAnd (pause_at command.stage command.followed) (λ pause. 0 < pause)
+
+-- It awaits its answer, or pauses before its next post, or wants that post at a lane that takes nothing more.
+abbrev pub IsPostedAtRest : CommandModel → Outlet Batch → Type 0
+IsPostedAtRest command outlet = (command.stage ≡ Awaits) ⊎ IsPaused command ⊎ (WantsPost command.stage × HasNoPlace outlet)
+
+-- each command that was posted is at rest, of each client that the worker has
+abbrev pub ArePostedAtRest : {C J : Type 0} → WorkerModel C J → Type 0
+ArePostedAtRest {C} model =
+    (number : ℕ) (client : ClientModel C) → get model.clients number ≡ Some client
+    → (part : ℕ) (command : CommandModel) → get client.commands.posted part ≡ Some command → IsPostedAtRest command model.outlet

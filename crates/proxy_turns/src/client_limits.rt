@@ -1,0 +1,14 @@
+//! How much is done or kept for one client.
+
+/// While so many bytes were pulled since all was answered, no more are pulled.
+pub(crate) const MAX_ASKED: usize = 256 * 1024;
+/// While so many bytes wait to be pushed, no more are drained.
+pub(crate) const MAX_UNPUSHED: usize = 64 * 1024;
+/// While replies of so many bytes may be under way or wait, no part is begun but of the oldest request.
+pub(crate) const MAX_REPLIES: usize = 256 * 1024;
+/// A buffer that is larger is given back where it is empty.
+pub(crate) const KEPT: usize = 256 * 1024;
+/// How many requests are read in one turn.
+pub(crate) const MAX_READS: usize = 1024;
+/// How many parts are handed out in one turn: others find room in the lane in the same turn.
+pub(crate) const MAX_SENT: usize = 64;

@@ -1,0 +1,476 @@
+//! What a client of a worker has, and each step of its turn.
+
+ghost use Rattle.std.specs.Prelude.{◌≡◌, ◌≤◌, ◌↔◌, [], ℕ, List, Result, Ok, Some, drop, false, true, length, take, IsTrue, None};
+ghost use Rattle.std.specs.FinMap as map;
+
+use crate::client_bytes::{SMALLEST_PIECE, let_go, piece_after, pull_into, take_off};
+use crate::client_limits::{MAX_ASKED, MAX_READS, MAX_SENT, MAX_UNPUSHED};
+use crate::commands::Commands;
+use crate::port::ClientPort;
+use crate::reply_size::ReplySize;
+use crate::turned::{Settled, has_read, note_read};
+use crate::unpushed::Unpushed;
+use key_split::{Batch, Ended, Ticket, Told};
+use node_link::Flow;
+use proxy_lanes::{MapView, Naming, Outlet};
+use resp_wire::{Limits, NoMemory};
+use session_order::{Session, SessionFault};
+use std::alloc::Global;
+use std::marker::Model;
+
+/// A client's port, session and commands, and its bytes on their way.
+#[derive(Drop)]
+pub(crate) struct ClientParts<C: ClientPort + Drop> {
+    session: Session,
+    commands: Commands,
+    // Pulled and not fed to the session.
+    unfed: Vec<u8>,
+    // Drained from the session and not pushed.
+    unpushed: Unpushed,
+    port: C,
+    gone: bool,
+    // How many bytes the next call asks for.
+    piece: usize,
+    // How many bytes were pulled since all was answered.
+    asked: usize,
+    reply_size: ReplySize,
+}
+
+impl<C: ClientPort + Drop> Model for ClientParts<C> {
+    ghost use Rattle.std.specs.Coded.{codes};
+    ghost use Rattle.std.specs.FinMap as map;
+    ghost use Rattle.resp_wire.specs.Stored.{coded_data};
+    ghost use Rattle.proxy_turns.specs.ClientModel.{ClientModel, IsSoundClient};
+
+    ghost Value = { ClientModel C };
+
+    ghost coded = { Prim.hlevel (codes, coded_data, map.code) };
+
+    ghost view = { λ c. record {
+      port = c.port;
+      session = c.session;
+      commands = c.commands;
+      unfed = c.unfed.items;
+      unpushed = c.unpushed;
+      gone = c.gone;
+    } };
+
+    ghost invariant = { λ c. IsSoundClient c.session c.commands };
+}
+
+impl<C: ClientPort + Drop> ClientParts<C> {
+    ghost use Rattle.std.specs.FinMap as map;
+    ghost use Rattle.command_future.specs.CommandModel.{CommandModel};
+    ghost use Rattle.proxy_turns.specs.Pause.{pause_at};
+    ghost use Rattle.proxy_turns.specs.Commands.{Hears};
+    ghost use Rattle.proxy_turns.specs.DueCommands.{IsSettled, IsToSettle};
+    ghost use Rattle.proxy_turns.specs.ClientModel.{new_client, IsDone};
+    ghost use Rattle.proxy_turns.specs.ClientTurn.{ClientContext, SettleOutcome};
+
+    #[tactic(auto, using(crate::proofs::Sound::sound_begun))]
+    pub(crate) fn new(
+        alloc: Global,
+        worker: u16,
+        number: u32,
+        limits: Limits,
+        port: C,
+    ) -> ClientParts<C>
+        ensures { result ≡ new_client worker number limits port }
+    {
+        ClientParts {
+            session: Session::new(alloc, worker, number, limits),
+            commands: Commands::new(alloc),
+            unfed: Vec::new(alloc),
+            unpushed: Unpushed::new(alloc),
+            port,
+            gone: false,
+            piece: SMALLEST_PIECE,
+            asked: 0,
+            reply_size: ReplySize::new(),
+        }
+    }
+
+    /// Ends the command for the part of this number, or posts it again, as it wants.
+    pub(crate) fn finish_or_repost<J: Naming>(
+        &mut self,
+        number: u64,
+        outlet: &mut Outlet<Batch>,
+        view: &mut MapView<J>,
+    ) -> Result<Settled, NoMemory>
+        ensures settles { SettleOutcome C.moves (record { client = self.old; outlet = outlet.old; view = view.old }) number result (record { client = self.new; outlet = outlet.new; view = view.new }) }
+        ensures settled { IsSettled result (IsToSettle self.new.commands number) outlet.new }
+    {
+        if self.end(number)? {
+            return Ok(Settled::Finished);
+        }
+        if self.post_again(number, outlet, view)? {
+            return Ok(Settled::Posted);
+        }
+        if self.commands.wants_post(number) {
+            return Ok(Settled::Held);
+        }
+        Ok(Settled::Nothing)
+    }
+
+    /// Tells the command of this ticket what came, where it awaits that. True where it does.
+    pub(crate) fn hear(&mut self, ticket: Ticket, told: Told) -> bool
+        ensures heard { Hears self.old.commands ticket told result self.new.commands }
+        ensures kept { self.new ≡ record self.old { commands = self.new.commands } }
+    {
+        self.commands.hear(ticket, told)
+    }
+
+    /// How long the command for the part of this number waits before its next post, in milliseconds; `None` where it wants
+    /// none.
+    pub(crate) fn pause(&self, number: u64) -> Option<u64>
+        ensures { (c : CommandModel) → map.get self.now.commands.posted number ≡ Some c → result ≡ pause_at c.stage c.followed }
+    {
+        self.commands.pause(number)
+    }
+
+    /// Whether nothing is left to do for this client.
+    pub(crate) fn is_done(&self) -> bool
+        ensures { IsTrue result ↔ IsDone self.now }
+    {
+        self.is_served() || self.is_left()
+    }
+
+    pub(crate) fn into_port(self) -> C
+        ensures { result ≡ self.port }
+    {
+        let ClientParts { port, .. } = self;
+        port
+    }
+}
+
+impl<C: ClientPort + Drop> ClientParts<C> {
+    ghost use Rattle.session_order.specs.Turn.{MayPost};
+    ghost use Rattle.proxy_turns.specs.ClientModel.{IsClientServed, IsLeft};
+    ghost use Rattle.proxy_turns.specs.Commands.{PostsAtResult, WantsPostAt};
+    ghost use Rattle.proxy_turns.specs.ClientRest.{BeginsNone, DrainsNone, FeedsNone, HasNoPlace, IfStill, IsAnswered, MayBeHeld, PostsNone, PullsNone, PushesNone, ReadsNone, SendsNone, WorksNone, WritesNone};
+    ghost use Rattle.proxy_turns.specs.ClientTurn.{BeginsCommand, ClientContext, DoesWork, DrainsReplies, DropsCommand, FeedsSession, FinishOutcome, PostsCommand, PullsBytes, PushesBytes, ReadsRequests, SendsCommands, WritesReplies};
+
+    // Whether its session is finished and it has all its bytes.
+    fn is_served(&self) -> bool
+        ensures { IsTrue result ↔ IsClientServed self.now }
+    {
+        self.session.finished() && self.unpushed.is_empty()
+    }
+
+    // Whether it is gone, and no command of it is left.
+    fn is_left(&self) -> bool
+        ensures { IsTrue result ↔ IsLeft self.now }
+    {
+        self.gone && self.commands.is_empty()
+    }
+
+    /// Takes in what the client asks for, sends it, and writes what is ready.
+    pub(crate) fn work<J: Naming>(
+        &mut self,
+        outlet: &mut Outlet<Batch>,
+        view: &mut MapView<J>,
+        piece: &mut Vec<u8>,
+    ) -> Result<bool, NoMemory>
+        ensures works { DoesWork C.moves (record { client = self.old; outlet = outlet.old; view = view.old }) result (record { client = self.new; outlet = outlet.new; view = view.new }) }
+        ensures none { IfStill result (WorksNone C.takes_none self.old self.new outlet.new) }
+    {
+        let fed = self.feed(piece)?;
+        let read = self.read_all()?;
+        let sent = self.send(outlet, view)?;
+        let written = self.write()?;
+        Ok(fed | read | sent | written)
+    }
+
+    /// Whether too much was pulled and is unanswered.
+    pub(crate) fn is_held_back(&self) -> bool {
+        self.asked >= MAX_ASKED
+    }
+
+    /// Forgets how much was pulled, where all is answered. True where the client was held back and is no longer.
+    pub(crate) fn forget_asked(&mut self, was_held_back: bool) -> bool
+        ensures same { self.new ≡ self.old }
+        ensures again { result ≡ true → (was_held_back ≡ true) × IsAnswered self.old }
+        ensures is_again { was_held_back ≡ true → IsAnswered self.old → result ≡ true }
+    {
+        if !self.is_answered() {
+            return false;
+        }
+        self.asked = 0;
+        was_held_back
+    }
+
+    // Whether it has all its bytes, and no command of it is left.
+    fn is_answered(&self) -> bool
+        ensures { IsTrue result ↔ IsAnswered self.now }
+    {
+        self.unpushed.is_empty() && self.commands.is_empty()
+    }
+
+    /// Whether nothing waits for a place in the lane or at the client.
+    pub(crate) fn is_quiet(&self) -> bool
+        ensures { IsTrue result → (self.now.unpushed ≡ []) × (self.now.commands.fresh ≡ None) }
+    {
+        self.unpushed.is_empty() && !self.commands.has_fresh()
+    }
+
+    /// Pulls bytes where none are waiting to be fed. One that is idle may be owed more only while a command is under way.
+    pub(crate) fn pull(
+        &mut self,
+        piece: &mut Vec<u8>,
+        is_held_back: bool,
+        is_idle: bool,
+    ) -> Result<bool, NoMemory>
+        ensures pulls { PullsBytes C.moves self.old result self.new }
+        ensures none { IfStill result (PullsNone C.gives_none is_held_back self.old self.new) }
+    {
+        if !self.may_pull(is_held_back) {
+            return Ok(false);
+        }
+        self.port.owes(!is_idle || !self.commands.is_empty());
+        match pull_into(&mut self.port, &mut self.unfed, piece, self.piece)? {
+            Flow::Bytes(count) => {
+                self.piece = piece_after(self.piece, count);
+                self.asked = self.asked.saturating_add(count);
+                Ok(count > 0)
+            }
+            Flow::Nothing => Ok(false),
+            Flow::Gone => {
+                self.part();
+                Ok(true)
+            }
+        }
+    }
+
+    // The client is gone: nothing is fed or pushed any more, so its bytes and their buffers are let go.
+    fn part(&mut self)
+        ensures { self.new ≡ record self.old { gone = true; unfed = []; unpushed = [] } }
+    {
+        self.gone = true;
+        let_go(&mut self.unfed);
+        self.unpushed.let_go();
+    }
+
+    // Whether the client is there, nothing that was pulled is left, and it is not held back.
+    fn may_pull(&self, is_held_back: bool) -> bool
+        ensures { IsTrue result ↔ (is_held_back ≡ false) × (self.now.gone ≡ false) × (self.now.unfed ≡ []) }
+    {
+        !is_held_back && !self.gone && self.unfed.is_empty()
+    }
+
+    // Feeds the session what was pulled.
+    fn feed(&mut self, piece: &mut Vec<u8>) -> Result<bool, NoMemory>
+        ensures feeds { FeedsSession C.moves self.old result self.new }
+        ensures none { IfStill result (FeedsNone self.old self.new) }
+    {
+        if self.unfed.is_empty() {
+            return Ok(false);
+        }
+        match self.session.feed(self.unfed.as_slice()) {
+            Ok(count) => {
+                take_off(&mut self.unfed, count, piece);
+                Ok(count > 0)
+            }
+            Err(SessionFault::NoMemory) => Err(NoMemory),
+            Err(SessionFault::Wire(_)) => Ok(false),
+            Err(SessionFault::NotRequest) => Ok(false),
+        }
+    }
+
+    // Reads requests while there are any.
+    fn read_all(&mut self) -> Result<bool, NoMemory>
+        ensures reads { ReadsRequests C.moves self.old result self.new }
+        ensures none { IfStill result (ReadsNone self.old self.new) }
+    {
+        let first = self.read()?;
+        if !first {
+            return Ok(false);
+        }
+        for count in 1..MAX_READS {
+            let read = self.read()?;
+            if !read {
+                note_read(&self.port, count);
+                return Ok(true);
+            }
+        }
+        note_read(&self.port, MAX_READS);
+        Ok(true)
+    }
+
+    fn read(&mut self) -> Result<bool, NoMemory>
+        ensures reads { ReadsRequests C.moves self.old result self.new }
+        ensures none { IfStill result (ReadsNone self.old self.new) }
+    {
+        has_read(self.session.read(), &self.port)
+    }
+
+    // Hands out some parts and posts their commands, while the lane takes them.
+    fn send<J: Naming>(
+        &mut self,
+        outlet: &mut Outlet<Batch>,
+        view: &mut MapView<J>,
+    ) -> Result<bool, NoMemory>
+        ensures sends { SendsCommands C.moves (record { client = self.old; outlet = outlet.old; view = view.old }) result (record { client = self.new; outlet = outlet.new; view = view.new }) }
+        ensures none { IfStill result (SendsNone self.old self.new outlet.new) }
+    {
+        let first = self.send_next(outlet, view)?;
+        if !first {
+            return Ok(false);
+        }
+        for _ in 1..MAX_SENT {
+            let sent = self.send_next(outlet, view)?;
+            if !sent {
+                return Ok(true);
+            }
+        }
+        Ok(true)
+    }
+
+    // Posts the command that waits, or the one of the next part whose turn it is. A client that is gone begins no more.
+    fn send_next<J: Naming>(
+        &mut self,
+        outlet: &mut Outlet<Batch>,
+        view: &mut MapView<J>,
+    ) -> Result<bool, NoMemory>
+        ensures sends { SendsCommands C.moves (record { client = self.old; outlet = outlet.old; view = view.old }) result (record { client = self.new; outlet = outlet.new; view = view.new }) }
+        ensures none { IfStill result (SendsNone self.old self.new outlet.new) }
+    {
+        if self.gone {
+            return Ok(self.drop_fresh());
+        }
+        let begun = self.begin_command();
+        let posted = self.post_fresh(outlet, view)?;
+        Ok(begun | posted)
+    }
+
+    // Hands out the next part whose turn it is.
+    fn begin_command(&mut self) -> bool
+        requires { self.old.gone ≡ false }
+        ensures begins { BeginsCommand C.moves self.old (Ok result) self.new }
+        ensures gone { self.new.gone ≡ self.old.gone }
+        ensures none { result ≡ false → BeginsNone self.old self.new }
+    {
+        if self.commands.has_fresh() || self.holds_next() {
+            return false;
+        }
+        let Some((ticket, part)) = self.session.ready() else {
+            return false;
+        };
+        self.commands.begin(ticket, part);
+        true
+    }
+
+    // Whether the next part whose turn it is waits until replies to earlier ones were drained.
+    fn holds_next(&self) -> bool
+        ensures { result ≡ true → (i : ℕ) → MayPost self.now.session.stages i → MayBeHeld self.now.session i }
+    {
+        let Some(place) = self.session.next_place() else {
+            return false;
+        };
+        place >= self.reply_size.parts_at_once() && place >= self.session.parts_of_oldest() as u64
+    }
+
+    // Drops the command of a client that is gone before its first post.
+    fn drop_fresh(&mut self) -> bool
+        ensures drops { DropsCommand C.moves self.old (Ok result) self.new }
+        ensures none { result ≡ false → self.old.gone ≡ true → (self.new ≡ self.old) × (self.new.commands.fresh ≡ None) }
+    {
+        if !self.gone {
+            return false;
+        }
+        self.commands.drop_fresh()
+    }
+
+    fn post_fresh<J: Naming>(
+        &mut self,
+        outlet: &mut Outlet<Batch>,
+        view: &mut MapView<J>,
+    ) -> Result<bool, NoMemory>
+        requires { self.old.gone ≡ false }
+        ensures posts { PostsCommand C.moves (record { client = self.old; outlet = outlet.old; view = view.old }) result (record { client = self.new; outlet = outlet.new; view = view.new }) }
+        ensures none { IfStill result (PostsNone self.old self.new outlet.new) }
+    {
+        self.commands.post_fresh(outlet, view)
+    }
+
+    fn post_again<J: Naming>(
+        &mut self,
+        number: u64,
+        outlet: &mut Outlet<Batch>,
+        view: &mut MapView<J>,
+    ) -> Result<bool, NoMemory>
+        ensures posts { PostsCommand C.moves (record { client = self.old; outlet = outlet.old; view = view.old }) result (record { client = self.new; outlet = outlet.new; view = view.new }) }
+        ensures commands { PostsAtResult self.old.commands number outlet.old view.old result self.new.commands outlet.new view.new }
+        ensures full { IfStill result (WantsPostAt self.old.commands number → HasNoPlace outlet.new) }
+    {
+        self.commands.post_again(number, outlet, view)
+    }
+
+    // Notes the end of the command for the part of this number, where it has one, and tells the session.
+    fn end(&mut self, number: u64) -> Result<bool, NoMemory>
+        ensures { FinishOutcome C.moves self.old number result self.new }
+    {
+        let Some((ticket, end)) = self.commands.end_of(number) else {
+            return Ok(false);
+        };
+        self.port.note(ticket, end)?;
+        let (ticket, end) = self.commands.finish(number);
+        self.reply_size.note(&end);
+        self.session.ended(ticket, end);
+        Ok(true)
+    }
+
+    // Drains the session, and pushes what the client takes.
+    fn write(&mut self) -> Result<bool, NoMemory>
+        ensures writes { WritesReplies C.moves self.old result self.new }
+        ensures none { IfStill result (WritesNone C.takes_none self.old self.new) }
+    {
+        let drained = self.drain()?;
+        let pushed = self.push()?;
+        Ok(drained | pushed)
+    }
+
+    // Whether the client is there, and takes its bytes. A client that does not read is asked for no more.
+    fn may_drain(&self) -> bool
+        ensures { self.now.gone ≡ false → self.now.unpushed ≡ [] → result ≡ true }
+    {
+        !self.gone && self.unpushed.len() < MAX_UNPUSHED
+    }
+
+    fn drain(&mut self) -> Result<bool, NoMemory>
+        ensures drains { DrainsReplies C.moves self.old result self.new }
+        ensures none { IfStill result (DrainsNone self.old self.new) }
+    {
+        if !self.may_drain() {
+            return Ok(false);
+        }
+        let count = self.unpushed.drain(&mut self.session)?;
+        Ok(count > 0)
+    }
+
+    // Whether the client is there, and has not all its bytes.
+    fn may_push(&self) -> bool
+        ensures { IsTrue result ↔ (self.now.gone ≡ false) × (self.now.unpushed ≡ [] → ⊥) }
+    {
+        !self.gone && !self.unpushed.is_empty()
+    }
+
+    fn push(&mut self) -> Result<bool, NoMemory>
+        ensures pushes { PushesBytes C.moves self.old result self.new }
+        ensures none { IfStill result (PushesNone C.takes_none self.old self.new) }
+    {
+        if !self.may_push() {
+            return Ok(false);
+        }
+        match self.port.push(self.unpushed.as_slice())? {
+            Flow::Bytes(count) => {
+                self.unpushed.count_pushed(count);
+                Ok(count > 0)
+            }
+            Flow::Nothing => Ok(false),
+            Flow::Gone => {
+                self.part();
+                Ok(true)
+            }
+        }
+    }
+}

@@ -1,0 +1,129 @@
+//! The clients of a worker by their numbers.
+
+ghost use Rattle.std.specs.Prelude.{◌≡◌, ◌↔◌, ◌+◌, [], IsTrue, IfOk, IfSome, MatchOption, Ok, Some, length, false};
+ghost use Rattle.std.specs.FinMap.{get};
+ghost use Rattle.proxy_turns.specs.ClientTurn.{SettleOutcome, TurnOutcome};
+ghost use Rattle.command_future.specs.CommandModel.{CommandModel};
+ghost use Rattle.proxy_turns.specs.Pause.{pause_at};
+ghost use Rattle.proxy_turns.specs.DueCommands.{IsSettled, IsToSettleAt};
+ghost use Rattle.proxy_turns.specs.ClientTable.{AtClient, AtPlace, IsDoneAt, IsTurnedAt, LeavesAt, TakesAny};
+ghost use Rattle.proxy_turns.specs.WorkerModel.{Tells, clients_in};
+
+use crate::client_state::ClientState;
+use crate::port::ClientPort;
+use crate::turned::{Settled, Turned};
+use indexmap::IndexMap;
+use key_split::{Batch, Ticket, Told};
+use proxy_lanes::{MapView, Naming, Outlet};
+use resp_wire::NoMemory;
+
+/// The clients of a worker, by their numbers, in the order of their turns.
+pub(crate) type ClientTable<C> = IndexMap<u32, ClientState<C>>;
+
+/// Tells the command of this ticket what came, where one awaits that. True where one does.
+pub(crate) fn tell_client<C: ClientPort + Drop>(
+    clients: &mut ClientTable<C>,
+    ticket: Ticket,
+    told: Told,
+) -> bool
+    ensures tells { Tells (clients_in clients.old.entries) ticket told result (clients_in clients.new.entries) }
+    ensures len { length clients.new.entries ≡ length clients.old.entries }
+{
+    let Some(client) = clients.get_mut(&ticket.client) else {
+        return false;
+    };
+    client.hear(ticket, told)
+}
+
+/// Gives the client at this place its turn.
+pub(crate) fn turn_at<C: ClientPort + Drop, J: Naming>(
+    clients: &mut ClientTable<C>,
+    place: usize,
+    outlet: &mut Outlet<Batch>,
+    view: &mut MapView<J>,
+    piece: &mut Vec<u8>,
+) -> Result<Turned, NoMemory>
+    ensures serves { AtPlace clients.old.entries place (record { clients = clients_in clients.old.entries; outlet = outlet.old; view = view.old })
+        (λ old new. TurnOutcome C.moves old result new) (result ≡ Ok (record { moved = false; done = false }))
+        (record { clients = clients_in clients.new.entries; outlet = outlet.new; view = view.new }) }
+    ensures turned { IfOk result (λ turned. IsTurnedAt C.gives_none C.takes_none clients.old.entries place turned outlet.new clients.new.entries) }
+    ensures len { length clients.new.entries ≡ length clients.old.entries }
+{
+    let Some(client) = clients.get_index_mut(place) else {
+        return Ok(Turned {
+            moved: false,
+            done: false,
+        });
+    };
+    client.turn(outlet, view, piece)
+}
+
+/// Ends the command of this ticket, or posts it again, as it wants.
+pub(crate) fn settle_at<C: ClientPort + Drop, J: Naming>(
+    clients: &mut ClientTable<C>,
+    ticket: Ticket,
+    outlet: &mut Outlet<Batch>,
+    view: &mut MapView<J>,
+) -> Result<Settled, NoMemory>
+    ensures settles { AtClient (record { clients = clients_in clients.old.entries; outlet = outlet.old; view = view.old }) ticket.client
+        (λ old new. SettleOutcome C.moves old ticket.part result new) (result ≡ Ok Settled.Nothing)
+        (record { clients = clients_in clients.new.entries; outlet = outlet.new; view = view.new }) }
+    ensures settled { IsSettled result (IsToSettleAt (clients_in clients.new.entries) ticket.client ticket.part) outlet.new }
+    ensures len { length clients.new.entries ≡ length clients.old.entries }
+{
+    let Some(client) = clients.get_mut(&ticket.client) else {
+        return Ok(Settled::Nothing);
+    };
+    client.finish_or_repost(ticket.part, outlet, view)
+}
+
+/// How long the command of this ticket waits before its next post, in milliseconds; `None` where it wants none.
+pub(crate) fn pause_before_post<C: ClientPort + Drop>(
+    clients: &ClientTable<C>,
+    ticket: Ticket,
+) -> Option<u64>
+    ensures { (c : CommandModel) → IsToSettleAt (clients_in clients.now.entries) ticket.client ticket.part c → result ≡ pause_at c.stage c.followed }
+{
+    clients.get(&ticket.client)?.pause(ticket.part)
+}
+
+/// Takes off the client at this place, where nothing is left to do for it. The last one takes its place.
+pub(crate) fn take_done<C: ClientPort + Drop>(
+    clients: &mut ClientTable<C>,
+    place: usize,
+) -> Option<C>
+    ensures leaves { LeavesAt clients.old.entries place result (clients_in clients.new.entries) }
+    ensures len { MatchOption result (length clients.new.entries ≡ length clients.old.entries) (λ _. length clients.new.entries + 1 ≡ length clients.old.entries) }
+{
+    if !is_done(clients, place) {
+        return None;
+    }
+    let (_, client) = clients.swap_remove_index(place)?;
+    Some(client.into_port())
+}
+
+fn is_done<C: ClientPort + Drop>(clients: &ClientTable<C>, place: usize) -> bool
+    ensures { IsTrue result ↔ IsDoneAt clients.now.entries place }
+{
+    match clients.get_index(place) {
+        Some((_, client)) => client.is_done(),
+        None => false,
+    }
+}
+
+/// Takes off one of the clients, where there is one.
+pub(crate) fn take_any<C: ClientPort + Drop>(clients: &mut ClientTable<C>) -> Option<C>
+    ensures takes { TakesAny (clients_in clients.old.entries) result (clients_in clients.new.entries) }
+    ensures len { IfSome result (λ _. length clients.new.entries + 1 ≡ length clients.old.entries) }
+{
+    let number = first_number(clients)?;
+    let client = clients.swap_remove(&number)?;
+    Some(client.into_port())
+}
+
+// The number of one of them.
+fn first_number<C: ClientPort + Drop>(clients: &ClientTable<C>) -> Option<u32>
+    ensures { MatchOption result (clients.now.entries ≡ []) (λ number. (client : _) × (get (clients_in clients.now.entries) number ≡ Some client)) }
+{
+    clients.keys().next().copied()
+}

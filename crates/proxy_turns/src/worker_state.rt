@@ -1,0 +1,487 @@
+//! The clients of a worker, between them and the carrier the lanes.
+
+ghost use Rattle.std.specs.Prelude.{◌≡◌, ◌⊎◌, ◌<◌, ◌≤◌, ◌+◌, [], ◌∷◌, ◌++◌, ℕ, List, IfOk, IsTrue, ◌↔◌, OnOk, Ok, Some, length, true, vec_capacity};
+ghost use Rattle.std.specs.FinMap.{empty, insert};
+ghost use Rattle.std.specs.HashMap.{spare};
+ghost use Rattle.proxy_turns.specs.WorkerModel.{AdmitsClients, AreAllServed, GivesBack, Learns, OneCame, RemovesClient, ServesClients, SettlesDue, TakesTold, TurnsClient, WorkerTurns, clients_in, with_port};
+ghost use Rattle.proxy_turns.specs.ClientRest.{HasNoPlace, IfStill};
+ghost use Rattle.proxy_turns.specs.DueCommands.{AreNoted, IsSettled, IsToSettleAt};
+ghost use Rattle.proxy_turns.specs.WorkerRest.{AreClientsAtRest, ArePostedAtRest, HasNoNewcomer, HasNothingToTell};
+ghost use Rattle.proxy_turns.specs.Arrivals.{AreToCome, PutsNew, counted_by, settled_in, turned_in};
+
+use crate::client_state::ClientState;
+use crate::client_table::{
+    ClientTable, pause_before_post, settle_at, take_any, take_done, tell_client, turn_at,
+};
+use crate::due_commands::DueCommands;
+use crate::gate::Gate;
+use crate::newcomer::{Newcomer, is_new};
+use crate::port::ClientPort;
+use crate::round::Round;
+use crate::turned::{Settled, Turned};
+use crate::worker_end::{WorkerEnd, WorkerOutcome};
+use indexmap::IndexMap;
+use key_split::{Batch, Ticket, Told};
+use proxy_lanes::{Front, Inlet, LANE_PLACES, MapView, Naming, Newcomers, Outlet, WorkerEnds};
+use resp_wire::{Limits, NoMemory};
+use std::alloc::{AllocFailed, Global};
+use std::mem;
+
+/// The clients of a worker with its ends of the lanes.
+#[derive(Drop)]
+pub(crate) struct WorkerState<C: ClientPort + Drop, J: Naming> {
+    alloc: Global,
+    worker: u16,
+    clients: ClientTable<C>,
+    // The number of the last client that came.
+    newest: Option<u32>,
+    newcomers: Newcomers<Newcomer<C, J>>,
+    // How many are still to come; `None` without end.
+    left: Option<u32>,
+    outlet: Outlet<Batch>,
+    view: MapView<J>,
+    inlet: Inlet<(Ticket, Told)>,
+    // How many parts have ended.
+    answered: u64,
+    // The ports of the clients that were let go, where they are kept.
+    ports: Vec<C>,
+    // The parts whose commands have ended or are to be posted again.
+    due: DueCommands,
+    piece: Vec<u8>,
+    round: Round,
+    ghost ports_fit: { length ports.items + length clients.entries ≤ vec_capacity ports },
+    ghost due_known: { AreNoted (clients_in clients.entries) due },
+}
+
+impl<C: ClientPort + Drop, J: Naming> WorkerState<C, J> {
+    ghost use Rattle.proxy_turns.specs.WorkerState.{state_model};
+    ghost use Rattle.proxy_turns.specs.Worker.{HandsBack, new_worker};
+
+    pub(crate) fn new(
+        alloc: Global,
+        ends: WorkerEnds<Newcomer<C, J>, J>,
+        left: Option<u32>,
+    ) -> WorkerState<C, J>
+        ensures { state_model result ≡ new_worker ends left }
+    {
+        let WorkerEnds {
+            worker,
+            outlet,
+            inlet,
+            newcomers,
+            view,
+        } = ends;
+        WorkerState {
+            alloc,
+            worker,
+            clients: IndexMap::new(alloc),
+            newest: None,
+            newcomers,
+            left,
+            outlet,
+            view,
+            inlet,
+            answered: 0,
+            ports: Vec::new(alloc),
+            due: DueCommands::new(alloc, worker),
+            piece: Vec::new(alloc),
+            round: Round::new(),
+        }
+    }
+
+    /// Takes new clients, tells the commands what came, gives each client its turn, and lets go those that are done.
+    pub(crate) fn turn<G: Gate>(&mut self, gate: &G) -> Result<bool, NoMemory>
+        ensures turns { WorkerTurns C.moves (state_model self.old) result (state_model self.new) }
+        ensures no_newcomer { IfStill result (HasNoNewcomer (state_model self.new)) }
+        ensures nothing_to_tell { IfStill result (HasNothingToTell (state_model self.new)) }
+        ensures clients_rest { IfStill result (AreClientsAtRest C.gives_none C.takes_none (state_model self.new)) }
+        ensures posted_rest { IfStill result (ArePostedAtRest (state_model self.new)) }
+    {
+        let came = self.admit_all()?;
+        let told = self.take_told(gate)?;
+        let settled = self.settle_due(gate)?;
+        let served = self.serve_clients()?;
+        Ok(came | told | settled | served)
+    }
+
+    /// Whether all clients that were to come came, and none is left.
+    pub(crate) fn is_served(&self) -> bool
+        ensures { IsTrue result ↔ AreAllServed (state_model self.now) }
+    {
+        is_none_to_come(self.left) && self.clients.is_empty()
+    }
+
+    pub(crate) fn worker(&self) -> u16
+        ensures { result ≡ self.now.worker }
+    {
+        self.worker
+    }
+
+    /// How many parts have ended.
+    pub(crate) fn answered(&self) -> u64
+        ensures { result ≡ self.now.answered }
+    {
+        self.answered
+    }
+
+    /// When the first of the commands that wait is due.
+    pub(crate) fn next_due(&self) -> Option<u64> {
+        self.due.next_due()
+    }
+
+    /// How many batches were posted.
+    pub(crate) fn posted(&self) -> u64 {
+        self.outlet.posted()
+    }
+
+    /// Gives all ports back.
+    pub(crate) fn end(&mut self, outcome: WorkerOutcome) -> WorkerEnd<C>
+        ensures outcome { result.outcome ≡ outcome }
+        ensures back { HandsBack (state_model self.old) result }
+    {
+        let clients = mem::replace(&mut self.clients, IndexMap::new(self.alloc));
+        let ports = mem::replace(&mut self.ports, Vec::new(self.alloc));
+        WorkerEnd {
+            worker: self.worker,
+            ports: give_back(clients, ports),
+            outcome,
+        }
+    }
+}
+
+impl<C: ClientPort + Drop, J: Naming> WorkerState<C, J> {
+    ghost use Rattle.proxy_turns.specs.WorkerState.{state_model};
+    ghost use Rattle.proxy_turns.specs.ClientTable.{IsDoneAt, IsStillAt, IsTurnedAt};
+
+    // Takes the clients that are handed over, while any are to come.
+    fn admit_all(&mut self) -> Result<bool, NoMemory>
+        ensures admits { AdmitsClients C.moves (state_model self.old) result (state_model self.new) }
+        ensures none { IfStill result (HasNoNewcomer (state_model self.new)) }
+    {
+        let first = self.admit()?;
+        if !first {
+            return Ok(false);
+        }
+        for _ in 1..LANE_PLACES {
+            let came = self.admit()?;
+            if !came {
+                return Ok(true);
+            }
+        }
+        Ok(true)
+    }
+
+    // Takes the next new client, where there is one and any are to come.
+    fn admit(&mut self) -> Result<bool, NoMemory>
+        ensures admits { AdmitsClients C.moves (state_model self.old) result (state_model self.new) }
+        ensures none { IfStill result (HasNoNewcomer (state_model self.new)) }
+    {
+        if !are_to_come(self.left) {
+            return Ok(false);
+        }
+        make_room(&mut self.clients, &mut self.ports)?;
+        let Some(newcomer) = self.newcomers.take() else {
+            return Ok(false);
+        };
+        let Newcomer {
+            number,
+            port,
+            front,
+        } = newcomer;
+        learn(&mut self.view, front);
+        let client = ClientState::new(self.alloc, self.worker, number, Limits::full(), port);
+        put_new(
+            &mut self.clients,
+            &mut self.ports,
+            &mut self.newest,
+            self.left,
+            number,
+            client,
+        );
+        self.left = one_fewer(self.left);
+        Ok(true)
+    }
+
+    // Takes what came down the lane, and tells it.
+    fn take_told<G: Gate>(&mut self, gate: &G) -> Result<bool, NoMemory>
+        ensures takes { TakesTold C.moves (state_model self.old) result (state_model self.new) }
+        ensures none { IfStill result (HasNothingToTell (state_model self.new)) }
+    {
+        let first = self.take_one(gate)?;
+        if !first {
+            return Ok(false);
+        }
+        for _ in 1..LANE_PLACES {
+            let took = self.take_one(gate)?;
+            if !took {
+                return Ok(true);
+            }
+        }
+        Ok(true)
+    }
+
+    fn take_one<G: Gate>(&mut self, gate: &G) -> Result<bool, NoMemory>
+        ensures takes { TakesTold C.moves (state_model self.old) result (state_model self.new) }
+        ensures none { IfStill result (HasNothingToTell (state_model self.new)) }
+    {
+        self.due.reserve_one()?;
+        let Some((ticket, told)) = self.inlet.take() else {
+            return Ok(false);
+        };
+        if !tell_client(&mut self.clients, ticket, told) {
+            return Ok(true);
+        }
+        let pause = pause_before_post(&self.clients, ticket);
+        self.due.note(ticket, pause, gate);
+        Ok(true)
+    }
+
+    // Ends the commands that have ended, and posts those again that are due by now, while the lane takes them.
+    fn settle_due<G: Gate>(&mut self, gate: &G) -> Result<bool, NoMemory>
+        ensures settles { SettlesDue C.moves (state_model self.old) result (state_model self.new) }
+        ensures rest { OnOk result (ArePostedAtRest (state_model self.new)) }
+    {
+        self.due.end_pauses(gate)?;
+        let ended = self.end_all()?;
+        let posted = self.post_due()?;
+        Ok(ended | posted)
+    }
+
+    // Ends the commands that have ended.
+    fn end_all(&mut self) -> Result<bool, NoMemory>
+        ensures settles { SettlesDue C.moves (state_model self.old) result (state_model self.new) }
+        ensures none { OnOk result (self.new.due.ended.items ≡ []) }
+    {
+        let mut moved = false;
+        while let Some(ticket) = self.due.first_ended() {
+            let settled = self.settle_one(ticket)?;
+            moved |= settled.is_move();
+            self.due.drop_ended();
+        }
+        Ok(moved)
+    }
+
+    // Posts those again that are due, while the lane takes them.
+    fn post_due(&mut self) -> Result<bool, NoMemory>
+        ensures settles { SettlesDue C.moves (state_model self.old) result (state_model self.new) }
+        ensures ended { self.new.due.ended ≡ self.old.due.ended }
+        ensures none { OnOk result ((self.new.due.due.items ≡ []) ⊎ HasNoPlace self.new.outlet) }
+    {
+        let mut moved = false;
+        while let Some(ticket) = self.due.first_due() {
+            let settled = self.settle_one(ticket)?;
+            moved |= settled.is_move();
+            if settled.is_held() {
+                return Ok(moved);
+            }
+            self.due.drop_due();
+        }
+        Ok(moved)
+    }
+
+    fn settle_one(&mut self, ticket: Ticket) -> Result<Settled, NoMemory>
+        ensures settles { SettlesDue C.moves (state_model self.old) (settled_in result) (state_model self.new) }
+        ensures settled { IsSettled result (IsToSettleAt (clients_in self.new.clients.entries) ticket.client ticket.part) self.new.outlet }
+        ensures due { self.new.due ≡ self.old.due }
+    {
+        let settled = settle_at(&mut self.clients, ticket, &mut self.outlet, &mut self.view)?;
+        self.answered = counted(self.answered, settled);
+        Ok(settled)
+    }
+
+    // Gives each client its turn, and lets it go where it is done.
+    fn serve_clients(&mut self) -> Result<bool, NoMemory>
+        ensures serves { ServesClients C.moves (state_model self.old) result (state_model self.new) }
+        ensures rest { IfStill result (AreClientsAtRest C.gives_none C.takes_none (state_model self.new)) }
+    {
+        let mut moved = false;
+        let round = self.round;
+        let count = self.clients.len();
+        for step in 0..count {
+            moved |= self.serve_client_at(round.place(step, count))?;
+        }
+        Ok(moved)
+    }
+
+    // Gives the client at this place its turn, and lets it go where it is done.
+    fn serve_client_at(&mut self, place: usize) -> Result<bool, NoMemory>
+        ensures serves { ServesClients C.moves (state_model self.old) result (state_model self.new) }
+        ensures rests { IfStill result (IsStillAt C.gives_none C.takes_none self.old.clients.entries place self.new.outlet self.new.clients.entries) }
+    {
+        let posted = self.outlet.posted();
+        let turned = self.turn_client_at(place)?;
+        self.round.had_turn(place, self.outlet.posted() > posted);
+        if !turned.done {
+            return Ok(turned.moved);
+        }
+        let left = self.remove_done(place);
+        Ok(turned.moved | left)
+    }
+
+    fn turn_client_at(&mut self, place: usize) -> Result<Turned, NoMemory>
+        ensures turns { TurnsClient C.moves (state_model self.old) (turned_in result) (state_model self.new) }
+        ensures turned { IfOk result (λ turned. IsTurnedAt C.gives_none C.takes_none self.old.clients.entries place turned self.new.outlet self.new.clients.entries) }
+        ensures len { length self.new.clients.entries ≡ length self.old.clients.entries }
+    {
+        turn_at(
+            &mut self.clients,
+            place,
+            &mut self.outlet,
+            &mut self.view,
+            &mut self.piece,
+        )
+    }
+
+    // Lets the client at this place go, where it is done. Its port is closed.
+    fn remove_done(&mut self, place: usize) -> bool
+        ensures removes { RemovesClient C.moves (state_model self.old) (Ok result) (state_model self.new) }
+        ensures done { IsDoneAt self.old.clients.entries place → result ≡ true }
+    {
+        let Some(port) = take_done(&mut self.clients, place) else {
+            return false;
+        };
+        keep_port(&mut self.ports, self.left, closed(port));
+        true
+    }
+}
+
+// Makes room for one more client, and for its port beside those of all others.
+fn make_room<C: ClientPort + Drop>(
+    clients: &mut ClientTable<C>,
+    ports: &mut Vec<C>,
+) -> Result<(), NoMemory>
+    ensures clients { clients_in clients.new.entries ≡ clients_in clients.old.entries }
+    ensures len { length clients.new.entries ≡ length clients.old.entries }
+    ensures ports { ports.new.items ≡ ports.old.items }
+    ensures capacity { vec_capacity ports.old ≤ vec_capacity ports.new }
+    ensures clients_room { OnOk result (0 < spare clients.new) }
+    ensures ports_room { OnOk result (length ports.new.items + length clients.new.entries < vec_capacity ports.new) }
+{
+    ports.reserve(clients.len() + 1)?;
+    clients.reserve(1)?;
+    Ok(())
+}
+
+// What was published is known to the view from now on, as far as the front goes.
+fn learn<J: Naming>(view: &mut MapView<J>, front: Option<Front<J>>)
+    ensures { Learns view.old front view.new }
+{
+    match front {
+        Some(front) => view.learn(front),
+        None => {}
+    }
+}
+
+// Whether any clients are to come.
+fn are_to_come(left: Option<u32>) -> bool
+    ensures { IsTrue result ↔ AreToCome left }
+{
+    match left {
+        Some(left) => left > 0,
+        None => true,
+    }
+}
+
+fn is_none_to_come(left: Option<u32>) -> bool
+    ensures { IsTrue result ↔ (left ≡ Some 0) }
+{
+    match left {
+        Some(left) => left == 0,
+        None => false,
+    }
+}
+
+// How many are to come after one came.
+fn one_fewer(left: Option<u32>) -> Option<u32>
+    requires { AreToCome left }
+    ensures { OneCame left result }
+{
+    match left {
+        Some(left) => Some(left - 1),
+        None => None,
+    }
+}
+
+// Puts the client under its number, or lets it go where that is not new. There is room.
+fn put_new<C: ClientPort + Drop>(
+    clients: &mut ClientTable<C>,
+    ports: &mut Vec<C>,
+    newest: &mut Option<u32>,
+    left: Option<u32>,
+    number: u32,
+    client: ClientState<C>,
+)
+    requires clients { 0 < spare clients.old }
+    requires ports { length ports.old.items + length clients.old.entries < vec_capacity ports.old }
+    ensures puts { PutsNew C.moves (clients_in clients.old.entries) ports.old.items newest.old left number client (clients_in clients.new.entries) ports.new.items newest.new }
+    ensures ports_fit { length ports.new.items + length clients.new.entries ≤ vec_capacity ports.new }
+{
+    if !is_new(clients, *newest, number) {
+        keep_port(ports, left, closed(client.into_port()));
+        return;
+    }
+    put_ready(clients, number, client);
+    *newest = Some(number);
+}
+
+fn put_ready<C: ClientPort + Drop>(
+    clients: &mut ClientTable<C>,
+    number: u32,
+    client: ClientState<C>,
+)
+    requires { 0 < spare clients.old }
+    ensures puts { clients_in clients.new.entries ≡ insert (clients_in clients.old.entries) number client }
+    ensures len { length clients.new.entries ≤ length clients.old.entries + 1 }
+{
+    let put: Result<Option<ClientState<C>>, AllocFailed<(u32, ClientState<C>)>> = clients.insert(
+        number, client,
+    );
+    put.unwrap();
+}
+
+// The port of a client that is let go.
+fn closed<C: ClientPort>(port: C) -> C
+    ensures { C.moves port [] [] [] result }
+{
+    let mut port = port;
+    port.close();
+    port
+}
+
+// Keeps the port, where clients do not come without end. There is room.
+fn keep_port<C: Drop>(ports: &mut Vec<C>, left: Option<u32>, port: C)
+    requires { length ports.old.items < vec_capacity ports.old }
+    ensures ports { ports.new.items ≡ with_port left ports.old.items port }
+    ensures len { length ports.new.items ≤ length ports.old.items + 1 }
+    ensures capacity { vec_capacity ports.new ≡ vec_capacity ports.old }
+{
+    match left {
+        Some(_) => ports.push_reserved(port),
+        None => drop(port),
+    }
+}
+
+// Gives the ports back, and behind them those of the clients. There is room.
+fn give_back<C: ClientPort + Drop>(clients: ClientTable<C>, ports: Vec<C>) -> Vec<C>
+    requires { length ports.items + length clients.entries ≤ vec_capacity ports }
+    ensures { (numbers : List ℕ) × GivesBack (clients_in clients.entries) ports.items numbers result.items }
+{
+    let mut clients = clients;
+    let mut ports = ports;
+    while let Some(port) = take_any(&mut clients) {
+        ports.push_reserved(port);
+    }
+    ports
+}
+
+// How many parts have ended, after a step of a command.
+fn counted(answered: u64, settled: Settled) -> u64
+    ensures { result ≡ counted_by settled answered }
+{
+    match settled {
+        Settled::Finished => answered.saturating_add(1),
+        Settled::Posted => answered,
+        Settled::Held => answered,
+        Settled::Nothing => answered,
+    }
+}

@@ -1,0 +1,137 @@
+//! A courier that posts and tells what a row says.
+
+ghost use Rattle.std.specs.Prelude.{◌≡◌, ⊤};
+
+use command_future::{self, Command, OneCommand, Posting, Want};
+use futures::executor::block_on;
+use futures::test::MockTask;
+use key_split::{Batch, Ticket, Told};
+use row_words::{Answer, Args, CallFault};
+use slot_map::NodeId;
+use std::alloc::{AllocGlobal, Global};
+use std::collections::VecDeque;
+use std::random::RandomSource;
+use std::sync::Wait;
+
+/// Posts after some calls that post nothing, and tells what it was given, in order, and then Lost.
+#[derive(Drop)]
+pub struct Courier {
+    alloc: Global,
+    later: u64,
+    node: NodeId,
+    tells: VecDeque<Told>,
+    posted: Vec<Batch>,
+}
+
+impl Courier {
+    pub fn new(alloc: Global) -> Courier {
+        Courier {
+            alloc,
+            later: 0,
+            node: NodeId::new(0).unwrap(),
+            tells: VecDeque::new(alloc),
+            posted: Vec::new(alloc),
+        }
+    }
+
+    pub fn call(
+        &mut self,
+        call: &str,
+        args: &mut Args<'_>,
+        answer: &mut Answer,
+    ) -> Result<(), CallFault> {
+        match call {
+            "new" => *self = Courier::new(self.alloc),
+            "later" => self.later = args.number()?,
+            "node" => self.node = args.node()?,
+            "tells" => self.tells.push_back(args.told(self.alloc)?)?,
+            "posts" => {
+                answer.number(self.posted.len() as u64);
+                return Ok(());
+            }
+            "posted" => return show_batches(&self.posted, answer),
+            _ => return Err(CallFault::NoSuchCall),
+        }
+        answer.name("ok");
+        Ok(())
+    }
+}
+
+fn show_batches(batches: &[Batch], answer: &mut Answer) -> Result<(), CallFault> {
+    for batch in batches {
+        answer.name(";");
+        answer.batch(batch)?;
+    }
+    Ok(())
+}
+
+impl command_future::Courier for Courier {
+    ghost posts = { λ _ _ _. ⊤ };
+
+    ghost tells = { λ _ _ _ _. ⊤ };
+
+    ghost rests = { λ _ _. ⊤ };
+
+    fn post(&mut self, command: &Command) -> Posting {
+        if self.later > 0 {
+            self.later -= 1;
+            return Posting::Later;
+        }
+        let node = match command.want() {
+            Want::Post(_, Some(named)) => named,
+            _ => self.node,
+        };
+        let Ok(batch) = command.batch(self.alloc, node) else {
+            return Posting::Later;
+        };
+        match self.posted.push(batch) {
+            Ok(()) => Posting::Sent(node),
+            Err(_) => Posting::Later,
+        }
+    }
+
+    fn told(&mut self, _ticket: Ticket) -> Option<Told> {
+        Some(self.tells.pop_front().unwrap_or(Told::Lost))
+    }
+}
+
+/// Carries a command to its end.
+pub fn carry<R: Wait + RandomSource + AllocGlobal>(
+    rt: &R,
+    courier: &mut Courier,
+    args: &mut Args<'_>,
+    answer: &mut Answer,
+) -> Result<(), CallFault> {
+    let ticket = args.ticket()?;
+    let command = Command::new(ticket, args.part(rt.alloc())?);
+    match block_on(rt, OneCommand::new(command, courier)) {
+        Ok((ticket, end)) => {
+            answer.ticket(ticket);
+            answer.end(&end);
+            Ok(())
+        }
+        Err(_) => Err(CallFault::NoMemory),
+    }
+}
+
+/// Polls a command once: whether it is pending, and whether its task was woken.
+pub fn poll_once<R: Wait + RandomSource + AllocGlobal>(
+    rt: &R,
+    courier: &mut Courier,
+    args: &mut Args<'_>,
+    answer: &mut Answer,
+) -> Result<(), CallFault> {
+    let ticket = args.ticket()?;
+    let command = Command::new(ticket, args.part(rt.alloc())?);
+    let mut future = OneCommand::new(command, courier);
+    let Ok(task) = MockTask::new(rt) else {
+        return Err(CallFault::NoMemory);
+    };
+    answer.name(if task.poll(&mut future).is_pending() {
+        "pending"
+    } else {
+        "ready"
+    });
+    answer.name(if task.is_woken() { "woken" } else { "still" });
+    Ok(())
+}

@@ -1,0 +1,237 @@
+//! Links and ports over a stream in memory.
+
+use crate::maps::MapObjects;
+use crate::stream::MemoryStream;
+use crate::wire::WireObjects;
+use node_link::{BytePort, FLUSH_AFTER_READS, Got, Link, LinkFault, NodePort, PortFault};
+use resp_wire::{Limits, Value};
+use row_words::{Answer, Args, CallFault};
+use slot_map::NodeTable;
+use std::alloc::Global;
+
+type Port = BytePort<MemoryStream>;
+
+#[derive(Drop)]
+pub struct LinkObjects {
+    alloc: Global,
+    /// The stream of the link or port that is made next.
+    stream: MemoryStream,
+    port: Option<Port>,
+    link: Option<Link<Port>>,
+}
+
+impl LinkObjects {
+    pub fn new(alloc: Global) -> LinkObjects {
+        LinkObjects {
+            alloc,
+            stream: MemoryStream::new(alloc, Vec::new(alloc)),
+            port: None,
+            link: None,
+        }
+    }
+
+    /// How the next stream is.
+    pub fn stream(&mut self, args: &mut Args<'_>, answer: &mut Answer) -> Result<(), CallFault> {
+        match args.name()? {
+            "gives" => self.give(args.bytes()?)?,
+            "slow" => self.stream.slow_down(),
+            "room" => self.stream.make_room(args.size()?),
+            _ => return Err(CallFault::NoSuchCall),
+        }
+        answer.name("ok");
+        Ok(())
+    }
+
+    /// The next stream gives these bytes.
+    fn give(&mut self, bytes: &[u8]) -> Result<(), CallFault> {
+        let coming = Vec::from_slice(self.alloc, bytes)?;
+        self.stream = MemoryStream::new(self.alloc, coming);
+        Ok(())
+    }
+
+    /// A port over the stream that was described.
+    fn next_port(&mut self) -> Port {
+        let next = MemoryStream::new(self.alloc, Vec::new(self.alloc));
+        let stream = std::mem::replace(&mut self.stream, next);
+        BytePort::new(self.alloc, stream, Limits::full())
+    }
+
+    pub fn port(&mut self, args: &mut Args<'_>, answer: &mut Answer) -> Result<(), CallFault> {
+        match args.name()? {
+            "new" => {
+                self.port = Some(self.next_port());
+                answer.name("ok");
+                Ok(())
+            }
+            call => {
+                let port = self.port.as_mut().ok_or(CallFault::NotMade)?;
+                call_of_port(self.alloc, port, call, args, answer)
+            }
+        }
+    }
+
+    pub fn link(
+        &mut self,
+        maps: &mut MapObjects,
+        wire: &mut WireObjects,
+        args: &mut Args<'_>,
+        answer: &mut Answer,
+    ) -> Result<(), CallFault> {
+        match args.name()? {
+            "new" => {
+                let node = args.node()?;
+                let port = self.next_port();
+                self.link = Some(Link::new(self.alloc, port, node));
+                answer.name("ok");
+                Ok(())
+            }
+            "patience" => {
+                answer.number(u64::from(FLUSH_AFTER_READS));
+                Ok(())
+            }
+            call => {
+                let link = self.link.as_mut().ok_or(CallFault::NotMade)?;
+                if show_moved(link.port(), call, answer) {
+                    return Ok(());
+                }
+                call_of_link(self.alloc, link, &mut maps.table, wire, call, args, answer)
+            }
+        }
+    }
+}
+
+/// Shows what the port's stream moved, where that is asked.
+fn show_moved(port: &Port, call: &str, answer: &mut Answer) -> bool {
+    match call {
+        "written" => answer.bytes(port.stream().taken()),
+        "reads" => answer.number(port.stream().reads()),
+        "writes" => answer.number(port.stream().writes()),
+        _ => return false,
+    }
+    true
+}
+
+fn call_of_port(
+    alloc: Global,
+    port: &mut Port,
+    call: &str,
+    args: &mut Args<'_>,
+    answer: &mut Answer,
+) -> Result<(), CallFault> {
+    match call {
+        "send" => {
+            let batch = args.batch(alloc)?;
+            answer.done(port.send(&batch));
+        }
+        "slots" => answer.done(port.ask_slots()),
+        "next" => show_next(port.next(), answer),
+        "wait" => show_next(next_within(port, args.number()?), answer),
+        _ => {
+            if !show_moved(port, call, answer) {
+                return Err(CallFault::NoSuchCall);
+            }
+        }
+    }
+    Ok(())
+}
+
+/// The next value, of so many calls at most.
+fn next_within(port: &mut Port, calls: u64) -> Result<Option<Value>, PortFault> {
+    for _ in 0..calls {
+        match port.next() {
+            Ok(None) => {}
+            next => return next,
+        }
+    }
+    Ok(None)
+}
+
+fn show_next(next: Result<Option<Value>, PortFault>, answer: &mut Answer) {
+    match next {
+        Ok(Some(value)) => answer.value(&value),
+        Ok(None) => answer.name("none"),
+        Err(fault) => answer.debug(&fault),
+    }
+}
+
+fn call_of_link(
+    alloc: Global,
+    link: &mut Link<Port>,
+    table: &mut NodeTable,
+    wire: &mut WireObjects,
+    call: &str,
+    args: &mut Args<'_>,
+    answer: &mut Answer,
+) -> Result<(), CallFault> {
+    match call {
+        "send" => {
+            let batch = args.batch(alloc)?;
+            answer.done(link.send(&batch));
+        }
+        "slots" => answer.done(link.ask_slots()),
+        "receive" => show_received(receive(link, table)?, wire, answer),
+        "wait" => show_received(wait(link, table, args.number()?)?, wire, answer),
+        "lose" => lose(link, answer)?,
+        "failed" => answer.yes_or_no(link.failed()),
+        _ => return Err(CallFault::NoSuchCall),
+    }
+    Ok(())
+}
+
+fn receive(
+    link: &mut Link<Port>,
+    table: &mut NodeTable,
+) -> Result<Result<Option<Got>, LinkFault>, CallFault> {
+    if table.endpoint(link.node()).is_none() {
+        return Err(CallFault::NotNow);
+    }
+    Ok(link.receive(table))
+}
+
+/// Receives until something comes, so many times at most.
+fn wait(
+    link: &mut Link<Port>,
+    table: &mut NodeTable,
+    calls: u64,
+) -> Result<Result<Option<Got>, LinkFault>, CallFault> {
+    for _ in 0..calls {
+        match receive(link, table)? {
+            Ok(None) => {}
+            received => return Ok(received),
+        }
+    }
+    Ok(Ok(None))
+}
+
+/// Shows what was received. The answer to CLUSTER SLOTS is then the value that is held.
+fn show_received(
+    received: Result<Option<Got>, LinkFault>,
+    wire: &mut WireObjects,
+    answer: &mut Answer,
+) {
+    match received {
+        Ok(Some(Got::Ticket(ticket, told))) => {
+            answer.ticket(ticket);
+            answer.told(&told);
+        }
+        Ok(Some(Got::Slots(value))) => {
+            answer.name("slots");
+            answer.value(&value);
+            wire.hold(value);
+        }
+        Ok(None) => answer.name("none"),
+        Err(fault) => answer.debug(&fault),
+    }
+}
+
+/// Loses the oldest ticket of a link that has failed.
+fn lose(link: &mut Link<Port>, answer: &mut Answer) -> Result<(), CallFault> {
+    if !link.failed() {
+        return Err(CallFault::NotNow);
+    }
+    match link.lose() {
+        Some(ticket) => answer.ticket(ticket),
+        None => answer.name("none"),
+    }
+    Ok(())
+}

@@ -1,0 +1,38 @@
+//! Makes the calls that rows ask for: each line of standard input names an object, a call of it and its arguments, in the
+//! notation of `row_words`, and is answered by one line. One object of each kind is held at a time; `reset` drops them all.
+//! A line that says no call that can be made is answered `?` and why.
+//!
+//! The rows stand in tests/rows, which has a table for each layer.
+#![tactic(auto)]
+
+mod commands;
+mod courier;
+mod lanes;
+mod links;
+mod local;
+mod maps;
+mod nodes;
+mod objects;
+mod plans;
+mod reports;
+mod row;
+mod sessions;
+mod slots;
+mod stores;
+mod stream;
+mod wire;
+
+use row::{Input, next_row};
+use std::io::{self, BufReader, BufWriter, Write};
+
+fn main(rt: HostRuntime) -> anyhow::Result<()> {
+    let mut input = Input::new(rt.alloc(), BufReader::new(rt.alloc(), rt.reader())?);
+    let mut output = BufWriter::new(rt.alloc(), io::writer(&rt))?;
+    for _ in 0..u64::MAX {
+        if !next_row(rt, &mut input, &mut output)? {
+            break;
+        }
+    }
+    output.flush()?;
+    Ok(())
+}

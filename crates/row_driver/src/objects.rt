@@ -1,0 +1,117 @@
+//! The objects of a row, by name.
+
+use crate::commands::CommandObjects;
+use crate::links::LinkObjects;
+use crate::local::LocalObjects;
+use crate::maps::MapObjects;
+use crate::nodes::NodeObjects;
+use crate::plans::PlanObjects;
+use crate::reports::ReportObjects;
+use crate::sessions::SessionObjects;
+use crate::slots;
+use crate::stores::StoreObjects;
+use crate::wire::WireObjects;
+use row_words::{Answer, Args, CallFault};
+use std::alloc::{AllocGlobal, Global};
+use std::random::RandomSource;
+use std::sync::Wait;
+
+/// All objects but the lanes.
+#[derive(Drop)]
+pub struct Objects {
+    wire: WireObjects,
+    maps: MapObjects,
+    plans: PlanObjects,
+    commands: CommandObjects,
+    sessions: SessionObjects,
+    stores: StoreObjects,
+    nodes: NodeObjects,
+    links: LinkObjects,
+    reports: ReportObjects,
+    local: LocalObjects,
+}
+
+impl Objects {
+    pub fn new(alloc: Global) -> Objects {
+        Objects {
+            wire: WireObjects::new(alloc),
+            maps: MapObjects::new(alloc),
+            plans: PlanObjects::new(alloc),
+            commands: CommandObjects::new(alloc),
+            sessions: SessionObjects::new(alloc),
+            stores: StoreObjects::new(alloc),
+            nodes: NodeObjects::new(alloc),
+            links: LinkObjects::new(alloc),
+            reports: ReportObjects::new(alloc),
+            local: LocalObjects::new(alloc),
+        }
+    }
+
+    /// Makes the call of the object of that name.
+    pub fn call<R: Wait + RandomSource + AllocGlobal>(
+        &mut self,
+        rt: &R,
+        object: &str,
+        args: &mut Args<'_>,
+        answer: &mut Answer,
+    ) -> Result<(), CallFault> {
+        match object {
+            "command" => self.commands.command(args, answer),
+            "courier" => self.commands.courier(rt, args, answer),
+            "session" => self.sessions.call(args, answer),
+            "store" => self.stores.call(args, answer),
+            "report" => self.reports.call(args, answer),
+            _ => self.call_of_bytes(object, args, answer),
+        }
+    }
+
+    fn call_of_bytes(
+        &mut self,
+        object: &str,
+        args: &mut Args<'_>,
+        answer: &mut Answer,
+    ) -> Result<(), CallFault> {
+        match object {
+            "reader" => self.wire.reader(args, answer),
+            "value" => self.wire.value(args, answer),
+            "slot" => slots::call(args, answer),
+            "plan" => self.plans.call(args, answer),
+            "part" => self.plans.part(args, answer),
+            "end" => self.plans.end(args, answer),
+            _ => self.call_of_maps(object, args, answer),
+        }
+    }
+
+    fn call_of_maps(
+        &mut self,
+        object: &str,
+        args: &mut Args<'_>,
+        answer: &mut Answer,
+    ) -> Result<(), CallFault> {
+        match object {
+            "table" => self.maps.table(args, answer),
+            "map" => self.maps.map(&self.wire, args, answer),
+            "copy" => self.maps.copy(args, answer),
+            "told" => self.maps.told(args, answer),
+            _ => self.call_of_nodes(object, args, answer),
+        }
+    }
+
+    fn call_of_nodes(
+        &mut self,
+        object: &str,
+        args: &mut Args<'_>,
+        answer: &mut Answer,
+    ) -> Result<(), CallFault> {
+        match object {
+            "cluster" => self.nodes.call(&self.maps, &mut self.wire, args, answer),
+            "stream" => self.links.stream(args, answer),
+            "port" => self.links.port(args, answer),
+            "link" => self
+                .links
+                .link(&mut self.maps, &mut self.wire, args, answer),
+            "state" => self.local.call(args, answer),
+            _ => Err(CallFault::NoSuchObject),
+        }
+    }
+}

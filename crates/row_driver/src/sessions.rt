@@ -1,0 +1,112 @@
+//! A client's session.
+
+use key_split::{Ended, Ticket};
+use resp_wire::Limits;
+use row_words::{Answer, Args, CallFault};
+use session_order::{Session, SessionFault};
+use std::alloc::Global;
+
+#[derive(Drop)]
+pub struct SessionObjects {
+    alloc: Global,
+    session: Session,
+}
+
+impl SessionObjects {
+    pub fn new(alloc: Global) -> SessionObjects {
+        SessionObjects {
+            alloc,
+            session: Session::new(alloc, 0, 0, Limits::full()),
+        }
+    }
+
+    pub fn call(&mut self, args: &mut Args<'_>, answer: &mut Answer) -> Result<(), CallFault> {
+        match args.name()? {
+            "new" => self.renew(args, answer),
+            "feed" => {
+                show_fed(self.session.feed(args.bytes()?), answer);
+                Ok(())
+            }
+            "read" => {
+                show_read(self.session.read(), answer);
+                Ok(())
+            }
+            "ready" => show_ready(&mut self.session, answer),
+            "ended" => self.end(args, answer),
+            call => self.look(call, args, answer),
+        }
+    }
+
+    fn look(
+        &mut self,
+        call: &str,
+        args: &mut Args<'_>,
+        answer: &mut Answer,
+    ) -> Result<(), CallFault> {
+        match call {
+            "awaits" => answer.yes_or_no(self.session.awaits(args.ticket()?)),
+            "finished" => answer.yes_or_no(self.session.finished()),
+            "drain" => return drain(self.alloc, &mut self.session, answer),
+            _ => return Err(CallFault::NoSuchCall),
+        }
+        Ok(())
+    }
+
+    /// `new WORKER CLIENT`
+    fn renew(&mut self, args: &mut Args<'_>, answer: &mut Answer) -> Result<(), CallFault> {
+        let worker = args.short()?;
+        let client = u32::from(args.short()?);
+        self.session = Session::new(self.alloc, worker, client, Limits::full());
+        answer.name("ok");
+        Ok(())
+    }
+
+    fn end(&mut self, args: &mut Args<'_>, answer: &mut Answer) -> Result<(), CallFault> {
+        let ticket = args.ticket()?;
+        let end = args.end(self.alloc)?;
+        answer.name(tell(&mut self.session, ticket, end));
+        Ok(())
+    }
+}
+
+/// Tells an end, where it is awaited.
+fn tell(session: &mut Session, ticket: Ticket, end: Ended) -> &'static str {
+    if session.awaits(ticket) {
+        session.ended(ticket, end);
+        "ok"
+    } else {
+        "none"
+    }
+}
+
+fn show_fed(fed: Result<usize, SessionFault>, answer: &mut Answer) {
+    match fed {
+        Ok(count) => answer.number(count as u64),
+        Err(fault) => answer.debug(&fault),
+    }
+}
+
+fn show_read(read: Result<bool, SessionFault>, answer: &mut Answer) {
+    match read {
+        Ok(was_read) => answer.yes_or_no(was_read),
+        Err(fault) => answer.debug(&fault),
+    }
+}
+
+fn show_ready(session: &mut Session, answer: &mut Answer) -> Result<(), CallFault> {
+    match session.ready() {
+        Some((ticket, part)) => {
+            answer.ticket(ticket);
+            answer.part(&part)?;
+        }
+        None => answer.name("none"),
+    }
+    Ok(())
+}
+
+fn drain(alloc: Global, session: &mut Session, answer: &mut Answer) -> Result<(), CallFault> {
+    let mut out = Vec::new(alloc);
+    session.drain(&mut out)?;
+    answer.bytes(&out);
+    Ok(())
+}

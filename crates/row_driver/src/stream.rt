@@ -1,0 +1,118 @@
+//! A stream in memory: it gives the bytes that it was made with, keeps those that it takes, and can be slow or fail.
+
+ghost use Rattle.std.specs.Prelude.{◌^◌};
+
+use node_link::{Flow, Stream};
+use std::alloc::Global;
+
+#[derive(Drop)]
+pub struct MemoryStream {
+    coming: Vec<u8>,
+    given: usize,
+    taken: Vec<u8>,
+    /// The most bytes that one call moves.
+    at_once: usize,
+    /// Each second read and each second write would have to wait.
+    waits: bool,
+    read_waited: bool,
+    write_waited: bool,
+    /// So many bytes are taken before the stream fails.
+    room: usize,
+    reads: u64,
+    writes: u64,
+}
+
+impl MemoryStream {
+    /// A stream that moves any number of bytes at once, and does not fail.
+    pub fn new(alloc: Global, coming: Vec<u8>) -> MemoryStream {
+        MemoryStream {
+            coming,
+            given: 0,
+            taken: Vec::new(alloc),
+            at_once: usize::MAX,
+            waits: false,
+            read_waited: false,
+            write_waited: false,
+            room: usize::MAX,
+            reads: 0,
+            writes: 0,
+        }
+    }
+
+    /// From now on a call moves one byte, and before each stands one that would have to wait.
+    pub fn slow_down(&mut self) {
+        self.at_once = 1;
+        self.waits = true;
+    }
+
+    /// So many bytes are taken before the stream fails.
+    pub fn make_room(&mut self, room: usize) {
+        self.room = room;
+    }
+
+    /// The bytes that were written.
+    pub fn taken(&self) -> &[u8] {
+        self.taken.as_slice()
+    }
+
+    /// How often it was read, calls that had to wait among them.
+    pub fn reads(&self) -> u64 {
+        self.reads
+    }
+
+    /// How often it was written.
+    pub fn writes(&self) -> u64 {
+        self.writes
+    }
+
+    /// Whether this read would have to wait.
+    fn read_must_wait(&mut self) -> bool {
+        self.read_waited = self.waits && !self.read_waited;
+        self.read_waited
+    }
+
+    /// Whether this write would have to wait.
+    fn write_must_wait(&mut self) -> bool {
+        self.write_waited = self.waits && !self.write_waited;
+        self.write_waited
+    }
+}
+
+impl Stream for MemoryStream {
+    // It promises nothing of what it moves: the rows look at the bytes.
+    ghost failures = { λ _. 2 ^ 64 };
+
+    ghost moved = { λ _ _ _ _. Unit {0} };
+
+    ghost still = { λ _. tt };
+
+    ghost joined = { λ _ _ _ _ _ _ _ _ _. tt };
+
+    fn read(&mut self, buffer: &mut [u8]) -> Flow {
+        self.reads = self.reads.saturating_add(1);
+        if self.read_must_wait() {
+            return Flow::Nothing;
+        }
+        let left = self.coming.len().saturating_sub(self.given);
+        let count = left.min(buffer.len()).min(self.at_once);
+        if count == 0 {
+            return Flow::Nothing;
+        }
+        buffer[..count].copy_from_slice(&self.coming[self.given..self.given + count]);
+        self.given += count;
+        Flow::Bytes(count)
+    }
+
+    fn write(&mut self, bytes: &[u8]) -> Flow {
+        self.writes = self.writes.saturating_add(1);
+        if self.write_must_wait() {
+            return Flow::Nothing;
+        }
+        let count = bytes.len().min(self.at_once).min(self.room);
+        if count == 0 || self.taken.extend_from_slice(&bytes[..count]).is_err() {
+            return Flow::Gone;
+        }
+        self.room -= count;
+        Flow::Bytes(count)
+    }
+}

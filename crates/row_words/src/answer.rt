@@ -1,0 +1,139 @@
+//! What a call answers, as one line of words.
+
+use std::alloc::Global;
+use std::fmt::{Debug, Write};
+
+/// The words of an answer.
+#[derive(Drop)]
+pub struct Answer {
+    alloc: Global,
+    text: String,
+    /// Whether memory was wanting for some of it.
+    cut: bool,
+}
+
+impl Answer {
+    pub fn new(alloc: Global) -> Answer {
+        Answer {
+            alloc,
+            text: String::new(alloc),
+            cut: false,
+        }
+    }
+
+    pub fn allocator(&self) -> Global {
+        self.alloc
+    }
+
+    /// The words so far, or None where some of them found no memory.
+    pub fn text(&self) -> Option<&str> {
+        if self.cut {
+            return None;
+        }
+        Some(self.text.as_str())
+    }
+
+    /// Begins a new line.
+    pub fn clear(&mut self) {
+        self.text.clear();
+    }
+
+    /// A word that needs no quotes.
+    pub fn name(&mut self, name: &str) {
+        self.space();
+        self.put(name);
+    }
+
+    pub fn yes_or_no(&mut self, answer: bool) {
+        self.name(if answer { "yes" } else { "no" });
+    }
+
+    /// `ok`, or the fault by its name.
+    pub fn done<F: Debug + Drop>(&mut self, done: Result<(), F>) {
+        match done {
+            Ok(()) => self.name("ok"),
+            Err(fault) => self.debug(&fault),
+        }
+    }
+
+    pub fn number(&mut self, number: u64) {
+        self.space();
+        if write!(self.text, "{number}").is_err() {
+            self.cut = true;
+        }
+    }
+
+    pub fn integer(&mut self, number: i64) {
+        self.space();
+        if write!(self.text, "{number}").is_err() {
+            self.cut = true;
+        }
+    }
+
+    /// A fault or the like, by its name.
+    pub fn debug<T: Debug>(&mut self, named: &T) {
+        self.space();
+        if write!(self.text, "{named:?}").is_err() {
+            self.cut = true;
+        }
+    }
+
+    /// Any bytes as a word, in quotes where it needs them.
+    pub fn bytes(&mut self, bytes: &[u8]) {
+        self.space();
+        if is_plain(bytes) {
+            self.put_all(bytes);
+            return;
+        }
+        self.put("\"");
+        self.put_all(bytes);
+        self.put("\"");
+    }
+
+    fn space(&mut self) {
+        if !self.text.is_empty() {
+            self.put(" ");
+        }
+    }
+
+    fn put(&mut self, text: &str) {
+        if self.text.push_str(text).is_err() {
+            self.cut = true;
+        }
+    }
+
+    fn put_all(&mut self, bytes: &[u8]) {
+        for byte in bytes {
+            self.put_byte(*byte);
+        }
+    }
+
+    fn put_byte(&mut self, byte: u8) {
+        match byte {
+            b'\r' => self.put("\\r"),
+            b'\n' => self.put("\\n"),
+            b'"' => self.put("\\\""),
+            b'\\' => self.put("\\\\"),
+            b' '..=b'~' => self.put_char(char::from(byte)),
+            _ => self.put_hexadecimal(byte),
+        }
+    }
+
+    fn put_char(&mut self, letter: char) {
+        if self.text.push(letter).is_err() {
+            self.cut = true;
+        }
+    }
+
+    fn put_hexadecimal(&mut self, byte: u8) {
+        if write!(self.text, "\\x{byte:02x}").is_err() {
+            self.cut = true;
+        }
+    }
+}
+
+/// Whether the bytes are a word without quotes.
+fn is_plain(bytes: &[u8]) -> bool {
+    !bytes.is_empty()
+        && bytes.iter().all(|byte| *byte > b' ' && *byte <= b'~' && *byte != b'"' && *byte != b'\\')
+}

@@ -1,0 +1,25 @@
+//! The notation of rows: the words of a line, what they name, and how a call answers.
+//!
+//!     let words = words_in(alloc, line)?;
+//!     let mut args = Args::new(&words);
+//!     let (object, call) = (args.word()?, args.word()?);
+//!     answer.number(u64::from(args.slot()?.number()));
+//!
+//! Words stand between spaces. A word in quotes has any bytes, some of them as \r \n \\ \" \xHH. The bytes of the
+//! protocol are such a word; a ticket is WORKER.CLIENT.PART; a batch is `TICKET NODE plain|asking WORDS..`; what a command
+//! is told is `reply BYTES`, `moved SLOT NODE`, `ask SLOT NODE`, `tryagain`, `clusterdown`, `unclear`, `lost` or `unsent`,
+//! and an end is `answered BYTES`, `gaveup` or `lost`. Answers are words of the same kinds, and a value in them is
+//! `simple TEXT`, `error TEXT`, `integer NUMBER`, `bulk BYTES`, `null`, `nullarray` or `array [ VALUE.. ]`.
+#![tactic(auto)]
+
+mod answer;
+mod args;
+mod fault;
+mod shown;
+mod travel;
+mod words;
+
+pub use answer::Answer;
+pub use args::Args;
+pub use fault::CallFault;
+pub use words::words_in;

@@ -1,0 +1,116 @@
+//! Runs that end once so many clients have come and gone. The clients connect before the run begins.
+
+ghost use Rattle.std.specs.Prelude.{◌≡◌, IsTrue};
+ghost use Rattle.resp_wire.specs.Text.{is_one_line};
+
+use event_log::ErrorStream;
+use local_cluster::{LocalState, three_nodes};
+use mio::net;
+use node_server::run_nodes;
+use slot_map::NodeTable;
+use socket_proxy::{Proxy, listen, run_wire};
+use std::alloc::Global;
+use std::io::{Read, Write};
+use std::net::{Net, SocketAddr, TcpListener, TcpStream};
+use std::test::Fail;
+
+/// SET a 1, and GET without its key.
+const CUT: &[u8] = b"*3\r\n$3\r\nSET\r\n$1\r\na\r\n$1\r\n1\r\n*2\r\n$3\r\nGET\r\n";
+
+/// GET a, QUIT.
+const GET: &[u8] = b"*2\r\n$3\r\nGET\r\n$1\r\na\r\n*1\r\n$4\r\nQUIT\r\n";
+
+/// A port of this machine.
+fn loopback(port: u16) -> SocketAddr {
+    SocketAddr::from(([127, 0, 0, 1], port))
+}
+
+/// A client that has sent these bytes.
+fn client<R: Net<Listener = TcpListener, Stream = TcpStream>>(
+    rt: &R,
+    port: u16,
+    sent: &[u8],
+) -> Option<TcpStream> {
+    let mut stream = TcpStream::connect(rt, loopback(port)).ok()?;
+    stream.write_all(sent).ok()?;
+    Some(stream)
+}
+
+/// Whether a client hears these bytes up to the end of the connection.
+fn hears(alloc: Global, stream: &mut TcpStream, wanted: &[u8]) -> bool {
+    let mut heard = Vec::new(alloc);
+    stream.read_to_end(&mut heard).is_ok() && heard.as_slice() == wanted
+}
+
+/// A proxy with two workers that ends once so many clients have come and gone.
+fn proxy(listener: net::TcpListener, seed: u16, clients: u32, log: &ErrorStream) -> Proxy<'_>
+    ensures workers { result.workers ≡ 2 }
+    ensures host { IsTrue (is_one_line result.host.now) }
+{
+    Proxy {
+        listener,
+        host: b"127.0.0.1",
+        port: seed,
+        workers: 2,
+        clients: Some(clients),
+        descriptors: None,
+        credentials: None,
+        log,
+    }
+}
+
+#[test]
+fn a_run_for_no_client_ends_at_once(rt: HostRuntime) -> Result<(), Fail> {
+    let listener = listen(&rt, "127.0.0.1", 0)?;
+    run_wire(
+        &rt,
+        rt.alloc(),
+        proxy(listener, 1, 0, &ErrorStream::new(None)),
+    )?;
+    Ok(())
+}
+
+/// A port at which nobody listens.
+fn free_port<R: Net<Listener = TcpListener, Stream = TcpStream>>(rt: &R) -> Option<u16> {
+    let listener = TcpListener::bind(rt, loopback(0)).ok()?;
+    Some(listener.local_addr().ok()?.port())
+}
+
+// Two of three clients leave in the middle of a request.
+#[test]
+fn clients_that_leave_early_are_counted(rt: HostRuntime) -> Result<(), Fail> {
+    let listener = listen(&rt, "127.0.0.1", 0)?;
+    let port = listener.local_addr()?.port();
+    let seed = free_port(&rt).ok_or("a port")?;
+    drop(client(&rt, port, CUT).ok_or("a client")?);
+    let mut staying = client(&rt, port, GET).ok_or("a client")?;
+    drop(client(&rt, port, CUT).ok_or("a client")?);
+    run_wire(
+        &rt,
+        rt.alloc(),
+        proxy(listener, seed, 3, &ErrorStream::new(None)),
+    )?;
+    let wanted = b"-ERR proxy: gave up, not executed\r\n+OK\r\n";
+    assert!(rt; hears(rt.alloc(), &mut staying, wanted));
+    Ok(())
+}
+
+// The nodes end once their one connection has come and gone.
+#[test]
+fn nodes_end_behind_their_connections(rt: HostRuntime) -> Result<(), Fail> {
+    let alloc = rt.alloc();
+    let listener = net::TcpListener::bind(&rt, loopback(0))?;
+    let port = listener.local_addr()?.port();
+    let mut table = NodeTable::new(alloc);
+    table.intern(b"127.0.0.1", port)?;
+    table.intern(b"127.0.0.1", 7002)?;
+    table.intern(b"127.0.0.1", 7003)?;
+    let mut listeners = Vec::new(alloc);
+    listeners.push(listener)?;
+    let mut staying = client(&rt, port, GET).ok_or("a client")?;
+    let state = LocalState::new(alloc, three_nodes(alloc)?);
+    run_nodes(&rt, alloc, listeners, state, &table, Some(1))?;
+    let wanted = b"-MOVED 15495 127.0.0.1:7003\r\n+OK\r\n";
+    assert!(rt; hears(alloc, &mut staying, wanted));
+    Ok(())
+}

@@ -1,0 +1,12 @@
+pub mod Asking
+pub mod Telling
+pub mod Finding
+pub mod Replaying
+pub mod Indexing
+pub mod Judging
+pub mod Reporting
+pub mod InTurn
+pub mod Fronts
+pub mod Saying
+pub mod Texting
+pub mod Verdicts

@@ -1,0 +1,12 @@
+pub mod Requests
+pub mod Run
+pub mod Answered
+pub mod Judged
+pub mod Wanted
+pub mod Ends
+pub mod Replayed
+pub mod Mover
+pub mod ReplyText
+pub mod Scripts
+pub mod RunText
+pub mod FusedDial

@@ -1,0 +1,115 @@
+//! A client's bytes, and the request that is next of them.
+
+ghost use Rattle.std.specs.Prelude.{◌≡◌, ◌<◌, [], None, Some, length};
+ghost use Rattle.resp_wire.specs.Seen.{data_of};
+ghost use Rattle.session_order.specs.Ahead.{GiveOutcome};
+
+use crate::fault::SessionFault;
+use crate::request_kind::{RequestKind, kind_of};
+use resp_wire::{Limits, Reader, Value, WireFault, Words};
+use std::alloc::Global;
+use std::marker::Model;
+use std::mem;
+
+/// What is next.
+#[derive(Drop)]
+pub enum NextRequest {
+    Words(Words),
+    /// An empty or a null array, which asks for nothing.
+    Skipped,
+    /// No value is whole.
+    Nothing,
+}
+
+/// What was taken off the bytes and not given, for want of memory.
+#[derive(Drop)]
+enum Ahead {
+    Nothing,
+    Value(Value),
+    Words(Words),
+}
+
+/// Takes requests off a client's bytes.
+#[derive(Drop)]
+pub struct RequestReader {
+    alloc: Global,
+    reader: Reader,
+    ahead: Ahead,
+}
+
+impl Model for RequestReader {
+    ghost use Rattle.session_order.specs.RequestReaderModel.{RequestReaderModel};
+
+    ghost Value = { RequestReaderModel };
+
+    ghost use Rattle.session_order.specs.Ahead.{words_ahead, IsAhead};
+
+    ghost view = { λ a. record { input = a.reader; ahead = words_ahead a.ahead } };
+
+    ghost invariant = { λ a. IsAhead a.ahead };
+}
+
+impl RequestReader {
+    ghost use Rattle.session_order.specs.RequestReaderModel.{TakeOutcome, HasWords};
+    ghost use Rattle.resp_wire.specs.Front.{Feeds};
+
+    pub fn new(alloc: Global, limits: Limits) -> RequestReader
+        ensures { result ≡ record { input = record { bounds = limits; unread = []; fault = None }; ahead = None } }
+    {
+        RequestReader {
+            alloc,
+            reader: Reader::new(alloc, limits),
+            ahead: Ahead::Nothing,
+        }
+    }
+
+    pub fn feed(&mut self, piece: &[u8]) -> Result<(), WireFault>
+        ensures fed { Feeds self.old.input piece.now result self.new.input }
+        ensures rest { self.new ≡ record self.old { input = self.new.input } }
+    {
+        self.reader.feed(piece)
+    }
+
+    /// Takes the next request off the bytes.
+    pub fn next(&mut self) -> Result<NextRequest, SessionFault>
+        requires { self.old.input.fault ≡ None }
+        ensures does { TakeOutcome self.old result self.new }
+        ensures words { HasWords result }
+    {
+        match mem::replace(&mut self.ahead, Ahead::Nothing) {
+            Ahead::Words(words) => Ok(NextRequest::Words(words)),
+            Ahead::Value(value) => classify(self.alloc, value, &mut self.ahead),
+            Ahead::Nothing => match self.reader.next() {
+                Ok(Some(value)) => classify(self.alloc, value, &mut self.ahead),
+                Ok(None) => Ok(NextRequest::Nothing),
+                Err(WireFault::NoMemory) => Err(SessionFault::NoMemory),
+                Err(fault) => Err(SessionFault::Wire(fault)),
+            },
+        }
+    }
+
+    /// Puts the words back that were taken last.
+    pub fn put_back(&mut self, words: Words)
+        requires none { self.old.ahead ≡ None }
+        requires some { 0 < length words }
+        ensures { self.new ≡ record self.old { ahead = Some words } }
+    {
+        self.ahead = Ahead::Words(words);
+    }
+}
+
+// What a value that was taken off the bytes asks for. A request whose words find no memory is kept ahead.
+fn classify(alloc: Global, value: Value, ahead: &mut Ahead) -> Result<NextRequest, SessionFault>
+    requires { ahead.old ≡ Ahead.Nothing }
+    ensures { GiveOutcome value result ahead.new }
+{
+    match kind_of(alloc, value) {
+        Ok(RequestKind::Words(words)) => Ok(NextRequest::Words(words)),
+        Ok(RequestKind::Nothing) => Ok(NextRequest::Skipped),
+        Ok(RequestKind::Refused) => Err(SessionFault::NotRequest),
+        Err(value) => {
+            *ahead = Ahead::Value(value);
+            Err(SessionFault::NoMemory)
+        }
+    }
+}

@@ -1,0 +1,176 @@
+//! How the carrier's thread accepts clients, sleeps and wakes the workers.
+
+use crate::acceptor::Acceptor;
+use crate::client::SocketClient;
+use crate::shared::Shared;
+use crate::unfinished::UnfinishedRequest;
+use mio::Registry;
+use mio::net::TcpStream;
+use polled_sockets::{PolledSocket, Poller, Registration};
+use proxy_lanes::CarrierEnds;
+use std::io;
+use std::io::ErrorKind;
+use std::net::SocketAddr;
+use std::sync::Arc;
+
+/// After so many milliseconds accepting is tried again, where a connection may wait for a descriptor or for room.
+const RETRY_MILLIS: u64 = 20;
+
+/// A client that was accepted, with its number and its worker.
+#[derive(Drop)]
+pub(crate) struct AcceptedClient {
+    pub(crate) number: u32,
+    pub(crate) worker: u16,
+    pub(crate) port: SocketClient,
+}
+
+/// What came of looking for a client.
+#[derive(Drop)]
+pub(crate) enum AcceptOutcome {
+    Accepted(AcceptedClient),
+    /// A connection that was closed at once.
+    Rejected,
+    NoneWaiting,
+}
+
+/// How much moved in some turns of the carrier.
+#[derive(Clone, Copy, PartialEq, Eq)]
+pub(crate) enum Activity {
+    Idle,
+    Active,
+    /// So much moved that more may wait.
+    Busy,
+}
+
+/// The acceptor, and the poll of the carrier's thread.
+#[derive(Drop)]
+pub(crate) struct AcceptLoop {
+    pub(crate) acceptor: Acceptor,
+    pub(crate) poller: Poller,
+    /// What each worker's poll watches.
+    pub(crate) registries: Vec<Registry>,
+    /// The thread is marked asleep, and sleeps after one more turn that moves nothing.
+    pub(crate) marked_asleep: bool,
+    /// When accepting is tried again, in milliseconds.
+    pub(crate) retried: u64,
+}
+
+impl AcceptLoop {
+    /// Accepts the next client.
+    pub(crate) fn accept_client(&mut self, shared: &Shared) -> AcceptOutcome {
+        self.retry(shared.carrier.ready.time());
+        if !self.acceptor.may_accept() {
+            return AcceptOutcome::NoneWaiting;
+        }
+        let Some((stream, address)) = self.acceptor.accept(shared.clients()) else {
+            return AcceptOutcome::NoneWaiting;
+        };
+        match self.register(shared, stream, address) {
+            Ok(accepted) => {
+                self.acceptor.count_client();
+                AcceptOutcome::Accepted(accepted)
+            }
+            Err(error) => {
+                self.acceptor.report(error);
+                AcceptOutcome::Rejected
+            }
+        }
+    }
+
+    /// The connection as a client of the next number, registered with its worker's poll. It is closed where no number is
+    /// left, or it can't be registered.
+    fn register(
+        &self,
+        shared: &Shared,
+        stream: TcpStream,
+        address: SocketAddr,
+    ) -> io::Result<AcceptedClient> {
+        let Some(number) = self.acceptor.next_number() else {
+            return Err(io::Error::other("no number is left for a client"));
+        };
+        let worker = number as usize % self.registries.len().max(1);
+        let (Some(registry), Some(handle), Ok(place)) = (
+            self.registries.get(worker),
+            shared.workers.get(worker),
+            u16::try_from(worker),
+        ) else {
+            return Err(io::Error::other("no worker is there"));
+        };
+        let (Ok(registration), Ok(report), Ok(unfinished)) = (
+            Registration::new(&handle.ready),
+            Arc::try_clone(handle.ready.report()),
+            Arc::try_clone(&handle.unfinished),
+        ) else {
+            return Err(ErrorKind::OutOfMemory.into());
+        };
+        let socket = PolledSocket::new(stream, registration, registry)?;
+        Ok(AcceptedClient {
+            number,
+            worker: place,
+            port: SocketClient::new(socket, address, report, UnfinishedRequest::new(unfinished)),
+        })
+    }
+
+    /// After some turns: polls and wakes the workers where something moved, and sleeps where nothing did.
+    pub(crate) fn after_turns<H: Drop, M: Drop>(
+        &mut self,
+        shared: &Shared,
+        ends: &CarrierEnds<H, M>,
+        activity: Activity,
+    ) {
+        match activity {
+            Activity::Idle => self.sleep_if_marked(shared),
+            Activity::Active => self.poll_and_wake(shared, ends),
+            Activity::Busy => {
+                // a way up that was full has room again
+                shared.wake_workers();
+                self.poll_and_wake(shared, ends);
+            }
+        }
+    }
+
+    /// Accepts again now and then: no event says that a descriptor or a place is free.
+    fn retry(&mut self, now: u64) {
+        if now >= self.retried {
+            self.retried = now.saturating_add(RETRY_MILLIS);
+            self.acceptor.retry();
+        }
+    }
+
+    fn poll_and_wake<H: Drop, M: Drop>(&mut self, shared: &Shared, ends: &CarrierEnds<H, M>) {
+        if self.marked_asleep {
+            self.mark_awake(shared);
+        }
+        for (worker, handle) in shared.workers.iter().enumerate() {
+            if let Ok(worker) = u16::try_from(worker) {
+                handle.wake_given(ends.given(worker));
+            }
+        }
+        self.poller.poll_now(&shared.carrier.ready);
+    }
+
+    /// Marks the thread asleep, and sleeps where nothing moved since that was done.
+    fn sleep_if_marked(&mut self, shared: &Shared) {
+        if self.marked_asleep {
+            self.sleep(shared);
+        } else {
+            self.marked_asleep = true;
+            shared.carrier.parker.mark_asleep();
+        }
+    }
+
+    fn sleep(&mut self, shared: &Shared) {
+        let longest = if self.acceptor.starves() {
+            RETRY_MILLIS
+        } else {
+            u64::MAX
+        };
+        self.poller.sleep_for(&shared.carrier.ready, longest);
+        self.mark_awake(shared);
+    }
+
+    fn mark_awake(&mut self, shared: &Shared) {
+        self.marked_asleep = false;
+        shared.carrier.parker.mark_awake();
+    }
+}

@@ -1,0 +1,153 @@
+//! What accepts clients.
+
+use crate::client_room::ClientRoom;
+use mio::net::{TcpListener, TcpStream};
+use mio::{Interest, Registry};
+use polled_sockets::Registration;
+use proxy_report::{Event, Figure};
+use std::io;
+use std::io::ErrorKind;
+use std::net::{Net, SocketAddr, ToSocketAddrs};
+use std::os::fd::AsRawFd;
+
+/// The listener with its registration, and how many clients may still be accepted.
+#[derive(Drop)]
+pub(crate) struct Acceptor {
+    listener: TcpListener,
+    registration: Registration,
+    /// The number of the next client; `None` once all are given.
+    next: Option<u32>,
+    /// How many are still accepted; `None` without end.
+    left: Option<u32>,
+    room: ClientRoom,
+    /// A connection may wait for a descriptor, or for room.
+    starves: bool,
+    /// That there is no room was reported.
+    is_full: bool,
+}
+
+impl Acceptor {
+    /// The acceptor for so many clients, or for clients without end, of which so many as there is room for are there at once,
+    /// watched by the poll of this registry.
+    pub(crate) fn new(
+        mut listener: TcpListener,
+        registration: Registration,
+        registry: &Registry,
+        clients: Option<u32>,
+        room: ClientRoom,
+    ) -> io::Result<Acceptor> {
+        registry.register(&mut listener, registration.token(), Interest::READABLE)?;
+        Ok(Acceptor {
+            listener,
+            registration,
+            next: Some(0),
+            left: clients,
+            room,
+            starves: false,
+            is_full: false,
+        })
+    }
+
+    /// Whether a connection may wait that may be accepted.
+    pub(crate) fn may_accept(&self) -> bool {
+        self.left != Some(0) && self.registration.may_read()
+    }
+
+    /// The next connection and its address, where one waits and there is room beside so many clients. Where there is none, or
+    /// the system gives no descriptor for it, that is reported.
+    pub(crate) fn accept(&mut self, clients: u64) -> Option<(TcpStream, SocketAddr)> {
+        if self.lacks_room(clients) {
+            self.starves = true;
+            self.registration.clear_readable();
+            return None;
+        }
+        for _ in 0..u64::MAX {
+            match self.listener.accept() {
+                Ok(accepted) => {
+                    self.note_descriptor(&accepted.0, clients);
+                    return Some(accepted);
+                }
+                Err(error) if is_transient(&error) => {}
+                Err(error) => {
+                    self.starves = error.kind() != ErrorKind::WouldBlock;
+                    self.report(error);
+                    break;
+                }
+            }
+        }
+        self.registration.clear_readable();
+        None
+    }
+
+    /// Whether there is no room beside so many clients. It is reported once.
+    fn lacks_room(&mut self, clients: u64) -> bool {
+        let is_full = self.room.is_full(clients);
+        if is_full && !self.is_full {
+            self.registration.tell(Event::ClientsFull(clients));
+        }
+        self.is_full = is_full;
+        is_full
+    }
+
+    /// One client more than so many has this connection.
+    fn note_descriptor(&mut self, stream: &TcpStream, clients: u64) {
+        let descriptor = u64::try_from(stream.as_raw_fd()).unwrap_or(0);
+        self.room.note_client(descriptor, clients.saturating_add(1));
+    }
+
+    /// Whether a connection may wait for a descriptor, or for room.
+    pub(crate) fn starves(&self) -> bool {
+        self.starves
+    }
+
+    /// Reports why no connection was accepted, where one may have waited.
+    pub(crate) fn report(&self, error: io::Error) {
+        if error.kind() != ErrorKind::WouldBlock {
+            self.registration.tell(Event::ClientRefused(error));
+        }
+    }
+
+    /// Accepts again, where a connection may wait for a descriptor or for room.
+    pub(crate) fn retry(&mut self) {
+        if self.starves {
+            self.starves = false;
+            self.registration.set_readable();
+        }
+    }
+
+    /// The number of the next client, where one is left.
+    pub(crate) fn next_number(&self) -> Option<u32> {
+        self.next
+    }
+
+    /// The client of the next number was accepted.
+    pub(crate) fn count_client(&mut self) {
+        if let Some(number) = self.next {
+            self.next = number.checked_add(1);
+        }
+        if let Some(left) = self.left {
+            self.left = Some(left.saturating_sub(1));
+        }
+        self.registration.count(Figure::Clients, 1);
+    }
+}
+
+/// A listener at the first of the host's addresses that takes one. Where none does, the error is the last one's.
+pub fn listen<R: Net>(rt: &R, host: &str, port: u16) -> io::Result<TcpListener> {
+    let mut refused = io::Error::new(ErrorKind::NotFound, "the host has no address");
+    for address in (host, port).to_socket_addrs(rt)? {
+        match TcpListener::bind(rt, address) {
+            Ok(listener) => return Ok(listener),
+            Err(error) => refused = error,
+        }
+    }
+    Err(refused)
+}
+
+/// Whether only this connection failed, and another may wait.
+fn is_transient(error: &io::Error) -> bool {
+    matches!(
+        error.kind(),
+        ErrorKind::Interrupted | ErrorKind::ConnectionAborted
+    )
+}

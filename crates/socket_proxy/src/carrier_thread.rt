@@ -1,0 +1,242 @@
+//! What the carrier's thread does.
+
+ghost use Rattle.std.specs.Prelude.{◌<◌, length};
+
+use crate::accept_loop::{AcceptLoop, AcceptOutcome, AcceptedClient, Activity};
+use crate::client::SocketClient;
+use crate::shared::Shared;
+use mio::Registry;
+use node_dial::{Connector, Credentials, LookUps, NodeSocket, SocketDial, advance_look_ups};
+use node_link::FLUSH_AFTER_READS;
+use polled_sockets::ReadySet;
+use proxy_lanes::{CarrierEnds, Naming, Publisher};
+use proxy_report::Reporter;
+use proxy_runtime::WireRunFault;
+use proxy_turns::{Carrier, Newcomer};
+use resp_wire::NoMemory;
+use slot_map::NodeTable;
+use std::alloc::Global;
+use std::net::{Net, TcpListener, TcpStream};
+use std::sync::{Arc, Wait};
+use std::thread::Threads;
+use std::time::Clock;
+
+/// So many turns go by at most between two polls.
+const TURNS_PER_POLL: u32 = 64;
+/// After so many turns in a row that moved nothing, all that was to be written went out.
+const QUIET_TURNS: u32 = FLUSH_AFTER_READS + 2;
+/// So many clients are accepted at most between two polls.
+const ACCEPT_BATCH: u32 = 16;
+
+/// The carrier's ends of the lanes.
+pub(crate) type SocketEnds<'b, J, R> = CarrierEnds<Newcomer<SocketClient, J>, Publisher<J, &'b R>>;
+
+/// The carrier over sockets.
+type SocketCarrier<'b, J, R> = Carrier<
+    Newcomer<SocketClient, J>,
+    Publisher<J, &'b R>,
+    SocketDial<'b, R>,
+    NodeSocket,
+>;
+
+/// What the carrier's thread is given beside its ends.
+#[derive(Drop)]
+pub(crate) struct CarrierSetup<'b> {
+    /// The table of the nodes, of which the first is the seed.
+    pub(crate) nodes: NodeTable,
+    pub(crate) accept_loop: AcceptLoop,
+    /// What the thread's poll watches.
+    pub(crate) registry: Registry,
+    /// The same, for the look-ups of names.
+    pub(crate) look_up_registry: Registry,
+    /// What each node is told first; `None` for nothing.
+    pub(crate) credentials: Option<Arc<Credentials, Global>>,
+    pub(crate) reporter: Reporter<'b>,
+}
+
+/// A client that waits for a place in the lane of its worker.
+#[derive(Drop)]
+struct PendingClient<J: Naming> {
+    worker: u16,
+    newcomer: Newcomer<SocketClient, J>,
+}
+
+/// Runs the carrier and accepts clients, until all threads are told to stop. After a fault they are told.
+pub(crate) fn run_carrier<'b, J, R>(
+    rt: &'b R,
+    alloc: Global,
+    ends: SocketEnds<'b, J, R>,
+    setup: CarrierSetup<'_>,
+    shared: &Shared,
+) -> Option<WireRunFault>
+where
+    J: Naming,
+    R: Threads
+        + Wait
+        + Clock
+        + Net<Listener = TcpListener, Stream = TcpStream>
+        + Copy
+        + Send
+        + 'static,
+{
+    let ended = carrier_loop(rt, alloc, ends, setup, shared);
+    match ended {
+        Ok(()) => None,
+        Err(NoMemory) => {
+            shared.stop();
+            Some(WireRunFault::NoMemory)
+        }
+    }
+}
+
+fn carrier_loop<'b, J, R>(
+    rt: &'b R,
+    alloc: Global,
+    ends: SocketEnds<'b, J, R>,
+    setup: CarrierSetup<'_>,
+    shared: &Shared,
+) -> Result<(), NoMemory>
+where
+    J: Naming,
+    R: Threads
+        + Wait
+        + Clock
+        + Net<Listener = TcpListener, Stream = TcpStream>
+        + Copy
+        + Send
+        + 'static,
+{
+    let CarrierSetup {
+        nodes,
+        mut accept_loop,
+        registry,
+        look_up_registry,
+        credentials,
+        mut reporter,
+    } = setup;
+    let ready = Arc::try_clone(&shared.carrier.ready)?;
+    let look_ups = LookUps::new(alloc, look_up_registry)?;
+    let Ok(asked) = look_ups.clone() else {
+        return Err(NoMemory);
+    };
+    let connector = Connector::new(rt, alloc, ready, registry, asked, credentials);
+    let dial = SocketDial::new(alloc, connector)?;
+    let mut carrier = Carrier::new(alloc, ends, dial, nodes);
+    let mut waiting: Option<PendingClient<J>> = None;
+    for _ in rt.forever() {
+        shared.carrier.ready.update_time(rt);
+        reporter.report(rt, shared.carrier.ready.time());
+        if shared.is_stopped() {
+            return Ok(());
+        }
+        let accepted = accept_clients(carrier.ends(), &mut accept_loop, shared, &mut waiting);
+        let mut activity = take_turns(&mut carrier, &shared.carrier.ready)?;
+        let looked_up = advance_look_ups(rt, &look_ups);
+        if (accepted | looked_up) && activity == Activity::Idle {
+            activity = Activity::Active;
+        }
+        accept_loop.after_turns(shared, carrier.ends(), activity);
+    }
+    unreachable!()
+}
+
+/// Some turns, as long as they move something now and then. Bytes that no whole reply is made of yet count too.
+fn take_turns<'b, J, R>(
+    carrier: &mut SocketCarrier<'b, J, R>,
+    ready: &ReadySet,
+) -> Result<Activity, NoMemory>
+where
+    J: Naming,
+    R: Wait + Clock + Net<Listener = TcpListener, Stream = TcpStream>,
+{
+    let mut activity = Activity::Idle;
+    let mut quiet = 0u32;
+    for _ in 0..TURNS_PER_POLL {
+        if carrier.turn()? | ready.had_traffic() {
+            activity = Activity::Active;
+            quiet = 0;
+        } else {
+            quiet = quiet.saturating_add(1);
+        }
+        if quiet >= QUIET_TURNS {
+            return Ok(activity);
+        }
+    }
+    Ok(Activity::Busy)
+}
+
+/// Accepts clients and hands them to their workers. True where one was accepted, rejected or handed over.
+fn accept_clients<'b, J, R>(
+    ends: &mut SocketEnds<'b, J, R>,
+    accept_loop: &mut AcceptLoop,
+    shared: &Shared,
+    waiting: &mut Option<PendingClient<J>>,
+) -> bool
+where
+    J: Naming,
+    R: Wait,
+{
+    let mut moved = false;
+    for _ in 0..ACCEPT_BATCH {
+        if let Some(client) = waiting.take() {
+            *waiting = hand_to_worker(ends, client);
+            if waiting.is_some() {
+                return moved;
+            }
+            moved = true;
+        }
+        match accept_loop.accept_client(shared) {
+            AcceptOutcome::Accepted(accepted) => {
+                *waiting = Some(pending_client(ends, accepted));
+                moved = true;
+            }
+            AcceptOutcome::Rejected => moved = true,
+            AcceptOutcome::NoneWaiting => return moved,
+        }
+    }
+    moved
+}
+
+/// The client with a front of the published map.
+fn pending_client<'b, J, R>(
+    ends: &mut SocketEnds<'b, J, R>,
+    accepted: AcceptedClient,
+) -> PendingClient<J>
+where
+    J: Naming,
+    R: Wait,
+{
+    let AcceptedClient {
+        number,
+        worker,
+        port,
+    } = accepted;
+    let front = ends.map.tell();
+    PendingClient {
+        worker,
+        newcomer: Newcomer {
+            number,
+            port,
+            front,
+        },
+    }
+}
+
+/// Hands the client to its worker. It comes back where the lane has no place.
+fn hand_to_worker<'b, J, R>(
+    ends: &mut SocketEnds<'b, J, R>,
+    client: PendingClient<J>,
+) -> Option<PendingClient<J>>
+where
+    J: Naming,
+    R: Wait,
+{
+    let PendingClient { worker, newcomer } = client;
+    if usize::from(worker) >= ends.workers() {
+        return None;
+    }
+    match ends.hand(worker, newcomer) {
+        Ok(()) => None,
+        Err(newcomer) => Some(PendingClient { worker, newcomer }),
+    }
+}

@@ -1,0 +1,144 @@
+//! A client's end over a socket.
+
+use crate::unfinished::UnfinishedRequest;
+use key_split::{Ended, Ticket};
+use node_link::{Flow, Stream};
+use polled_sockets::PolledSocket;
+use proxy_report::{Event, Figure, ThreadReport};
+use proxy_turns::ClientPort;
+use resp_wire::NoMemory;
+use session_order::SessionFault;
+use std::alloc::Global;
+use std::cell::Cell;
+use std::net::SocketAddr;
+use std::sync::Arc;
+
+/// A client over a socket. It counts the ends that it is to note. One that has ended its sending is there as long as it is owed
+/// something.
+#[derive(Drop)]
+pub(crate) struct SocketClient {
+    /// `None` once the client is gone.
+    socket: Option<PolledSocket>,
+    report: Arc<ThreadReport, Global>,
+    address: SocketAddr,
+    request: UnfinishedRequest,
+    is_owed: Cell<bool>,
+    /// Its protocol error was reported.
+    is_faulted: Cell<bool>,
+}
+
+impl SocketClient {
+    /// The client at this address, of a worker that reports so.
+    pub(crate) fn new(
+        socket: PolledSocket,
+        address: SocketAddr,
+        report: Arc<ThreadReport, Global>,
+        request: UnfinishedRequest,
+    ) -> SocketClient {
+        SocketClient {
+            socket: Some(socket),
+            report,
+            address,
+            request,
+            is_owed: Cell::new(false),
+            is_faulted: Cell::new(false),
+        }
+    }
+}
+
+impl SocketClient {
+    /// Whether it has ended its sending and is owed something.
+    fn stays(&self) -> bool {
+        match &self.socket {
+            Some(socket) => self.is_owed.get() && socket.has_ended(),
+            None => false,
+        }
+    }
+
+    /// Closes the connection of a client whose unfinished request has so many bytes.
+    fn refuse(&mut self, bytes: u64) {
+        self.report
+            .tell(Event::UnfinishedRequest(self.address, bytes));
+        self.leave();
+    }
+
+    /// Gives the socket back, which is closed. A command of it may be under way.
+    fn leave(&mut self) {
+        let Some(socket) = self.socket.take() else {
+            return;
+        };
+        self.report.count(Figure::ClientsGone, 1);
+        self.request.leave();
+        socket.shut();
+    }
+}
+
+impl ClientPort for SocketClient {
+    // The system does not tell which bytes the client got or gave.
+    ghost moves = { λ _ _ _ _ _. Unit {0} };
+
+    fn owes(&self, more: bool) {
+        self.is_owed.set(more);
+    }
+
+    fn requests_read(&self, count: usize) {
+        self.report.count(Figure::Requests, count as u64);
+        self.request.finish();
+    }
+
+    fn faulted(&self, fault: SessionFault) {
+        if !self.is_faulted.replace(true) {
+            self.report.tell(Event::ProtocolError(self.address, fault));
+        }
+    }
+
+    fn pull(&mut self, buffer: &mut [u8]) -> Result<Flow, NoMemory> {
+        if let Some(bytes) = self.request.refused() {
+            self.refuse(bytes);
+            return Ok(Flow::Gone);
+        }
+        if self.stays() {
+            return Ok(Flow::Nothing);
+        }
+        let Some(socket) = &mut self.socket else {
+            return Ok(Flow::Gone);
+        };
+        let flow = socket.read(buffer);
+        if let Flow::Bytes(count) = flow {
+            self.request.grow(count)?;
+        }
+        if flow != Flow::Gone {
+            return Ok(flow);
+        }
+        if self.stays() {
+            return Ok(Flow::Nothing);
+        }
+        self.leave();
+        Ok(Flow::Gone)
+    }
+
+    fn push(&mut self, bytes: &[u8]) -> Result<Flow, NoMemory> {
+        let Some(socket) = &mut self.socket else {
+            return Ok(Flow::Gone);
+        };
+        let flow = socket.write(bytes);
+        if flow == Flow::Gone {
+            self.leave();
+        }
+        Ok(flow)
+    }
+
+    fn note(&mut self, _: Ticket, end: &Ended) -> Result<(), NoMemory> {
+        self.report.count(Figure::Parts, 1);
+        match end {
+            Ended::Answered(_) => {}
+            Ended::GaveUp => self.report.count(Figure::GaveUp, 1),
+            Ended::Lost => self.report.count(Figure::Lost, 1),
+        }
+        Ok(())
+    }
+
+    fn close(&mut self) {
+        self.leave();
+    }
+}

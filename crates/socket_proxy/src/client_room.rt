@@ -1,0 +1,50 @@
+//! How many clients are served at once, so that descriptors are left for connections to nodes.
+
+ghost use Rattle.std.specs.Prelude.{◌≡◌, ◌⊎◌, ◌<◌, ◌≤◌, ◌+◌, ◌*◌};
+
+/// So many descriptors are kept for connections to nodes, or a quarter of the limit where that is less.
+const KEPT_FOR_NODES: u64 = 64;
+
+/// For how many clients there is room. The system gives the lowest descriptor that is free, so a new client's descriptor
+/// tells how many are open.
+#[derive(Drop)]
+pub(crate) struct ClientRoom {
+    /// The highest descriptor that is meant for a client: those above are kept.
+    last: u64,
+    /// How many clients are served at most, as long as the newest has that descriptor or a higher one.
+    most: Option<u64>,
+}
+
+impl ClientRoom {
+    /// The room where so many descriptors may be open, or any number of them.
+    pub(crate) fn new(descriptors: Option<u64>) -> ClientRoom {
+        let limit = descriptors.unwrap_or(u64::MAX);
+        ClientRoom {
+            last: limit
+                .saturating_sub(kept_for_nodes(limit))
+                .saturating_sub(1),
+            most: None,
+        }
+    }
+
+    /// Whether there is none for another client beside so many.
+    pub(crate) fn is_full(&self, clients: u64) -> bool {
+        self.most.is_some_and(|most| clients >= most)
+    }
+
+    /// The newest of so many clients has this descriptor.
+    pub(crate) fn note_client(&mut self, descriptor: u64, clients: u64) {
+        self.most = descriptor
+            .checked_sub(self.last)
+            .map(|above| clients.saturating_sub(above).max(1));
+    }
+}
+
+/// How many of so many descriptors are kept for connections to nodes.
+fn kept_for_nodes(limit: u64) -> u64
+    ensures enough { result ≤ KEPT_FOR_NODES }
+    ensures a_quarter { 4 * result ≤ limit }
+    ensures no_fewer { (result ≡ KEPT_FOR_NODES) ⊎ (limit < 4 * (result + 1)) }
+{
+    KEPT_FOR_NODES.min(limit / 4)
+}

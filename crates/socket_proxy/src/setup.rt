@@ -1,0 +1,73 @@
+//! What each thread is given before it starts.
+
+use crate::shared::ThreadHandle;
+use crate::unfinished::Unfinished;
+use mio::Registry;
+use polled_sockets::{Poller, ReadySet};
+use proxy_report::ThreadReport;
+use proxy_runtime::WireRunFault;
+use resp_wire::NoMemory;
+use std::alloc::Global;
+use std::net::Net;
+use std::sync::Arc;
+
+/// A handle and a poller for each worker's thread.
+pub(crate) fn setup_workers<R: Net>(
+    rt: &R,
+    alloc: Global,
+    workers: u16,
+) -> Result<(Vec<ThreadHandle>, Vec<Poller>), WireRunFault> {
+    let mut handles = Vec::new(alloc);
+    let mut pollers = Vec::new(alloc);
+    for _ in 0..workers {
+        let (handle, poller) = setup_thread(rt, alloc)?;
+        push(&mut handles, handle)?;
+        push(&mut pollers, poller)?;
+    }
+    Ok((handles, pollers))
+}
+
+/// A thread's handle and poller.
+pub(crate) fn setup_thread<R: Net>(
+    rt: &R,
+    alloc: Global,
+) -> Result<(ThreadHandle, Poller), WireRunFault> {
+    let ready = shared_ready_set(alloc)?;
+    let (poller, parker) = Poller::new(rt, alloc)?;
+    let unfinished = Unfinished::new(alloc)?;
+    Ok((ThreadHandle::new(ready, parker, unfinished), poller))
+}
+
+fn shared_ready_set(alloc: Global) -> Result<Arc<ReadySet, Global>, NoMemory> {
+    let ready = ReadySet::new(alloc, ThreadReport::new(alloc)?)?;
+    Ok(Arc::new(alloc, ready)?)
+}
+
+pub(crate) fn clone_registry(poller: &Poller) -> Result<Registry, WireRunFault> {
+    poller.registry().try_clone().map_err(WireRunFault::Poll)
+}
+
+/// What each worker's poll watches.
+pub(crate) fn clone_registries(
+    alloc: Global,
+    pollers: &[Poller],
+) -> Result<Vec<Registry>, WireRunFault> {
+    let mut registries = Vec::new(alloc);
+    for poller in pollers {
+        push(&mut registries, clone_registry(poller)?)?;
+    }
+    Ok(registries)
+}
+
+/// How many of the clients with the numbers from 0 go to the worker, which go to the workers in turn.
+pub(crate) fn client_share(clients: Option<u32>, worker: u16, workers: u16) -> Option<u32> {
+    let clients = clients?;
+    let workers = u32::from(workers).max(1);
+    let more = u32::from(u32::from(worker) < clients % workers);
+    Some((clients / workers).saturating_add(more))
+}
+
+pub(crate) fn push<T: Drop>(list: &mut Vec<T>, item: T) -> Result<(), NoMemory> {
+    list.push(item)?;
+    Ok(())
+}

@@ -1,0 +1,115 @@
+//! What all threads of a run share.
+
+use crate::unfinished::Unfinished;
+use polled_sockets::{Parker, ReadySet};
+use proxy_report::{Figure, ThreadReport};
+use resp_wire::NoMemory;
+use std::alloc::Global;
+use std::sync::Arc;
+use std::sync::atomic::{AtomicU64, Ordering};
+
+/// What the others see of a thread: the ready set of its sockets, its parker, and the unfinished requests of its clients.
+#[derive(Drop)]
+pub(crate) struct ThreadHandle {
+    pub(crate) ready: Arc<ReadySet, Global>,
+    pub(crate) parker: Parker,
+    pub(crate) unfinished: Arc<Unfinished, Global>,
+    /// How much the thread had been given when it was woken last.
+    given: AtomicU64,
+}
+
+impl ThreadHandle {
+    pub(crate) fn new(
+        ready: Arc<ReadySet, Global>,
+        parker: Parker,
+        unfinished: Arc<Unfinished, Global>,
+    ) -> ThreadHandle {
+        ThreadHandle {
+            ready,
+            parker,
+            unfinished,
+            given: AtomicU64::new(0),
+        }
+    }
+
+    /// Wakes the thread, where it has been given more than when it was woken last.
+    pub(crate) fn wake_given(&self, given: u64) {
+        if self.given.swap(given, Ordering::SeqCst) != given {
+            self.parker.wake_if_asleep();
+        }
+    }
+}
+
+/// The handles of all threads, and whether they are to stop.
+#[derive(Drop)]
+pub(crate) struct Shared {
+    pub(crate) workers: Vec<ThreadHandle>,
+    pub(crate) carrier: ThreadHandle,
+    /// How many workers have not ended; 0 once all threads are to stop.
+    left: AtomicU64,
+}
+
+impl Shared {
+    pub(crate) fn new(workers: Vec<ThreadHandle>, carrier: ThreadHandle) -> Shared {
+        let left = AtomicU64::new(workers.len() as u64);
+        Shared {
+            workers,
+            carrier,
+            left,
+        }
+    }
+
+    /// What each thread reports, the carrier's first.
+    pub(crate) fn reports(
+        &self,
+        alloc: Global,
+    ) -> Result<Vec<Arc<ThreadReport, Global>>, NoMemory> {
+        let mut reports = Vec::new(alloc);
+        reports.push(Arc::try_clone(self.carrier.ready.report())?)?;
+        for worker in &self.workers {
+            reports.push(Arc::try_clone(worker.ready.report())?)?;
+        }
+        Ok(reports)
+    }
+
+    /// How many clients are there.
+    pub(crate) fn clients(&self) -> u64 {
+        let accepted = self.carrier.ready.report().counted(Figure::Clients);
+        self.workers.iter().fold(accepted, |clients, worker| {
+            clients.saturating_sub(worker.ready.report().counted(Figure::ClientsGone))
+        })
+    }
+
+    /// Whether all threads are to stop.
+    pub(crate) fn is_stopped(&self) -> bool {
+        self.left.load(Ordering::SeqCst) == 0
+    }
+
+    /// A worker has ended. After the last all threads stop.
+    pub(crate) fn worker_ended(&self) {
+        let left = self.left.fetch_update(
+            Ordering::SeqCst,
+            Ordering::SeqCst,
+            |left| left.checked_sub(1),
+        );
+        if left == Ok(1) {
+            self.stop();
+        }
+    }
+
+    /// Tells all threads to stop, and wakes those that sleep.
+    pub(crate) fn stop(&self) {
+        self.left.store(0, Ordering::SeqCst);
+        self.carrier.parker.wake();
+        for worker in &self.workers {
+            worker.parker.wake();
+        }
+    }
+
+    /// Wakes each worker that sleeps.
+    pub(crate) fn wake_workers(&self) {
+        for worker in &self.workers {
+            worker.parker.wake_if_asleep();
+        }
+    }
+}

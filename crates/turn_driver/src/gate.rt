@@ -1,0 +1,73 @@
+//! Gates of workers.
+
+use crate::client::SharedClient;
+use crate::proxy::MemoryCarrier;
+use proxy_lanes::Naming;
+use proxy_turns::Gate;
+use resp_wire::Bytes;
+use std::cell::{Cell, RefCell};
+use std::sync::Wait;
+
+/// Lets each worker go on.
+#[derive(Drop)]
+pub struct Open;
+
+impl Gate for Open {
+    fn pass(&self, _: u16, _: u64) -> bool {
+        true
+    }
+
+    fn idle(&self) {}
+}
+
+/// Bytes that a client is given, as if a worker had replied them.
+#[derive(Drop)]
+pub struct InjectedReply {
+    pub client: SharedClient,
+    /// How many turns the worker has had before.
+    pub after: u32,
+    pub bytes: Bytes,
+}
+
+/// Turns the carrier before each turn of the worker, so that a worker runs as a future in one thread.
+#[derive(Drop)]
+pub struct TurningGate<'a, J: Naming, R: Wait + Drop> {
+    pub carrier: &'a RefCell<MemoryCarrier<J, R>>,
+    pub passes: Cell<u32>,
+    /// How many turns the worker has at the most.
+    pub most: u32,
+    pub injected: Option<InjectedReply>,
+}
+
+impl<'a, J: Naming, R: Wait + Drop> TurningGate<'a, J, R> {
+    /// Turns the carrier. False where memory ran out.
+    fn turn(&self) -> bool {
+        match self.carrier.try_borrow_mut() {
+            Ok(mut carrier) => carrier.turn().is_ok(),
+            Err(_) => false,
+        }
+    }
+
+    /// Gives the client its bytes, where it is time. False where the client can't be given any.
+    fn inject(&self) -> bool {
+        match &self.injected {
+            Some(injected) if injected.after == self.passes.get() => {
+                injected.client.hears(injected.bytes.as_slice())
+            }
+            _ => true,
+        }
+    }
+}
+
+impl<'a, J: Naming, R: Wait + Drop> Gate for TurningGate<'a, J, R> {
+    fn pass(&self, _: u16, _: u64) -> bool {
+        if self.passes.get() >= self.most {
+            return false;
+        }
+        let went = self.inject() && self.turn();
+        self.passes.set(self.passes.get().wrapping_add(1));
+        went
+    }
+
+    fn idle(&self) {}
+}

@@ -1,0 +1,161 @@
+//! Three nodes in memory, whose slots move.
+
+use key_split::{Batch, Told};
+use node_model::{Cluster, MoveFault, Verdict};
+use resp_wire::{Bytes, NoMemory, Value, write_value};
+use slot_hash::Slot;
+use slot_map::{MapOp, NodeId, NodeTable, SlotMap};
+use std::alloc::Global;
+use std::cell::RefCell;
+use std::rc::Rc;
+
+/// The port at which the first node listens. The others follow.
+const FIRST_PORT: u16 = 7001;
+
+/// The nodes of a cluster, and how they can be reached.
+#[derive(Drop)]
+pub struct Nodes {
+    alloc: Global,
+    cluster: Cluster,
+    table: NodeTable,
+    /// How many commands came.
+    pub served: u64,
+    /// Whether a node refuses some that it could serve.
+    pub refuses: bool,
+    /// Whether a node listens.
+    pub listens: bool,
+    /// How many calls a new connection stands.
+    pub calls: u64,
+}
+
+pub type SharedNodes = Rc<RefCell<Nodes>>;
+
+fn table_of_three(alloc: Global) -> Result<NodeTable, NoMemory> {
+    let mut table = NodeTable::new(alloc);
+    for port in [7001, 7002, 7003] {
+        if table.intern(b"127.0.0.1", port).is_err() {
+            return Err(NoMemory);
+        }
+    }
+    Ok(table)
+}
+
+/// A cluster whose slots are all the last node's.
+fn cluster_of_three(alloc: Global) -> Result<Cluster, NoMemory> {
+    let (Some(first), Some(last), Some(owner)) = (Slot::new(0), Slot::new(16383), NodeId::new(2))
+    else {
+        return Err(NoMemory);
+    };
+    let Ok(mut owners) = SlotMap::new(alloc) else {
+        return Err(NoMemory);
+    };
+    owners.apply(MapOp::SetRange(first, last, owner));
+    match Cluster::new(alloc, 3, &owners) {
+        Ok(cluster) => Ok(cluster),
+        Err(_) => Err(NoMemory),
+    }
+}
+
+/// Three nodes that listen, whose slots are all the last one's.
+pub fn three_nodes(alloc: Global) -> Result<SharedNodes, NoMemory> {
+    let nodes = Nodes {
+        alloc,
+        cluster: cluster_of_three(alloc)?,
+        table: table_of_three(alloc)?,
+        served: 0,
+        refuses: false,
+        listens: true,
+        calls: u64::MAX,
+    };
+    match Rc::new(alloc, RefCell::new(nodes)) {
+        Ok(shared) => Ok(shared),
+        Err(_) => Err(NoMemory),
+    }
+}
+
+/// The node that listens at a port.
+pub fn node_at(port: u16) -> Option<NodeId> {
+    let number = port.checked_sub(FIRST_PORT)?;
+    if number < 3 {
+        NodeId::new(u8::try_from(number).ok()?)
+    } else {
+        None
+    }
+}
+
+impl Nodes {
+    pub fn cluster(&mut self) -> &mut Cluster {
+        &mut self.cluster
+    }
+
+    /// Moves a key of a slot on.
+    pub fn move_a_key(&mut self, slot: Slot) -> Result<(), MoveFault> {
+        let Some(key) = self.rest_key(slot) else {
+            return Err(MoveFault::NotNow);
+        };
+        self.cluster.move_key(slot, &key)
+    }
+
+    fn rest_key(&self, slot: Slot) -> Option<Bytes> {
+        let key = self.cluster.rest_key(slot)?;
+        key.copy(self.alloc).ok()
+    }
+
+    // What the node says to its command, and sometimes a refusal that any node may give.
+    fn verdict(&self, node: NodeId) -> Verdict {
+        if !self.refuses {
+            return Verdict::Plain;
+        }
+        match (self.served % 41, self.served % 67, self.served % 97) {
+            (0, _, _) => Verdict::TryAgain,
+            (_, 0, _) => Verdict::ClusterDown,
+            (_, _, 0) => match NodeId::new((node.number() + 1) % 3) {
+                Some(other) => Verdict::Moved(other),
+                None => Verdict::Plain,
+            },
+            _ => Verdict::Plain,
+        }
+    }
+
+    /// The bytes of the node's reply.
+    pub fn answer(&mut self, at: NodeId, batch: &Batch) -> Result<Vec<u8>, NoMemory> {
+        self.served = self.served.wrapping_add(1);
+        let verdict = self.verdict(at);
+        let mut out = Vec::new(self.alloc);
+        match self.cluster.serve(at, batch.asking, &batch.part, verdict) {
+            Ok(told) => self.write_told(&told, &mut out)?,
+            Err(_) => return Err(NoMemory),
+        }
+        Ok(out)
+    }
+
+    fn write_told(&self, told: &Told, out: &mut Vec<u8>) -> Result<(), NoMemory> {
+        match told {
+            Told::Reply(value) => write_value(out, value)?,
+            Told::Moved(slot, node) => self.write_redirect(b"-MOVED ", *slot, *node, out)?,
+            Told::Ask(slot, node) => self.write_redirect(b"-ASK ", *slot, *node, out)?,
+            Told::TryAgain => out.extend_from_slice(b"-TRYAGAIN not all keys are here\r\n")?,
+            _ => out.extend_from_slice(b"-CLUSTERDOWN not served\r\n")?,
+        }
+        Ok(())
+    }
+
+    fn write_redirect(
+        &self,
+        word: &[u8],
+        slot: Slot,
+        node: NodeId,
+        out: &mut Vec<u8>,
+    ) -> Result<(), NoMemory> {
+        let port = FIRST_PORT + u16::from(node.number());
+        let text = format!(in self.alloc; "{} 127.0.0.1:{}\r\n", slot.number(), port)?;
+        out.extend_from_slice(word)?;
+        out.extend_from_slice(text.as_bytes())?;
+        Ok(())
+    }
+
+    /// What CLUSTER SLOTS says.
+    pub fn slots(&self) -> Result<Value, NoMemory> {
+        self.cluster.slots_value(&self.table)
+    }
+}

@@ -1,0 +1,58 @@
+//! `nodes`: how the nodes can be reached, how slots move, and how many commands came.
+
+use crate::nodes::{Nodes, SharedNodes};
+use node_model::MoveFault;
+use row_words::{Answer, Args, CallFault};
+
+pub fn call(
+    nodes: &SharedNodes,
+    args: &mut Args<'_>,
+    answer: &mut Answer,
+) -> Result<(), CallFault> {
+    match nodes.try_borrow_mut() {
+        Ok(mut nodes) => call_of(&mut nodes, args, answer),
+        Err(_) => Err(CallFault::NotNow),
+    }
+}
+
+fn call_of(nodes: &mut Nodes, args: &mut Args<'_>, answer: &mut Answer) -> Result<(), CallFault> {
+    match args.name()? {
+        "served" => {
+            answer.number(nodes.served);
+            return Ok(());
+        }
+        "refuse" => nodes.refuses = true,
+        "leave" => nodes.listens = false,
+        "fail" => nodes.calls = args.number()?,
+        name => {
+            show_step(step(nodes, name, args)?, answer);
+            return Ok(());
+        }
+    }
+    answer.name("ok");
+    Ok(())
+}
+
+/// Makes a step of a slot's move.
+fn step(
+    nodes: &mut Nodes,
+    name: &str,
+    args: &mut Args<'_>,
+) -> Result<Result<(), MoveFault>, CallFault> {
+    let slot = args.slot()?;
+    Ok(match name {
+        "import" => nodes.cluster().import_slot(slot, args.node()?),
+        "migrate" => nodes.cluster().migrate_slot(slot),
+        "movekey" => nodes.move_a_key(slot),
+        "own" => nodes.cluster().own_slot(slot),
+        "release" => nodes.cluster().release_slot(slot),
+        _ => return Err(CallFault::NoSuchCall),
+    })
+}
+
+fn show_step(made: Result<(), MoveFault>, answer: &mut Answer) {
+    match made {
+        Ok(()) => answer.name("ok"),
+        Err(fault) => answer.debug(&fault),
+    }
+}

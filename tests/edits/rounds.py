@@ -1,0 +1,189 @@
+"""Rounds: edits of a crate are tried together, by one check of the functions that they change.
+
+Of the edits of one function the first stands in its place and each further one in a twin of it (twins.py). An edit counts as
+refused only where its own function fails with an open goal. The goals of some functions wait until all that they call is
+proved: beside an edit of such a one (it says so, or a round showed it) the functions that it calls stay as they are, and their
+edits stand in twins, or in another round.
+"""
+
+import tempfile
+from dataclasses import dataclass, field
+
+import calls
+import checks
+import edits
+import twins
+import verdicts
+from verdicts import Verdict
+
+
+@dataclass
+class Tried:
+    """What came of an edit."""
+
+    edit: str
+    refused: bool
+    text: str
+
+
+@dataclass
+class Waiting:
+    """An edit that is still to be tried, and the functions that have to stay as they are beside it."""
+
+    edit: edits.Edit
+    functions: list
+    alone: bool = False
+    apart: set = field(default_factory=set)
+    # What the prover calls the function in which the edit stands in this round, and whether a twin will not do.
+    stands_in: list = field(default_factory=list)
+    in_place: bool = False
+
+
+@dataclass
+class Outcome:
+    """What came of a crate's edits, in how many rounds and seconds of a processor."""
+
+    tried: list
+    rounds: int = 0
+    seconds: float = 0.0
+
+
+def read_all(crate, from_folder, names):
+    """The edits that can be tried, and what is said of those that can't."""
+    waiting, bad = [], []
+    for path in sorted(from_folder.glob("*.edit")):
+        try:
+            edit = edits.read(path)
+            edit.applied({}, crate.folder)
+            functions = edits.functions_of(edit, crate.folder, names)
+            waiting.append(Waiting(edit, functions, edits.is_apart(edit, crate.folder)))
+        except edits.Misfit as why:
+            bad.append(Tried(path.stem, False, f"BAD EDIT: {why}"))
+    keep_callees(waiting, crate.folder)
+    return waiting, bad
+
+
+def keep_callees(waiting, folder):
+    """Keeps as they are the functions that those edits' functions call which ask for it."""
+    if any(it.edit.keeps_callees for it in waiting):
+        known = calls.Calls(folder)
+        edited = {name for it in waiting for name in it.functions}
+        for it in waiting:
+            if it.edit.keeps_callees:
+                reached = set().union(*(known.reached_from(calls.plain(name)) for name in it.functions))
+                it.apart = {name for name in edited - {*it.functions} if calls.plain(name) in reached}
+
+
+@dataclass
+class Round:
+    """Edits that are tried together."""
+
+    # The functions that edits of this round or of later ones want to stay as they are.
+    kept: set
+    taken: list = field(default_factory=list)
+    texts: dict = field(default_factory=dict)
+    # The functions that are changed in their places.
+    changed: set = field(default_factory=set)
+    # The control of each function that has twins.
+    controls: dict = field(default_factory=dict)
+
+    def may_take(self, it):
+        """Whether an edit may be tried beside those that were taken."""
+        if self.taken and (it.alone or self.taken[0].alone):
+            return False
+        return not self.changed & it.apart
+
+    def place(self, it, crate):
+        """Puts an edit into its function, or into a twin of it. False where it does not fit beside the others."""
+        it.stands_in = it.functions
+        functions = {*it.functions}
+        if functions & (self.kept | self.changed) and self.place_in_twin(it, crate):
+            return True
+        wanted = {*self.controls.values()}.union(*(other.apart for other in self.taken))
+        if functions & (self.changed | wanted):
+            return False
+        try:
+            self.texts = it.edit.applied(self.texts, crate.folder)
+        except edits.Misfit:
+            return self.place_in_twin(it, crate)
+        self.changed |= functions
+        return True
+
+    def place_in_twin(self, it, crate):
+        """Puts an edit into a twin of its function, with a control beside its first twin."""
+        if len(it.functions) != 1 or it.in_place:
+            return False
+        (function,) = it.functions
+        twin = twins.twin_of(it.edit, function, self.texts, crate, len(self.taken))
+        if twin is None:
+            return False
+        self.texts, it.stands_in = self.texts | twin.texts, [twin.name]
+        if function not in self.controls:
+            self.controls[function] = self.control(it, function, crate)
+        return True
+
+    def control(self, it, function, crate):
+        """The control of a function: itself, where it stays as it is and its proof has no files that could be copied wrongly."""
+        if function not in self.changed and not twins.proofs_of(crate.folder, crate.name, function, function):
+            return function
+        made = twins.control_of(it.edit, function, self.texts, crate)
+        self.texts |= made.texts
+        return made.name
+
+
+def next_round(waiting, crate):
+    """Takes edits whose texts fit into one copy."""
+    made = Round(set().union(*(it.apart for it in waiting)))
+    for it in list(waiting):
+        if made.may_take(it) and made.place(it, crate):
+            made.taken.append(it)
+            waiting.remove(it)
+    return made
+
+
+def is_in_order(answer, crate, control):
+    """Whether a control's own goals are all closed."""
+    verdict = verdicts.verdict_of(answer, control)[0]
+    return verdict is Verdict.PROVED or (verdict is Verdict.CALLEE and not verdicts.waits(answer, crate.name, control))
+
+
+def judged(answer, crate, it, made):
+    """What came of one edit of a round, or None where it is to be tried again."""
+    found = [(name, stands, *verdicts.verdict_of(answer, stands)) for name, stands in zip(it.functions, it.stands_in)]
+    name, stands, verdict, text = next((one for one in found if one[2] is not Verdict.REFUSED), found[0])
+    is_twin = it.stands_in != it.functions
+    if verdict is Verdict.REFUSED and (not is_twin or is_in_order(answer, crate, made.controls[name])):
+        return Tried(it.edit.name, True, f"refused by {name}: {text}")
+    others = made.changed - {*it.functions}
+    if verdict is Verdict.CALLEE and not others <= it.apart:
+        it.apart |= {*verdicts.callees_of(answer, crate.name, stands)} & others or others
+        return None
+    if is_twin:
+        it.in_place = True
+        return None
+    if verdict is Verdict.UNREAD and len(made.taken) > 1:
+        it.alone = True
+        return None
+    return Tried(it.edit.name, False, f"{verdict.value}: {name}: {text[:400]}")
+
+
+def try_all(crate, crates, where, from_folder, names):
+    """Tries all edits of the folder, in as few rounds as their functions allow, over kept work of this run alone."""
+    waiting, bad = read_all(crate, from_folder, names)
+    outcome = Outcome(bad)
+    with tempfile.TemporaryDirectory(prefix="edits-kept-") as kept:
+        while waiting:
+            made = next_round(waiting, crate)
+            asked = {name for it in made.taken for name in it.stands_in} | {*made.controls.values()}
+            said, seconds = checks.check(crate, crates, where, made.texts, sorted(asked), kept)
+            answer = verdicts.read(crate.name, said)
+            outcome.rounds += 1
+            outcome.seconds += seconds
+            for it in made.taken:
+                tried = judged(answer, crate, it, made)
+                if tried:
+                    outcome.tried.append(tried)
+                else:
+                    waiting.append(it)
+    outcome.tried.sort(key=lambda it: it.edit)
+    return outcome

@@ -1,0 +1,201 @@
+"""The gate tried on a small repository of its own: each edit is reported as what it is."""
+
+import contextlib
+import io
+import re
+import tempfile
+import unittest
+from pathlib import Path
+
+import checks
+import edits
+import gate
+import rounds
+import verdicts
+
+LIBRARY = """\
+//! A count that is raised.
+#![tactic(auto)]
+
+ghost use Rattle.std.specs.Prelude.{◌≡◌, ◌+◌, ◌<◌, IsTrue};
+
+/// The largest count.
+const LARGEST: u8 = 9;
+
+/// The count after one more.
+pub fn raised(count: u8) -> u8
+    requires { count < 9 }
+    ensures { result ≡ count + 1 }
+{
+    count + 1
+}
+
+/// The count after two more.
+pub fn raised_twice(count: u8) -> u8
+    requires { count < 8 }
+    ensures { result ≡ count + 2 }
+{
+    raised(raised(count))
+}
+
+/// The count after one more, by another way.
+pub fn raised_again(count: u8) -> u8
+    requires { count < 9 }
+    ensures { result ≡ count + 1 }
+{
+    let once = raised(count);
+    once
+}
+
+/// Whether one more can be counted.
+pub fn can_be_raised(count: u8) -> bool
+    ensures { IsTrue result → count < 9 }
+{
+    count < LARGEST
+}
+"""
+
+ANSWERS = """\
+use Rattle.sample.proofs.raised_again.Goals as goal
+
+pub returns : goal.returns
+returns c = c.raised-once.ensures
+"""
+
+# Each edit, and the beginning of what has to be said of it.
+EDITS = {
+    "raised_by_none": (["old:     count + 1", "new:     count"], "refused by raised: "),
+    "raised_not_at_all": (["old:     raised(raised(count))", "new:     count"], "refused by raised_twice: "),
+    "raised_again_by_none_in_a_twin": (["old:     once", "new:     count"], "refused by raised_again: "),
+    "raised_by_one_alone_in_a_twin": (["old:     raised(raised(count))", "new:     raised(count)"], "refused by raised_twice: "),
+    "same_meaning_in_a_twin": (["old:     raised(raised(count))", "new:     let once = raised(count); raised(once)"], "NOT REFUSED"),
+    "larger_constant": (
+        ["fn: can_be_raised", "old: const LARGEST: u8 = 9;", "new: const LARGEST: u8 = 10;"],
+        "refused by can_be_raised: ",
+    ),
+    "constant_without_a_function": (
+        ["old: const LARGEST: u8 = 9;", "new: const LARGEST: u8 = 11;"],
+        "BAD EDIT: it changes the text of 0 functions",
+    ),
+    "same_meaning": (["old:     count < LARGEST", "new:     LARGEST > count"], "NOT REFUSED"),
+    "text_that_is_not_there": (["old:     count + 2", "new:     count"], "BAD EDIT: an 'old:' text stands in src/lib.rt 0 times"),
+    "text_that_does_not_compile": (["old:     raised(raised(count))", "new:     raised(true)"], "BAD EDIT: the edited text does not compile"),
+    "only_a_callee": (["fn: raised_twice", "old:     count + 1", "new:     count + 0"], "NOT COUNTED: it is refused only because a function"),
+    "only_a_name": (
+        ["old:     let once = raised(count);", "new:     let first = raised(count); let once = first;"],
+        "NOT COUNTED: it is refused only because a proof names",
+    ),
+}
+
+# The same of edits of which one wants the functions that its own calls to stay as they are: the others stand in twins.
+KEPT = {
+    "raised_twice_by_one_over_kept_callees": (
+        ["callees: kept", "old:     raised(raised(count))", "new:     if count == 3 { return 4; } raised(raised(count))"],
+        "refused by raised_twice: ",
+    ),
+    "raised_by_two_in_a_twin_for_its_callers": (["old:     count + 1", "new:     count + 2"], "refused by raised: "),
+    "same_meaning_in_a_twin_for_its_callers": (["old:     count + 1", "new:     1 + count"], "NOT REFUSED"),
+}
+
+
+def make_repository(root, wanted):
+    """Writes the small repository with these edits."""
+    crate = root / "crates/sample"
+    (root / "crates.txt").write_text("sample:\n")
+    for folder in ("src", "specs", "proofs/raised_again", "must-fail"):
+        (crate / folder).mkdir(parents=True)
+    (crate / "src/lib.rt").write_text(LIBRARY)
+    (crate / "proofs/raised_again/Answers.antt").write_text(ANSWERS)
+    for name, (lines, _) in wanted.items():
+        (crate / f"must-fail/{name}.edit").write_text("\n".join(["file: src/lib.rt", *lines]) + "\n")
+
+
+class Rounds(unittest.TestCase):
+    """What is said of each edit."""
+
+    def outcome_of(self, wanted):
+        """What came of these edits, each of which has to be reported as what it is."""
+        with tempfile.TemporaryDirectory() as tree, tempfile.TemporaryDirectory() as room:
+            make_repository(Path(tree), wanted)
+            gate.copy_tree(tree, room)
+            tried = gate.Gate(tree, room)
+            with contextlib.redirect_stdout(io.StringIO()) as said:
+                status = tried.run(1)
+            self.assertEqual(status, 0, said.getvalue())
+            found = {it.edit: it for it in tried.outcomes["sample"].tried}
+            for name, (_, text) in wanted.items():
+                self.assertTrue(found[name].text.startswith(text), f"{name}: {found[name].text}")
+                self.assertEqual(found[name].refused, text.startswith("refused"), name)
+            refused = sum(text.startswith("refused") for _, text in wanted.values())
+            self.assertEqual(tried.count(), (refused, len(wanted) - refused))
+            return tried.outcomes["sample"]
+
+    def test_each_edit_is_reported_as_what_it_is(self):
+        self.outcome_of(EDITS)
+
+    def test_edits_of_what_an_edited_function_calls_stand_in_twins(self):
+        # The second round has the one that no twin refused, in its place.
+        self.assertEqual(self.outcome_of(KEPT).rounds, 2)
+
+
+class Controls(unittest.TestCase):
+    """A refusal in a twin counts only beside a control that is in order."""
+
+    def test_refusals_beside_a_control(self):
+        refused = "fn sample::f_twin: no proof: `search` did not prove `returns`"
+        calls = "no proof: it calls `sample::g`, which is not proved"
+        waits = "note: `search` has not tried the goals of `sample::f_control`, which wait for a callee's proof"
+        for said, counts in {
+            "fn sample::f_control: proved": True,
+            f"fn sample::f_control: {calls}": True,
+            f"{waits}\nfn sample::f_control: {calls}": False,
+            "fn sample::f_control: no proof: `search` did not prove `returns`": False,
+            "fn sample::f_control: not proved": False,
+        }.items():
+            answer = verdicts.read("sample", f"{refused}\n{said}\nonly=2 proved=0\n")
+            it = rounds.Waiting(edits.Edit("wrong"), ["f"], stands_in=["f_twin"])
+            made = rounds.Round(set(), taken=[it], controls={"f": "f_control"})
+            tried = rounds.judged(answer, checks.Crate("sample", Path(), [], []), it, made)
+            self.assertEqual(tried is not None and tried.refused, counts, said)
+            self.assertEqual(it.in_place, not counts, said)
+
+
+class Functions(unittest.TestCase):
+    """The function that an edit changes, by the place of its text."""
+
+    TEXT = """\
+impl<T: Drop> Display for Pair<T> {
+    fn fmt(&self) -> bool {
+        true
+    }
+}
+
+impl<'a, K, V> Map<'a, K, V>
+where
+    K: Eq,
+{
+    pub(crate) fn take(&mut self) -> Option<V> {
+        None
+    }
+}
+
+const SIZE: u8 = 4;
+
+fn free() {
+    done()
+}
+"""
+
+    def test_functions_by_place(self):
+        for text, wanted in {
+            "true": "a::b::PairDisplay::fmt",
+            "None": "a::b::Map::take",
+            "done()": "a::b::free",
+            "SIZE": None,
+        }.items():
+            place = re.search(re.escape(text), self.TEXT).start()
+            self.assertEqual(edits.function_at("src/a/b.rt", self.TEXT, place), wanted)
+
+
+if __name__ == "__main__":
+    unittest.main()

@@ -1,0 +1,83 @@
+"""Clients that are owed much and read nothing, and clients that announce much and send nothing.
+
+What the proxy holds for them, and what another client waits beside them.
+"""
+
+import time
+from contextlib import ExitStack
+
+from cases_busy import percentile, seconds_of_asking
+from client import request
+from cluster import Proxy, is_within, keys_of_slots, resident_mebibytes
+from harness import case, check, check_same, check_time
+
+# The bytes of a value, how many keys hold one, how often each client asks for one of them: 100 MiB in all.
+VALUE, KEYS, TIMES = 65536, 64, 1600
+# Mebibytes that may be held for one such client and for fifty, and once they left.
+MOST_FOR_ONE, MOST_FOR_FIFTY, MOST_KEPT = 16, 128, 48
+# Milliseconds that 99 of 100 requests of another client may take at most, beside what they take directly just then.
+MOST_WAITED = 20
+
+
+class Beside:
+    """A proxy of its own with some clients, each of which has sent these bytes. Half a second later another's requests are timed."""
+
+    def __init__(self, world, count, data):
+        self.proxy = Proxy(world.room, world.program, world.cluster.nodes[0].port, name="unread")
+        before = resident_mebibytes(self.proxy.process)
+        self.held, taken, directly = before, [], []
+        with ExitStack() as stack:
+            for _ in range(count):
+                stack.enter_context(self.proxy.client(receive_buffer=4096)).send(data)
+            asking = [stack.enter_context(it.client()) for it in (self.proxy, world.plain)]
+            time.sleep(0.5)
+            for _ in range(8):
+                through, direct = seconds_of_asking(asking, ("GET", "other"), 0.25)
+                taken, directly = taken + through, directly + direct
+                self.held = max(self.held, resident_mebibytes(self.proxy.process))
+        is_within(2, lambda: resident_mebibytes(self.proxy.process) < MOST_KEPT)
+        self.kept, self.late, self.direct = resident_mebibytes(self.proxy.process), percentile(taken), percentile(directly)
+        self.note = f"resident {before:.0f} MiB before, {self.held:.0f} at most, {self.kept:.0f} after; "
+        self.note += f"99 of 100 requests within {self.late:.1f} ms, directly {self.direct:.1f}"
+        self.proxy.process.terminate()
+        self.proxy.process.wait(10)
+
+    def check(self, most_held):
+        check(self.held < most_held, self.note)
+        check_time(self.kept < MOST_KEPT, self.note)
+        check_time(self.late < MOST_WAITED + self.direct, self.note)
+        return self.note
+
+
+def put_values(world):
+    """The keys of many slots that hold a large value."""
+    keys = keys_of_slots(0, 16383, KEYS)
+    with world.client() as client:
+        for key in keys:
+            check_same(client.ask("SET", key, "v" * VALUE), b"+OK\r\n", "SET")
+    return keys
+
+
+def never_read(world, count, most_held):
+    keys = put_values(world)
+    asked = b"".join(request("GET", keys[turn % KEYS]) for turn in range(TIMES))
+    return Beside(world, count, asked).check(most_held)
+
+
+@case
+def a_client_that_never_reads(world):
+    """It asks for 100 MiB at once."""
+    return never_read(world, 1, MOST_FOR_ONE)
+
+
+@case
+def fifty_clients_that_never_read(world):
+    """Each asks for 100 MiB at once."""
+    return never_read(world, 50, MOST_FOR_FIFTY)
+
+
+@case
+def clients_that_announce_much(world):
+    """Fifty begin a request with a word of 512 MiB, or with a million words, and send no more."""
+    big = b"*3\r\n$3\r\nSET\r\n$1\r\na\r\n$536870912\r\n"
+    return Beside(world, 50, big).check(MOST_KEPT) + "; " + Beside(world, 50, b"*1048576\r\n").check(MOST_KEPT)

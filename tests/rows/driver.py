@@ -1,0 +1,88 @@
+"""The programs that make the calls of rows."""
+
+import os
+import subprocess
+import sys
+import tempfile
+import time
+from pathlib import Path
+
+CRATES = Path(__file__).resolve().parents[2] / "crates"
+
+
+class Driver:
+    def __init__(self, name):
+        self.name = name
+
+    def program(self):
+        program = os.environ.get(self.name.upper(), CRATES / self.name / "out" / self.name)
+        if not os.access(program, os.X_OK):
+            sys.exit(f"{program} is not there: rt run in crates/{self.name} builds it")
+        return program
+
+    def answers(self, lines):
+        """The lines that the driver answers to these, and the seconds that it took."""
+        with tempfile.TemporaryFile() as given, tempfile.TemporaryFile() as found:
+            given.write("".join(line + "\n" for line in lines).encode())
+            given.seek(0)
+            start = time.monotonic()
+            subprocess.run([self.program()], stdin=given, stdout=found, check=True)
+            seconds = time.monotonic() - start
+            found.seek(0)
+            return found.read().decode().splitlines(), seconds
+
+
+DRIVERS = {".rows": Driver("row_driver"), ".turns": Driver("turn_driver")}
+
+
+def failures_of(driver, rows):
+    """The rows that are answered otherwise, each with a line that says how. One run makes all that have no limit of time."""
+    failures = {}
+    free = [row for row in rows if row.seconds is None]
+    if free:
+        failures = failures_in(driver, free)
+    for row in rows:
+        if row.seconds is not None:
+            failures.update(failures_in(driver, [row]))
+    return failures
+
+
+def failures_in(driver, rows):
+    lines = []
+    for row in rows:
+        lines += (row.calls + ["reset"]) * row.times
+    found, seconds = driver.answers(lines)
+    failures = {}
+    at = 0
+    for row in rows:
+        for _ in range(row.times):
+            end = at + len(row.calls)
+            failure = difference(row, found[at:end])
+            if failure:
+                failures.setdefault(row.name, failure)
+            at = end + 1
+        if row.seconds is not None and seconds > row.seconds:
+            failures.setdefault(row.name, f"{row.name}: took {seconds:.3f} s, wanted at most {row.seconds} s")
+    return failures
+
+
+def difference(row, found):
+    """How the answers differ from those that are wanted."""
+    if found == row.wanted:
+        return None
+    for place, (call, wanted) in enumerate(zip(row.calls, row.wanted)):
+        answer = found[place] if place < len(found) else "nothing"
+        if not fits(answer, wanted):
+            return f"{row.name}, call {place + 1}: {short(call)}\n  wanted: {short(wanted)}\n  found:  {short(answer)}"
+    return None
+
+
+def fits(answer, wanted):
+    """A wanted answer may be `at most NUMBER`."""
+    if wanted.startswith("at most "):
+        return answer.isdigit() and int(answer) <= int(wanted.removeprefix("at most "))
+    return answer == wanted
+
+
+def short(text):
+    return text if len(text) <= 400 else text[:400] + " .."

@@ -1,0 +1,125 @@
+"""Each growth of a row refused in turn: the call that finds no memory says so, and made again it gives the row's answer, as do all
+calls behind it."""
+
+import os
+import re
+import subprocess
+import tempfile
+
+from growths import Growths, compiler
+
+# The rows of a table that are made, but for generated ones and these.
+MOST_CALLS = 80
+LEFT_OUT = {
+    # their nodes in memory, which are the driver's, execute a command for whose reply they find no memory
+    "a_reply_is_given",
+    "an_ask_is_given",
+    "the_first_post_is_moved",
+    "a_client_that_is_gone_drops_what_was_not_posted",
+    # a call that is made again offers bytes again, which are counted
+    "refused_bytes_are_offered_at_the_next_call",
+    # they run a worker to its end by one call, which is not made again
+    "a_worker_is_ready_once_its_clients_are_served",
+    "a_worker_is_ready_once_its_client_is_gone",
+    "a_worker_is_stopped_by_its_gate",
+}
+
+# Seconds that a run of a driver may take, as a last resort.
+LIMIT = 60
+
+# A line that makes the driver's buffer for lines large, so that no growth of it is among those of a row.
+FIRST = 'none "' + 4096 * "x" + '"'
+
+# What is answered for want of memory: a fault, or by the driver that the words are no part or no plan.
+REFUSALS = ("NoMemory", "? NoMemory", "? NoPart", "? NotNow")
+
+TICKET = re.compile(r" ?\b\d+\.\d+\.\d+\b")
+
+
+class Sweep:
+    """The sweeps of rows by a driver, and how many growths were refused in them."""
+
+    def __init__(self, driver):
+        self.driver, self.growths = driver, Growths()
+        self.again = self.of_driver = self.unneeded = 0
+
+    def close(self):
+        self.growths.close()
+
+    def answers(self, calls, number):
+        """The answers to these calls with this growth refused, or None where the driver does not end, or not well."""
+        environment = {**os.environ, **self.growths.variables}
+        # a file, which is read alike each time
+        with tempfile.TemporaryFile() as given:
+            given.write("".join(call + "\n" for call in [FIRST, *calls]).encode())
+            given.seek(0)
+            self.growths.refuse(number)
+            try:
+                ran = subprocess.run([self.driver.program()], stdin=given, stdout=subprocess.PIPE, env=environment, timeout=LIMIT, check=True)
+            except subprocess.SubprocessError:
+                return None
+        return ran.stdout.decode().splitlines()[1:]
+
+    def failures(self, row):
+        """A line for each growth of the row whose refusal leads to something else."""
+        self.answers([], 0)
+        first = self.growths.count
+        if self.answers(row.calls, 0) != row.wanted:
+            return [f"{row.name}: is answered otherwise while there is memory"]
+        last = self.growths.count
+        return list(filter(None, (self.failure(row, number) for number in range(first + 1, last + 1))))
+
+    def failure(self, row, number):
+        found = self.answers(row.calls, number)
+        if found == row.wanted:
+            self.unneeded += 1
+            return None
+        if found is None or len(found) != len(row.wanted):
+            return f"{row.name}: growth {number}: the driver does not end well"
+        at = next(place for place, answer in enumerate(found) if answer != row.wanted[place])
+        odd, wanted = found[at], row.wanted[at]
+        if odd in REFUSALS or odd.startswith("back "):
+            again = self.answers(row.calls[: at + 1] + row.calls[at:], number)
+            if again == row.wanted[:at] + [odd] + row.wanted[at:]:
+                self.again += 1
+                return None
+        if self.is_of_driver(odd, wanted, found[at + 1 :], row.wanted[at + 1 :]):
+            self.of_driver += 1
+            return None
+        return f"{row.name}: growth {number}, at {row.calls[at][:80]}: found {odd[:80]}, wanted {wanted[:80]}"
+
+    def is_of_driver(self, odd, wanted, found, behind):
+        """Whether the call was made, and the driver could not show its answer, and then no other one, or not all its tickets; or
+        its stream in memory failed, since it could not keep what was written."""
+        if odd == "? NoMemory":
+            return found == behind or set(found) <= {odd}
+        if odd in ("PortFailed", "Failed"):
+            return True
+        return TICKET.sub("", wanted).strip() == TICKET.sub("", odd).strip() and found == behind
+
+
+def failures_refused(tables):
+    """Sweeps the rows of tables, each with its driver, and prints how many growths were refused."""
+    if not compiler():
+        print("growths refused: NOT RUN, since no C compiler is there")
+        return []
+    failures = []
+    for path, driver, rows in tables:
+        chosen = [row for row in rows if is_swept(row)]
+        if not chosen:
+            continue
+        sweep = Sweep(driver)
+        for row in chosen:
+            failures += [f"{path.name}: {line}" for line in sweep.failures(row)]
+        sweep.close()
+        print(
+            f"{path.name}: growths refused in {len(chosen)} rows: {sweep.again} calls made again, "
+            f"{sweep.of_driver} of the driver's own, {sweep.unneeded} not needed"
+        )
+    return failures
+
+
+def is_swept(row):
+    is_short = row.times == 1 and len(row.calls) <= MOST_CALLS and not row.note
+    is_timed = row.seconds is not None or any(wanted.startswith("at most ") for wanted in row.wanted)
+    return is_short and not is_timed and row.name not in LEFT_OUT
