@@ -30,12 +30,12 @@ def started(words):
 
 
 def connection(port, server):
-    """A connection to a server, a process that may still be starting."""
+    """A connection to a server, a process that may still be starting. One that ends meanwhile may reset it before it stands."""
     end = time.monotonic() + LIMIT
     while True:
         try:
             return socket.create_connection(("127.0.0.1", port), LIMIT)
-        except ConnectionRefusedError:
+        except (ConnectionRefusedError, ConnectionResetError):
             if server.poll() is not None or time.monotonic() > end:
                 raise
             time.sleep(0.01)

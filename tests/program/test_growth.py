@@ -131,7 +131,7 @@ class Growth(unittest.TestCase):
         replies = list(answers.values())
         try:
             found = heard_to_the_end((port, process), b"".join(answers))
-        except ConnectionRefusedError:
+        except (ConnectionRefusedError, ConnectionResetError):
             found = b""
         if found == b"".join(replies):
             process.send_signal(signal.SIGTERM)
