@@ -23,6 +23,7 @@ test:
 	tests/program/run
 	examples/run --once
 	tests/real/run
+	@tests/edits/run --took
 
 # Measures the program beside one server and beside another proxy.
 bench:

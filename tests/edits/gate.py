@@ -16,12 +16,15 @@ import time
 from pathlib import Path
 
 import checks
+import meter
 import rounds
 
 # Memory that has to be free, in bytes, before a round begins beside other checks.
 FREE = 5_000_000_000
 # Rounds that run at once while `rt ci` still runs.
 BESIDE = 2
+# What the last run of the gate took.
+TOOK = Path(__file__).resolve().parent / "out/took.txt"
 
 
 def processors():
@@ -136,6 +139,12 @@ class Gate:
         refused = sum(it.refused for outcome in self.outcomes.values() for it in outcome.tried)
         return refused, len(all_edits) - refused
 
+    def took(self, metered):
+        """What each crate took of a processor, in seconds: its proof, tests and programs, and its edits."""
+        tried = sorted(self.outcomes.items(), key=lambda it: -it[1].seconds)
+        lines = ["proofs, tests and programs, seconds of a processor: " + ", ".join(f"{name} {seconds:.0f}" for name, seconds in metered)]
+        return [*lines, "edits: " + ", ".join(f"{name} {outcome.seconds:.0f}" for name, outcome in tried)]
+
     def bring_programs(self):
         """Puts the programs that `rt ci` built where those look for them that run them."""
         for name in self.crates:
@@ -146,9 +155,19 @@ class Gate:
                 shutil.copy2(built, to / name)
 
 
+def say_took(lines):
+    """Prints what the gate took, and keeps it for the end of `make test`."""
+    print("\n".join(lines), flush=True)
+    TOOK.parent.mkdir(exist_ok=True)
+    TOOK.write_text("\n".join(lines) + "\n", encoding="utf-8")
+
+
 def main(words):
     """The gate over the tree that this file stands in; with --over FOLDER LOG [CRATE..] the edits alone, over an earlier run of it."""
     tree, lanes = Path(__file__).resolve().parents[2], processors()
+    if words[:1] == ["--took"]:
+        print(TOOK.read_text(encoding="utf-8"), end="")
+        return 0
     if words[:1] == ["--over"]:
         gate = Gate(tree, words[1])
         gate.run(lanes, log=words[2], only=words[3:])
@@ -158,12 +177,14 @@ def main(words):
     room = Path(tempfile.mkdtemp(prefix="cluster_proxy-gate-"))
     try:
         copy_tree(tree, room)
-        gate = Gate(tree, room)
+        gate, watch = Gate(tree, room), meter.Meter(room)
+        watch.start()
         status = gate.run(lanes)
         gate.bring_programs()
         refused, left = gate.count()
         used = resource.getrusage(resource.RUSAGE_CHILDREN)
-        print(f"edits: {refused} refused, {left} not; proofs, tests and edits took {(used.ru_utime + used.ru_stime) / 60:.0f} minutes of a processor")
+        whole = f"edits: {refused} refused, {left} not; proofs, tests and edits took {(used.ru_utime + used.ru_stime) / 60:.0f} minutes of a processor"
+        say_took([whole, *gate.took(watch.end())])
         print(f"{refused} passed, {left + (status != 0)} failed")
         return 1 if status or left else 0
     finally:
