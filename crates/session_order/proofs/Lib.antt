@@ -13,3 +13,5 @@ pub mod Blocking
 pub mod Tabling
 pub mod Turning
 pub mod Fronting
+pub mod Forgetting
+pub mod HangingUp

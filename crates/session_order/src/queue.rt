@@ -1,11 +1,13 @@
 //! The parts of a client's requests, and whose turn it is.
 
-ghost use Rattle.std.specs.Prelude.{◌≡◌, ◌<◌, ◌≤◌, ◌+◌, ◌^◌, ◌↔◌, IsTrue, OnOk, OnErr, length, map, take, drop, true, Some, slice_get, slice_set, ℕ, MatchOption, IfSome, ◌++◌, ◌-◌, ◌≢◌, [], vec_len, ◌∷◌, suc};
+ghost use Rattle.std.specs.Prelude.{◌≡◌, ◌<◌, ◌≤◌, ◌+◌, ◌^◌, ◌↔◌, IsTrue, OnOk, OnErr, length, map, take, drop, true, Some, slice_get, slice_set, ℕ, MatchOption, IfSome, nat_eq, if◌then◌else◌, ◌++◌, ◌-◌, ◌≢◌, [], vec_len, ◌∷◌, suc};
 ghost use Rattle.std.specs.List.{list_all};
 ghost use Rattle.slot_hash.specs.Slot.{slot_of};
 ghost use Rattle.session_order.specs.Turn.{is_done, IsWaiting, IsOutAt, IsNumbered, HandOutcome, NextPlace};
 ghost use Rattle.session_order.specs.Tables.{AreSound, SameParts, HasRoom, parts_in};
 ghost use Rattle.session_order.specs.Front.{done_at_front};
+ghost use Rattle.session_order.specs.LettingGo.{HasLast, LetsGo, ForgetsAt, last_without};
+ghost use Rattle.std.specs.HashMap.{get};
 
 use key_split::Part;
 use resp_wire::NoMemory;
@@ -158,6 +160,22 @@ impl Queue {
     {
         end(&mut self.tables, number);
         self.done = count_done(&self.tables.stages, self.done);
+    }
+
+    /// Lets go of the parts that were not handed out. Those that are out keep their numbers, and the last of them is the last
+    /// part.
+    pub fn let_go(&mut self)
+        ensures { LetsGo self.old self.new }
+    {
+        let_go(&mut self.tables);
+        self.done = count_done(&self.tables.stages, 0);
+    }
+
+    /// How many parts there are.
+    pub fn len(&self) -> usize
+        ensures { result ≡ length self.now.stages }
+    {
+        self.tables.stages.len()
     }
 
     /// Drops the first parts, which are done.
@@ -318,4 +336,63 @@ fn take_part(stages: &mut VecDeque<PartStage>, i: usize) -> Part
         PartStage::Waiting(part) => part,
         _ => unreachable!(),
     }
+}
+
+// Lets go of the parts that were not handed out, and of all behind the last that is out.
+fn let_go(tables: &mut Tables)
+    requires sound { AreSound tables.old }
+    requires numbered { IsNumbered tables.old.first tables.old.stages.items }
+    ensures sound { AreSound tables.new }
+    ensures does { LetsGo (parts_in tables.old) (parts_in tables.new) }
+{
+    let mut kept = 0;
+    for i in 0..tables.stages.len() {
+        if forget_at(tables, i) {
+            kept = i + 1;
+        }
+    }
+    tables.stages.truncate(kept);
+    tables.later.truncate(kept);
+    tables.turns.clear();
+    tables.stages.shrink_to_fit();
+    tables.later.shrink_to_fit();
+}
+
+// Lets go of the part at i, unless it is out: then no part for its slot follows it any more. Whether it is out.
+fn forget_at(tables: &mut Tables, i: usize) -> bool
+    requires numbered { IsNumbered tables.old.first tables.old.stages.items }
+    requires fits { i < length tables.old.stages.items }
+    requires places { i < length tables.old.later.items }
+    requires last { HasLast tables.old i }
+    ensures { ForgetsAt tables.old i result tables.new }
+{
+    tables.later[i] = None;
+    let number = tables.first + i as u64;
+    match &tables.stages[i] {
+        PartStage::Done => return false,
+        PartStage::Out(slot) => {
+            let slot = *slot;
+            let _ = tables.last.insert(slot.number(), number);
+            return true;
+        }
+        PartStage::Waiting(part) => {
+            let slot = part.slot();
+            forget_last(&mut tables.last, slot.number(), number);
+        }
+    }
+    tables.stages[i] = PartStage::Done;
+    false
+}
+
+// Forgets the last part of a slot, where it is the one of this number.
+fn forget_last(last: &mut HashMap<u16, u64>, slot: u16, number: u64)
+    ensures { (q : ℕ) → get nat_eq last.new q ≡ (if nat_eq slot q then last_without number (get nat_eq last.old q) else get nat_eq last.old q) }
+{
+    let Some(found) = last.get(&slot) else {
+        return;
+    };
+    if *found != number {
+        return;
+    }
+    last.remove(&slot);
 }

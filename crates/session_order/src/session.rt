@@ -2,6 +2,7 @@
 
 ghost use Rattle.std.specs.Prelude.{◌≡◌, ◌≢◌, ◌<◌, ◌≤◌, ◌+◌, ◌++◌, ◌↔◌, [], ◌∷◌, None, IsTrue, IfSome, true, length, drop, take, replicate};
 ghost use Rattle.std.specs.VecDeque.{deque_len, deque_capacity};
+ghost use Rattle.session_order.specs.LettingGo.{one_for};
 
 use crate::closing::{Broken, Closing};
 use crate::fault::SessionFault;
@@ -9,7 +10,7 @@ use crate::queue::Queue;
 use crate::replies::{PendingReply, write_output};
 use crate::request_plan::{RequestPlan, plan_request};
 use crate::request_reader::{NextRequest, RequestReader};
-use key_split::{Ended, Part, Ticket};
+use key_split::{Ended, Joining, Part, Ticket};
 use resp_wire::{Limits, NoMemory, Words};
 use std::alloc::Global;
 use std::collections::VecDeque;
@@ -63,6 +64,7 @@ impl Session {
     ghost use Rattle.session_order.specs.Replies.{DrainOutcome, parts_of};
     ghost use Rattle.session_order.specs.Turn.{NextPlace};
     ghost use Rattle.session_order.specs.Steps.{FeedOutcome, ReadOutcome, ReadyOutcome, IsHandedOut, EndOutcome, IsFinished, IsOut, KeepsOut};
+    ghost use Rattle.session_order.specs.HangingUp.{HangsUp};
 
     /// A session to which nothing was fed.
     pub fn new(alloc: Global, worker: u16, client: u32, limits: Limits) -> Session
@@ -149,6 +151,14 @@ impl Session {
         self.write_next(out)
     }
 
+    /// Lets go of all but the places of the parts that are out, whose ends may still be told: the client is gone.
+    pub fn hang_up(&mut self)
+        ensures does { HangsUp self.old self.new }
+        ensures kept { KeepsOut self.old self.new }
+    {
+        self.let_go();
+    }
+
     /// Whether the session is closed and nothing is left to drain.
     pub fn finished(&self) -> bool
         ensures { IsTrue result ↔ IsFinished self.now }
@@ -164,6 +174,7 @@ impl Session {
 impl Session {
     ghost use Rattle.session_order.specs.Replies.{DrainOutcome};
     ghost use Rattle.session_order.specs.Steps.{FeedOutcome, ReadOutcome, ReadyOutcome, EndOutcome, IsHandedOut, MayRead, AddOutcome};
+    ghost use Rattle.session_order.specs.LettingGo.{LetsGoOf};
 
     fn take_piece(&mut self, piece: &[u8]) -> Result<usize, SessionFault>
         ensures { FeedOutcome self.old piece.now result self.new }
@@ -257,6 +268,18 @@ impl Session {
         }
     }
 
+    // Of the requests one stays for all parts that are out.
+    fn let_go(&mut self)
+        ensures { LetsGoOf self.old self.new }
+    {
+        self.reader = RequestReader::new(self.alloc, Limits::full());
+        self.closing = Closing::Quit;
+        self.queue.let_go();
+        let count = self.queue.len();
+        keep_one(&mut self.requests, count);
+        keep_lost(&mut self.ends, count);
+    }
+
     #[tactic(auto, using(crate::proofs::Added::parts_of_push, crate::proofs::Added::joinable_push))]
     // Adds what a request's words ask for: its reply or its parts. Where memory runs out the words are put back.
     fn add(&mut self, words: Words) -> Result<bool, SessionFault>
@@ -330,4 +353,26 @@ fn push_lost(ends: &mut VecDeque<Ended>, count: usize)
     for _ in 0..count {
         ends.push_back_reserved(Ended::Lost);
     }
+}
+
+// In place of the requests there is one for so many parts, or none.
+fn keep_one(requests: &mut VecDeque<PendingReply>, parts: usize)
+    requires { 0 < parts → requests.old.items ≢ [] }
+    ensures { requests.new.items ≡ one_for parts }
+{
+    requests.clear();
+    if parts > 0 {
+        requests.push_back_reserved(PendingReply::Parts(Joining::AllOk, parts));
+    }
+    requests.shrink_to_fit();
+}
+
+// In place of the ends there are places for so many, no more than there were.
+fn keep_lost(ends: &mut VecDeque<Ended>, count: usize)
+    requires { count ≤ length ends.old.items }
+    ensures { ends.new.items ≡ replicate count Ended.Lost }
+{
+    ends.clear();
+    push_lost(ends, count);
+    ends.shrink_to_fit();
 }
