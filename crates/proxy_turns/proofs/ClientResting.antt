@@ -30,6 +30,7 @@ use Rattle.proxy_lanes.specs.Lane.{Posts, free_places, posted}
 use Rattle.slot_map.specs.declared.ops.MapOp.{MapOp}
 use Rattle.proxy_turns.specs.Commands.{CommandsModel, Drops, PostsFreshResult}
 use Rattle.proxy_turns.specs.ClientModel.{ClientModel, read_answer}
+use Rattle.proxy_turns.specs.ClientTurn.{most_drained}
 use Rattle.proxy_turns.specs.ClientRest.{BeginsNone, DrainsNone, FeedsNone, HasNoPlace, HasNoneToBegin, HasNoneToDrain, HasNoneToFeed, HasNoneToPost, HasNoneToPull, HasNoneToPush, HasNoneToRead, IfStill, IsAnswered, IsClientAtRest, IsIdle, MayBeHeld, PostsNone, PullsNone, PushesNone, ReadsNone, SendsNone, TakesNoMore, WorksNone, WritesNone}
 
 -- ---- a drain that wrote nothing changed nothing
@@ -97,10 +98,12 @@ held_next session place next oldest first i may =
 none_of : (n : ℕ) → nat_lt 0 n ≡ false → n ≡ 0
 none_of n e = grind (arith, nat_tests, e)
 
-drained_by : (old new : SessionModel) (before after : List ℕ) (n : ℕ) → n ≡ 0 → DrainOutcome old before (Ok n) new after → (output old ≡ []) × (after ≡ before) × (new ≡ old)
-drained_by old new before after n none (more, count, is) =
-    let nothing = no_length (output old) (sym none ∙ count) in
-    (nothing, more ∙ ap (λ o. before ++ o) nothing ∙ append_none before, is ∙ drained_none old nothing)
+drained_by : (old new : SessionModel) (before after : List ℕ) (n : ℕ) → n ≡ 0 → DrainOutcome most_drained old before (Ok n) new after → (output old ≡ []) × (after ≡ before) × (new ≡ old)
+drained_by old new before after n none (bytes, more, count, drains) =
+    let empty : bytes ≡ [] = no_length bytes (sym none ∙ count) in
+    let all = drains.all (omega (arith, sym none ∙ count)) in
+    let nothing : output old ≡ [] = sym all.0 ∙ empty in
+    (nothing, more ∙ ap (λ o. before ++ o) empty ∙ append_none before, all.1 ∙ drained_none old nothing)
   where
     no_length : (xs : List ℕ) → 0 ≡ length xs → xs ≡ []
     no_length [] e = refl
@@ -349,7 +352,7 @@ empty_by_length [] e = refl
 empty_by_length (x ∷ xs) e = absurd (omega (arith, e))
 
 module _ {C : Type 0} (t : ClientModel C) where
-  pub drain_none : (session : SessionModel) (unpushed : List ℕ) (n : ℕ) → DrainOutcome t.session t.unpushed (Ok n) session unpushed
+  pub drain_none : (session : SessionModel) (unpushed : List ℕ) (n : ℕ) → DrainOutcome most_drained t.session t.unpushed (Ok n) session unpushed
       → IfStill (Ok (nat_lt 0 n)) (DrainsNone t (record t { session = session; unpushed = unpushed }))
   drain_none session unpushed n drains = if_still (nat_lt 0 n) (λ none.
       let was = drained_by t.session session t.unpushed unpushed n (none_of n none) drains in

@@ -22,7 +22,7 @@ use Rattle.proxy_lanes.specs.Lane.{Posts}
 use Rattle.proxy_turns.specs.Port.{Moves}
 use Rattle.proxy_turns.specs.Commands.{CommandsModel, Drops, Looks, PostOutcome, PostsAt, PostsAtResult, PostsFresh, PostsFreshResult, TakesCommand, Tries, with_command}
 use Rattle.proxy_turns.specs.ClientModel.{ClientModel, IsSoundClient, Takings, read_answer}
-use Rattle.proxy_turns.specs.ClientTurn.{ClientContext, ClientEvent, ClientDoes, ClientGoes, ClientGoesBy, ClientTurns, ClientTurnsBy, is_client_move, left_of}
+use Rattle.proxy_turns.specs.ClientTurn.{ClientContext, ClientEvent, ClientDoes, ClientGoes, ClientGoesBy, ClientTurns, ClientTurnsBy, is_client_move, left_of, most_drained}
 use Rattle.proxy_turns.specs.ClientTurn.ClientEvent.{Pulled, Fed, Read, HandedOut, Looked, CameBack, Posted, Drained, Pushed, Tried, Parted, Dropped}
 use Rattle.proxy_turns.proofs.EventKinds.{and_both, and_true}
 
@@ -121,7 +121,7 @@ module _ {C : Type 0} (moves : Moves C) (may : ClientEvent → Bool) where
         let with_commands : CommandsModel → ClientContext C = λ cs. at (record t { session = session; commands = cs }) o v in
         by (at t o v) (HandedOut ticket part) (with_commands commands) true refl (kind ticket part) (here, none, ready, ap with_commands begun)
 
-    pub drained : ((n : ℕ) → may (Drained n) ≡ true) → (session : SessionModel) (n : ℕ) (unpushed : List ℕ) (moved : Bool) → DrainOutcome t.session t.unpushed (Ok n) session unpushed
+    pub drained : ((n : ℕ) → may (Drained n) ≡ true) → (session : SessionModel) (n : ℕ) (unpushed : List ℕ) (moved : Bool) → DrainOutcome most_drained t.session t.unpushed (Ok n) session unpushed
         → moved ≡ nat_lt 0 n → ClientGoesBy moves may (at t o v) moved (at (record t { session = session; unpushed = unpushed }) o v)
     drained kind session n unpushed moved drains is = by (at t o v) (Drained n) _ moved is (kind n) (drains, refl)
 

@@ -1,7 +1,7 @@
 -- What happens to one client in a worker's turn, at the lane into which the worker posts, and at its view of the slot
 -- map.
 -- A turn is a list of events, and moved exactly where one of them is a move. Nothing says that a turn makes any.
-use Rattle.std.specs.Prelude.{◌||◌, ◌≡◌, ◌↔◌, ◌++◌, ◌∷◌, [], ℕ, List, Bool, true, false, IsTrue, Option, Some, None, Result, Ok, Err, length, drop, nat_lt}
+use Rattle.std.specs.Prelude.{◌*◌, ◌||◌, ◌≡◌, ◌↔◌, ◌++◌, ◌∷◌, [], ℕ, List, Bool, true, false, IsTrue, Option, Some, None, Result, Ok, Err, length, drop, nat_lt}
 use Rattle.std.specs.List.{FoldsTo, list_all, list_any}
 use Rattle.std.specs.FinMap.{get, remove}
 use Rattle.slot_hash.specs.Slot.{slot_of}
@@ -44,6 +44,10 @@ pub data ClientEvent : Type 0 where
   Tried : ClientEvent
   Parted : ClientEvent
   Dropped : Ticket → ClientEvent
+
+-- A turn drains replies of so many bytes, and the last of them to its end.
+abbrev pub most_drained : ℕ
+most_drained = 64 * 1024
 
 -- Whether it moved something: a look at the map does not, nor a batch that came back, nor a call that found nothing.
 abbrev pub is_client_move : ClientEvent → Bool
@@ -166,9 +170,9 @@ module _ {C : Type 0} where
         × (batch ≡ batch_of c batch.node)
         × Posts old.outlet new.outlet batch (Ok tt)
         × (new ≡ record { client = record old.client { commands = with_command rest number (record c { stage = Awaits }) }; outlet = new.outlet; view = new.view })
-    -- the session drains the replies that are next in order
+    -- the session drains replies that are next in order, until they have so many bytes
     ClientDoes old (Drained n) new =
-        DrainOutcome old.client.session old.client.unpushed (Ok n) new.client.session new.client.unpushed
+        DrainOutcome most_drained old.client.session old.client.unpushed (Ok n) new.client.session new.client.unpushed
         × (new ≡ with_client old (record old.client { session = new.client.session; unpushed = new.client.unpushed }))
     -- bytes go to the client
     ClientDoes old (Pushed bytes) new =

@@ -4,7 +4,7 @@ ghost use Rattle.std.specs.Prelude.{◌≡◌, ◌≤◌, ◌↔◌, [], ℕ, Li
 ghost use Rattle.std.specs.FinMap as map;
 
 use crate::client_bytes::{SMALLEST_PIECE, let_go, piece_after, pull_into, take_off};
-use crate::client_limits::{MAX_ASKED, MAX_READS, MAX_SENT, MAX_UNPUSHED};
+use crate::client_limits::{MAX_ASKED, MAX_DRAINED, MAX_READS, MAX_SENT, MAX_UNPUSHED};
 use crate::commands::Commands;
 use crate::port::ClientPort;
 use crate::reply_size::ReplySize;
@@ -443,7 +443,7 @@ impl<C: ClientPort + Drop> ClientParts<C> {
         if !self.may_drain() {
             return Ok(false);
         }
-        let count = self.unpushed.drain(&mut self.session)?;
+        let count = self.unpushed.drain(&mut self.session, MAX_DRAINED)?;
         Ok(count > 0)
     }
 

@@ -106,7 +106,7 @@ fn show_ready(session: &mut Session, answer: &mut Answer) -> Result<(), CallFaul
 
 fn drain(alloc: Global, session: &mut Session, answer: &mut Answer) -> Result<(), CallFault> {
     let mut out = Vec::new(alloc);
-    session.drain(&mut out)?;
+    session.drain(&mut out, usize::MAX)?;
     answer.bytes(&out);
     Ok(())
 }

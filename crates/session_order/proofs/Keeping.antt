@@ -23,10 +23,10 @@ use Rattle.session_order.specs.PendingReply.{plan_for}
 use Rattle.session_order.specs.Turn.{is_done, blocks}
 use Rattle.session_order.specs.RequestReaderModel.{RequestReaderModel}
 use Rattle.session_order.specs.SessionModel.{SessionModel}
-use Rattle.session_order.specs.Replies.{replied, without, DrainOutcome}
+use Rattle.session_order.specs.Replies.{parts_of, without, DrainOutcome}
 use Rattle.session_order.specs.Steps.{IsOut, KeepsOut, ReadyOutcome, IsHandedOut, EndOutcome, FeedOutcome, ReadOutcome, added, with_incoming, ReadsWords}
 use Rattle.session_order.proofs.Lists.{any_set, get_set_other, get_set_same, get_append, get_drop, any_drop, stands_behind}
-use Rattle.session_order.proofs.Drained.{replied_done}
+use Rattle.session_order.proofs.Fewer.{first_done}
 
 -- where no stage changes, what is out stays out
 kept_same : (old new : SessionModel) → new.stages ≡ old.stages → new.first ≡ old.first → new.worker ≡ old.worker → new.client ≡ old.client → KeepsOut old new
@@ -120,10 +120,11 @@ without_keeps old n done ticket (slot, le, posted, its_worker, its_client, turn)
       any_drop (blocks slot) old.stages n.1 (ticket.part - (old.first + n.1)) i place turn,
     )
 
-pub drain_keeps : (old : SessionModel) (before : List ℕ) (result : Result ℕ NoMemory) (new : SessionModel) (after : List ℕ) → DrainOutcome old before result new after → KeepsOut old new
-drain_keeps old before (Ok n) new after (bytes, count, is) =
-    subst (λ held. KeepsOut old held) (sym is) (without_keeps old (replied old.requests old.stages old.ends) (replied_done old.requests old.stages old.ends))
-drain_keeps old before (Err refused) new after (bytes, is) = kept_same old new (rw is refl) (rw is refl) (rw is refl) (rw is refl)
+pub drain_keeps : (most : ℕ) (old : SessionModel) (before : List ℕ) (result : Result ℕ NoMemory) (new : SessionModel) (after : List ℕ) → DrainOutcome most old before result new after → KeepsOut old new
+drain_keeps most old before (Ok n) new after (bytes, appended, count, drains) =
+    subst (λ held. KeepsOut old held) (sym drains.left)
+    (without_keeps old (drains.count, parts_of (take drains.count old.requests)) (first_done drains.count old.requests old.stages old.ends drains.written.in_order))
+drain_keeps most old before (Err refused) new after (bytes, is) = kept_same old new (rw is refl) (rw is refl) (rw is refl) (rw is refl)
 
 pub ready_out : (old : SessionModel) (result : Option (Ticket × PartModel)) (new : SessionModel) → ReadyOutcome old result new
     → IfSome result (λ given. IsOut new given.0 × (IsOut old given.0 → ⊥))

@@ -5,6 +5,7 @@ pub mod Drained
 pub mod Added
 pub mod Keeping
 pub mod Told
+pub mod Fewer
 pub mod Quitting
 pub mod Lifelong
 pub mod Opening

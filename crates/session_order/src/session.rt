@@ -143,12 +143,13 @@ impl Session {
         self.put_end(ticket, end);
     }
 
-    /// Appends all replies that are next in order, and answers how many bytes.
-    pub fn drain(&mut self, out: &mut Vec<u8>) -> Result<usize, NoMemory>
-        ensures does { DrainOutcome self.old out.old.items result self.new out.new.items }
+    /// Appends replies that are next in order until these are so many bytes, and answers how many. Where they are fewer,
+    /// none is left.
+    pub fn drain(&mut self, out: &mut Vec<u8>, most: usize) -> Result<usize, NoMemory>
+        ensures does { DrainOutcome most self.old out.old.items result self.new out.new.items }
         ensures kept { KeepsOut self.old self.new }
     {
-        self.write_next(out)
+        self.write_next(out, most)
     }
 
     /// Lets go of all but the places of the parts that are out, whose ends may still be told: the client is gone.
@@ -241,8 +242,8 @@ impl Session {
         self.ends[i] = end;
     }
 
-    fn write_next(&mut self, out: &mut Vec<u8>) -> Result<usize, NoMemory>
-        ensures { DrainOutcome self.old out.old.items result self.new out.new.items }
+    fn write_next(&mut self, out: &mut Vec<u8>, most: usize) -> Result<usize, NoMemory>
+        ensures { DrainOutcome most self.old out.old.items result self.new out.new.items }
     {
         let start = out.len();
         let line_owed = self.closing.owes_line();
@@ -252,6 +253,7 @@ impl Session {
             &self.queue,
             &mut self.ends,
             line_owed,
+            most,
             out,
         ) {
             Ok((requests, parts)) => {
