@@ -11,7 +11,7 @@ use Rattle.key_split.specs.declared.travel.Ended.{Ended}
 use Rattle.key_split.specs.declared.travel.Ended.TheVariants.{Answered, GaveUp}
 use Rattle.command_future.specs.declared.stage.Stage.{Stage}
 use Rattle.command_future.specs.declared.stage.Stage.TheVariants.{Wants, WantsAsking, Awaits, Over}
-use Rattle.world_laws.specs.State.{WorldModel, Arrival, Posted, Link, LinkRequest, LinkReply, after_told, replied, all_replied, tickets_told, parts_told, tolds_of}
+use Rattle.world_laws.specs.State.{slot_for, WorldModel, Arrival, Posted, Link, LinkRequest, LinkReply, after_told, replied, all_replied, tickets_told, parts_told, tolds_of}
 use Rattle.key_split.specs.PartModel.{PartModel}
 use Rattle.node_model.specs.Store.{StoreModel, store_after, reply_to}
 use Rattle.node_model.specs.Nodes.{ClusterModel, store_at, with_store}
@@ -25,12 +25,14 @@ use Rattle.world_laws.specs.Places.Item.{Stands, Lies, Sent, Comes}
 use Rattle.world_laws.specs.World.{IsFirst, IsOf, AreOf, entries_of}
 use Rattle.world_laws.specs.declared.event.Event.TheVariants.{Serve}
 use Rattle.world_laws.specs.Headline.{At}
-use Rattle.world_laws.specs.Allowed.{IsAllowed, TakeIsAllowed, Fits, ServeIsAllowed}
+use Rattle.world_laws.specs.Allowed.{IsAllowed, TakeIsAllowed, Fits, RunsHaveOneSlot, ServeIsAllowed}
 use Rattle.world_laws.proofs.Tally.{total-one, total-found, tally-le}
 use Rattle.world_laws.proofs.Counted.{if_awaits, here, awaits, stray, ran, owned}
 use Rattle.world_laws.proofs.Placed.{Placed}
 use Rattle.world_laws.proofs.Kept.{is-refl, unique}
-use Rattle.world_laws.proofs.Lives.{ticket-is, sent_only, sent-le}
+use Rattle.world_laws.proofs.Flow.{all_at, of-ticket}
+use Rattle.world_laws.proofs.Turns.{AreRuns}
+use Rattle.world_laws.proofs.Lives.{ticket-is, same_command, sent_only, sent-le}
 use Rattle.world_laws.proofs.Nodes.{reply-for}
 use Rattle.world_laws.proofs.Runs.{reached-sound}
 
@@ -290,3 +292,16 @@ serve-is-allowed w link v l first rest reached lt at_l r fits = go first r fits
           record w1 { cluster = s.4; links = slice_set w1.links link (all_replied (record l { requests = rest; asking = false }) s.0); history = w1.history ++ entries_of w1.moment s.0 },
           (lt, (l, at_l, inr (rest, s.0, s.4, r ∙ ap (λ u. Runs u ∷ rest) same, s.3, fits, did, refl))),
         )
+
+-- the commands of a run have one slot
+pub one-slot : RunsHaveOneSlot
+one-slot w link l tickets rest reached at_l first =
+    let s = reached-sound w reached in
+    let here : AreRuns w.commands l.requests = all_at (λ (x : Link). AreRuns w.commands x.requests) w.links link l at_l (s.turned).links in
+    let both : AreRuns w.commands (Runs tickets ∷ rest) = subst (AreRuns w.commands) first here in (
+      (both.0).0,
+      λ ticket i c among of.
+          let g = (both.0).1 among.0 ticket among.1 in
+          let same : g.1 ≡ c = same_command w s.placed g.0 i g.1 c g.2 of.1 (g.3 ∙ sym (of-ticket ticket w.commands i c of)) in
+          ap (λ (z : Arrival). slot_for z.command.part) (sym same) ∙ g.4,
+    )
