@@ -190,6 +190,11 @@ three_still false true c x y z f = tt
 three_still false false true x y z f = tt
 three_still false false false x y z f = f x y z
 
+-- and it was so
+pub with_still : (A : Type 0) (b : Bool) → IfStill (Ok b) A → IfStill (Ok b) (A × (b ≡ false))
+with_still A true still = tt
+with_still A false still = (still, refl)
+
 pub four_still : {A B C D E : Type 0} (a b c d : Bool) → IfStill (Ok a) A → IfStill (Ok b) B → IfStill (Ok c) C → IfStill (Ok d) D → (A → B → C → D → E) → IfStill (Ok (((a || b) || c) || d)) E
 four_still true b c d x y z w f = tt
 four_still false true c d x y z w f = tt

@@ -12,6 +12,7 @@ use Rattle.key_split.specs.declared.travel.Batch.{Batch}
 use Rattle.key_split.specs.declared.travel.Ticket.{Ticket}
 use Rattle.command_future.specs.CommandModel.{CommandModel, fresh}
 use Rattle.session_order.specs.SessionModel.{SessionModel}
+use Rattle.session_order.specs.HangingUp.{HangsUp}
 use Rattle.session_order.specs.declared.fault.SessionFault.{SessionFault}
 use Rattle.session_order.specs.declared.fault.SessionFault.TheVariants as fault
 use Rattle.session_order.specs.Replies.{DrainOutcome}
@@ -102,8 +103,8 @@ module _ {C : Type 0} (moves : Moves C) (may : ClientEvent → Bool) where
         let with_unfed : List ℕ → ClientContext C = λ u. at (record t { port = port; unfed = u }) o v in
         by (at t o v) (Pulled bytes) (with_unfed bytes) moved is (kind bytes) (m, ap (λ (u : List ℕ). with_unfed (u ++ bytes)) (sym none))
 
-    pub parted : may Parted ≡ true → t.gone ≡ false → ClientGoesBy moves may (at t o v) true (at (record t { gone = true; unfed = []; unpushed = [] }) o v)
-    parted kind here = by (at t o v) Parted _ true refl kind (here, refl)
+    pub parted : may Parted ≡ true → (t' : ClientModel C) → t.gone ≡ false → HangsUp t.session t'.session → t' ≡ record t { session = t'.session; gone = true; unfed = []; unpushed = [] } → ClientGoesBy moves may (at t o v) true (at t' o v)
+    parted kind t' here hangs is = by (at t o v) Parted (at t' o v) true refl kind (here, hangs, ap (λ x. at x o v) is)
 
     pub fed : ((result : Result ℕ SessionFault) → may (Fed result) ≡ true) → (session : SessionModel) (result : Result ℕ SessionFault) (unfed : List ℕ) (moved : Bool) → FeedOutcome t.session t.unfed result session
         → unfed ≡ left_of t.unfed result → moved ≡ is_client_move (Fed result) → ClientGoesBy moves may (at t o v) moved (at (record t { session = session; unfed = unfed }) o v)

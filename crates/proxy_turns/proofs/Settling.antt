@@ -142,7 +142,7 @@ module _ {C : Type 0} (moves : Moves C) where
   client_one (Drained n) old new (drains, is) = same_posted old.client.commands new.client.commands (ap (λ (x : ClientContext C). x.client.commands.posted) is)
   client_one (Pushed bytes) old new (m, left, is) = same_posted old.client.commands new.client.commands (ap (λ (x : ClientContext C). x.client.commands.posted) is)
   client_one Tried old new (m, is) = same_posted old.client.commands new.client.commands (ap (λ (x : ClientContext C). x.client.commands.posted) is)
-  client_one Parted old new (there, is) = same_posted old.client.commands new.client.commands (ap (λ (x : ClientContext C). x.client.commands.posted) is)
+  client_one Parted old new (there, hangs, is) = same_posted old.client.commands new.client.commands (ap (λ (x : ClientContext C). x.client.commands.posted) is)
   client_one (Dropped ticket) old new (gone, c, fresh, named, is) = same_posted old.client.commands new.client.commands (ap (λ (x : ClientContext C). x.client.commands.posted) is)
 
 -- the same of all clients

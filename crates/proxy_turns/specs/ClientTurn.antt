@@ -14,6 +14,7 @@ use Rattle.key_split.specs.declared.travel.Ended.{Ended}
 use Rattle.command_future.specs.declared.stage.Stage.TheVariants.{Awaits}
 use Rattle.command_future.specs.CommandModel.{CommandModel, fresh, batch_of}
 use Rattle.session_order.specs.declared.fault.SessionFault.{SessionFault}
+use Rattle.session_order.specs.HangingUp.{HangsUp}
 use Rattle.session_order.specs.Replies.{DrainOutcome}
 use Rattle.session_order.specs.Steps.{IsOut, FeedOutcome, ReadOutcome, ReadyOutcome, EndOutcome}
 use Rattle.proxy_lanes.specs.declared.map_view.NotEntered.{NotEntered}
@@ -181,8 +182,12 @@ module _ {C : Type 0} where
         × (new ≡ with_client old (record old.client { port = new.client.port; unpushed = new.client.unpushed }))
     -- a call of the port moves nothing
     ClientDoes old Tried new = moves old.client.port [] [] [] new.client.port × (new ≡ with_client old (record old.client { port = new.client.port }))
-    -- the client is gone: of what was pulled and not fed, and of what was drained and not pushed, nothing is kept
-    ClientDoes old Parted new = (old.client.gone ≡ false) × (new ≡ with_client old (record old.client { gone = true; unfed = []; unpushed = [] }))
+    -- the client is gone: of what was pulled and not fed, of what its session held beside the places of the parts that are out, and of what
+    -- was drained and not pushed, nothing is kept
+    ClientDoes old Parted new =
+        (old.client.gone ≡ false)
+        × HangsUp old.client.session new.client.session
+        × (new ≡ with_client old (record old.client { session = new.client.session; gone = true; unfed = []; unpushed = [] }))
     -- the command of a client that is gone is dropped before its first post
     ClientDoes old (Dropped ticket) new =
         (old.client.gone ≡ true) × (c : CommandModel) × (old.client.commands.fresh ≡ Some c) × (c.ticket ≡ ticket)

@@ -33,6 +33,8 @@ pub(crate) struct ClientParts<C: ClientPort + Drop> {
     piece: usize,
     // How many bytes were pulled since all was answered.
     asked: usize,
+    // Its last read left off where there may be more.
+    reads_on: bool,
     reply_size: ReplySize,
 }
 
@@ -86,6 +88,7 @@ impl<C: ClientPort + Drop> ClientParts<C> {
             gone: false,
             piece: SMALLEST_PIECE,
             asked: 0,
+            reads_on: false,
             reply_size: ReplySize::new(),
         }
     }
@@ -144,6 +147,7 @@ impl<C: ClientPort + Drop> ClientParts<C> {
 }
 
 impl<C: ClientPort + Drop> ClientParts<C> {
+    ghost use Rattle.session_order.specs.HangingUp.{HangsUp};
     ghost use Rattle.session_order.specs.Turn.{MayPost};
     ghost use Rattle.proxy_turns.specs.ClientModel.{IsClientServed, IsLeft};
     ghost use Rattle.proxy_turns.specs.Commands.{PostsAtResult, WantsPostAt};
@@ -186,12 +190,16 @@ impl<C: ClientPort + Drop> ClientParts<C> {
         self.asked >= MAX_ASKED
     }
 
-    /// Forgets how much was pulled, where all is answered. True where the client was held back and is no longer.
-    pub(crate) fn forget_asked(&mut self, was_held_back: bool) -> bool
+    /// Forgets how much was pulled, where all is answered and no request may be left to read. True where the client was held back
+    /// and is no longer.
+    pub(crate) fn forget_asked(&mut self, was_held_back: bool, worked: bool) -> bool
         ensures same { self.new ≡ self.old }
         ensures again { result ≡ true → (was_held_back ≡ true) × IsAnswered self.old }
-        ensures is_again { was_held_back ≡ true → IsAnswered self.old → result ≡ true }
+        ensures is_again { was_held_back ≡ true → worked ≡ false → IsAnswered self.old → result ≡ true }
     {
+        if worked && self.reads_on {
+            return false;
+        }
         if !self.is_answered() {
             return false;
         }
@@ -241,11 +249,13 @@ impl<C: ClientPort + Drop> ClientParts<C> {
         }
     }
 
-    // The client is gone: nothing is fed or pushed any more, so its bytes and their buffers are let go.
+    // The client is gone: nothing is fed or pushed any more, so its bytes and their buffers are let go, and its session hangs up.
     fn part(&mut self)
-        ensures { self.new ≡ record self.old { gone = true; unfed = []; unpushed = [] } }
+        ensures hung_up { HangsUp self.old.session self.new.session }
+        ensures kept { self.new ≡ record self.old { session = self.new.session; gone = true; unfed = []; unpushed = [] } }
     {
         self.gone = true;
+        self.session.hang_up();
         let_go(&mut self.unfed);
         self.unpushed.let_go();
     }
@@ -289,10 +299,12 @@ impl<C: ClientPort + Drop> ClientParts<C> {
             let read = self.read()?;
             if !read {
                 note_read(&self.port, count);
+                self.reads_on = false;
                 return Ok(true);
             }
         }
         note_read(&self.port, MAX_READS);
+        self.reads_on = true;
         Ok(true)
     }
 

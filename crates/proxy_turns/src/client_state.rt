@@ -96,7 +96,7 @@ impl<C: ClientPort + Drop> ClientState<C> {
             return Ok(false);
         }
         let worked = self.parts.work(outlet, view, piece)?;
-        let is_asked_again = self.parts.forget_asked(is_held_back);
+        let is_asked_again = self.parts.forget_asked(is_held_back, worked);
         let more = self.parts.pull(piece, !is_asked_again, false)?;
         let moved = pulled | worked | more;
         self.is_idle = becomes_idle(moved, self.parts.is_quiet());
