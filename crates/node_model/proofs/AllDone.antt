@@ -1,20 +1,19 @@
 -- A run at a store: on a copy of what it holds of the run's keys, which is then put back.
 use Rattle.std.proofs.Common.{◌≡◌, ◌≢◌, ◌⊎◌, inl, inr, ⊎_elim, Bool, true, false, ℕ, suc, zero, ◌-◌, ◌≤◌, ◌<◌, get_or, List, [], ◌∷◌, ◌++◌, map, length, Option, Some, None, Result, Ok, Err, refl, sym, ap, ◌∙◌, subst, arith, eq-eqb}
 use Rattle.std.proofs.lemmas.Bool.{false≢true}
-use Rattle.std.specs.Prelude.{All, cond, take, drop, slice_get, Vec, ◌&&◌, nat_eq, IfOk, OnOk, OnErr, is_some, is_none}
+use Rattle.std.proofs.lemmas.List.Elements.{All-append}
+use Rattle.std.specs.Prelude.{◌↔◌, not, All, cond, take, drop, slice_get, Vec, ◌&&◌, nat_eq, IfOk, OnOk, OnErr}
 use Rattle.std.specs.List.{list_all}
 use Rattle.std.specs.declared.alloc.Global.{Global}
 use Rattle.std.specs.Map.{lookup}
-use Rattle.std.specs.FinMap.{get, from_entries}
+use Rattle.std.specs.FinMap.{get}
 use Rattle.std.specs.Str.{bytes_eq}
 use Rattle.slot_hash.specs.Slot.{slot_of}
-use Rattle.resp_wire.specs.declared.value.Value.{Value}
-use Rattle.resp_wire.specs.Seen.{data_of}
-use Rattle.key_split.specs.PartModel.{PartModel, Pair, pairs_in, keys_of}
+use Rattle.key_split.specs.PartModel.{PartModel, Pair, pairs_in, keys_of, HasOneSlot}
 use Rattle.key_split.specs.declared.part.Op.TheVariants.{MSet}
 use Rattle.key_split.specs.declared.travel.Told.{Told}
 use Rattle.node_model.specs.Laws.{Among}
-use Rattle.node_model.specs.Store.{StoreModel, Performs, put, replies, reply_to, store_after, store_along}
+use Rattle.node_model.specs.Store.{StoreModel, put, replies, reply_to, store_after, store_along}
 use Rattle.node_model.specs.Serving.{IsReply}
 use Rattle.node_model.specs.Runs.{AllTold, AreReplies, keys_in, store_after_all}
 use Rattle.node_model.specs.Together.{AreTaken, IsCopy, IsLaidOver, PerformsAll, or_else}
@@ -281,3 +280,29 @@ run-keys-more keys all rest c lt is h = joins keys (keys_of c) (keys_in (take (l
 pub all-firsts : (p : List ℕ → Bool) (ps : List Pair) → list_all p (map (λ pair. pair.0) ps) ≡ list_all (λ pair. p pair.0) ps
 all-firsts p [] = refl
 all-firsts p (x ∷ xs) = ap (λ b. p x.0 && b) (all-firsts p xs)
+
+-- keys of one slot
+
+abbrev pub AreIn : ℕ → List (List ℕ) → Type 0
+AreIn slot keys = All (λ key. slot_of key ≡ slot) keys
+
+all-right : (slot : ℕ) (xs ys : List (List ℕ)) → AreIn slot (xs ++ ys) → AreIn slot ys
+all-right slot [] ys h = h
+all-right slot (x ∷ xs) ys h = all-right slot xs ys (λ k d lt. h (suc k) d (omega (arith, lt)))
+
+-- one more command is of the slot
+pub slots-on : (slot : ℕ) (all : List (List ℕ)) (rest : List PartModel) (c : PartModel) → 1 ≤ length rest → c ≡ get_or rest 0 c → HasOneSlot c → slot_of c.key ≡ slot
+    → AreIn slot (keys_in rest) ↔ AreIn slot all → AreIn slot (keys_in (take (length rest - 1) (drop 1 rest))) ↔ AreIn slot all
+slots-on slot all rest c lt is one here h =
+    let later : List PartModel = take (length rest - 1) (drop 1 rest) in
+    let first : rest ≡ c ∷ later = by-first rest c lt is in (
+      (λ t. h.0 (subst (λ cs. AreIn slot (keys_in cs)) (sym first) (All-append (λ key. slot_of key ≡ slot) (keys_of c) (keys_in later) (λ k d l. one k d l ∙ here) t))),
+      (λ a. all-right slot (keys_of c) (keys_in later) (subst (λ cs. AreIn slot (keys_in cs)) first (h.1 a))),
+    )
+
+pub same-slot : (a b : ℕ) → false ≡ not (nat_eq a b) → a ≡ b
+same-slot a b e = same_number a b (go (nat_eq a b) e)
+  where
+    go : (x : Bool) → false ≡ not x → x ≡ true
+    go true e = refl
+    go false e = absurd (cc)

@@ -1,6 +1,6 @@
 //! How a node serves a run: commands of one slot that go together.
 
-ghost use Rattle.std.specs.Prelude.{◌≡◌, ◌<◌, IfOk, length};
+ghost use Rattle.std.specs.Prelude.{◌≡◌, ◌↔◌, ◌<◌, IfOk, IsTrue, length};
 ghost use Rattle.std.specs.List.{list_all};
 ghost use Rattle.std.specs.Str.{bytes_eq};
 ghost use Rattle.key_split.specs.PartModel.{keys_of};
@@ -72,6 +72,21 @@ impl Cluster {
             Verdict::ClusterDown => Deed::Says(Told::ClusterDown),
         }
     }
+}
+
+/// Whether all keys of the commands have one slot, so that they may go in one run.
+pub fn have_one_slot(parts: &[Part]) -> bool
+    ensures { IsTrue result ↔ HaveOneSlot parts.now }
+{
+    let slot = slot_of_run(parts);
+    let mut rest = parts;
+    while let [part, later @ ..] = rest {
+        if part.slot() != slot {
+            return false;
+        }
+        rest = later;
+    }
+    true
 }
 
 /// What a node of that role does with the run.

@@ -1,4 +1,4 @@
-use Rattle.std.proofs.Common.{◌≡◌, ◌++◌, ℕ, List, length}
+use Rattle.std.proofs.Common.{◌≡◌, ◌++◌, List, length}
 use Rattle.key_split.specs.declared.travel.Told.{Told}
 use Rattle.node_model.specs.Runs.{store_after_all, AreReplies}
 use Rattle.node_model.proofs.store.Store.apply_each.Given as goal
