@@ -1,0 +1,106 @@
+-- What the carrier does, what a worker does unseen, and the moves are some events of the machine.
+use Rattle.std.proofs.Common.{◌≡◌, ℕ, ◌+◌, List, [], ◌∷◌, ◌++◌, Some, refl, sym, ap, ◌∙◌, subst}
+use Rattle.world_laws.specs.State.{WorldModel}
+use Rattle.world_laws.specs.declared.event.Event.{Event}
+use Rattle.proxy_turns.specs.declared.backend_step.BackendStep.{BackendStep}
+use Rattle.proxy_turns.specs.declared.backend_step.BackendStep.TheVariants as backend
+use Rattle.proxy_turns.specs.CarrierModel.{CarrierEvent, AtBackend, Starved, WorkerAdded, BackendAdded, Looked, Took, Opened, Refused, Missed, SeedReached, Sought, Reached, NotFound, Sent, Gave, GaveUnsent}
+use Rattle.proxy_turns.specs.ClientTurn.{ClientEvent, Pulled, Fed, Read, HandedOut, Looked as LookedUp, CameBack, Posted, Drained, Pushed, Tried, Parted, Dropped}
+use Rattle.proxy_turns.specs.WorkerModel.{WorkerEvent, Did, Finished, Took as TookPair, FoundNone, Came, TurnedAway, FoundNobody, Left}
+use Rattle.turn_laws.specs.Walks.{Walk, IsWalked}
+use Rattle.turn_laws.specs.System.{System}
+use Rattle.turn_laws.specs.Shadow.{IsShadow}
+use Rattle.turn_laws.specs.Steps.{SystemEvent, AtWorker, AtCarrier, AtNode, AtBroken, Thrown, Moved, CarrierStep, WorkerStep}
+use Rattle.turn_laws.specs.Refines.{IsStart, IsUnseen, Simulates}
+use Rattle.turn_laws.proofs.Starts.{shadow, walked}
+use Rattle.turn_laws.proofs.AtLines as at-line
+use Rattle.turn_laws.proofs.AtLanes as at-lane
+use Rattle.turn_laws.proofs.Openings.{opened, reached}
+use Rattle.turn_laws.proofs.Waiting.{waited}
+use Rattle.turn_laws.proofs.Starving.{starved}
+use Rattle.turn_laws.proofs.Throwing.{thrown}
+use Rattle.turn_laws.proofs.Answering.{answered}
+use Rattle.turn_laws.proofs.AtNodes as at-node
+use Rattle.turn_laws.proofs.AtWorkers as at-worker
+use Rattle.turn_laws.proofs.Fetched.{fetched}
+use Rattle.turn_laws.proofs.Refused.{refused}
+use Rattle.turn_laws.proofs.Broke.{broke}
+use Rattle.turn_laws.proofs.Asked.{asked}
+use Rattle.turn_laws.proofs.Sent.{sent-on}
+use Rattle.turn_laws.proofs.Ending.{dropped, finished, handed-out}
+use Rattle.turn_laws.proofs.Came.{came}
+use Rattle.turn_laws.proofs.Took.{took}
+
+module _ (C J : Type 0) where
+  pub start-shadow : (s : System C J) → IsStart s → (w : WorldModel) × IsWalked w × IsShadow s w
+  start-shadow s h = (_, walked s h, shadow s h)
+
+  -- the machine does nothing
+  unseen : (event : CarrierEvent) → ((s s' : System C J) (w : WorldModel) → IsShadow s w → CarrierStep s event s' → IsShadow s' w) → Simulates C J (AtCarrier event)
+  unseen event keeps s s' w h _ on = ([], w, refl, keeps s s' w h on)
+
+  backend-step : (step : BackendStep) → Simulates C J (AtCarrier (AtBackend step))
+  backend-step backend.Idle = unseen (AtBackend backend.Idle) at-line.idle
+  backend-step backend.Waited = waited C J
+  backend-step backend.Broke = broke C J
+  backend-step backend.Fetched = fetched C J
+  backend-step backend.Answered = unseen (AtBackend backend.Answered) answered
+  backend-step backend.GaveUp = unseen (AtBackend backend.GaveUp) at-line.gave-up
+  backend-step backend.Closed = unseen (AtBackend backend.Closed) at-line.closed
+  backend-step backend.Published = unseen (AtBackend backend.Published) at-line.published
+  backend-step backend.Asked = asked C J
+  backend-step backend.Spared = unseen (AtBackend backend.Spared) at-line.spared
+  backend-step backend.Read = unseen (AtBackend backend.Read) at-line.read
+  backend-step backend.Unread = unseen (AtBackend backend.Unread) at-line.unread
+  backend-step backend.Renewed = unseen (AtBackend backend.Renewed) at-line.renewed
+
+  pub carrier-step : (event : CarrierEvent) → Simulates C J (AtCarrier event)
+  carrier-step (AtBackend step) = backend-step step
+  carrier-step Starved = unseen Starved starved
+  carrier-step WorkerAdded = unseen WorkerAdded at-lane.added
+  carrier-step BackendAdded = unseen BackendAdded at-lane.lined
+  carrier-step Looked = unseen Looked at-lane.looked
+  carrier-step Took = unseen Took at-lane.took
+  carrier-step Opened = unseen Opened (λ s s' w h on. opened s s' w h on)
+  carrier-step Refused = refused C J
+  carrier-step Missed = unseen Missed at-lane.missed
+  carrier-step SeedReached = unseen SeedReached at-line.connected
+  carrier-step Sought = unseen Sought at-line.sought
+  carrier-step Reached = unseen Reached (λ s s' w h on. reached s s' w h on)
+  carrier-step NotFound = unseen NotFound at-lane.not-found
+  carrier-step Sent = sent-on C J
+  carrier-step Gave = unseen Gave at-lane.gave
+  carrier-step GaveUnsent = unseen GaveUnsent at-lane.gave-unsent
+
+  unseen-at : (k : ℕ) (event : WorkerEvent) → ((s s' : System C J) (w : WorldModel) → IsShadow s w → WorkerStep s k event s' → IsShadow s' w) → Simulates C J (AtWorker k event)
+  unseen-at k event keeps s s' w h _ on = ([], w, refl, keeps s s' w h on)
+
+  client-unseen : (k number : ℕ) (event : ClientEvent) → IsUnseen (Did number event) → Simulates C J (AtWorker k (Did number event))
+  client-unseen k number (Pulled bytes) _ = unseen-at k (Did number (Pulled bytes)) (at-worker.pulled k number bytes)
+  client-unseen k number (Fed result) _ = unseen-at k (Did number (Fed result)) (at-worker.fed-in k number result)
+  client-unseen k number (Read result) no' = absurd no'
+  client-unseen k number (HandedOut ticket part) _ = handed-out C J k number ticket part
+  client-unseen k number (LookedUp slot) _ = unseen-at k (Did number (LookedUp slot)) (at-worker.looked k number slot)
+  client-unseen k number (CameBack batch) _ = unseen-at k (Did number (CameBack batch)) (at-worker.came-back k number batch)
+  client-unseen k number (Posted batch) no' = absurd no'
+  client-unseen k number (Drained n) no' = absurd no'
+  client-unseen k number (Pushed bytes) _ = unseen-at k (Did number (Pushed bytes)) (at-worker.pushed k number bytes)
+  client-unseen k number Tried _ = unseen-at k (Did number Tried) (at-worker.tried k number)
+  client-unseen k number Parted _ = unseen-at k (Did number Parted) (at-worker.parted k number)
+  client-unseen k number (Dropped ticket) _ = dropped C J k number ticket
+
+  pub worker-unseen : (k : ℕ) (event : WorkerEvent) → IsUnseen event → Simulates C J (AtWorker k event)
+  worker-unseen k (Did number event) u = client-unseen k number event u
+  worker-unseen k (Finished number ticket end) _ = finished C J k number ticket end
+  worker-unseen k (TookPair ticket told) _ = took C J k ticket told
+  worker-unseen k FoundNone _ = unseen-at k FoundNone (at-worker.found-none k)
+  worker-unseen k (Came number) _ = came C J k number
+  worker-unseen k (TurnedAway number) _ = unseen-at k (TurnedAway number) (at-worker.turned-away k number)
+  worker-unseen k FoundNobody _ = unseen-at k FoundNobody (at-worker.found-nobody k)
+  worker-unseen k (Left number) _ = unseen-at k (Left number) (at-worker.left k number)
+
+  pub moved : (event : Event) → Simulates C J (Moved event)
+  moved = at-node.moved C J
+
+  pub thrown-away : (j : ℕ) → Simulates C J (Thrown j)
+  thrown-away = thrown C J
