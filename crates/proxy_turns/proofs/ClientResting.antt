@@ -42,8 +42,6 @@ held_next session place next oldest first i may =
 none_of : (n : ℕ) → nat_lt 0 n ≡ false → n ≡ 0
 none_of n e = grind (arith, nat_tests, e)
 
-    
-
 -- ---- one call
 
 full_still : (old new : SessionModel) → new ≡ old → TakesNoMore old → TakesNoMore new
@@ -88,10 +86,6 @@ read_none old new given result is reads = subst (λ r. IfStill r ((MayRead new �
     by_answer (Err fault.NotRequest) (inr (inr (may, words, rest, reads, is))) = broken (new_broken _ (ap (λ (s : SessionModel). s.closing) is))
 
 -- what was fed where the session took nothing
-append_none : (xs : List ℕ) → xs ++ [] ≡ xs
-append_none [] = refl
-append_none (x ∷ xs) = ap (λ l. x ∷ l) (append_none xs)
-
 fed_nothing : (old : SessionModel) → with_incoming old (fed old.incoming []) ≡ old
 fed_nothing old = λ i. with_incoming old (record old.incoming { input = record old.incoming.input { unread = append_none old.incoming.input.unread i } })
 

@@ -1,6 +1,6 @@
 -- A drain that wrote nothing changed nothing.
 use Rattle.std.proofs.Common.{◌≡◌, ◌∙◌, ◌+◌, ◌-◌, ◌++◌, ◌∷◌, [], ℕ, suc, true, false, List, Option, Some, None, Ok, refl, sym, ap, arith, drop, length}
-use Rattle.std.specs.Prelude.{nat_le}
+use Rattle.std.specs.Prelude.{if◌then◌else◌, nat_le}
 use Rattle.std.proofs.lemmas.Bool.Decides.{nat_tests}
 use Rattle.resp_wire.specs.Data.{Data, simple, error, integer, bulk, null_bulk, array, null_array}
 use Rattle.resp_wire.specs.Canonical.{canonical}
@@ -64,8 +64,8 @@ drained_none held e =
     ap (without held) (none_replied held.requests held.stages held.ends (last_line held.closing) none) ∙ without_none held none
 
 pub append_none : (xs : List ℕ) → xs ++ [] ≡ xs
-    append_none [] = refl
-    append_none (x ∷ xs) = ap (λ l. x ∷ l) (append_none xs)
+append_none [] = refl
+append_none (x ∷ xs) = ap (λ l. x ∷ l) (append_none xs)
 
 pub drained_by : (old new : SessionModel) (before after : List ℕ) (n : ℕ) → n ≡ 0 → DrainOutcome most_drained old before (Ok n) new after → (output old ≡ []) × (after ≡ before) × (new ≡ old)
 drained_by old new before after n none (bytes, more, count, drains) =

@@ -2,7 +2,7 @@ use Rattle.std.proofs.Common.{◌≡◌, rules, true, false, Err, refl}
 use Rattle.proxy_turns.specs.ClientTurn.{is_push}
 use Rattle.proxy_turns.proofs.Going.{err_turn, front_left, front_moves, goes_then, parted, pushed, tried}
 use Rattle.proxy_turns.proofs.ClientResting.{push_bytes, push_nothing, unoffered}
-use Rattle.proxy_turns.proofs.client_parts.writing.ClientParts.push.Goals as goal
+use Rattle.proxy_turns.proofs.client_parts.ClientParts.push.Goals as goal
 
 pub returns-in_err-count-clause-pushes : goal.returns-in_err-count-clause-pushes
 returns-in_err-count-clause-pushes g c = λ outlet view.

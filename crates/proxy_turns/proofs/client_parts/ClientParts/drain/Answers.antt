@@ -3,7 +3,7 @@ use Rattle.proxy_turns.specs.ClientTurn.{is_drain}
 use Rattle.proxy_turns.proofs.Going.{drained}
 use Rattle.proxy_turns.proofs.Sound.{sound_kept}
 use Rattle.proxy_turns.proofs.ClientResting.{drain_none, undrained}
-use Rattle.proxy_turns.proofs.client_parts.writing.ClientParts.drain.Goals as goal
+use Rattle.proxy_turns.proofs.client_parts.ClientParts.drain.Goals as goal
 
 pub invariant_of-self-2 : goal.invariant_of-self-2
 invariant_of-self-2 g c = sound_kept c.self.inside.session c.drain.new.session c.self.inside.commands c.drain.ensures.kept c.self.invariant

@@ -3,7 +3,7 @@ use Rattle.proxy_turns.specs.ClientTurn.{is_drain, is_push, is_write}
 use Rattle.proxy_turns.proofs.Going.{err_wider, goes_then, goes_wider, turns_err_wider}
 use Rattle.proxy_turns.proofs.EventKinds.{bytes_pushed, session_drained}
 use Rattle.proxy_turns.proofs.ClientResting.{two_still, writes_none}
-use Rattle.proxy_turns.proofs.client_parts.writing.ClientParts.write.Goals as goal
+use Rattle.proxy_turns.proofs.client_parts.ClientParts.write.Goals as goal
 
 pub returns-in_err-drained-clause-writes : goal.returns-in_err-drained-clause-writes
 returns-in_err-drained-clause-writes g c = λ outlet view.
