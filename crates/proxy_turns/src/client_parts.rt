@@ -251,6 +251,7 @@ impl<C: ClientPort + Drop> ClientParts<C> {
         }
     }
 
+    #[tactic(auto, using(crate::proofs::Sound::sound_kept))]
     // The client is gone: nothing is fed or pushed any more, so its bytes and their buffers are let go, and its session hangs up.
     fn part(&mut self)
         ensures hung_up { HangsUp self.old.session self.new.session }
