@@ -6,8 +6,10 @@ mod Carriers
 mod AtLines
 mod Lanes
 mod AtLanes
+mod Looked
 mod AtNodes
 mod AtWorkers
+mod Departing
 mod Openings
 mod Lines
 mod Fetching
@@ -22,9 +24,11 @@ mod Drops
 mod Broke
 mod Written
 mod Asked
+mod Carried
 mod Sent
 mod Clients
 mod Ending
+mod Begun
 mod Came
 mod Took
 mod Starving

@@ -1,15 +1,11 @@
 -- Each run of the system is a run of the machine: the headline holds of what the code does.
-use Rattle.std.specs.Prelude.{◌≡◌, ℕ, List, [], All, length, slice_get, Some}
-use Rattle.std.specs.List.{FoldsTo}
+use Rattle.std.specs.Prelude.{◌≡◌, ℕ, List, [], length, slice_get, Some}
 use Rattle.std.specs.FinMap.{empty}
-use Rattle.resp_wire.specs.declared.value.Value.{Value}
-use Rattle.slot_map.specs.Table.{Endpoint}
-use Rattle.proxy_lanes.specs.Lane.{posted, taken}
 use Rattle.proxy_lanes.specs.declared.ends.lane_ends.LaneEnds.{LaneEnds}
 use Rattle.proxy_turns.specs.declared.newcomer.Newcomer.{Newcomer}
 use Rattle.proxy_turns.specs.WorkerModel.{WorkerModel, WorkerEvent, Did}
 use Rattle.world_laws.specs.State.{WorldModel}
-use Rattle.world_laws.specs.Headline.{Headline, IsNew}
+use Rattle.world_laws.specs.Headline.{IsNew}
 use Rattle.world_laws.specs.declared.event.Event.{Event}
 use Rattle.turn_laws.specs.Walks.{Walk, IsWalked}
 use Rattle.turn_laws.specs.System.{System, between, IsInStep}
