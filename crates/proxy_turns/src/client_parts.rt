@@ -6,8 +6,9 @@ ghost use Rattle.std.specs.FinMap as map;
 use crate::client_bytes::{SMALLEST_PIECE, let_go, piece_after, pull_into, take_off};
 use crate::client_limits::{MAX_ASKED, MAX_DRAINED, MAX_READS, MAX_SENT, MAX_UNPUSHED};
 use crate::commands::Commands;
+use crate::held_replies::HeldReplies;
 use crate::port::ClientPort;
-use crate::reply_size::ReplySize;
+use crate::shared_room::SharedRoom;
 use crate::turned::{Settled, has_read, note_read};
 use crate::unpushed::Unpushed;
 use key_split::{Batch, Ended, Ticket, Told};
@@ -33,7 +34,7 @@ pub(crate) struct ClientParts<C: ClientPort + Drop> {
     piece: usize,
     // How many bytes were pulled since all was answered.
     asked: usize,
-    reply_size: ReplySize,
+    replies: HeldReplies,
 }
 
 impl<C: ClientPort + Drop> Model for ClientParts<C> {
@@ -86,7 +87,7 @@ impl<C: ClientPort + Drop> ClientParts<C> {
             gone: false,
             piece: SMALLEST_PIECE,
             asked: 0,
-            reply_size: ReplySize::new(),
+            replies: HeldReplies::new(),
         }
     }
 
@@ -169,21 +170,26 @@ impl<C: ClientPort + Drop> ClientParts<C> {
         &mut self,
         outlet: &mut Outlet<Batch>,
         view: &mut MapView<J>,
-        piece: &mut Vec<u8>,
+        room: &mut SharedRoom,
     ) -> Result<bool, NoMemory>
         ensures works { DoesWork C.moves (record { client = self.old; outlet = outlet.old; view = view.old }) result (record { client = self.new; outlet = outlet.new; view = view.new }) }
         ensures none { IfStill result (WorksNone C.takes_none self.old self.new outlet.new) }
     {
-        let fed = self.feed(piece)?;
+        let fed = self.feed(&mut room.piece)?;
         let read = self.read_all()?;
-        let sent = self.send(outlet, view)?;
+        let sent = self.send(outlet, view, room.is_crowded())?;
         let written = self.write()?;
         Ok(fed | read | sent | written)
     }
 
-    /// Whether too much was pulled and is unanswered.
-    pub(crate) fn is_held_back(&self) -> bool {
-        self.asked >= MAX_ASKED
+    /// Whether too much was pulled and is unanswered, by the client or by all together.
+    pub(crate) fn is_held_back(&self, is_crowded: bool) -> bool {
+        self.asked >= MAX_ASKED || (is_crowded && self.asked > 0)
+    }
+
+    /// How many bytes are held for the client, or will be: what waits to be pushed or drained, and replies that are to come.
+    pub(crate) fn held(&self) -> usize {
+        self.unpushed.len().saturating_add(self.replies.held())
     }
 
     /// Forgets how much was pulled, where all is answered. True where the client was held back and is no longer.
@@ -308,16 +314,17 @@ impl<C: ClientPort + Drop> ClientParts<C> {
         &mut self,
         outlet: &mut Outlet<Batch>,
         view: &mut MapView<J>,
+        is_crowded: bool,
     ) -> Result<bool, NoMemory>
         ensures sends { SendsCommands C.moves (record { client = self.old; outlet = outlet.old; view = view.old }) result (record { client = self.new; outlet = outlet.new; view = view.new }) }
         ensures none { IfStill result (SendsNone self.old self.new outlet.new) }
     {
-        let first = self.send_next(outlet, view)?;
+        let first = self.send_next(outlet, view, is_crowded)?;
         if !first {
             return Ok(false);
         }
         for _ in 1..MAX_SENT {
-            let sent = self.send_next(outlet, view)?;
+            let sent = self.send_next(outlet, view, is_crowded)?;
             if !sent {
                 return Ok(true);
             }
@@ -330,6 +337,7 @@ impl<C: ClientPort + Drop> ClientParts<C> {
         &mut self,
         outlet: &mut Outlet<Batch>,
         view: &mut MapView<J>,
+        is_crowded: bool,
     ) -> Result<bool, NoMemory>
         ensures sends { SendsCommands C.moves (record { client = self.old; outlet = outlet.old; view = view.old }) result (record { client = self.new; outlet = outlet.new; view = view.new }) }
         ensures none { IfStill result (SendsNone self.old self.new outlet.new) }
@@ -337,36 +345,39 @@ impl<C: ClientPort + Drop> ClientParts<C> {
         if self.gone {
             return Ok(self.drop_fresh());
         }
-        let begun = self.begin_command();
+        let begun = self.begin_command(is_crowded);
         let posted = self.post_fresh(outlet, view)?;
         Ok(begun | posted)
     }
 
     // Hands out the next part whose turn it is.
-    fn begin_command(&mut self) -> bool
+    fn begin_command(&mut self, is_crowded: bool) -> bool
         requires { self.old.gone ≡ false }
         ensures begins { BeginsCommand C.moves self.old (Ok result) self.new }
         ensures gone { self.new.gone ≡ self.old.gone }
         ensures none { result ≡ false → BeginsNone self.old self.new }
     {
-        if self.commands.has_fresh() || self.holds_next() {
+        if self.commands.has_fresh() || self.holds_next(is_crowded) {
             return false;
         }
         let Some((ticket, part)) = self.session.ready() else {
             return false;
         };
         self.commands.begin(ticket, part);
+        self.replies.begin();
         true
     }
 
-    // Whether the next part whose turn it is waits until replies to earlier ones were drained.
-    fn holds_next(&self) -> bool
+    // Whether the next part whose turn it is waits until replies to earlier ones were drained. Where too much is held for all
+    // clients together the fewest are begun.
+    fn holds_next(&self, is_crowded: bool) -> bool
         ensures { result ≡ true → (i : ℕ) → MayPost self.now.session.stages i → MayBeHeld self.now.session i }
     {
         let Some(place) = self.session.next_place() else {
             return false;
         };
-        place >= self.reply_size.parts_at_once() && place >= self.session.parts_of_oldest() as u64
+        place >= self.replies.parts_at_once(is_crowded)
+            && place >= self.session.parts_of_oldest() as u64
     }
 
     // Drops the command of a client that is gone before its first post.
@@ -414,7 +425,7 @@ impl<C: ClientPort + Drop> ClientParts<C> {
         };
         self.port.note(ticket, end)?;
         let (ticket, end) = self.commands.finish(number);
-        self.reply_size.note(&end);
+        self.replies.end(&end);
         self.session.ended(ticket, end);
         Ok(true)
     }
@@ -444,6 +455,7 @@ impl<C: ClientPort + Drop> ClientParts<C> {
             return Ok(false);
         }
         let count = self.unpushed.drain(&mut self.session, MAX_DRAINED)?;
+        self.replies.drain(count);
         Ok(count > 0)
     }
 

@@ -18,6 +18,7 @@ use crate::gate::Gate;
 use crate::newcomer::{Newcomer, is_new};
 use crate::port::ClientPort;
 use crate::round::Round;
+use crate::shared_room::SharedRoom;
 use crate::turned::{Settled, Turned};
 use crate::worker_end::{WorkerEnd, WorkerOutcome};
 use indexmap::IndexMap;
@@ -47,7 +48,7 @@ pub(crate) struct WorkerState<C: ClientPort + Drop, J: Naming> {
     ports: Vec<C>,
     // The parts whose commands have ended or are to be posted again.
     due: DueCommands,
-    piece: Vec<u8>,
+    room: SharedRoom,
     round: Round,
     ghost ports_fit: { length ports.items + length clients.entries ≤ vec_capacity ports },
     ghost due_known: { AreNoted (clients_in clients.entries) due },
@@ -84,7 +85,7 @@ impl<C: ClientPort + Drop, J: Naming> WorkerState<C, J> {
             answered: 0,
             ports: Vec::new(alloc),
             due: DueCommands::new(alloc, worker),
-            piece: Vec::new(alloc),
+            room: SharedRoom::new(alloc),
             round: Round::new(),
         }
     }
@@ -296,6 +297,7 @@ impl<C: ClientPort + Drop, J: Naming> WorkerState<C, J> {
     {
         let mut moved = false;
         let round = self.round;
+        self.room.begin_round();
         let count = self.clients.len();
         for step in 0..count {
             moved |= self.serve_client_at(round.place(step, count))?;
@@ -328,7 +330,7 @@ impl<C: ClientPort + Drop, J: Naming> WorkerState<C, J> {
             place,
             &mut self.outlet,
             &mut self.view,
-            &mut self.piece,
+            &mut self.room,
         )
     }
 
