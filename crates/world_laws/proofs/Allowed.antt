@@ -102,14 +102,14 @@ is-so t u lt = go (same_ticket t u) lt
     go false lt = absurd (omega arith)
 
 module _ (w : WorldModel) (h : Placed w) where
-  awaited : (t : Ticket) → 0 < tally (awaits t) w → (i : ℕ) × (c : Arrival) × At w.commands i c × (c.command.stage ≡ Awaits) × (same_ticket t c.command.ticket ≡ true)
+  pub awaited : (t : Ticket) → 0 < tally (awaits t) w → (i : ℕ) × (c : Arrival) × At w.commands i c × (c.command.stage ≡ Awaits) × (same_ticket t c.command.ticket ≡ true)
   awaited t lt =
       let f = total-found (λ c. awaits t (Stands c)) w.commands (omega (arith, commands-alone (awaits t) (λ _ _ _. refl) (λ _ _ _ _. refl) (λ _ _. refl) w)) in
       let a = awaiting-one (f.1).command.stage (is t (f.1).command.ticket) f.3 in
       (f.0, f.1, f.2, a.0, is-so t (f.1).command.ticket a.1)
 
   -- its command, by the first place of its ticket
-  found : (t : Ticket) (i : ℕ) (c : Arrival) → At w.commands i c → same_ticket t c.command.ticket ≡ true → (j : ℕ) × IsOf t w.commands j c
+  pub found : (t : Ticket) (i : ℕ) (c : Arrival) → At w.commands i c → same_ticket t c.command.ticket ≡ true → (j : ℕ) × IsOf t w.commands j c
   found t i c p e =
       let f = first-of (λ (x : Arrival). same_ticket t x.command.ticket) w.commands i c p e in
       let one : (f.1).command.ticket ≡ c.command.ticket = ticket-is t (f.1).command.ticket f.3 ∙ sym (ticket-is t c.command.ticket e) in
@@ -163,7 +163,7 @@ nothing w = omega (arith, commands-alone (λ _. 0) (λ _ _ _. refl) (λ _ _ _ _.
 
 module _ (w : WorldModel) (h : Placed w) where
   -- who stands somewhere has a command
-  owner : (t : Ticket) → 1 ≤ tally (here t) w + tally (stray t) w → (i : ℕ) × (c : Arrival) × At w.commands i c × (same_ticket t c.command.ticket ≡ true)
+  pub owner : (t : Ticket) → 1 ≤ tally (here t) w + tally (stray t) w → (i : ℕ) × (c : Arrival) × At w.commands i c × (same_ticket t c.command.ticket ≡ true)
   owner t lt =
       let some : 0 < total (λ c. owned (same_ticket t) (Stands c)) w.commands = omega (
         arith,
@@ -180,10 +180,10 @@ module _ (w : WorldModel) (h : Placed w) where
 
 -- an item of a lane, and of a link, counts
 
-down-here : (w : WorldModel) (i : ℕ) (t : Ticket) (told : Told) → slice_get w.downs i ≡ Some (t, told) → 1 ≤ tally (here t) w
+pub down-here : (w : WorldModel) (i : ℕ) (t : Ticket) (told : Told) → slice_get w.downs i ≡ Some (t, told) → 1 ≤ tally (here t) w
 down-here w i t told e = omega (arith, total-one (λ (p : Ticket × Told). here t (Comes p.0 p.1)) w.downs i (t, told) e, is-refl t)
 
-request-here : (w : WorldModel) (link : ℕ) (l : Link) (ts : List Ticket) (rest : List LinkRequest) → slice_get w.links link ≡ Some l → l.requests ≡ Runs ts ∷ rest → (k : ℕ) (t : Ticket) → slice_get ts k ≡ Some t → 1 ≤ tally (here t) w + tally (stray t) w
+pub request-here : (w : WorldModel) (link : ℕ) (l : Link) (ts : List Ticket) (rest : List LinkRequest) → slice_get w.links link ≡ Some l → l.requests ≡ Runs ts ∷ rest → (k : ℕ) (t : Ticket) → slice_get ts k ≡ Some t → 1 ≤ tally (here t) w + tally (stray t) w
 request-here w link l ts rest e r k t at_t =
     let one : 1 ≤ total (λ u. sent_only t (Sent l.is_open l.node l.asking u)) ts = omega (arith, total-one (λ (u : Ticket). sent_only t (Sent l.is_open l.node l.asking u)) ts k t at_t, is-refl t) in
     let inside : 1 ≤ in_link (sent_only t) l = omega (arith, ap (in_requests (sent_only t) l.is_open l.node l.asking) r, one) in
@@ -243,7 +243,7 @@ module _ (w : WorldModel) (h : Placed w) where
 
 -- the laws
 
-ticked : (w : WorldModel) → Placed w → Placed (record w { moment = w.moment + 1 })
+pub ticked : (w : WorldModel) → Placed w → Placed (record w { moment = w.moment + 1 })
 ticked w x = record { single = x.single; below = x.below; place = x.place; once = x.once; replied = x.replied; tidy = x.tidy }
 
 pub take-is-allowed : TakeIsAllowed

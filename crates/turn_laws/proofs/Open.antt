@@ -1,0 +1,66 @@
+-- The steps that are not proved yet, each with its statement.
+use Rattle.std.proofs.Common.{◌≡◌, ℕ, List}
+use Rattle.node_model.specs.declared.role.Verdict.{Verdict}
+use Rattle.std.specs.Prelude.{Result, Bool}
+use Rattle.key_split.specs.PartModel.{PartModel}
+use Rattle.key_split.specs.declared.travel.Batch.{Batch}
+use Rattle.key_split.specs.declared.travel.Ticket.{Ticket}
+use Rattle.key_split.specs.declared.travel.Told.{Told}
+use Rattle.key_split.specs.declared.travel.Ended.{Ended}
+use Rattle.session_order.specs.declared.fault.SessionFault.{SessionFault}
+use Rattle.proxy_turns.specs.ClientTurn.{Read, HandedOut, Posted, Drained, Dropped}
+use Rattle.proxy_turns.specs.WorkerModel.{Did, Finished, Took, Came}
+use Rattle.proxy_turns.specs.declared.backend_step.BackendStep.TheVariants.{Broke, Fetched, Asked}
+use Rattle.proxy_turns.specs.CarrierModel.{AtBackend, Refused, Sent}
+use Rattle.turn_laws.specs.Steps.{AtWorker, AtCarrier, AtNode, AtBroken}
+use Rattle.turn_laws.specs.Refines.{Simulates}
+use Rattle.turn_laws.proofs.Telling.{told-client}
+
+module _ (C J : Type 0) where
+  -- the carrier
+  pub broke : Simulates C J (AtCarrier (AtBackend Broke))
+  broke = ?
+
+  pub fetched : Simulates C J (AtCarrier (AtBackend Fetched))
+  fetched = ?
+
+  pub asked : Simulates C J (AtCarrier (AtBackend Asked))
+  asked = ?
+
+  pub refused : Simulates C J (AtCarrier Refused)
+  refused = ?
+
+  pub sent : Simulates C J (AtCarrier Sent)
+  sent = ?
+
+  -- the nodes
+  pub served : (k : ℕ) (verdict : Verdict) → Simulates C J (AtNode k verdict)
+  served k verdict = ?
+
+  pub served-late : (j : ℕ) (verdict : Verdict) → Simulates C J (AtBroken j verdict)
+  served-late j verdict = ?
+
+  -- the workers
+  pub read : (k number : ℕ) (result : Result Bool SessionFault) → Simulates C J (AtWorker k (Did number (Read result)))
+  read k number result = ?
+
+  pub handed-out : (k number : ℕ) (ticket : Ticket) (part : PartModel) → Simulates C J (AtWorker k (Did number (HandedOut ticket part)))
+  handed-out k number ticket part = ?
+
+  pub posted : (k number : ℕ) (batch : Batch) → Simulates C J (AtWorker k (Did number (Posted batch)))
+  posted k number batch = ?
+
+  pub drained : (k number n : ℕ) → Simulates C J (AtWorker k (Did number (Drained n)))
+  drained k number n = ?
+
+  pub dropped : (k number : ℕ) (ticket : Ticket) → Simulates C J (AtWorker k (Did number (Dropped ticket)))
+  dropped k number ticket = ?
+
+  pub finished : (k number : ℕ) (ticket : Ticket) (end : Ended) → Simulates C J (AtWorker k (Finished number ticket end))
+  finished k number ticket end = ?
+
+  pub took : (k : ℕ) (ticket : Ticket) (told : Told) → Simulates C J (AtWorker k (Took ticket told))
+  took k ticket told = ?
+
+  pub came : (k number : ℕ) → Simulates C J (AtWorker k (Came number))
+  came k number = ?

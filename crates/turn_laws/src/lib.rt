@@ -1,0 +1,11 @@
+//! What the turns of workers and carrier do is what the machine of `world_laws` does: laws alone.
+//!
+//! ```text
+//! laws::refines::<C, J>();
+//! ```
+//!
+//! A system is the workers, the carrier, the lanes between them, the connections and the nodes (`specs/System.antt`); its events
+//! are those of the turns (`specs/Steps.antt`). Which world of the machine it stands for is said in `specs/Shadow.antt`.
+#![tactic(auto)]
+
+pub mod laws;
