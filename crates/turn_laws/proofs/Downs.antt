@@ -21,16 +21,16 @@ SameBag a b = (f : Pair → ℕ) → total f a ≡ total f b
 abbrev same_pair : Pair → Pair → Bool
 same_pair p q = same_ticket p.0 q.0 && same_told p.1 q.1
 
-abbrev one_for : Pair → Pair → ℕ
+abbrev pub one_for : Pair → Pair → ℕ
 one_for p q = if same_pair p q then 1 else 0
 
-pair-itself : (p : Pair) → one_for p p ≡ 1
+pub pair-itself : (p : Pair) → one_for p p ≡ 1
 pair-itself p =
     let t : same_ticket p.0 p.0 ≡ true = (same_ticket-Decides p.0 p.0).1 refl in
     let u : same_told p.1 p.1 ≡ true = (same_told-Decides p.1 p.1).1 refl in
     let both : same_pair p p ≡ true = λ i. t i && u i in ap (λ (b : Bool). if b then 1 else 0) both
 
-pair-is : (p q : Pair) → 0 < one_for p q → q ≡ p
+pub pair-is : (p q : Pair) → 0 < one_for p q → q ≡ p
 pair-is p q lt = go (same_pair p q) refl lt
   where
     go : (b : Bool) → same_pair p q ≡ b → 0 < (if b then 1 else 0) → q ≡ p

@@ -22,6 +22,7 @@ use Rattle.turn_laws.proofs.Throwing.{thrown}
 use Rattle.turn_laws.proofs.Answering.{answered}
 use Rattle.turn_laws.proofs.AtNodes as at-node
 use Rattle.turn_laws.proofs.AtWorkers as at-worker
+use Rattle.turn_laws.proofs.Fetched.{fetched}
 use Rattle.turn_laws.proofs.Open as still
 
 module _ (C J : Type 0) where
@@ -36,7 +37,7 @@ module _ (C J : Type 0) where
   backend-step backend.Idle = unseen (AtBackend backend.Idle) at-line.idle
   backend-step backend.Waited = waited C J
   backend-step backend.Broke = still.broke C J
-  backend-step backend.Fetched = still.fetched C J
+  backend-step backend.Fetched = fetched C J
   backend-step backend.Answered = unseen (AtBackend backend.Answered) answered
   backend-step backend.GaveUp = unseen (AtBackend backend.GaveUp) at-line.gave-up
   backend-step backend.Closed = unseen (AtBackend backend.Closed) at-line.closed

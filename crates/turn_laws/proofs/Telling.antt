@@ -17,8 +17,6 @@ use Rattle.proxy_turns.specs.ClientModel.{ClientModel}
 use Rattle.world_laws.specs.State.{WorldModel, after_told, slot_for}
 use Rattle.world_laws.specs.declared.state.Arrival.{Arrival}
 use Rattle.world_laws.specs.Places.{total, is}
-use Rattle.world_laws.proofs.Placed.{Placed}
-use Rattle.world_laws.proofs.Lives.{same_place}
 use Rattle.world_laws.proofs.Recorded.{at-set, set-same, set-other}
 use Rattle.turn_laws.specs.Shadow.{ClientShadow, PartShadow, StageShadow, HasCommand, ToldFrom, ticket_at}
 use Rattle.turn_laws.proofs.Downs.{Pair, OneMore, more-has, more-keeps, is-other}
@@ -46,7 +44,7 @@ refused-no followed next ne e = go (followed == 16) e
     go false e = ne e
 
 -- what was told something does not await
-told-no : (c : CommandModel) (told : Told) → (progress_told c told).stage ≡ Awaits → ⊥
+pub told-no : (c : CommandModel) (told : Told) → (progress_told c told).stage ≡ Awaits → ⊥
 told-no c (Reply v) e = over-no (Ended.Answered v) e
 told-no c Told.Lost e = over-no Ended.Lost e
 told-no c (Moved slot m) e = refused-no c.followed (Wants (Some m)) (wants-no (Some m)) e
@@ -57,7 +55,7 @@ told-no c Unclear e = refused-no c.followed (Wants None) (wants-no None) e
 told-no c Unsent e = refused-no c.followed (Wants None) (wants-no None) e
 
 -- as many of a client's commands, where one changes and keeps its ticket
-count-set : (p : Arrival → Bool) (xs : List Arrival) (j : ℕ) (x y : Arrival) → slice_get xs j ≡ Some x → p y ≡ p x → count_by p (slice_set xs j y) ≡ count_by p xs
+pub count-set : (p : Arrival → Bool) (xs : List Arrival) (j : ℕ) (x y : Arrival) → slice_get xs j ≡ Some x → p y ≡ p x → count_by p (slice_set xs j y) ≡ count_by p xs
 count-set p [] j x y at e = absurd (cc)
 count-set p (z ∷ xs) zero x y at e =
     let same : z ≡ x = cc in
@@ -143,22 +141,47 @@ module _ (downs downs' : List Pair) (t : Ticket) (told : Told) (more : OneMore d
       h
 
   -- each client's shadow, after the machine told the pair
-  pub told-client : {C : Type 0} (w : WorldModel) → Placed w → (worker number : ℕ) (client : ClientModel C) (j : ℕ) (c : Arrival) → slice_get w.commands j ≡ Some c
-      → c.command.ticket ≡ t → c.command.stage ≡ Awaits
-      → ClientShadow downs worker number client w.commands → ClientShadow downs' worker number client (slice_set w.commands j (after_told c told))
-  told-client {C} w placed worker number client j c at one awaits h = record {
+  pub told-client : {C : Type 0} (commands : List Arrival)
+      → ((i j : ℕ) (x y : Arrival) → slice_get commands i ≡ Some x → slice_get commands j ≡ Some y → x.command.ticket ≡ y.command.ticket → i ≡ j)
+      → (worker number : ℕ) (client : ClientModel C) (j : ℕ) (c : Arrival) → slice_get commands j ≡ Some c → c.command.ticket ≡ t → c.command.stage ≡ Awaits
+      → ClientShadow downs worker number client commands → ClientShadow downs' worker number client (slice_set commands j (after_told c told))
+  told-client {C} commands own worker number client j c at one awaits h = record {
     numbered = h.numbered;
     housed = h.housed;
-    all = count-set (λ (x : Arrival). x.command.ticket.client == number) w.commands j c (after_told c told) at refl ∙ h.all;
-    stands = λ part lt. still-stands w.commands j c (after_told c told) at refl (ticket_at client.session part) (h.stands part lt);
+    all = count-set (λ (x : Arrival). x.command.ticket.client == number) commands j c (after_told c told) at refl ∙ h.all;
+    stands = λ part lt. still-stands commands j c (after_told c told) at refl (ticket_at client.session part) (h.stands part lt);
     parts = λ i x e n. ⊎_elim
         (λ (z : (i ≡ j) × (x ≡ after_told c told)).
         let mine : c.command.ticket.client ≡ number = ap (λ (u : Arrival). u.command.ticket.client) (sym z.1) ∙ n in
         subst (PartShadow downs' client) (sym z.1) (own-part client c one awaits (h.parts j c at mine)))
-        (λ (z : (i ≢ j) × (slice_get w.commands i ≡ Some x)).
-        other-part client x (λ same. z.0 (same_place w placed i j x c z.1 at (same ∙ sym one))) (h.parts i x z.1 n))
-        (at-set w.commands j (after_told c told) i x e);
+        (λ (z : (i ≢ j) × (slice_get commands i ≡ Some x)).
+        other-part client x (λ same. z.0 (own i j x c z.1 at (same ∙ sym one))) (h.parts i x z.1 n))
+        (at-set commands j (after_told c told) i x e);
     commands = h.commands;
     owed = h.owed;
     ends = h.ends;
   }
+
+-- who awaits was told nothing
+pub own-awaits : {C : Type 0} (downs : List Pair) (client : ClientModel C) (c : Arrival) → c.command.stage ≡ Awaits → PartShadow downs client c → total (λ (p : Pair). is c.command.ticket p.0) downs ≡ 0
+own-awaits {C} downs client c awaits h = ⊎_elim
+    (λ (x : (c.command.ticket.part < client.session.first) × (c.answered ≡ true) × ((ended : Ended) × (c.command.stage ≡ Over ended))).
+    absurd (over-no x.2.0 (sym x.2.1 ∙ awaits)))
+    (λ (x : (client.session.first ≤ c.command.ticket.part) × (c.answered ≡ false) × ((stage : PartStage) × (end : Ended)
+    × (slice_get client.session.stages (c.command.ticket.part - client.session.first) ≡ Some stage)
+    × (slice_get client.session.ends (c.command.ticket.part - client.session.first) ≡ Some end)
+    × StageShadow downs client.gone client.commands stage end c)).
+    by-stage x.2.0 x.2.1 x.2.4)
+    h
+  where
+    by-stage : (stage : PartStage) (end : Ended) → StageShadow downs client.gone client.commands stage end c → total (λ (p : Pair). is c.command.ticket p.0) downs ≡ 0
+    by-stage (Waiting part) end h = absurd (wants-no None (ap (λ (u : CommandModel). u.stage) (sym h) ∙ awaits))
+    by-stage (Out slot) end h = ⊎_elim
+        (λ (x : (d : CommandModel) × HasCommand client.commands c.command.ticket.part d × ToldFrom downs d c.command). ⊎_elim
+        (λ (y : (c.command ≡ x.0) × (total (λ (p : Pair). is (x.0).ticket p.0) downs ≡ 0)). (λ i. total (λ (p : Pair). is (y.0 i).ticket p.0) downs) ∙ y.1)
+        (λ (y : (said : Told) × (i : ℕ) × (slice_get downs i ≡ Some ((x.0).ticket, said)) × (c.command ≡ progress_told x.0 said)).
+        absurd (told-no x.0 y.0 (ap (λ (u : CommandModel). u.stage) (sym y.3) ∙ awaits)))
+        x.2)
+        (λ (x : (client.gone ≡ true) × (c.command ≡ fresh c.command.ticket c.command.part)). absurd (wants-no None (ap (λ (u : CommandModel). u.stage) (sym x.1) ∙ awaits)))
+        h.1
+    by-stage Done end h = absurd (over-no end (sym h ∙ awaits))

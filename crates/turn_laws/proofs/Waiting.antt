@@ -37,7 +37,7 @@ use Rattle.turn_laws.proofs.Openings.{no-link, one-backend, one-connection}
 use Rattle.turn_laws.proofs.Lines.{backend-changes}
 use Rattle.turn_laws.proofs.Fetching.{fetched-shadow, comes-first}
 
-not-idle : (dues : List Due) (first : Due) (more : List Due) → dues ≡ first ∷ more → All (λ d. d ≡ due.Slots) dues → first ≡ due.Slots
+pub not-idle : (dues : List Due) (first : Due) (more : List Due) → dues ≡ first ∷ more → All (λ d. d ≡ due.Slots) dues → first ≡ due.Slots
 not-idle dues first more e all = subst (All (λ d. d ≡ due.Slots)) e all 0 first (omega arith)
 
 asking-waits : due.Asking ≡ due.Slots → ⊥

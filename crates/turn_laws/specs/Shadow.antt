@@ -48,7 +48,7 @@ use Rattle.world_laws.specs.declared.state.LinkReply.TheVariants.{Welcome, To}
 use Rattle.world_laws.specs.declared.history.Answer.{Answer}
 use Rattle.node_model.specs.History.{EntryModel}
 use Rattle.resp_wire.specs.Seen.{data_of}
-use Rattle.world_laws.specs.World.{IsOf, lies_in}
+use Rattle.world_laws.specs.World.{lies_in}
 use Rattle.world_laws.specs.Places.{total, is}
 use Rattle.turn_laws.specs.Wire.{Wire}
 use Rattle.turn_laws.specs.System.{System, Mark, Arrived, Executed, Answered, between, IsInStep}
@@ -83,7 +83,7 @@ coming link = coming_of link.kept link.port.values
 
 -- the part of a request is that of its command
 abbrev pub HasPart : List Arrival → Ticket → PartModel → Type 0
-HasPart commands ticket part = (j : ℕ) × (c : Arrival) × IsOf ticket commands j c × (c.command.part ≡ part) × (c.command.ticket ≡ ticket)
+HasPart commands ticket part = (j : ℕ) × (c : Arrival) × (slice_get commands j ≡ Some c) × (c.command.part ≡ part) × (c.command.ticket ≡ ticket)
 
 abbrev pub IsKnown : List Arrival → Request → Type 0
 IsKnown commands Asking = Unit {0}
