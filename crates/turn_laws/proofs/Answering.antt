@@ -17,7 +17,7 @@ use Rattle.turn_laws.specs.Wire.{Wire, Exchanges}
 use Rattle.turn_laws.specs.System.{System}
 use Rattle.turn_laws.specs.Shadow.{IsShadow, IsWorking, LinksShadow, LaneShadow, BackendShadow, OpenShadow, IsIdle, IsUnnumbered, Numbers, coming, coming_of, requests_in}
 use Rattle.turn_laws.specs.Steps.{CarrierStep, any_failures, any_garbled}
-use Rattle.turn_laws.proofs.Frames.{down-fits, carrier-frame}
+use Rattle.turn_laws.proofs.Frames.{same-seats, down-fits, carrier-frame}
 use Rattle.turn_laws.proofs.Fetching.{fetched-shadow, comes-first, waits-first}
 use Rattle.turn_laws.proofs.Waiting.{now, same-closed, same-opened, same-bag}
 
@@ -119,7 +119,7 @@ module _ {C J : Type 0} where
       let opened : s'.opened ≡ s.opened = same-opened (AtBackend Answered) s s' on refl k backend backend' link link' on.does.3 backends was is r.0 works in
       carrier-frame (AtBackend Answered) s s' w h on
       (subst (λ xs. LinksShadow s'.carrier xs s'.opened w) (sym closed) (subst (λ n. LinksShadow s'.carrier s.closed n w) (sym opened) links))
-      (ap length lanes)
+      (same-seats s s' (ap length lanes) pending_batches)
       (λ j model lane p q. down-fits s w h j model lane p (sym (ap (λ xs. slice_get xs j) lanes) ∙ q))
       (same-bag (AtBackend Answered) s s' on refl k backend backend' link link' on.does.3 backends was is r.0 works lanes pending_batches pending_told)
       (λ j model lane p q. subst (LaneShadow w j model lane) (sym (ap (λ xs. slice_get xs j) pending_batches)) (h.lanes j model lane p (sym (ap (λ xs. slice_get xs j) lanes) ∙ q)))

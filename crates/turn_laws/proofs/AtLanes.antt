@@ -30,12 +30,12 @@ use Rattle.world_laws.proofs.Tally.{total-append, total-one}
 use Rattle.world_laws.proofs.Recorded.{at-set, at-last, before-last, set-same, set-other}
 use Rattle.turn_laws.specs.Wire.{Wire}
 use Rattle.turn_laws.specs.System.{System, between, IsInStep}
-use Rattle.turn_laws.specs.Shadow.{IsShadow, IsWorking, UpsShadow, LaneShadow, HasPart, lane_of, lying, DownInStep, downs_of, downs_in, down_in, refused_in, told_in, lost_in, ups_in, batch_in}
+use Rattle.turn_laws.specs.Shadow.{IsShadow, IsWorking, UpsShadow, LaneShadow, HasPart, lane_of, lying, AreSeated, DownInStep, downs_of, downs_in, down_in, refused_in, told_in, lost_in, ups_in, batch_in}
 use Rattle.turn_laws.specs.Steps.{CarrierStep, FailsAt, opened_by}
 use Rattle.std.proofs.lemmas.List.Elements.{All-append, All-cons, All-nil}
 use Rattle.turn_laws.proofs.Downs.{Pair, SameBag, total-set-flat}
 use Rattle.turn_laws.proofs.Lanes.{between-post, post-steps, between-back, back-steps, between-take, between-none}
-use Rattle.turn_laws.proofs.Frames.{SameLinks, works-still, no-failure, carrier-stutter, DownFits, down-fits}
+use Rattle.turn_laws.proofs.Frames.{SameLinks, works-still, no-failure, carrier-stutter, same-seats, set-seats, DownFits, down-fits}
 use Rattle.turn_laws.proofs.Carriers.{refusals, debts, bag-parts}
 
 -- a list's other items
@@ -66,6 +66,11 @@ ListShadow w k batches = (lane_of k w ≡ map lying batches) × All (λ (b : Bat
 
 pub nothing-there : {X : Type 0} (k : ℕ) (x : X) → slice_get [] k ≡ Some x → ⊥
 nothing-there k x e = absurd (cc)
+
+pub short : {X : Type 0} (xs : List X) (k : ℕ) (x : X) → slice_get xs k ≡ Some x → k < length xs
+short [] k x e = absurd (nothing-there k x e)
+short (y ∷ xs) zero x e = omega arith
+short (y ∷ xs) (suc k) x e = omega (arith, short xs k x e)
 
 -- an item of a list of lists
 pub in-right : {X : Type 0} (xs ys : List X) (i : ℕ) (p : X) → slice_get ys i ≡ Some p → (j : ℕ) × (slice_get (xs ++ ys) j ≡ Some p)
@@ -163,7 +168,7 @@ module _ {C J : Type 0} where
     workers = ap (λ (x : System C J). x.workers) step.leaves
 
     pub lane-stutter : (k : ℕ) (x y : LaneEnds (Newcomer C J)) → slice_get s.carrier.lanes k ≡ Some x
-        → s'.carrier.lanes ≡ slice_set s.carrier.lanes k y
+        → s'.carrier.lanes ≡ slice_set s.carrier.lanes k y → (AreSeated s.carrier → AreSeated s'.carrier)
         → ((model : WorkerModel C J) → slice_get s.workers k ≡ Some model → DownFits k model y)
         → ((model : WorkerModel C J) → slice_get s.workers k ≡ Some model → ups_in model y (slice_get s'.carrier.pending_batches k) ≡ ups_in model x (slice_get s.carrier.pending_batches k))
         → ((j : ℕ) → j ≢ k → (model : WorkerModel C J) (lane : LaneEnds (Newcomer C J)) → ups_in model lane (slice_get s'.carrier.pending_batches j) ≡ ups_in model lane (slice_get s.carrier.pending_batches j))
@@ -171,9 +176,9 @@ module _ {C J : Type 0} where
         → total f (down_in y.down model.inlet) + total f (refusals s'.carrier.pending_batches) + total f (debts s'.carrier.backends)
         ≡ total f (down_in x.down model.inlet) + total f (refusals s.carrier.pending_batches) + total f (debts s.carrier.backends))
         → IsShadow s' w
-    lane-stutter k x y at lanes steps ups others bag =
+    lane-stutter k x y at lanes seats steps ups others bag =
         carrier-stutter event s s' w h step quiet (works-still s s' links) (no-failure s s' links)
-        (ap length lanes ∙ set-size s.carrier.lanes k y) down_steps whole all
+        (record { lanes = ap length lanes ∙ set-size s.carrier.lanes k y; seated = seats }) down_steps whole all
       where
         seen : (j : ℕ) (lane : LaneEnds (Newcomer C J)) → slice_get s'.carrier.lanes j ≡ Some lane → ((j ≡ k) × (lane ≡ y)) ⊎ ((j ≢ k) × (slice_get s.carrier.lanes j ≡ Some lane))
         seen j lane e = at-set s.carrier.lanes k y j lane (sym (ap (λ xs. slice_get xs j) lanes) ∙ e)
@@ -202,12 +207,12 @@ module _ {C J : Type 0} where
             (seen j lane q)
 
     -- A step by which no lane changes, and no pending_batch but for what is empty.
-    pub pending_batches-stutter : s'.carrier.lanes ≡ s.carrier.lanes
+    pub pending_batches-stutter : s'.carrier.lanes ≡ s.carrier.lanes → (AreSeated s.carrier → AreSeated s'.carrier)
         → ((j : ℕ) (model : WorkerModel C J) (lane : LaneEnds (Newcomer C J)) → ups_in model lane (slice_get s'.carrier.pending_batches j) ≡ ups_in model lane (slice_get s.carrier.pending_batches j))
         → ((f : Pair → ℕ) → total f (refusals s'.carrier.pending_batches) + total f (debts s'.carrier.backends) ≡ total f (refusals s.carrier.pending_batches) + total f (debts s.carrier.backends))
         → IsShadow s' w
-    pending_batches-stutter lanes ups bag =
-        carrier-stutter event s s' w h step quiet (works-still s s' links) (no-failure s s' links) (ap length lanes)
+    pending_batches-stutter lanes seats ups bag =
+        carrier-stutter event s s' w h step quiet (works-still s s' links) (no-failure s s' links) (record { lanes = ap length lanes; seated = seats })
         (λ j model lane p q. down-fits s w h j model lane p (sym (ap (λ xs. slice_get xs j) lanes) ∙ q))
         (λ f. (
         let rings : total f (downs_in s'.workers s'.carrier.lanes) ≡ total f (downs_in s.workers s.carrier.lanes) = λ i. total f (downs_in (workers i) (lanes i)) in
@@ -221,7 +226,7 @@ module _ {C J : Type 0} where
   missed s s' w h on =
       let backends : s'.carrier.backends ≡ s.carrier.backends = ap (λ (x : CarrierModel (Newcomer C J) Wire). x.backends) on.does.2 in
       let pending_batches : s'.carrier.pending_batches ≡ s.carrier.pending_batches = ap (λ (x : CarrierModel (Newcomer C J) Wire). x.pending_batches) on.does.2 in
-      pending_batches-stutter Missed s s' w h on refl (same-backends s s' backends) (ap (λ (x : CarrierModel (Newcomer C J) Wire). x.lanes) on.does.2)
+      pending_batches-stutter Missed s s' w h on refl (same-backends s s' backends) (ap (λ (x : CarrierModel (Newcomer C J) Wire). x.lanes) on.does.2) (same-seats s s' (ap (λ (x : CarrierModel (Newcomer C J) Wire). length x.lanes) on.does.2) pending_batches).seated
       (λ j model lane. λ i. ups_in model lane (slice_get (pending_batches i) j))
       (λ f. λ i. total f (refusals (pending_batches i)) + total f (debts (backends i)))
 
@@ -230,7 +235,7 @@ module _ {C J : Type 0} where
       let e = on.does.2 in
       let backends : s'.carrier.backends ≡ s.carrier.backends = ap (λ (x : CarrierModel (Newcomer C J) Wire). x.backends) e in
       let pending_batches : s'.carrier.pending_batches ≡ s.carrier.pending_batches = ap (λ (x : CarrierModel (Newcomer C J) Wire). x.pending_batches) e in
-      pending_batches-stutter NotFound s s' w h on refl (same-backends s s' backends) (ap (λ (x : CarrierModel (Newcomer C J) Wire). x.lanes) e)
+      pending_batches-stutter NotFound s s' w h on refl (same-backends s s' backends) (ap (λ (x : CarrierModel (Newcomer C J) Wire). x.lanes) e) (same-seats s s' (ap (λ (x : CarrierModel (Newcomer C J) Wire). length x.lanes) e) pending_batches).seated
       (λ j model lane. λ i. ups_in model lane (slice_get (pending_batches i) j))
       (λ f. λ i. total f (refusals (pending_batches i)) + total f (debts (backends i)))
 
@@ -238,7 +243,7 @@ module _ {C J : Type 0} where
   added s s' w h on =
       let backends : s'.carrier.backends ≡ s.carrier.backends = ap (λ (x : CarrierModel (Newcomer C J) Wire). x.backends) on.does in
       let pending_batches : s'.carrier.pending_batches ≡ s.carrier.pending_batches ++ no_pending_batch ∷ [] = ap (λ (x : CarrierModel (Newcomer C J) Wire). x.pending_batches) on.does in
-      pending_batches-stutter WorkerAdded s s' w h on refl (same-backends s s' backends) (ap (λ (x : CarrierModel (Newcomer C J) Wire). x.lanes) on.does)
+      pending_batches-stutter WorkerAdded s s' w h on refl (same-backends s s' backends) (ap (λ (x : CarrierModel (Newcomer C J) Wire). x.lanes) on.does) (λ seated k b batch p q. omega (arith, ap (λ (x : CarrierModel (Newcomer C J) Wire). length x.lanes) on.does, seated k b batch (was-there k b batch (sym (ap (λ xs. slice_get xs k) pending_batches) ∙ p) q) q))
       (λ j model lane. (λ i. ups_in model lane (slice_get (pending_batches i) j)) ∙ ⊎_elim
       (λ (e : slice_get (s.carrier.pending_batches ++ no_pending_batch ∷ []) j ≡ slice_get s.carrier.pending_batches j). ap (ups_in model lane) e)
       (λ (e : (slice_get s.carrier.pending_batches j ≡ None) × (slice_get (s.carrier.pending_batches ++ no_pending_batch ∷ []) j ≡ Some no_pending_batch)).
@@ -250,6 +255,11 @@ module _ {C J : Type 0} where
         total-append f (refusals s.carrier.pending_batches) (refusals (no_pending_batch ∷ [])),
         ap (λ ls. total f (debts ls)) backends,
       ))
+    where
+      was-there : (k : ℕ) (b : PendingBatch) (batch : Batch) → slice_get (s.carrier.pending_batches ++ no_pending_batch ∷ []) k ≡ Some b → b.batch ≡ Some batch → slice_get s.carrier.pending_batches k ≡ Some b
+      was-there k b batch p q = ⊎_elim (λ z. z)
+          (λ (z : (k ≡ length s.carrier.pending_batches) × (b ≡ no_pending_batch)). let bad : None ≡ Some batch = ap (λ (x : PendingBatch). x.batch) (sym z.1) ∙ q in absurd (cc))
+          (at-last s.carrier.pending_batches no_pending_batch k b p)
 
   pub lined : (s s' : System C J) (w : WorldModel) → IsShadow s w → CarrierStep s BackendAdded s' → IsShadow s' w
   lined s s' w h on =
@@ -259,7 +269,7 @@ module _ {C J : Type 0} where
       (λ (e : slice_get s.carrier.backends k ≡ Some backend'). (backend', e, linked))
       (λ (e : (k ≡ length s.carrier.backends) × (backend' ≡ new_backend)). let bad : None ≡ Some link = ap (λ (x : Backend Wire). x.link) (sym e.1) ∙ linked in absurd (cc))
       (at-last s.carrier.backends new_backend k backend' (sym (ap (λ xs. slice_get xs k) backends) ∙ at)) in
-      pending_batches-stutter BackendAdded s s' w h on refl links (ap (λ (x : CarrierModel (Newcomer C J) Wire). x.lanes) on.does)
+      pending_batches-stutter BackendAdded s s' w h on refl links (ap (λ (x : CarrierModel (Newcomer C J) Wire). x.lanes) on.does) (same-seats s s' (ap (λ (x : CarrierModel (Newcomer C J) Wire). length x.lanes) on.does) pending_batches).seated
       (λ j model lane. λ i. ups_in model lane (slice_get (pending_batches i) j))
       (λ f. omega (
         arith,
@@ -285,7 +295,7 @@ module _ {C J : Type 0} where
       let pending_batches : s'.carrier.pending_batches ≡ slice_set s.carrier.pending_batches k pending_batch' = ap (λ (c : CarrierModel (Newcomer C J) Wire). c.pending_batches) d.5 in
       let fl : s'.workers ≡ s.workers = ap (λ (z : System C J). z.workers) on.leaves in
       let held : slice_get s'.carrier.pending_batches k ≡ Some pending_batch' = ap (λ xs. slice_get xs k) pending_batches ∙ set-same s.carrier.pending_batches k pending_batch pending_batch' d.3 in
-      lane-stutter Took s s' w h on refl (same-backends s s' backends) k x y d.4.3.2 d.4.3.3
+      lane-stutter Took s s' w h on refl (same-backends s s' backends) k x y d.4.3.2 d.4.3.3 (set-seats s s' k pending_batch' (ap length d.4.3.3 ∙ set-size s.carrier.lanes k y) pending_batches (λ b e seated. short s.carrier.lanes k x d.4.3.2)).seated
       (λ model p. (λ outlet e. h.down_steps k model x p d.4.3.2 outlet (sym down ∙ e), subst (λ o. All (λ (q : Pair). q.0.worker ≡ k) (down_in o model.inlet)) (sym down) (h.to_worker k model x p d.4.3.2)))
       (λ model p.
       let there : slice_get s'.carrier.lanes k ≡ Some y = ap (λ xs. slice_get xs k) d.4.3.3 ∙ set-same s.carrier.lanes k x y d.4.3.2 in
@@ -348,7 +358,7 @@ module _ {C J : Type 0} where
       (λ (e : (j ≡ k) × (l ≡ backend')). (backend, ap (slice_get s.carrier.backends) e.0 ∙ d.3, sym (ap (λ (z : Backend Wire). z.link) now) ∙ ap (λ (z : Backend Wire). z.link) (sym e.1) ∙ linked))
       (λ (e : (j ≢ k) × (slice_get s.carrier.backends j ≡ Some l)). (l, e.1, linked))
       (at-set s.carrier.backends k backend' j l (sym (ap (λ xs. slice_get xs j) backends) ∙ at)) in
-      lane-stutter Gave s s' w h on refl links pair.0.worker x y c.2 c.3
+      lane-stutter Gave s s' w h on refl links pair.0.worker x y c.2 c.3 (same-seats s s' (ap length c.3 ∙ set-size s.carrier.lanes pair.0.worker y) pending_batches).seated
       (λ model p. given-fits x.down y.down pair model.inlet (given x.down y.down pair c.4.1 model.inlet (h.down_steps pair.0.worker model x p c.2)) (h.to_worker pair.0.worker model x p c.2))
       (λ model p. ups-up model x y up (slice_get s'.carrier.pending_batches pair.0.worker) ∙ (λ i. ups_in model x (slice_get (pending_batches i) pair.0.worker)))
       (λ j ne model lane. λ i. ups_in model lane (slice_get (pending_batches i) j))
@@ -384,7 +394,7 @@ module _ {C J : Type 0} where
       let up : y.up ≡ x.up = ap (λ (l : LaneEnds (Newcomer C J)). l.up) c.4.0 in
       let same : (j : ℕ) (model : WorkerModel C J) (lane : LaneEnds (Newcomer C J)) → ups_in model lane (slice_get s'.carrier.pending_batches j) ≡ ups_in model lane (slice_get s.carrier.pending_batches j) =
       λ j model lane. (λ i. ups_in model lane (slice_get (pending_batches i) j)) ∙ same-batch model lane s.carrier.pending_batches k j pending_batch pending_batch' d.3 (ap (λ (z : PendingBatch). z.batch) now) in
-      lane-stutter GaveUnsent s s' w h on refl (same-backends s s' backends) pair.0.worker x y c.2 c.3
+      lane-stutter GaveUnsent s s' w h on refl (same-backends s s' backends) pair.0.worker x y c.2 c.3 (set-seats s s' k pending_batch' (ap length c.3 ∙ set-size s.carrier.lanes pair.0.worker y) pending_batches (λ b e seated. seated k pending_batch b d.3 (ap (λ (z : PendingBatch). z.batch) (sym now) ∙ e))).seated
       (λ model p. given-fits x.down y.down pair model.inlet (given x.down y.down pair c.4.1 model.inlet (h.down_steps pair.0.worker model x p c.2)) (h.to_worker pair.0.worker model x p c.2))
       (λ model p. ups-up model x y up (slice_get s'.carrier.pending_batches pair.0.worker) ∙ same pair.0.worker model x)
       (λ j ne model lane. same j model lane)
@@ -408,7 +418,7 @@ module _ {C J : Type 0} where
     pending_batches = ap (λ (c : CarrierModel (Newcomer C J) Wire). c.pending_batches) on.does.0
 
     looked-kept : s'.carrier.lanes ≡ s.carrier.lanes → IsShadow s' w
-    looked-kept lanes = pending_batches-stutter Looked s s' w h on refl (same-backends s s' backends) lanes
+    looked-kept lanes = pending_batches-stutter Looked s s' w h on refl (same-backends s s' backends) lanes (same-seats s s' (ap length lanes) pending_batches).seated
         (λ j model lane. λ i. ups_in model lane (slice_get (pending_batches i) j))
         (λ f. λ i. total f (refusals (pending_batches i)) + total f (debts (backends i)))
 
@@ -417,7 +427,7 @@ module _ {C J : Type 0} where
         let x : LaneEnds (Newcomer C J) = c.0 in
         let y : LaneEnds (Newcomer C J) = c.1 in
         let up : y.up ≡ x.up = ap (λ (l : LaneEnds (Newcomer C J)). l.up) c.4.0 in
-        lane-stutter Looked s s' w h on refl (same-backends s s' backends) pair.0.worker x y c.2 c.3
+        lane-stutter Looked s s' w h on refl (same-backends s s' backends) pair.0.worker x y c.2 c.3 (same-seats s s' (ap length c.3 ∙ set-size s.carrier.lanes pair.0.worker y) pending_batches).seated
         (λ model p. back-fits x.down y.down pair.0.worker model.inlet (came-back x.down y.down pair c.4.1 model.inlet (h.down_steps pair.0.worker model x p c.2)) (h.to_worker pair.0.worker model x p c.2))
         (λ model p. ups-up model x y up (slice_get s'.carrier.pending_batches pair.0.worker) ∙ (λ i. ups_in model x (slice_get (pending_batches i) pair.0.worker)))
         (λ j ne model lane. λ i. ups_in model lane (slice_get (pending_batches i) j))
@@ -433,7 +443,7 @@ module _ {C J : Type 0} where
         let x : LaneEnds (Newcomer C J) = c.0 in
         let y : LaneEnds (Newcomer C J) = c.1 in
         let down : y.down ≡ x.down = ap (λ (l : LaneEnds (Newcomer C J)). l.down) c.4.0 in
-        lane-stutter Looked s s' w h on refl (same-backends s s' backends) k x y c.2 c.3
+        lane-stutter Looked s s' w h on refl (same-backends s s' backends) k x y c.2 c.3 (same-seats s s' (ap length c.3 ∙ set-size s.carrier.lanes k y) pending_batches).seated
         (λ model p. (λ outlet e. h.down_steps k model x p c.2 outlet (sym down ∙ e), subst (λ o. All (λ (q : Pair). q.0.worker ≡ k) (down_in o model.inlet)) (sym down) (h.to_worker k model x p c.2)))
         (λ model p. same-up model x y (between-none model.outlet x.up y.up c.4.1) (slice_get s'.carrier.pending_batches k) ∙ (λ i. ups_in model x (slice_get (pending_batches i) k)))
         (λ j ne model lane. λ i. ups_in model lane (slice_get (pending_batches i) j))

@@ -268,6 +268,7 @@ module _ {C J : Type 0} where
           (λ (z : (j ≢ k) × (slice_get s.workers j ≡ Some f)). h.numbered j f z.1)
           (at-set s.workers k model' j f p);
       sides = set-size s.workers k model' ∙ h.sides;
+      seated = h.seated;
       up_steps = λ j f lane p q. ⊎_elim
           (λ (z : (j ≡ k) × (f ≡ model')). let step : IsInStep model.outlet lane.up = h.up_steps j model lane (here j z.0) q in
           subst (λ (x : WorkerModel C J). IsInStep x.outlet lane.up) (sym z.1) (step.0, step.1 ∙ sym quiet.posts))

@@ -24,7 +24,7 @@ use Rattle.turn_laws.specs.System.{System, between}
 use Rattle.turn_laws.specs.Shadow.{IsShadow, IsWorking, UpsShadow, LaneShadow, DownInStep, downs_of, downs_in, down_in, refused_in, told_in, lost_in, ups_in, batch_in}
 use Rattle.turn_laws.specs.Steps.{CarrierStep, FailsAt, opened_by}
 use Rattle.turn_laws.proofs.Downs.{Pair, SameBag, total-set-flat}
-use Rattle.turn_laws.proofs.Frames.{SameLinks, works-still, no-failure, carrier-stutter, down-fits}
+use Rattle.turn_laws.proofs.Frames.{same-seats, SameLinks, works-still, no-failure, carrier-stutter, down-fits}
 
 abbrev pub refusals : List PendingBatch → List Pair
 refusals pending_batches = flat_map (λ (pending_batch : PendingBatch). refused_in pending_batch.refused) pending_batches
@@ -65,7 +65,7 @@ module _ {C J : Type 0} where
       → s'.carrier.backends ≡ slice_set s.carrier.backends k backend' → s'.carrier.lanes ≡ s.carrier.lanes → s'.carrier.pending_batches ≡ s.carrier.pending_batches
       → StaysDown backend backend' → SameBag (line_downs backend) (line_downs backend') → IsShadow s' w
   backend-stutter event s s' w k backend backend' h step quiet at backends lanes pending_batches stays bag =
-      carrier-stutter event s s' w h step quiet works fails (ap length lanes)
+      carrier-stutter event s s' w h step quiet works fails (same-seats s s' (ap length lanes) pending_batches)
       (λ j model lane p q. down-fits s w h j model lane p (sym (ap (λ xs. slice_get xs j) lanes) ∙ q))
       whole ups
     where

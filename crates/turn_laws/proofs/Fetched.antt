@@ -28,7 +28,7 @@ use Rattle.turn_laws.specs.Shadow.{IsShadow, IsWorking, LinksShadow, LaneShadow,
 use Rattle.turn_laws.specs.Steps.{AtCarrier, CarrierStep, any_failures, any_garbled}
 use Rattle.turn_laws.specs.Refines.{Simulates}
 use Rattle.turn_laws.proofs.Downs.{Pair, SameBag, total-set-flat}
-use Rattle.turn_laws.proofs.Frames.{down-fits}
+use Rattle.turn_laws.proofs.Frames.{same-seats, down-fits}
 use Rattle.turn_laws.proofs.Carriers.{refusals, debts, bag-parts}
 use Rattle.turn_laws.proofs.Lines.{backend-changes}
 use Rattle.turn_laws.proofs.Fetching.{fetched-shadow, comes-first}
@@ -149,7 +149,7 @@ module _ {C J : Type 0} (s s' : System C J) (w : WorldModel) (h : IsShadow s w) 
       (l, at, open'.is_open, inr (f.0, ticket, told, first, refl))
       (subst (λ xs. LinksShadow s'.carrier xs s'.opened w1) (sym closed) (subst (λ n. LinksShadow s'.carrier s.closed n w1) (sym opened) shadow))
       bag
-      (ap length lanes)
+      (same-seats s s' (ap length lanes) pending_batches)
       (λ j model lane p q. down-fits s w h j model lane p (sym (ap (λ xs. slice_get xs j) lanes) ∙ q))
       (λ j model lane p q. subst (LaneShadow w j model lane) (sym (ap (λ xs. slice_get xs j) pending_batches)) (h.lanes j model lane p (sym (ap (λ xs. slice_get xs j) lanes) ∙ q)))
 

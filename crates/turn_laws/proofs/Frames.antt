@@ -13,6 +13,9 @@ use Rattle.session_order.specs.declared.queue.PartStage.{PartStage}
 use Rattle.session_order.specs.declared.queue.PartStage.TheVariants.{Waiting, Out, Done}
 use Rattle.proxy_lanes.specs.declared.ends.lane_ends.LaneEnds.{LaneEnds}
 use Rattle.proxy_turns.specs.declared.newcomer.Newcomer.{Newcomer}
+use Rattle.key_split.specs.declared.travel.Batch.{Batch}
+use Rattle.proxy_turns.specs.declared.pending_batch.PendingBatch.{PendingBatch}
+use Rattle.world_laws.proofs.Recorded.{at-set}
 use Rattle.proxy_turns.specs.declared.backend.Backend.{Backend}
 use Rattle.proxy_turns.specs.Commands.{CommandsModel}
 use Rattle.proxy_turns.specs.ClientModel.{ClientModel}
@@ -24,7 +27,7 @@ use Rattle.world_laws.specs.declared.state.Arrival.{Arrival}
 use Rattle.world_laws.specs.Places.{total, is}
 use Rattle.turn_laws.specs.Wire.{Wire}
 use Rattle.turn_laws.specs.System.{System, Mark}
-use Rattle.turn_laws.specs.Shadow.{IsShadow, IsWorking, LinksShadow, BackendShadow, LogShadow, UpsShadow, ClientShadow, PartShadow, StageShadow, HasCommand, ToldFrom, DownInStep, AreApart, Holds, downs_of, down_in}
+use Rattle.turn_laws.specs.Shadow.{IsShadow, IsWorking, LinksShadow, BackendShadow, LogShadow, UpsShadow, ClientShadow, PartShadow, StageShadow, HasCommand, ToldFrom, DownInStep, AreApart, AreSeated, Holds, downs_of, down_in}
 use Rattle.turn_laws.specs.Steps.{CarrierStep, Breaks, FailsAt, opened_by}
 use Rattle.turn_laws.proofs.Downs.{Pair, SameBag, bag-has, told-same}
 
@@ -120,6 +123,28 @@ module _ {C J : Type 0} where
         each = h.each;
       }))
 
+  -- as many lanes, and each batch that is pending came from one
+  pub record Seats (s s' : System C J) : Type 0 where
+    pub lanes : length s'.carrier.lanes ≡ length s.carrier.lanes
+    pub seated : AreSeated s.carrier → AreSeated s'.carrier
+
+  pub same-seats : (s s' : System C J) → length s'.carrier.lanes ≡ length s.carrier.lanes → s'.carrier.pending_batches ≡ s.carrier.pending_batches → Seats s s'
+  same-seats s s' lanes pending_batches = record {
+    lanes = lanes;
+    seated = λ h k b batch p q. omega (arith, lanes, h k b batch (sym (ap (λ xs. slice_get xs k) pending_batches) ∙ p) q);
+  }
+
+  -- one pending batch is another
+  pub set-seats : (s s' : System C J) (k : ℕ) (b' : PendingBatch) → length s'.carrier.lanes ≡ length s.carrier.lanes → s'.carrier.pending_batches ≡ slice_set s.carrier.pending_batches k b'
+      → ((batch : Batch) → b'.batch ≡ Some batch → AreSeated s.carrier → k < length s.carrier.lanes) → Seats s s'
+  set-seats s s' k b' lanes pending_batches one = record {
+    lanes = lanes;
+    seated = λ h j b batch p q. ⊎_elim
+        (λ (z : (j ≡ k) × (b ≡ b')). omega (arith, lanes, z.0, one batch (ap (λ (x : PendingBatch). x.batch) (sym z.1) ∙ q) h))
+        (λ (z : (j ≢ k) × (slice_get s.carrier.pending_batches j ≡ Some b)). omega (arith, lanes, h j b batch z.1 q))
+        (at-set s.carrier.pending_batches k b' j b (sym (ap (λ xs. slice_get xs j) pending_batches) ∙ p));
+  }
+
   -- what comes down a lane is for its worker
   abbrev pub DownFits : ℕ → WorkerModel C J → LaneEnds (Newcomer C J) → Type 0
   DownFits k model lane = DownInStep lane model × All (λ (pair : Pair). pair.0.worker ≡ k) (down_in lane.down model.inlet)
@@ -130,7 +155,7 @@ module _ {C J : Type 0} where
   -- A step of the carrier at which the machine's links change, and nothing else of it but the moment.
   pub link-frame : (event : CarrierEvent) (s s' : System C J) (w : WorldModel) (links' : List Link) (moment' : ℕ) → w.moment ≤ moment' → IsShadow s w
       → CarrierStep s event s'
-      → LinksShadow s'.carrier s'.closed s'.opened (record w { links = links'; moment = moment' }) → length s'.carrier.lanes ≡ length s.carrier.lanes
+      → LinksShadow s'.carrier s'.closed s'.opened (record w { links = links'; moment = moment' }) → Seats s s'
       → ((k : ℕ) (model : WorkerModel C J) (lane : LaneEnds (Newcomer C J)) → slice_get s.workers k ≡ Some model → slice_get s'.carrier.lanes k ≡ Some lane → DownFits k model lane)
       → SameBag (downs_of s) (downs_of s') → UpsShadow s.workers s'.carrier w → IsShadow s' (record w { links = links'; moment = moment' })
   link-frame event s s' w links' moment' later h step links lanes steps bag ups =
@@ -147,10 +172,11 @@ module _ {C J : Type 0} where
         cluster = h.cluster ∙ sym cluster;
         apart = subst AreApart (sym step.table) h.apart;
         numbered = λ k model e. h.numbered k model (at k model e);
-        sides = ap length workers ∙ h.sides ∙ sym lanes;
+        sides = ap length workers ∙ h.sides ∙ sym lanes.lanes;
+        seated = lanes.seated h.seated;
         up_steps = step.in_step;
         down_steps = λ k model lane p q. (steps k model lane (at k model p) q).0;
-        within = λ i pair e. let x = bag-has (downs_of s') (downs_of s) back i pair e in omega (arith, h.within x.0 pair x.1, lanes);
+        within = λ i pair e. let x = bag-has (downs_of s') (downs_of s) back i pair e in omega (arith, h.within x.0 pair x.1, lanes.lanes);
         to_worker = λ k model lane p q. (steps k model lane (at k model p) q).1;
         told = h.told;
         lanes = subst (λ fs. UpsShadow fs s'.carrier w') (sym workers) ups;
@@ -170,7 +196,7 @@ module _ {C J : Type 0} where
 
   -- a step of the carrier at which the machine does nothing
   pub carrier-frame : (event : CarrierEvent) (s s' : System C J) (w : WorldModel) → IsShadow s w → CarrierStep s event s'
-      → LinksShadow s'.carrier s'.closed s'.opened w → length s'.carrier.lanes ≡ length s.carrier.lanes
+      → LinksShadow s'.carrier s'.closed s'.opened w → Seats s s'
       → ((k : ℕ) (model : WorkerModel C J) (lane : LaneEnds (Newcomer C J)) → slice_get s.workers k ≡ Some model → slice_get s'.carrier.lanes k ≡ Some lane → DownFits k model lane)
       → SameBag (downs_of s) (downs_of s') → UpsShadow s.workers s'.carrier w → IsShadow s' w
   carrier-frame event s s' w h step links lanes steps bag ups = link-frame event s s' w w.links w.moment (omega arith) h step links lanes steps bag ups
@@ -179,7 +205,7 @@ module _ {C J : Type 0} where
   pub carrier-stutter : (event : CarrierEvent) (s s' : System C J) (w : WorldModel) → IsShadow s w → CarrierStep s event s' → opened_by event s.opened ≡ s.opened
       → ((k : ℕ) (link : LinkModel Wire) → IsWorking s'.carrier k link → IsWorking s.carrier k link)
       → ((k : ℕ) (link link' : LinkModel Wire) → FailsAt s k link link' s' → ⊥)
-      → length s'.carrier.lanes ≡ length s.carrier.lanes
+      → Seats s s'
       → ((k : ℕ) (model : WorkerModel C J) (lane : LaneEnds (Newcomer C J)) → slice_get s.workers k ≡ Some model → slice_get s'.carrier.lanes k ≡ Some lane → DownFits k model lane)
       → SameBag (downs_of s) (downs_of s') → UpsShadow s.workers s'.carrier w → IsShadow s' w
   carrier-stutter event s s' w h step quiet works fails lanes steps bag ups =

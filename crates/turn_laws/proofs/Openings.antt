@@ -17,7 +17,7 @@ use Rattle.turn_laws.specs.System.{System}
 use Rattle.turn_laws.specs.Shadow.{IsShadow, IsWorking, LinksShadow, BackendShadow, LaneShadow, IsIdle, IsUnnumbered, downs_of, downs_in, told_in, lost_in}
 use Rattle.turn_laws.specs.Steps.{CarrierStep, Opens, FailsAt}
 use Rattle.turn_laws.proofs.Downs.{Pair, SameBag, total-set-flat}
-use Rattle.turn_laws.proofs.Frames.{down-fits, carrier-frame, still-closed}
+use Rattle.turn_laws.proofs.Frames.{same-seats, down-fits, carrier-frame, still-closed}
 use Rattle.turn_laws.proofs.Carriers.{refusals, debts, bag-parts, not-up}
 
 pub no-link : (o : Option (LinkModel Wire)) (link : LinkModel Wire) → o ≡ None → o ≡ Some link → ⊥
@@ -163,7 +163,7 @@ module _ {C J : Type 0} (event : CarrierEvent) (s s' : System C J) (w : WorldMod
 
   pub opens : IsShadow s' w
   opens =
-      carrier-frame event s s' w h on links' (ap length o.lanes)
+      carrier-frame event s s' w h on links' (same-seats s s' (ap length o.lanes) o.pending_batches)
       (λ j model lane p q. down-fits s w h j model lane p (sym (ap (λ xs. slice_get xs j) o.lanes) ∙ q))
       bag
       (λ j model lane p q. subst (LaneShadow w j model lane) (sym (ap (λ xs. slice_get xs j) o.pending_batches)) (h.lanes j model lane p (sym (ap (λ xs. slice_get xs j) o.lanes) ∙ q)))

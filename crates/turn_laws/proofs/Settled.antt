@@ -26,7 +26,7 @@ use Rattle.turn_laws.specs.System.{System, Mark}
 use Rattle.turn_laws.specs.Shadow.{IsShadow, LinksShadow, UpsShadow, LaneShadow, LogShadow, AreApart, Holds, downs_of}
 use Rattle.turn_laws.specs.Steps.{CarrierStep}
 use Rattle.turn_laws.proofs.Downs.{Pair, SameBag}
-use Rattle.turn_laws.proofs.Frames.{DownFits}
+use Rattle.turn_laws.proofs.Frames.{DownFits, Seats}
 use Rattle.turn_laws.proofs.Walks.{walked-sound}
 use Rattle.turn_laws.proofs.Settling.{settling-after}
 use Rattle.turn_laws.proofs.Told.{Fitting, fitting, fitting-same, tell-all, SameParts, parts-told, links-told, lists-still}
@@ -52,7 +52,7 @@ module _ {C J : Type 0} where
       → w.moment ≤ moment' → Placed w → IsShadow s w → CarrierStep s event s'
       → LinksShadow s'.carrier s'.closed s'.opened (record w { links = links' })
       → TellsAll w.commands pairs commands' → SameBag (downs_of s ++ pairs) (downs_of s')
-      → length s'.carrier.lanes ≡ length s.carrier.lanes
+      → Seats s s'
       → ((k : ℕ) (model : WorkerModel C J) (lane : LaneEnds (Newcomer C J)) → slice_get s.workers k ≡ Some model → slice_get s'.carrier.lanes k ≡ Some lane → DownFits k model lane)
       → UpsShadow s.workers s'.carrier (record w { ups = ups' })
       → IsShadow s' (record w { ups = ups'; links = links'; commands = commands'; downs = []; moment = moment' })
@@ -73,10 +73,11 @@ module _ {C J : Type 0} where
         cluster = h.cluster ∙ sym cluster;
         apart = subst AreApart (sym step.table) h.apart;
         numbered = λ k model e. h.numbered k model (at k model e);
-        sides = ap length workers ∙ h.sides ∙ sym lanes;
+        sides = ap length workers ∙ h.sides ∙ sym lanes.lanes;
+        seated = lanes.seated h.seated;
         up_steps = step.in_step;
         down_steps = λ k model lane p q. (steps k model lane (at k model p) q).0;
-        within = λ i pair e. omega (arith, fits.within i pair e, lanes);
+        within = λ i pair e. omega (arith, fits.within i pair e, lanes.lanes);
         to_worker = λ k model lane p q. (steps k model lane (at k model p) q).1;
         told = refl;
         lanes = λ k model lane p q. let x = ups k model lane (at k model p) q in (x.0, lists-still w.commands commands' same k _ x.1);
@@ -95,7 +96,7 @@ module _ {C J : Type 0} where
       → WorldDoes (ticked w) core (record (ticked w) { ups = ups'; links = links'; downs = w.downs ++ pairs })
       → LinksShadow s'.carrier s'.closed s'.opened (record w { links = links' })
       → SameBag (downs_of s ++ pairs) (downs_of s')
-      → length s'.carrier.lanes ≡ length s.carrier.lanes
+      → Seats s s'
       → ((k : ℕ) (model : WorkerModel C J) (lane : LaneEnds (Newcomer C J)) → slice_get s.workers k ≡ Some model → slice_get s'.carrier.lanes k ≡ Some lane → DownFits k model lane)
       → UpsShadow s.workers s'.carrier (record w { ups = ups' })
       → (events : List Event) × (w' : WorldModel) × Walk w events w' × IsShadow s' w'

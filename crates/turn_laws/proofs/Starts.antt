@@ -87,6 +87,7 @@ module _ {C J : Type 0} where
       apart = h.apart;
       numbered = λ k model p. (h.idle k model p).0;
       sides = h.sides;
+      seated = λ k b batch e. absurd (no-item s.carrier.pending_batches k b h.pending_batches e);
       up_steps = h.up_steps;
       down_steps = h.down_steps;
       within = λ i pair e. absurd (no-pair i pair e);

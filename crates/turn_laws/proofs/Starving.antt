@@ -21,7 +21,7 @@ use Rattle.turn_laws.specs.Wire.{Wire, Exchanges}
 use Rattle.turn_laws.specs.System.{System}
 use Rattle.turn_laws.specs.Shadow.{IsShadow, IsWorking, LinksShadow, LaneShadow, OpenShadow, IsIdle, IsKnown, coming, coming_of, requests_in, backs_in, told_in}
 use Rattle.turn_laws.specs.Steps.{CarrierStep, any_failures, any_garbled}
-use Rattle.turn_laws.proofs.Frames.{down-fits, carrier-frame}
+use Rattle.turn_laws.proofs.Frames.{same-seats, down-fits, carrier-frame}
 use Rattle.turn_laws.proofs.Carriers.{backend-stutter}
 use Rattle.turn_laws.proofs.AtLines.{same-owing}
 use Rattle.turn_laws.proofs.Fetching.{comes-first}
@@ -98,7 +98,7 @@ module _ {C J : Type 0} (s s' : System C J) (w : WorldModel) (h : IsShadow s w) 
       let opened : s'.opened ≡ s.opened = same-opened Starved s s' on refl k backend backend' link link' at e.0 was is worked works in
       carrier-frame Starved s s' w h on
       (subst (λ xs. LinksShadow s'.carrier xs s'.opened w) (sym closed) (subst (λ n. LinksShadow s'.carrier s.closed n w) (sym opened) links))
-      (ap length e.1)
+      (same-seats s s' (ap length e.1) e.2)
       (λ j model lane p q. down-fits s w h j model lane p (sym (ap (λ xs. slice_get xs j) e.1) ∙ q))
       (same-bag Starved s s' on refl k backend backend' link link' at e.0 was is worked works e.1 e.2 pending_told)
       (λ j model lane p q. subst (LaneShadow w j model lane) (sym (ap (λ xs. slice_get xs j) e.2)) (h.lanes j model lane p (sym (ap (λ xs. slice_get xs j) e.1) ∙ q)))

@@ -91,6 +91,7 @@ module _ {C J : Type 0} where
     apart = h.apart;
     numbered = h.numbered;
     sides = h.sides;
+    seated = h.seated;
     up_steps = h.up_steps;
     down_steps = h.down_steps;
     within = h.within;

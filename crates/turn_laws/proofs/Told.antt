@@ -35,6 +35,7 @@ use Rattle.turn_laws.specs.Settling.{Tells, TellsAll}
 use Rattle.turn_laws.specs.Shadow.{IsShadow, LinksShadow, BackendShadow, WireShadow, OpenShadow, ClosedShadow, LaneShadow, IsKnown, HasPart, IsUnnumbered, Numbers, IsIdle, ClientShadow, PartShadow, StageShadow, HasCommand, HasPosted, Holds, ToldFrom, downs_of}
 use Rattle.turn_laws.proofs.Downs.{Pair, SameBag, OneMore, one_for, pair-is, pair-itself, bag-has, is-other}
 use Rattle.turn_laws.proofs.Frames.{client-same}
+use Rattle.turn_laws.proofs.AtLanes.{short}
 use Rattle.turn_laws.proofs.Telling.{told-no, own-awaits, count-set, told-client}
 
 -- no two commands have one ticket
@@ -66,14 +67,6 @@ more-cases a b p more i q e = go (one_for q p) refl
         let f = total-found (one_for q) a (omega (arith, z, more (one_for q), total-one (one_for q) b i q e, pair-itself q)) in
         inl (f.0, f.2 ∙ ap Some (pair-is q f.1 f.3))
     go (suc n) z = inr (sym (pair-is q p (omega (arith, z))))
-
-pub short : {X : Type 0} (xs : List X) (k : ℕ) (x : X) → slice_get xs k ≡ Some x → k < length xs
-short [] k x e = absurd (nothing k x e)
-  where
-    nothing : {X : Type 0} (k : ℕ) (x : X) → slice_get [] k ≡ Some x → ⊥
-    nothing k x e = cc
-short (y ∷ xs) zero x e = omega arith
-short (y ∷ xs) (suc k) x e = omega (arith, short xs k x e)
 
 module _ {C J : Type 0} where
   -- What is on its way down, the commands of the machine, and those of the workers fit.

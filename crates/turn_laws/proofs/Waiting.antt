@@ -30,7 +30,7 @@ use Rattle.turn_laws.specs.Shadow.{IsShadow, IsWorking, LinksShadow, LaneShadow,
 use Rattle.turn_laws.specs.Steps.{AtCarrier, CarrierStep, FailsAt, opened_by, any_failures, any_garbled}
 use Rattle.turn_laws.specs.Refines.{Simulates}
 use Rattle.turn_laws.proofs.Downs.{Pair, SameBag, total-set-flat}
-use Rattle.turn_laws.proofs.Frames.{still-closed, still-opened, link-frame, down-fits}
+use Rattle.turn_laws.proofs.Frames.{same-seats, still-closed, still-opened, link-frame, down-fits}
 use Rattle.turn_laws.proofs.Carriers.{refusals, debts, bag-parts, not-up, backend-stutter}
 use Rattle.turn_laws.proofs.AtLines.{same-owing}
 use Rattle.turn_laws.proofs.Openings.{no-link, one-backend, one-connection}
@@ -177,7 +177,7 @@ module _ {C J : Type 0} (s s' : System C J) (w : WorldModel) (h : IsShadow s w) 
           (l, at, open'.is_open, inl (f.0, f.1, refl)),
           link-frame (AtBackend Waited) s s' w links' (w.moment + 1) (omega arith) h on
               (subst (λ xs. LinksShadow s'.carrier xs s'.opened w') (sym closed) (subst (λ n. LinksShadow s'.carrier s.closed n w') (sym opened) shadow))
-              (ap length lanes)
+              (same-seats s s' (ap length lanes) pending_batches)
               (λ j model lane p q. down-fits s w h j model lane p (sym (ap (λ xs. slice_get xs j) lanes) ∙ q))
               (same-bag (AtBackend Waited) s s' on refl k backend backend' link link' on.does.3 backends was is worked works lanes pending_batches pending_told)
               (λ j model lane p q. subst (LaneShadow w j model lane) (sym (ap (λ xs. slice_get xs j) pending_batches)) (h.lanes j model lane p (sym (ap (λ xs. slice_get xs j) lanes) ∙ q))),

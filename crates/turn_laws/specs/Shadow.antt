@@ -325,6 +325,10 @@ Holds {C} {J} workers ticket c = (k : ℕ) × (model : WorkerModel C J) × (slic
 abbrev pub AreApart : List Endpoint → Type 0
 AreApart nodes = (i j : ℕ) (at : Endpoint) → slice_get nodes i ≡ Some at → slice_get nodes j ≡ Some at → i ≡ j
 
+-- a batch that is pending came from a lane that there is
+abbrev pub AreSeated : {H P : Type 0} → CarrierModel H P → Type 0
+AreSeated carrier = (k : ℕ) (pending_batch : PendingBatch) (batch : Batch) → slice_get carrier.pending_batches k ≡ Some pending_batch → pending_batch.batch ≡ Some batch → k < length carrier.lanes
+
 pub record IsShadow {C J : Type 0} (s : System C J) (w : WorldModel) : Type 0 where
   pub workers : length s.workers ≡ w.workers
   -- a run has one command at least
@@ -336,6 +340,7 @@ pub record IsShadow {C J : Type 0} (s : System C J) (w : WorldModel) : Type 0 wh
   pub sides : length s.workers ≡ length s.carrier.lanes
   pub up_steps : (k : ℕ) (model : WorkerModel C J) (lane : LaneEnds (Newcomer C J)) → slice_get s.workers k ≡ Some model → slice_get s.carrier.lanes k ≡ Some lane → IsInStep model.outlet lane.up
   pub down_steps : (k : ℕ) (model : WorkerModel C J) (lane : LaneEnds (Newcomer C J)) → slice_get s.workers k ≡ Some model → slice_get s.carrier.lanes k ≡ Some lane → DownInStep lane model
+  pub seated : AreSeated s.carrier
   -- who is told something has a worker, in whose lane it comes
   pub within : (i : ℕ) (pair : Ticket × Told) → slice_get (downs_of s) i ≡ Some pair → pair.0.worker < length s.carrier.lanes
   pub to_worker : (k : ℕ) (model : WorkerModel C J) (lane : LaneEnds (Newcomer C J)) → slice_get s.workers k ≡ Some model → slice_get s.carrier.lanes k ≡ Some lane
