@@ -11,7 +11,7 @@ use Rattle.session_order.specs.declared.fault.SessionFault.{SessionFault}
 use Rattle.proxy_turns.specs.ClientTurn.{Read, HandedOut, Posted, Drained, Dropped}
 use Rattle.proxy_turns.specs.WorkerModel.{Did, Finished, Took, Came}
 use Rattle.proxy_turns.specs.declared.backend_step.BackendStep.TheVariants.{Broke, Asked}
-use Rattle.proxy_turns.specs.CarrierModel.{AtBackend, Refused, Sent}
+use Rattle.proxy_turns.specs.CarrierModel.{AtBackend, Sent}
 use Rattle.turn_laws.specs.Steps.{AtWorker, AtCarrier, AtNode, AtBroken}
 use Rattle.turn_laws.specs.Refines.{Simulates}
 
@@ -22,9 +22,6 @@ module _ (C J : Type 0) where
 
   pub asked : Simulates C J (AtCarrier (AtBackend Asked))
   asked = ?
-
-  pub refused : Simulates C J (AtCarrier Refused)
-  refused = ?
 
   pub sent : Simulates C J (AtCarrier Sent)
   sent = ?

@@ -23,6 +23,7 @@ use Rattle.turn_laws.proofs.Answering.{answered}
 use Rattle.turn_laws.proofs.AtNodes as at-node
 use Rattle.turn_laws.proofs.AtWorkers as at-worker
 use Rattle.turn_laws.proofs.Fetched.{fetched}
+use Rattle.turn_laws.proofs.Refused.{refused}
 use Rattle.turn_laws.proofs.Open as still
 
 module _ (C J : Type 0) where
@@ -56,7 +57,7 @@ module _ (C J : Type 0) where
   carrier-step Looked = unseen Looked at-lane.looked
   carrier-step Took = unseen Took at-lane.took
   carrier-step Opened = unseen Opened (λ s s' w h on. opened s s' w h on)
-  carrier-step Refused = still.refused C J
+  carrier-step Refused = refused C J
   carrier-step Missed = unseen Missed at-lane.missed
   carrier-step SeedReached = unseen SeedReached at-line.connected
   carrier-step Sought = unseen Sought at-line.sought
