@@ -33,7 +33,7 @@ use Rattle.turn_laws.proofs.Carriers.{refusals, debts, bag-parts}
 use Rattle.turn_laws.proofs.Lines.{backend-changes}
 use Rattle.turn_laws.proofs.Fetching.{fetched-shadow, comes-first}
 use Rattle.turn_laws.proofs.Waiting.{now, same-closed, same-opened, not-idle}
-use Rattle.turn_laws.proofs.Settled.{settles-so}
+use Rattle.turn_laws.proofs.Settled.{goes-of, settles-so}
 
 command-waits : (t : Ticket) → due.Command t ≡ due.Slots → ⊥
 command-waits t e = cc
@@ -145,7 +145,7 @@ module _ {C J : Type 0} (s s' : System C J) (w : WorldModel) (h : IsShadow s w) 
       (λ x m o. o) in
       let closed : s'.closed ≡ s.closed = same-closed (AtBackend Fetched) s s' on refl k backend backend' link link' on.does.3 backends was is worked works in
       let opened : s'.opened ≡ s.opened = same-opened (AtBackend Fetched) s s' on refl k backend backend' link link' on.does.3 backends was is worked works in
-      settles-so (AtBackend Fetched) (Fetch i) s s' w w.ups links' ((ticket, told) ∷ []) walked h on
+      settles-so (Fetch i) s s' w w.ups links' ((ticket, told) ∷ []) walked h (goes-of (AtBackend Fetched) s s' on)
       (l, at, open'.is_open, inr (f.0, ticket, told, first, refl))
       (subst (λ xs. LinksShadow s'.carrier xs s'.opened w1) (sym closed) (subst (λ n. LinksShadow s'.carrier s.closed n w1) (sym opened) shadow))
       bag

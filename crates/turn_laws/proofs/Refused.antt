@@ -33,7 +33,7 @@ use Rattle.turn_laws.proofs.Downs.{Pair, SameBag, total-set-flat}
 use Rattle.turn_laws.proofs.Frames.{set-seats, down-fits, links-still, still-closed, still-opened, works-still, no-failure}
 use Rattle.turn_laws.proofs.Carriers.{refusals, debts, bag-parts}
 use Rattle.turn_laws.proofs.AtLanes.{ListShadow, same-backends, beside, get-other}
-use Rattle.turn_laws.proofs.Settled.{settles-so}
+use Rattle.turn_laws.proofs.Settled.{goes-of, settles-so}
 
 -- the first that passes, and the list without it
 pub record FrontOf {X : Type 0} (p : X → Bool) (xs : List X) (y : X) (ys : List X) (n : ℕ) : Type 0 where
@@ -215,7 +215,7 @@ module _ {C J : Type 0} (s s' : System C J) (w : WorldModel) (h : IsShadow s w) 
   refuses =
       let f = leaving s w h k b batch on.does.4 on.does.5 in
       let same = same-backends s s' backends in
-      settles-so Refused (Refuse k) s s' w (remove w.ups f.front.at) w.links ((batch.ticket, Unsent) ∷ []) walked h on
+      settles-so (Refuse k) s s' w (remove w.ups f.front.at) w.links ((batch.ticket, Unsent) ∷ []) walked h (goes-of Refused s s' on)
       (f.front.at, lying batch, first-of-front (lies_in k) w.ups (lying batch) f.rest f.front, refl)
       (links-still s.carrier s'.carrier s.closed s'.closed s.opened s'.opened w (works-still s s' same) on.table (still-closed s s' (no-failure s s' same) on.breaks) (still-opened Refused s s' on refl) h.links)
       bag

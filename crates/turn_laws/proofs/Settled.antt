@@ -24,7 +24,7 @@ use Rattle.turn_laws.specs.Settling.{TellsAll, Settles}
 use Rattle.turn_laws.specs.Wire.{Wire}
 use Rattle.turn_laws.specs.System.{System, Mark}
 use Rattle.turn_laws.specs.Shadow.{IsShadow, LinksShadow, UpsShadow, LaneShadow, LogShadow, AreApart, Holds, downs_of}
-use Rattle.turn_laws.specs.Steps.{CarrierStep}
+use Rattle.turn_laws.specs.Steps.{CarrierStep, UpsInStep}
 use Rattle.turn_laws.proofs.Downs.{Pair, SameBag}
 use Rattle.turn_laws.proofs.Frames.{DownFits, Seats}
 use Rattle.turn_laws.proofs.Walks.{walked-sound}
@@ -47,21 +47,37 @@ log-on log w w' same history answers later h = record {
   answered = h.answered ∙ ap (map (λ (a : Answer). (a.ticket, a.ended, a.answered))) (sym answers);
 }
 
+-- a step at the carrier leaves all else
+pub record Goes {C J : Type 0} (s s' : System C J) : Type 0 where
+  pub workers : s'.workers ≡ s.workers
+  pub cluster : s'.cluster ≡ s.cluster
+  pub log : s'.log ≡ s.log
+  pub table : s'.carrier.nodes ≡ s.carrier.nodes
+  pub in_step : UpsInStep s'
+
+pub goes-of : {C J : Type 0} (event : CarrierEvent) (s s' : System C J) → CarrierStep s event s' → Goes s s'
+goes-of {C} {J} event s s' step = record {
+  workers = ap (λ (x : System C J). x.workers) step.leaves;
+  cluster = ap (λ (x : System C J). x.cluster) step.leaves;
+  log = ap (λ (x : System C J). x.log) step.leaves;
+  table = step.table;
+  in_step = step.in_step;
+}
+
 module _ {C J : Type 0} where
-  pub settled-frame : (event : CarrierEvent) (s s' : System C J) (w : WorldModel) (ups' : List Posted) (links' : List Link) (pairs : List Pair) (commands' : List Arrival) (moment' : ℕ)
-      → w.moment ≤ moment' → Placed w → IsShadow s w → CarrierStep s event s'
+  pub settled-frame : (s s' : System C J) (w : WorldModel) (ups' : List Posted) (links' : List Link) (pairs : List Pair) (commands' : List Arrival) (moment' : ℕ)
+      → w.moment ≤ moment' → Placed w → IsShadow s w → Goes s s'
       → LinksShadow s'.carrier s'.closed s'.opened (record w { links = links' })
       → TellsAll w.commands pairs commands' → SameBag (downs_of s ++ pairs) (downs_of s')
       → Seats s s'
       → ((k : ℕ) (model : WorkerModel C J) (lane : LaneEnds (Newcomer C J)) → slice_get s.workers k ≡ Some model → slice_get s'.carrier.lanes k ≡ Some lane → DownFits k model lane)
       → UpsShadow s.workers s'.carrier (record w { ups = ups' })
       → IsShadow s' (record w { ups = ups'; links = links'; commands = commands'; downs = []; moment = moment' })
-  settled-frame event s s' w ups' links' pairs commands' moment' later placed h step links tells bag lanes steps ups =
+  settled-frame s s' w ups' links' pairs commands' moment' later placed h step links tells bag lanes steps ups =
       let w' : WorldModel = record w { ups = ups'; links = links'; commands = commands'; downs = []; moment = moment' } in
-      let eq = step.leaves in
-      let workers : s'.workers ≡ s.workers = ap (λ (x : System C J). x.workers) eq in
-      let cluster : s'.cluster ≡ s.cluster = ap (λ (x : System C J). x.cluster) eq in
-      let log : s'.log ≡ s.log = ap (λ (x : System C J). x.log) eq in
+      let workers : s'.workers ≡ s.workers = step.workers in
+      let cluster : s'.cluster ≡ s.cluster = step.cluster in
+      let log : s'.log ≡ s.log = step.log in
       let at : (k : ℕ) (model : WorkerModel C J) → slice_get s'.workers k ≡ Some model → slice_get s.workers k ≡ Some model = λ k model e. sym (ap (λ xs. slice_get xs k) workers) ∙ e in
       let n : ℕ = length s.carrier.lanes in
       let same : SameParts w.commands commands' = parts-told pairs w.commands commands' tells in
@@ -91,8 +107,8 @@ module _ {C J : Type 0} where
       }
 
   -- one event of the machine, and what came down by it is told
-  pub settles-so : (event : CarrierEvent) (core : Event) (s s' : System C J) (w : WorldModel) (ups' : List Posted) (links' : List Link) (pairs : List Pair)
-      → IsWalked w → IsShadow s w → CarrierStep s event s'
+  pub settles-so : (core : Event) (s s' : System C J) (w : WorldModel) (ups' : List Posted) (links' : List Link) (pairs : List Pair)
+      → IsWalked w → IsShadow s w → Goes s s'
       → WorldDoes (ticked w) core (record (ticked w) { ups = ups'; links = links'; downs = w.downs ++ pairs })
       → LinksShadow s'.carrier s'.closed s'.opened (record w { links = links' })
       → SameBag (downs_of s ++ pairs) (downs_of s')
@@ -100,7 +116,7 @@ module _ {C J : Type 0} where
       → ((k : ℕ) (model : WorkerModel C J) (lane : LaneEnds (Newcomer C J)) → slice_get s.workers k ≡ Some model → slice_get s'.carrier.lanes k ≡ Some lane → DownFits k model lane)
       → UpsShadow s.workers s'.carrier (record w { ups = ups' })
       → (events : List Event) × (w' : WorldModel) × Walk w events w' × IsShadow s' w'
-  settles-so event core s s' w ups' links' pairs walked h step does links bag lanes steps ups =
+  settles-so core s s' w ups' links' pairs walked h step does links bag lanes steps ups =
       let mid : WorldModel = record (ticked w) { ups = ups'; links = links'; downs = w.downs ++ pairs } in
       let r = settling-after w mid core walked does in
       let came : w.downs ++ pairs ≡ pairs = ap (λ ps. ps ++ pairs) h.told in
@@ -111,5 +127,5 @@ module _ {C J : Type 0} where
         core ∷ r.0,
         w',
         subst (λ x. Walk w (core ∷ r.0) x) is r.2,
-        settled-frame event s s' w ups' links' pairs r.3.0 r.3.1 later (walked-sound w walked).placed h step links tells bag lanes steps ups,
+        settled-frame s s' w ups' links' pairs r.3.0 r.3.1 later (walked-sound w walked).placed h step links tells bag lanes steps ups,
       )

@@ -24,6 +24,7 @@ use Rattle.turn_laws.proofs.AtNodes as at-node
 use Rattle.turn_laws.proofs.AtWorkers as at-worker
 use Rattle.turn_laws.proofs.Fetched.{fetched}
 use Rattle.turn_laws.proofs.Refused.{refused}
+use Rattle.turn_laws.proofs.Broke.{broke}
 use Rattle.turn_laws.proofs.Open as still
 
 module _ (C J : Type 0) where
@@ -37,7 +38,7 @@ module _ (C J : Type 0) where
   backend-step : (step : BackendStep) → Simulates C J (AtCarrier (AtBackend step))
   backend-step backend.Idle = unseen (AtBackend backend.Idle) at-line.idle
   backend-step backend.Waited = waited C J
-  backend-step backend.Broke = still.broke C J
+  backend-step backend.Broke = broke C J
   backend-step backend.Fetched = fetched C J
   backend-step backend.Answered = unseen (AtBackend backend.Answered) answered
   backend-step backend.GaveUp = unseen (AtBackend backend.GaveUp) at-line.gave-up

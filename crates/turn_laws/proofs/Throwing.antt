@@ -71,7 +71,7 @@ module _ {H : Type 0} (a : CarrierModel H Wire) (closed : List Wire) (opened : �
   }
 
 -- another number has another link
-not-mine : (ids : List ℕ) (links : List Link) (n mine i other : ℕ) (l' m : Link) → Numbers ids mine n → Numbers ids other i → other ≢ mine → slice_get links i ≡ Some m → slice_get (slice_set links n l') i ≡ Some m
+pub not-mine : (ids : List ℕ) (links : List Link) (n mine i other : ℕ) (l' m : Link) → Numbers ids mine n → Numbers ids other i → other ≢ mine → slice_get links i ≡ Some m → slice_get (slice_set links n l') i ≡ Some m
 not-mine ids links n mine i other l' m numbers numbered apart e = ⊎_elim
     (λ (z : ((i == n) ≡ true) × (i ≡ n)). absurd (apart (same z.1)))
     (λ (z : ((i == n) ≡ false) × (i ≢ n)). set-other links n l' i m z.1 e)
