@@ -1,12 +1,12 @@
 -- A connection breaks as it is read.
 use Rattle.std.proofs.Common.{◌≡◌, ◌≢◌, ◌⊎◌, inl, inr, ⊎_elim, ℕ, zero, suc, ◌+◌, ◌<◌, ◌≤◌, Bool, true, false, List, [], ◌∷◌, ◌++◌, Some, None, Result, Ok, Err, refl, sym, ap, ◌∙◌, subst, arith, length}
-use Rattle.std.specs.Prelude.{slice_get, slice_set, Option, IsSome}
+use Rattle.std.specs.Prelude.{slice_get, slice_set, Option, IsSome, All}
 use Rattle.std.proofs.lemmas.List.{append-nil}
 use Rattle.resp_wire.specs.declared.value.Value.{Value}
 use Rattle.slot_map.specs.Table.{Endpoint}
 use Rattle.node_link.specs.Port.{Rose}
 use Rattle.node_link.specs.LinkModel.{LinkModel}
-use Rattle.node_link.specs.LinkCalls.{Comes, Fails, Receives}
+use Rattle.node_link.specs.LinkCalls.{Comes, Fails, Receives, tickets_of}
 use Rattle.node_link.specs.declared.link.Due.{Due}
 use Rattle.node_link.specs.declared.link.Failure.{Failure}
 use Rattle.node_link.specs.declared.link.Failure.TheVariants as failure
@@ -22,7 +22,7 @@ use Rattle.world_laws.specs.declared.event.Event.{Event}
 use Rattle.turn_laws.specs.Walks.{Walk, IsWalked}
 use Rattle.turn_laws.specs.Wire.{Wire, Exchanges}
 use Rattle.turn_laws.specs.System.{System}
-use Rattle.turn_laws.specs.Shadow.{IsShadow, IsWorking, OpenShadow, IsIdle, IsUnnumbered, Numbers, coming, told_in}
+use Rattle.turn_laws.specs.Shadow.{IsShadow, IsWorking, OpenShadow, IsIdle, IsUnnumbered, Numbers, coming, told_in, requests_in, IsKnown}
 use Rattle.turn_laws.specs.Steps.{AtCarrier, CarrierStep, any_failures, any_garbled}
 use Rattle.turn_laws.specs.Refines.{Simulates}
 use Rattle.turn_laws.proofs.Carriers.{backend-stutter}
@@ -31,7 +31,7 @@ use Rattle.turn_laws.proofs.Fetching.{comes-first}
 use Rattle.turn_laws.proofs.Settled.{goes-of}
 use Rattle.turn_laws.proofs.Drops.{drops, broken-wire}
 
-some-failure : (o : Option Failure) (why : Failure) → o ≡ Some why → IsSome o
+pub some-failure : (o : Option Failure) (why : Failure) → o ≡ Some why → IsSome o
 some-failure o why e = subst IsSome (sym e) refl
 
 -- the port gave nothing
@@ -107,12 +107,12 @@ module _ {C J : Type 0} (s s' : System C J) (w : WorldModel) (h : IsShadow s w) 
     pending_batches = pending_batches;
     opened = ap (λ (x : System C J). x.opened) on.leaves;
     closed = broken-wire s s' on.breaks k backend backend' link link' on.does.3 was worked backends is (some-failure link'.failure why failed);
-    due = dues;
+    due = ap tickets_of dues;
     id = ap (λ (x : Wire). x.id) port;
     node = ap (λ (x : Wire). x.node) port;
     asking = ap (λ (x : Wire). x.asking) port;
-    more = [];
-    requests = sym (append-nil link'.port.requests ∙ ap (λ (x : Wire). x.requests) port);
+    requests = ([], append-nil (requests_in link'.port.requests) ∙ ap (λ (x : Wire). requests_in x.requests) port);
+    known = λ commands all. subst (λ (x : Wire). All (IsKnown commands) x.requests) (sym port) all;
   })
 
   -- a value came that nothing waits for: of a connection that works each is waited for

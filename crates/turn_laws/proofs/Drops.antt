@@ -3,6 +3,7 @@ use Rattle.std.proofs.Common.{◌≡◌, ◌≢◌, ◌⊎◌, inl, inr, ⊎_eli
 use Rattle.std.specs.Prelude.{slice_get, slice_set, Option, All, map, IsSome}
 use Rattle.std.proofs.lemmas.Bool.{false≢true}
 use Rattle.std.proofs.lemmas.List.{append-nil, map-append}
+use mathlib.Core.List.{IsPrefix}
 use Rattle.resp_wire.specs.declared.value.Value.{Value}
 use Rattle.key_split.specs.Requests.{Request, Asking, Command, Slots}
 use Rattle.key_split.specs.declared.travel.Ticket.{Ticket}
@@ -18,6 +19,7 @@ use Rattle.proxy_turns.specs.declared.newcomer.Newcomer.{Newcomer}
 use Rattle.proxy_turns.specs.declared.backend.Backend.{Backend}
 use Rattle.proxy_turns.specs.CarrierModel.{CarrierModel, CarrierEvent}
 use Rattle.world_laws.specs.State.{WorldModel, Link, answered_of, sent_of, waiting}
+use Rattle.world_laws.specs.declared.state.Arrival.{Arrival}
 use Rattle.world_laws.specs.declared.state.LinkRequest.{LinkRequest}
 use Rattle.world_laws.specs.declared.state.LinkRequest.TheVariants as asked
 use Rattle.world_laws.specs.declared.event.Event.{Event}
@@ -81,7 +83,7 @@ front-empty : {X : Type 0} (a b : List X) → a ++ b ≡ [] → a ≡ []
 front-empty [] b e = refl
 front-empty (x ∷ a) b e = absurd (cc)
 
-all-front : {X : Type 0} (P : X → Type 0) (a b : List X) → All P (a ++ b) → All P a
+pub all-front : {X : Type 0} (P : X → Type 0) (a b : List X) → All P (a ++ b) → All P a
 all-front P [] b h i d lt = absurd (omega (arith, lt))
 all-front P (x ∷ a) b h zero d lt = h 0 d (omega arith)
 all-front P (x ∷ a) b h (suc i) d lt = all-front P a b (λ j e l. h (suc j) e (omega (arith, l))) i d (omega (arith, lt))
@@ -163,13 +165,13 @@ pub record BreaksAt {C J : Type 0} (s s' : System C J) : Type 0 where
   pub pending_batches : s'.carrier.pending_batches ≡ s.carrier.pending_batches
   pub opened : s'.opened ≡ s.opened
   pub closed : s'.closed ≡ s.closed ++ record link'.port { values = [] } ∷ []
-  pub due : link'.due ≡ link.due
+  pub due : tickets_of link'.due ≡ tickets_of link.due
   pub id : link'.port.id ≡ link.port.id
   pub node : link'.port.node ≡ link.port.node
   pub asking : link'.port.asking ≡ link.port.asking
-  -- what was written of it is a front of what it had
-  pub more : List Request
-  pub requests : link.port.requests ≡ link'.port.requests ++ more
+  -- what was written for the machine is a front of what it had
+  pub requests : IsPrefix (requests_in link'.port.requests) (requests_in link.port.requests)
+  pub known : (commands : List Arrival) → All (IsKnown commands) link.port.requests → All (IsKnown commands) link'.port.requests
 
 module _ {C J : Type 0} (s s' : System C J) (w : WorldModel) (h : IsShadow s w) (walked : IsWalked w) (goes : Goes s s') (o : BreaksAt s s') where
   abbrev wire : Wire
@@ -205,7 +207,7 @@ module _ {C J : Type 0} (s s' : System C J) (w : WorldModel) (h : IsShadow s w) 
         ap (λ ls. total f (debts ls)) o.backends,
         total-set-flat f (λ (backend : Backend Wire). told_in backend.pending_told ++ lost_in backend.link) s.carrier.backends o.k o.backend o.backend' o.here,
         (let e : total f (told_in o.backend'.pending_told ++ lost_in o.backend'.link) ≡ total f (told_in o.backend.pending_told ++ lost) =
-        (λ i. total f (told_in (o.owes i) ++ lost_in (o.is i))) ∙ (λ i. total f (told_in o.backend.pending_told ++ lost_by (o.failed i) (o.due i))) in e),
+        (λ i. total f (told_in (o.owes i) ++ lost_in (o.is i))) ∙ (λ i. total f (told_in o.backend.pending_told ++ lost_by (o.failed i) o.link'.due)) ∙ ap (λ ts. total f (told_in o.backend.pending_told ++ lost_tickets ts)) o.due in e),
         (let e : total f (told_in o.backend.pending_told ++ lost_in o.backend.link) ≡ total f (told_in o.backend.pending_told ++ []) =
         (λ i. total f (told_in o.backend.pending_told ++ lost_in (o.was i))) ∙ (λ i. total f (told_in o.backend.pending_told ++ lost_by (o.worked i) o.link.due)) in e),
         total-append f (told_in o.backend.pending_told) lost,
@@ -227,8 +229,8 @@ module _ {C J : Type 0} (s s' : System C J) (w : WorldModel) (h : IsShadow s w) 
         node = open'.node ∙ sym open'.wired ∙ sym o.node;
         is_open = refl;
         asking = open'.asking ∙ sym o.asking;
-        requests = (requests_in o.more, sym (requests-append o.link'.port.requests o.more) ∙ ap requests_in (sym o.requests) ∙ sym open'.requests);
-        known = all-front (IsKnown w.commands) o.link'.port.requests o.more (subst (All (IsKnown w.commands)) o.requests open'.known);
+        requests = ((o.requests).0, (o.requests).1 ∙ sym open'.requests);
+        known = o.known w.commands open'.known;
         backs = refl;
       } in
       settles-so (Drop i) s s' w w.ups links' lost walked h goes
@@ -244,7 +246,7 @@ module _ {C J : Type 0} (s s' : System C J) (w : WorldModel) (h : IsShadow s w) 
   idle : IsUnnumbered (h.links).ids o.link.port.id → IsIdle o.link → Simulated
   idle un idle' =
       let none : lost ≡ [] = ap lost_tickets (no-tickets o.link.due idle'.none) in
-      let quiet : requests_in wire.requests ≡ [] = front-empty (requests_in o.link'.port.requests) (requests_in o.more) (sym (requests-append o.link'.port.requests o.more) ∙ ap requests_in (sym o.requests) ∙ idle'.requests) in
+      let quiet : requests_in wire.requests ≡ [] = front-empty (requests_in o.link'.port.requests) (o.requests).0 ((o.requests).1 ∙ idle'.requests) in
       let same : SameBag (downs_of s ++ []) (downs_of s') = subst (λ ps. SameBag (downs_of s ++ ps) (downs_of s')) none bag in (
         [],
         w,

@@ -10,16 +10,12 @@ use Rattle.key_split.specs.declared.travel.Ended.{Ended}
 use Rattle.session_order.specs.declared.fault.SessionFault.{SessionFault}
 use Rattle.proxy_turns.specs.ClientTurn.{Read, HandedOut, Posted, Drained, Dropped}
 use Rattle.proxy_turns.specs.WorkerModel.{Did, Finished, Took, Came}
-use Rattle.proxy_turns.specs.declared.backend_step.BackendStep.TheVariants.{Asked}
-use Rattle.proxy_turns.specs.CarrierModel.{AtBackend, Sent}
+use Rattle.proxy_turns.specs.CarrierModel.{Sent}
 use Rattle.turn_laws.specs.Steps.{AtWorker, AtCarrier, AtNode, AtBroken}
 use Rattle.turn_laws.specs.Refines.{Simulates}
 
 module _ (C J : Type 0) where
   -- the carrier
-  pub asked : Simulates C J (AtCarrier (AtBackend Asked))
-  asked = ?
-
   pub sent : Simulates C J (AtCarrier Sent)
   sent = ?
 

@@ -25,6 +25,7 @@ use Rattle.turn_laws.proofs.AtWorkers as at-worker
 use Rattle.turn_laws.proofs.Fetched.{fetched}
 use Rattle.turn_laws.proofs.Refused.{refused}
 use Rattle.turn_laws.proofs.Broke.{broke}
+use Rattle.turn_laws.proofs.Asked.{asked}
 use Rattle.turn_laws.proofs.Open as still
 
 module _ (C J : Type 0) where
@@ -44,7 +45,7 @@ module _ (C J : Type 0) where
   backend-step backend.GaveUp = unseen (AtBackend backend.GaveUp) at-line.gave-up
   backend-step backend.Closed = unseen (AtBackend backend.Closed) at-line.closed
   backend-step backend.Published = unseen (AtBackend backend.Published) at-line.published
-  backend-step backend.Asked = still.asked C J
+  backend-step backend.Asked = asked C J
   backend-step backend.Spared = unseen (AtBackend backend.Spared) at-line.spared
   backend-step backend.Read = unseen (AtBackend backend.Read) at-line.read
   backend-step backend.Unread = unseen (AtBackend backend.Unread) at-line.unread
