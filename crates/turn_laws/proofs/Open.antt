@@ -10,15 +10,10 @@ use Rattle.key_split.specs.declared.travel.Ended.{Ended}
 use Rattle.session_order.specs.declared.fault.SessionFault.{SessionFault}
 use Rattle.proxy_turns.specs.ClientTurn.{Read, HandedOut, Posted, Drained, Dropped}
 use Rattle.proxy_turns.specs.WorkerModel.{Did, Finished, Took, Came}
-use Rattle.proxy_turns.specs.CarrierModel.{Sent}
-use Rattle.turn_laws.specs.Steps.{AtWorker, AtCarrier, AtNode, AtBroken}
+use Rattle.turn_laws.specs.Steps.{AtWorker, AtNode, AtBroken}
 use Rattle.turn_laws.specs.Refines.{Simulates}
 
 module _ (C J : Type 0) where
-  -- the carrier
-  pub sent : Simulates C J (AtCarrier Sent)
-  sent = ?
-
   -- the nodes
   pub served : (k : ℕ) (verdict : Verdict) → Simulates C J (AtNode k verdict)
   served k verdict = ?

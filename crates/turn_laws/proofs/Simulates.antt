@@ -26,6 +26,7 @@ use Rattle.turn_laws.proofs.Fetched.{fetched}
 use Rattle.turn_laws.proofs.Refused.{refused}
 use Rattle.turn_laws.proofs.Broke.{broke}
 use Rattle.turn_laws.proofs.Asked.{asked}
+use Rattle.turn_laws.proofs.Sent.{sent-on}
 use Rattle.turn_laws.proofs.Open as still
 
 module _ (C J : Type 0) where
@@ -65,7 +66,7 @@ module _ (C J : Type 0) where
   carrier-step Sought = unseen Sought at-line.sought
   carrier-step Reached = unseen Reached (λ s s' w h on. reached s s' w h on)
   carrier-step NotFound = unseen NotFound at-lane.not-found
-  carrier-step Sent = still.sent C J
+  carrier-step Sent = sent-on C J
   carrier-step Gave = unseen Gave at-lane.gave
   carrier-step GaveUnsent = unseen GaveUnsent at-lane.gave-unsent
 
