@@ -69,7 +69,7 @@ stage-alike downs gone gone' commands commands' g e (Out slot) end c h = (
   h.0,
   ⊎_elim
       (λ (x : (d : CommandModel) × HasCommand commands c.command.ticket.part d × ToldFrom downs d c.command). inl (x.0, subst (λ (cs : CommandsModel). HasCommand cs c.command.ticket.part x.0) (sym e) x.1, x.2))
-      (λ (x : (gone ≡ true) × (c.command ≡ fresh c.command.ticket c.command.part)). inr (g x.0, x.1))
+      (λ x. inr (g x.0, x.1, ap (λ (cs : CommandsModel). get cs.posted c.command.ticket.part) e ∙ x.2))
       h.1,
 )
 stage-alike downs gone gone' commands commands' g e Done end c h = h
@@ -114,6 +114,7 @@ client-alike {C} downs worker number old new arrivals a h = record {
   stands = λ part lt.
       let x = h.stands part (subst (λ n. part < n) (λ i. a.first i + length (a.stages i)) lt) in
       (x.0, x.1, x.2, x.3 ∙ (λ i. record { worker = sym a.worker i; client = sym a.client i; part = part }));
+  homes = h.homes;
   parts = λ j c e n. part-alike downs old new a c (h.parts j c e n);
   commands = record {
     posted = λ n c e.
@@ -127,10 +128,10 @@ client-alike {C} downs worker number old new arrivals a h = record {
   ends = ap length a.ends ∙ h.ends ∙ (λ i. length (sym a.stages i));
 }
 
-nat_eq_by : (q k : ℕ) → eq_by_cmp nat_cmp q k ≡ true → q ≡ k
+pub nat_eq_by : (q k : ℕ) → eq_by_cmp nat_cmp q k ≡ true → q ≡ k
 nat_eq_by q k same = eqb→eq q k (subst T (sym (unsigned_ties q k ∙ same)) tt)
 
-still-there : {C : Type 0} (m : FinMap nat_cmp (ClientModel C)) (k q : ℕ) (t : ClientModel C) → get (remove m k) q ≡ Some t → get m q ≡ Some t
+pub still-there : {C : Type 0} (m : FinMap nat_cmp (ClientModel C)) (k q : ℕ) (t : ClientModel C) → get (remove m k) q ≡ Some t → get m q ≡ Some t
 still-there {C} m k q t e = go (eq_by_cmp nat_cmp q k) (sym (get-remove nat_cmp_total m k q) ∙ e)
   where
     go : (b : Bool) → cond b None (get m q) ≡ Some t → get m q ≡ Some t
@@ -141,7 +142,7 @@ alike-itself : {C : Type 0} (client : ClientModel C) → Alike client client
 alike-itself client = record { client = refl; worker = refl; first = refl; stages = refl; ends = refl; requests = refl; commands = refl; gone = λ e. e }
 
 -- the clients with one in its place
-put-cases : {C : Type 0} (m : FinMap nat_cmp (ClientModel C)) (k : ℕ) (x : ClientModel C) (q : ℕ) (t : ClientModel C) → get (insert m k x) q ≡ Some t → ((q ≡ k) × (t ≡ x)) ⊎ (get m q ≡ Some t)
+pub put-cases : {C : Type 0} (m : FinMap nat_cmp (ClientModel C)) (k : ℕ) (x : ClientModel C) (q : ℕ) (t : ClientModel C) → get (insert m k x) q ≡ Some t → ((q ≡ k) × (t ≡ x)) ⊎ (get m q ≡ Some t)
 put-cases {C} m k x q t e = go (eq_by_cmp nat_cmp q k) refl (sym (get-insert nat_cmp_total m k x q) ∙ e)
   where
     go : (b : Bool) → eq_by_cmp nat_cmp q k ≡ b → cond b (Some x) (get m q) ≡ Some t → ((q ≡ k) × (t ≡ x)) ⊎ (get m q ≡ Some t)
@@ -210,7 +211,7 @@ done-none {C} downs worker number client arrivals h done part c e = ⊎_elim
     some-none c e = cc
 
 module _ {C J : Type 0} where
-  rings-same : (workers : List (WorkerModel C J)) (lanes : List (LaneEnds (Newcomer C J))) (k : ℕ) (model model' : WorkerModel C J) → slice_get workers k ≡ Some model
+  pub rings-same : (workers : List (WorkerModel C J)) (lanes : List (LaneEnds (Newcomer C J))) (k : ℕ) (model model' : WorkerModel C J) → slice_get workers k ≡ Some model
       → ((o : Option (Outlet Pair)) → down_in o model'.inlet ≡ down_in o model.inlet) → downs_in (slice_set workers k model') lanes ≡ downs_in workers lanes
   rings-same [] lanes k model model' at e = absurd (nothing-there k model at)
   rings-same (z ∷ workers) [] zero model model' at e = refl
@@ -221,7 +222,7 @@ module _ {C J : Type 0} where
       head z at = let same : z ≡ model = cc in ap (λ ps. ps ++ downs_in workers lanes) (e l.down ∙ ap (λ (f : WorkerModel C J). down_in l.down f.inlet) (sym same))
   rings-same (z ∷ workers) (l ∷ lanes) (suc k) model model' at e = ap (λ ps. down_in l.down z.inlet ++ ps) (rings-same workers lanes k model model' at e)
 
-  ups-out : (model model' : WorkerModel C J) (lane : LaneEnds (Newcomer C J)) → posted model'.outlet ≡ posted model.outlet → (pending_batch : Option PendingBatch) → ups_in model' lane pending_batch ≡ ups_in model lane pending_batch
+  pub ups-out : (model model' : WorkerModel C J) (lane : LaneEnds (Newcomer C J)) → posted model'.outlet ≡ posted model.outlet → (pending_batch : Option PendingBatch) → ups_in model' lane pending_batch ≡ ups_in model lane pending_batch
   ups-out model model' lane e None = ap (λ xs. map (λ (x : Numbered Batch). x.item) (drop (length (taken lane.up)) xs)) e
   ups-out model model' lane e (Some pending_batch) = ap (λ xs. batch_in pending_batch.batch ++ map (λ (x : Numbered Batch). x.item) (drop (length (taken lane.up)) xs)) e
 
@@ -319,7 +320,7 @@ module _ {C J : Type 0} where
       subst (λ x. IsShadow x w) (sym e) (quiet-shadow s w h k on.old on.new on.at quiet)
 
   -- a client in its place keeps the commands that were posted
-  put-keeps : (old new : WorkerModel C J) (number : ℕ) (client client' : ClientModel C) → get old.clients number ≡ Some client → client'.commands ≡ client.commands
+  pub put-keeps : (old new : WorkerModel C J) (number : ℕ) (client client' : ClientModel C) → get old.clients number ≡ Some client → client'.commands ≡ client.commands
       → new.clients ≡ insert old.clients number client' → (t : Ticket) (c : CommandModel) → HasPosted old t c → HasPosted new t c
   put-keeps old new number client client' at commands clients t c x = go (eq_by_cmp nat_cmp t.client number) refl
     where

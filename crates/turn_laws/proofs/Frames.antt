@@ -39,7 +39,7 @@ stage-same a b same gone commands (Out slot) end c h = (
   h.0,
   ⊎_elim
       (λ (x : (d : CommandModel) × HasCommand commands c.command.ticket.part d × ToldFrom a d c.command). inl (x.0, x.1, told-same a b same x.0 c.command x.2))
-      (λ (x : (gone ≡ true) × (c.command ≡ fresh c.command.ticket c.command.part)). inr x)
+      (λ x. inr x)
       h.1,
 )
 stage-same a b same gone commands Done end c h = h
@@ -61,6 +61,7 @@ client-same {C} a b same worker number client arrivals h = record {
   housed = h.housed;
   all = h.all;
   stands = h.stands;
+  homes = h.homes;
   parts = λ j c e n. part-same a b same client c (h.parts j c e n);
   commands = h.commands;
   owed = h.owed;

@@ -8,7 +8,7 @@ use Rattle.key_split.specs.declared.travel.Ticket.{Ticket}
 use Rattle.key_split.specs.declared.travel.Told.{Told}
 use Rattle.key_split.specs.declared.travel.Ended.{Ended}
 use Rattle.session_order.specs.declared.fault.SessionFault.{SessionFault}
-use Rattle.proxy_turns.specs.ClientTurn.{Read, HandedOut, Posted, Drained, Dropped}
+use Rattle.proxy_turns.specs.ClientTurn.{Read, HandedOut, Posted, Drained}
 use Rattle.proxy_turns.specs.WorkerModel.{Did, Finished, Took, Came}
 use Rattle.turn_laws.specs.Steps.{AtWorker, AtNode, AtBroken}
 use Rattle.turn_laws.specs.Refines.{Simulates}
@@ -33,9 +33,6 @@ module _ (C J : Type 0) where
 
   pub drained : (k number n : ℕ) → Simulates C J (AtWorker k (Did number (Drained n)))
   drained k number n = ?
-
-  pub dropped : (k number : ℕ) (ticket : Ticket) → Simulates C J (AtWorker k (Did number (Dropped ticket)))
-  dropped k number ticket = ?
 
   pub finished : (k number : ℕ) (ticket : Ticket) (end : Ended) → Simulates C J (AtWorker k (Finished number ticket end))
   finished k number ticket end = ?

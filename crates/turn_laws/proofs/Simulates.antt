@@ -27,6 +27,7 @@ use Rattle.turn_laws.proofs.Refused.{refused}
 use Rattle.turn_laws.proofs.Broke.{broke}
 use Rattle.turn_laws.proofs.Asked.{asked}
 use Rattle.turn_laws.proofs.Sent.{sent-on}
+use Rattle.turn_laws.proofs.Ending.{dropped}
 use Rattle.turn_laws.proofs.Open as still
 
 module _ (C J : Type 0) where
@@ -85,7 +86,7 @@ module _ (C J : Type 0) where
   context-step k number (Pushed bytes) = unseen-at k (Did number (Pushed bytes)) (at-worker.pushed k number bytes)
   context-step k number Tried = unseen-at k (Did number Tried) (at-worker.tried k number)
   context-step k number Parted = unseen-at k (Did number Parted) (at-worker.parted k number)
-  context-step k number (Dropped ticket) = still.dropped C J k number ticket
+  context-step k number (Dropped ticket) = dropped C J k number ticket
 
   worker-step : (k : ℕ) (event : WorkerEvent) → Simulates C J (AtWorker k event)
   worker-step k (Did number event) = context-step k number event

@@ -91,7 +91,7 @@ module _ (downs downs' : List Pair) (t : Ticket) (told : Told) (more : OneMore d
     h.0,
     ⊎_elim
         (λ (x : (d : CommandModel) × HasCommand commands c.command.ticket.part d × ToldFrom downs d c.command). inl (x.0, x.1, other-from x.0 c.command ne x.2))
-        (λ (x : (gone ≡ true) × (c.command ≡ fresh c.command.ticket c.command.part)). inr x)
+        (λ x. inr x)
         h.1,
   )
   other-stage gone commands Done end c ne h = h
@@ -124,7 +124,7 @@ module _ (downs downs' : List Pair) (t : Ticket) (told : Told) (more : OneMore d
     h.0,
     ⊎_elim
         (λ (x : (d : CommandModel) × HasCommand commands c.command.ticket.part d × ToldFrom downs d c.command). inl (x.0, x.1, own-from x.0 c.command one awaits x.2))
-        (λ (x : (gone ≡ true) × (c.command ≡ fresh c.command.ticket c.command.part)). absurd (wants-no None (ap (λ (u : CommandModel). u.stage) (sym x.1) ∙ awaits)))
+        (λ x. absurd (wants-no None (ap (λ (u : CommandModel). u.stage) (sym x.1) ∙ awaits)))
         h.1,
   )
   own-stage gone commands Done end c one awaits h = absurd (over-no end (sym h ∙ awaits))
@@ -150,6 +150,10 @@ module _ (downs downs' : List Pair) (t : Ticket) (told : Told) (more : OneMore d
     housed = h.housed;
     all = count-set (λ (x : Arrival). x.command.ticket.client == number) commands j c (after_told c told) at refl ∙ h.all;
     stands = λ part lt. still-stands commands j c (after_told c told) at refl (ticket_at client.session part) (h.stands part lt);
+    homes = λ i x e n. ⊎_elim
+        (λ (z : (i ≡ j) × (x ≡ after_told c told)). ap (λ (u : Arrival). u.command.ticket.worker) z.1 ∙ h.homes j c at (ap (λ (u : Arrival). u.command.ticket.client) (sym z.1) ∙ n))
+        (λ (z : (i ≢ j) × (slice_get commands i ≡ Some x)). h.homes i x z.1 n)
+        (at-set commands j (after_told c told) i x e);
     parts = λ i x e n. ⊎_elim
         (λ (z : (i ≡ j) × (x ≡ after_told c told)).
         let mine : c.command.ticket.client ≡ number = ap (λ (u : Arrival). u.command.ticket.client) (sym z.1) ∙ n in
@@ -182,6 +186,6 @@ own-awaits {C} downs client c awaits h = ⊎_elim
         (λ (y : (said : Told) × (i : ℕ) × (slice_get downs i ≡ Some ((x.0).ticket, said)) × (c.command ≡ progress_told x.0 said)).
         absurd (told-no x.0 y.0 (ap (λ (u : CommandModel). u.stage) (sym y.3) ∙ awaits)))
         x.2)
-        (λ (x : (client.gone ≡ true) × (c.command ≡ fresh c.command.ticket c.command.part)). absurd (wants-no None (ap (λ (u : CommandModel). u.stage) (sym x.1) ∙ awaits)))
+        (λ x. absurd (wants-no None (ap (λ (u : CommandModel). u.stage) (sym x.1) ∙ awaits)))
         h.1
     by-stage Done end h = absurd (over-no end (sym h ∙ awaits))

@@ -248,7 +248,7 @@ StageShadow downs gone commands (Waiting part) end c = c.command ≡ new_command
 StageShadow downs gone commands (Out slot) end c =
     (slot ≡ slot_for c.command.part)
     × (((d : CommandModel) × HasCommand commands c.command.ticket.part d × ToldFrom downs d c.command)
-    ⊎ ((gone ≡ true) × (c.command ≡ new_command c.command.ticket c.command.part)))
+    ⊎ ((gone ≡ true) × (c.command ≡ new_command c.command.ticket c.command.part) × (get commands.posted c.command.ticket.part ≡ None)))
 -- it has ended, and its end stands in the session
 StageShadow downs gone commands Done end c = c.command.stage ≡ Over end
 
@@ -273,6 +273,8 @@ pub record ClientShadow {C : Type 0} (downs : List (Ticket × Told)) (worker num
   -- each stands there,
   pub stands : (part : ℕ) → part < client.session.first + length client.session.stages
       → (j : ℕ) × (c : Arrival) × (slice_get arrivals j ≡ Some c) × (c.command.ticket ≡ ticket_at client.session part)
+  -- each has this worker,
+  pub homes : (j : ℕ) (c : Arrival) → slice_get arrivals j ≡ Some c → c.command.ticket.client ≡ number → c.command.ticket.worker ≡ worker
   -- and is as far as the session and the commands say
   pub parts : (j : ℕ) (c : Arrival) → slice_get arrivals j ≡ Some c → c.command.ticket.client ≡ number → PartShadow downs client c
   pub commands : CommandsShadow client.session client.commands
