@@ -1,9 +1,11 @@
 -- The command of a part begins, is dropped, or ends: the machine does nothing.
-use Rattle.std.proofs.Common.{◌≡◌, ◌≢◌, ◌⊎◌, inl, inr, ⊎_elim, ℕ, zero, suc, ◌+◌, ◌-◌, ◌<◌, ◌≤◌, ◌%◌, Bool, true, false, List, [], ◌∷◌, ◌++◌, Some, None, Result, Ok, Err, refl, sym, ap, ◌∙◌, subst, arith, length}
+use Rattle.std.proofs.Common.{◌≡◌, ◌≢◌, ◌⊎◌, inl, inr, ⊎_elim, ℕ, zero, suc, ◌+◌, ◌-◌, ◌<◌, ◌≤◌, ◌%◌, ◌==◌, Bool, true, false, List, [], ◌∷◌, ◌++◌, Some, None, Result, Ok, Err, refl, sym, ap, ◌∙◌, subst, arith, length}
 use Rattle.std.specs.Prelude.{slice_get, slice_set, Option, All, cond, if◌then◌else◌}
 use Rattle.std.specs.FinMap.{FinMap, get, insert, remove, get-remove}
 use Rattle.std.specs.Ordering.{nat_cmp, eq_by_cmp}
-use Rattle.std.specs.Cmp.{nat_cmp_total}
+use Rattle.std.specs.Cmp.{nat_cmp_total, unsigned_ties}
+use Rattle.std.proofs.lemmas.Bool.Decides.{eqb_tells}
+use Rattle.turn_laws.proofs.Settling.{same_number}
 use Rattle.slot_hash.specs.Slot.{slot_of}
 use Rattle.key_split.specs.Same.{same_ticket, same_ticket-Decides}
 use Rattle.key_split.specs.PartModel.{PartModel}
@@ -168,3 +170,176 @@ module _ (C J : Type 0) where
       (one-client s w h k number on.old on.new client client' on.at d.2 (ap (λ (x : WorkerModel C J). x.worker) e) (ap (λ (x : WorkerModel C J). x.newest) e) outlet (ap (λ (x : WorkerModel C J). x.inlet) e) (ap (λ (x : WorkerModel C J). x.clients) e)
       fits (subst (λ (c : ClientModel C). ClientShadow (downs_of s) k number c w.commands) (sym now) shadow)
       (λ part c p q. ap (λ (x : ClientModel C). get x.commands.posted part) now ∙ p))
+
+-- ---- finished
+
+-- places of two parts
+pub apart-places : (first a b : ℕ) → first ≤ a → first ≤ b → a - first ≡ b - first → a ≡ b
+apart-places first a b p q e = omega (arith, p, q, e)
+
+finished-stage : (downs : List Pair) (gone : Bool) (commands : CommandsModel) (number : ℕ) (c : Arrival) → c.command.ticket.part ≢ number
+    → (stage : PartStage) (end : Ended) → StageShadow downs gone commands stage end c → StageShadow downs gone (record commands { posted = remove commands.posted number }) stage end c
+finished-stage downs gone commands number c ne (Waiting part) end x = x
+finished-stage downs gone commands number c ne (Out slot) end x = (
+  x.0,
+  ⊎_elim
+      (λ (y : (d : CommandModel) × HasCommand commands c.command.ticket.part d × ToldFrom downs d c.command). ⊎_elim
+      (λ (z : (commands.fresh ≡ Some y.0) × ((y.0).ticket.part ≡ c.command.ticket.part)). inl (y.0, inl z, y.2))
+      (λ (z : get commands.posted c.command.ticket.part ≡ Some y.0). inl (y.0, inr (removed-other commands.posted number c.command.ticket.part ne ∙ z), y.2))
+      y.1)
+      (λ y. inr (y.0, y.1, removed-none commands.posted number c.command.ticket.part y.2))
+      x.1,
+)
+finished-stage downs gone commands number c ne Done end x = x
+
+-- the command that ended is that of the machine
+ended-stage : (downs : List Pair) (gone : Bool) (commands : CommandsModel) (number : ℕ) (f : CommandModel) (ended : Ended) → get commands.posted number ≡ Some f → f.stage ≡ Over ended
+    → ((d : CommandModel) → commands.fresh ≡ Some d → get commands.posted d.ticket.part ≡ None)
+    → ((i : ℕ) (told : Told) → slice_get downs i ≡ Some (f.ticket, told) → ⊥)
+    → (c : Arrival) → c.command.ticket.part ≡ number → (slot : ℕ) (end : Ended) → StageShadow downs gone commands (Out slot) end c → c.command.stage ≡ Over ended
+ended-stage downs gone commands number f ended has over none alone c at slot end x = ⊎_elim
+    (λ (y : (d : CommandModel) × HasCommand commands c.command.ticket.part d × ToldFrom downs d c.command).
+    let here : get commands.posted c.command.ticket.part ≡ Some f = ap (get commands.posted) at ∙ has in
+    let same : y.0 ≡ f = ⊎_elim
+    (λ (z : (commands.fresh ≡ Some y.0) × ((y.0).ticket.part ≡ c.command.ticket.part)). absurd (none-some (get commands.posted c.command.ticket.part) f (ap (get commands.posted) (sym z.1) ∙ none y.0 z.0) here))
+    (λ (z : get commands.posted c.command.ticket.part ≡ Some y.0). one-of (get commands.posted c.command.ticket.part) y.0 f z here) y.1 in
+    ⊎_elim (λ (u : (c.command ≡ y.0) × (total (λ (p : Pair). is (y.0).ticket p.0) downs ≡ 0)). ap (λ (d : CommandModel). d.stage) (u.0 ∙ same) ∙ over)
+    (λ (u : (told : Told) × (i : ℕ) × (slice_get downs i ≡ Some ((y.0).ticket, told)) × (c.command ≡ progress_told y.0 told)).
+    absurd (alone u.1 u.0 (u.2 ∙ ap (λ (d : CommandModel). Some (d.ticket, u.0)) same))) y.2)
+    (λ y. absurd (none-some (get commands.posted c.command.ticket.part) f y.2 (ap (get commands.posted) at ∙ has)))
+    x.1
+
+-- an item of another place
+other-item : {X : Type 0} (xs : List X) (n i : ℕ) (y x : X) → i ≢ n → slice_get (slice_set xs n y) i ≡ Some x → slice_get xs i ≡ Some x
+other-item xs n i y x ne e = ⊎_elim (λ (z : (i ≡ n) × (x ≡ y)). absurd (ne z.0)) (λ (z : (i ≢ n) × (slice_get xs i ≡ Some x)). z.1) (at-set xs n y i x e)
+
+module _ {C : Type 0} (downs : List Pair) (worker number : ℕ) (client : ClientModel C) (arrivals : List Arrival) (old : ClientShadow downs worker number client arrivals)
+    (ticket : Ticket) (end : Ended) (f : CommandModel) (has : get client.commands.posted ticket.part ≡ Some f) (ticketed : f.ticket ≡ ticket) (over : f.stage ≡ Over end)
+    (alone : (i : ℕ) (told : Told) → slice_get downs i ≡ Some (f.ticket, told) → ⊥) where
+  abbrev held : SessionModel
+  held = client.session
+
+  abbrev n : ℕ
+  n = ticket.part - held.first
+
+  out : IsHandedOut held ticket
+  out = subst (IsHandedOut held) ticketed ((old.commands).posted ticket.part f has).1
+
+  abbrev session' : SessionModel
+  session' = record held { stages = slice_set held.stages n Done; ends = slice_set held.ends n end }
+
+  abbrev commands' : CommandsModel
+  commands' = record (client.commands) { posted = remove client.commands.posted ticket.part }
+
+  -- a part that was handed out beside it still is
+  beside-it : (t : Ticket) → t.part ≢ ticket.part → IsHandedOut held t → IsHandedOut session' t
+  beside-it t ne x = (x.0, x.1, set-other held.stages n Done (t.part - held.first) (Out x.0) (λ e. ne (apart-places held.first t.part ticket.part x.1 out.1 e)) x.2, x.3, x.4)
+
+  part-of : (c : Arrival) → PartShadow downs client c → PartShadow downs (record client { session = session'; commands = commands' }) c
+  part-of c h = ⊎_elim
+      (λ (x : (c.command.ticket.part < held.first) × (c.answered ≡ true) × ((ended : Ended) × (c.command.stage ≡ Over ended))). inl x)
+      (λ (x : (held.first ≤ c.command.ticket.part) × (c.answered ≡ false) × ((stage : PartStage) × (e : Ended)
+      × (slice_get held.stages (c.command.ticket.part - held.first) ≡ Some stage)
+      × (slice_get held.ends (c.command.ticket.part - held.first) ≡ Some e)
+      × StageShadow downs client.gone client.commands stage e c)).
+      by x.0 x.1 x.2.0 x.2.1 x.2.2 x.2.3 x.2.4)
+      h
+    where
+      by : held.first ≤ c.command.ticket.part → c.answered ≡ false → (stage : PartStage) (e : Ended) → slice_get held.stages (c.command.ticket.part - held.first) ≡ Some stage
+          → slice_get held.ends (c.command.ticket.part - held.first) ≡ Some e → StageShadow downs client.gone client.commands stage e c
+          → PartShadow downs (record client { session = session'; commands = commands' }) c
+      by le open' stage e p q x = go (c.command.ticket.part) refl
+        where
+          here : c.command.ticket.part ≡ ticket.part → PartShadow downs (record client { session = session'; commands = commands' }) c
+          here same =
+              let m : c.command.ticket.part - held.first ≡ n = ap (λ u. u - held.first) same in
+              let is-out : stage ≡ Out out.0 = one-item held.stages n stage (Out out.0) (ap (slice_get held.stages) (sym m) ∙ p) out.2 in
+              let ended = ended-stage downs client.gone client.commands ticket.part f end has over (λ d z. ((old.commands).fresh d z).2) alone c same out.0 e (subst (λ s. StageShadow downs client.gone client.commands s e c) is-out x) in
+              inr (le, open', (
+                Done,
+                end,
+                ap (slice_get (slice_set held.stages n Done)) m ∙ set-same held.stages n (Out out.0) Done out.2,
+                ap (slice_get (slice_set held.ends n end)) m ∙ set-same held.ends n e end (ap (slice_get held.ends) (sym m) ∙ q),
+                ended,
+              ))
+
+          there : c.command.ticket.part ≢ ticket.part → PartShadow downs (record client { session = session'; commands = commands' }) c
+          there ne =
+              let m : c.command.ticket.part - held.first ≢ n = λ z. ne (apart-places held.first c.command.ticket.part ticket.part le out.1 z) in
+              inr (le, open', (
+                stage,
+                e,
+                set-other held.stages n Done (c.command.ticket.part - held.first) stage m p,
+                set-other held.ends n end (c.command.ticket.part - held.first) e m q,
+                finished-stage downs client.gone client.commands ticket.part c ne stage e x,
+              ))
+
+          go : (u : ℕ) → c.command.ticket.part ≡ u → PartShadow downs (record client { session = session'; commands = commands' }) c
+          go u z = ⊎_elim
+              (λ (y : ((c.command.ticket.part == ticket.part) ≡ true) × (c.command.ticket.part ≡ ticket.part)). here y.1)
+              (λ (y : ((c.command.ticket.part == ticket.part) ≡ false) × (c.command.ticket.part ≢ ticket.part)). there y.1)
+              (eqb_tells c.command.ticket.part ticket.part)
+
+  pub finished-shadow : ClientShadow downs worker number (record client { session = session'; commands = commands' }) arrivals
+  finished-shadow = record {
+    numbered = old.numbered;
+    housed = old.housed;
+    all = old.all ∙ ap (λ m. held.first + m) (sym (set-size held.stages n Done));
+    stands = λ part lt. old.stands part (subst (λ m. part < held.first + m) (set-size held.stages n Done) lt);
+    homes = old.homes;
+    parts = λ j c p q. part-of c (old.parts j c p q);
+    commands = record {
+      posted = λ m c e.
+          let was = (old.commands).posted m c (still-there-in client.commands.posted ticket.part m c e) in
+          let other : m ≢ ticket.part = λ same. removed-self client.commands.posted ticket.part m c same e in
+          (was.0, beside-it c.ticket (λ same. other (sym was.0 ∙ same)) was.1);
+      fresh = λ c e.
+          let was = (old.commands).fresh c e in
+          (beside-it c.ticket (λ same. none-some (get client.commands.posted ticket.part) f (ap (get client.commands.posted) (sym same) ∙ was.2) has) was.0, was.1, removed-none client.commands.posted ticket.part c.ticket.part was.2);
+    };
+    owed = old.owed ∙ sym (set-size held.stages n Done);
+    ends = set-size held.ends n end ∙ old.ends ∙ sym (set-size held.stages n Done);
+  }
+    where
+      still-there-in : (m : FinMap nat_cmp CommandModel) (k q : ℕ) (c : CommandModel) → get (remove m k) q ≡ Some c → get m q ≡ Some c
+      still-there-in m k q c e = go (eq_by_cmp nat_cmp q k) (sym (get-remove nat_cmp_total m k q) ∙ e)
+        where
+          go : (b : Bool) → cond b None (get m q) ≡ Some c → get m q ≡ Some c
+          go true x = absurd (none-some None c refl x)
+          go false x = x
+
+      removed-self : (m : FinMap nat_cmp CommandModel) (k q : ℕ) (c : CommandModel) → q ≡ k → get (remove m k) q ≡ Some c → ⊥
+      removed-self m k q c same e =
+          let ties : eq_by_cmp nat_cmp q k ≡ true = ap (eq_by_cmp nat_cmp q) (sym same) ∙ tie q in
+          none-some (get (remove m k) q) c (get-remove nat_cmp_total m k q ∙ ap (λ b. cond b None (get m q)) ties) e
+        where
+          tie : (q : ℕ) → eq_by_cmp nat_cmp q q ≡ true
+          tie q = sym (unsigned_ties q q) ∙ same_number q
+
+module _ (C J : Type 0) where
+  pub finished : (k number : ℕ) (ticket : Ticket) (end : Ended) → Simulates C J (AtWorker k (Finished number ticket end))
+  finished k number ticket end s s' w h walked on =
+      let d = on.does in
+      let client : ClientModel C = d.0 in
+      let client' : ClientModel C = d.1 in
+      let f : CommandModel = d.3.0.0 in
+      let has : get client.commands.posted ticket.part ≡ Some f = d.3.0.1 in
+      let over : f.stage ≡ Over end = d.3.0.3 in
+      let fits = fitting s w (walked-sound w walked).placed h in
+      let old : ClientShadow (downs_of s) k number client w.commands = (h.clients k on.old number client on.at d.2).1 in
+      let out = ((old.commands).posted ticket.part f has) in
+      let alone : (i : ℕ) (told : Told) → slice_get (downs_of s) i ≡ Some (f.ticket, told) → ⊥ = λ i told x.
+      let a = told-awaits s.workers (length s.carrier.lanes) w.workers (downs_of s) w.commands fits k number on.old client on.at d.2 f.ticket i told x
+      (mine s.workers (length s.carrier.lanes) w.workers (downs_of s) w.commands fits k number on.old client on.at d.2 f.ticket out.1) in
+      let same : a.0 ≡ f = one-of (get client.commands.posted ticket.part) a.0 f (ap (get client.commands.posted) (sym out.0) ∙ a.1) has in
+      awaits-over f.stage end (ap (λ (c : CommandModel). c.stage) (sym same) ∙ a.2) over in
+      let plain : ClientModel C = record client { session = record (client.session) { stages = slice_set client.session.stages (ticket.part - client.session.first) Done; ends = slice_set client.session.ends (ticket.part - client.session.first) end }; commands = record (client.commands) { posted = remove client.commands.posted ticket.part } } in
+      let ended = d.3.2 in
+      let now : client' ≡ record plain { port = client'.port } = d.3.3 ∙ (λ i. record client { port = client'.port; session = ended i; commands = record (client.commands) { posted = remove client.commands.posted ticket.part } }) in
+      let e = d.4 in
+      let x = finished-shadow (downs_of s) k number client w.commands old ticket end f has d.3.0.2 over alone in
+      let shadow : ClientShadow (downs_of s) k number (record plain { port = client'.port }) w.commands = record { numbered = x.numbered; housed = x.housed; all = x.all; stands = x.stands; homes = x.homes; parts = x.parts; commands = x.commands; owed = x.owed; ends = x.ends } in
+      unseen-step k (Finished number ticket end) s s' w on on.seen
+      (one-client s w h k number on.old on.new client client' on.at d.2 (ap (λ (x : WorkerModel C J). x.worker) e) (ap (λ (x : WorkerModel C J). x.newest) e) (ap (λ (x : WorkerModel C J). x.outlet) e) (ap (λ (x : WorkerModel C J). x.inlet) e) (ap (λ (x : WorkerModel C J). x.clients) e)
+      fits (subst (λ (c : ClientModel C). ClientShadow (downs_of s) k number c w.commands) (sym now) shadow)
+      (λ part c p q. ap (λ (x : ClientModel C). get x.commands.posted part) now ∙ (removed-other client.commands.posted ticket.part part (λ same. awaits-over c.stage end q (ap (λ (y : CommandModel). y.stage) (one-of (get client.commands.posted ticket.part) c f (ap (get client.commands.posted) (sym same) ∙ p) has) ∙ over)) ∙ p)))

@@ -28,7 +28,7 @@ at-front {X} p x xs e = (position_from-zero p (x ∷ xs) ∙ go (p x) e, refl)
     go true e = refl
     go false e = absurd (cc)
 
-same_number : (n : ℕ) → (n == n) ≡ true
+pub same_number : (n : ℕ) → (n == n) ≡ true
 same_number n = grind (arith, nat_tests)
 
 -- the first of what came down is taken

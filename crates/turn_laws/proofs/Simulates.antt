@@ -27,7 +27,7 @@ use Rattle.turn_laws.proofs.Refused.{refused}
 use Rattle.turn_laws.proofs.Broke.{broke}
 use Rattle.turn_laws.proofs.Asked.{asked}
 use Rattle.turn_laws.proofs.Sent.{sent-on}
-use Rattle.turn_laws.proofs.Ending.{dropped}
+use Rattle.turn_laws.proofs.Ending.{dropped, finished}
 use Rattle.turn_laws.proofs.Open as still
 
 module _ (C J : Type 0) where
@@ -90,7 +90,7 @@ module _ (C J : Type 0) where
 
   worker-step : (k : ℕ) (event : WorkerEvent) → Simulates C J (AtWorker k event)
   worker-step k (Did number event) = context-step k number event
-  worker-step k (Finished number ticket end) = still.finished C J k number ticket end
+  worker-step k (Finished number ticket end) = finished C J k number ticket end
   worker-step k (TookPair ticket told) = still.took C J k ticket told
   worker-step k FoundNone = unseen-at k FoundNone (at-worker.found-none k)
   worker-step k (Came number) = still.came C J k number
