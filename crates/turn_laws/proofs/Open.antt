@@ -8,8 +8,8 @@ use Rattle.key_split.specs.declared.travel.Ticket.{Ticket}
 use Rattle.key_split.specs.declared.travel.Told.{Told}
 use Rattle.key_split.specs.declared.travel.Ended.{Ended}
 use Rattle.session_order.specs.declared.fault.SessionFault.{SessionFault}
-use Rattle.proxy_turns.specs.ClientTurn.{Read, HandedOut, Posted, Drained}
-use Rattle.proxy_turns.specs.WorkerModel.{Did, Took, Came}
+use Rattle.proxy_turns.specs.ClientTurn.{Read, Posted, Drained}
+use Rattle.proxy_turns.specs.WorkerModel.{Did, Took}
 use Rattle.turn_laws.specs.Steps.{AtWorker, AtNode, AtBroken}
 use Rattle.turn_laws.specs.Refines.{Simulates}
 
@@ -25,9 +25,6 @@ module _ (C J : Type 0) where
   pub read : (k number : ℕ) (result : Result Bool SessionFault) → Simulates C J (AtWorker k (Did number (Read result)))
   read k number result = ?
 
-  pub handed-out : (k number : ℕ) (ticket : Ticket) (part : PartModel) → Simulates C J (AtWorker k (Did number (HandedOut ticket part)))
-  handed-out k number ticket part = ?
-
   pub posted : (k number : ℕ) (batch : Batch) → Simulates C J (AtWorker k (Did number (Posted batch)))
   posted k number batch = ?
 
@@ -36,6 +33,3 @@ module _ (C J : Type 0) where
 
   pub took : (k : ℕ) (ticket : Ticket) (told : Told) → Simulates C J (AtWorker k (Took ticket told))
   took k ticket told = ?
-
-  pub came : (k number : ℕ) → Simulates C J (AtWorker k (Came number))
-  came k number = ?

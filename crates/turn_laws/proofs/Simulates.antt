@@ -27,7 +27,8 @@ use Rattle.turn_laws.proofs.Refused.{refused}
 use Rattle.turn_laws.proofs.Broke.{broke}
 use Rattle.turn_laws.proofs.Asked.{asked}
 use Rattle.turn_laws.proofs.Sent.{sent-on}
-use Rattle.turn_laws.proofs.Ending.{dropped, finished}
+use Rattle.turn_laws.proofs.Ending.{dropped, finished, handed-out}
+use Rattle.turn_laws.proofs.Came.{came}
 use Rattle.turn_laws.proofs.Open as still
 
 module _ (C J : Type 0) where
@@ -78,7 +79,7 @@ module _ (C J : Type 0) where
   context-step k number (Pulled bytes) = unseen-at k (Did number (Pulled bytes)) (at-worker.pulled k number bytes)
   context-step k number (Fed result) = unseen-at k (Did number (Fed result)) (at-worker.fed-in k number result)
   context-step k number (Read result) = still.read C J k number result
-  context-step k number (HandedOut ticket part) = still.handed-out C J k number ticket part
+  context-step k number (HandedOut ticket part) = handed-out C J k number ticket part
   context-step k number (LookedUp slot) = unseen-at k (Did number (LookedUp slot)) (at-worker.looked k number slot)
   context-step k number (CameBack batch) = unseen-at k (Did number (CameBack batch)) (at-worker.came-back k number batch)
   context-step k number (Posted batch) = still.posted C J k number batch
@@ -93,7 +94,7 @@ module _ (C J : Type 0) where
   worker-step k (Finished number ticket end) = finished C J k number ticket end
   worker-step k (TookPair ticket told) = still.took C J k ticket told
   worker-step k FoundNone = unseen-at k FoundNone (at-worker.found-none k)
-  worker-step k (Came number) = still.came C J k number
+  worker-step k (Came number) = came C J k number
   worker-step k (TurnedAway number) = unseen-at k (TurnedAway number) (at-worker.turned-away k number)
   worker-step k FoundNobody = unseen-at k FoundNobody (at-worker.found-nobody k)
   worker-step k (Left number) = unseen-at k (Left number) (at-worker.left k number)
