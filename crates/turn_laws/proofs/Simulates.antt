@@ -29,6 +29,7 @@ use Rattle.turn_laws.proofs.Asked.{asked}
 use Rattle.turn_laws.proofs.Sent.{sent-on}
 use Rattle.turn_laws.proofs.Ending.{dropped, finished, handed-out}
 use Rattle.turn_laws.proofs.Came.{came}
+use Rattle.turn_laws.proofs.Took.{told-now}
 use Rattle.turn_laws.proofs.Open as still
 
 module _ (C J : Type 0) where

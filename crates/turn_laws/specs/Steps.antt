@@ -135,6 +135,8 @@ module _ {C J : Type 0} where
     pub leaves : s' ≡ record s { workers = slice_set s.workers k new; log = s.log ++ marks }
     -- A premise: a lane is in order between its two ends. They are on two threads, and a rule of the ring speaks of one end.
     pub in_step : DownInStep lane new
+    -- A premise: the lane to the worker is not finished. That lanes are finished at the end is no event here yet.
+    pub unfinished : IsSome lane.down
     -- A premise: client k goes to worker k modulo the workers. The thread that accepts deals so; no clause says it.
     pub dealt : IsDealt (length s.workers) k event
     -- A premise: the node is one of the cluster. The map and the redirects name nodes of the carrier's table; no clause of a

@@ -1,0 +1,199 @@
+-- A worker takes what came down and tells it: the machine did so before.
+use Rattle.std.proofs.Common.{◌≡◌, ◌≢◌, ◌⊎◌, inl, inr, ⊎_elim, ℕ, zero, suc, ◌+◌, ◌-◌, ◌<◌, ◌≤◌, ◌%◌, ◌==◌, Bool, true, false, List, [], ◌∷◌, ◌++◌, Some, None, refl, sym, ap, ◌∙◌, subst, arith, length}
+use Rattle.std.specs.Prelude.{slice_get, slice_set, Option, IsSome, All, cond}
+use Rattle.std.proofs.lemmas.Bool.{false≢true}
+use Rattle.std.proofs.lemmas.Bool.Decides.{eqb_tells}
+use Rattle.std.specs.FinMap.{FinMap, get, insert, get-insert}
+use Rattle.std.specs.Ordering.{nat_cmp, eq_by_cmp}
+use Rattle.std.specs.Cmp.{nat_cmp_total, unsigned_ties}
+use Rattle.key_split.specs.declared.travel.Ticket.{Ticket}
+use Rattle.key_split.specs.declared.travel.Told.{Told}
+use Rattle.key_split.specs.declared.travel.Told.TheVariants.{Reply, Moved, Ask, TryAgain, ClusterDown, Unclear, Lost, Unsent}
+use Rattle.session_order.specs.Steps.{IsHandedOut}
+use Rattle.key_split.specs.declared.travel.Ended.{Ended}
+use Rattle.command_future.specs.CommandModel.{CommandModel, fresh, progress_told}
+use Rattle.command_future.specs.declared.stage.Stage.TheVariants.{Awaits, Over}
+use Rattle.session_order.specs.declared.queue.PartStage.{PartStage}
+use Rattle.session_order.specs.declared.queue.PartStage.TheVariants.{Waiting, Out, Done}
+use Rattle.proxy_lanes.specs.declared.ends.lane_ends.LaneEnds.{LaneEnds}
+use Rattle.proxy_lanes.specs.declared.ring.Inlet.{Inlet}
+use Rattle.proxy_lanes.specs.declared.ring.Outlet.{Outlet}
+use Rattle.proxy_lanes.specs.Lane.{Takes, posted}
+use Rattle.proxy_turns.specs.declared.newcomer.Newcomer.{Newcomer}
+use Rattle.proxy_turns.specs.Commands.{CommandsModel}
+use Rattle.proxy_turns.specs.ClientModel.{ClientModel}
+use Rattle.proxy_turns.specs.WorkerModel.{WorkerModel, Took, Tells}
+use Rattle.world_laws.specs.State.{WorldModel}
+use Rattle.world_laws.specs.declared.state.Arrival.{Arrival}
+use Rattle.world_laws.specs.Places.{total, is}
+use Rattle.world_laws.proofs.Nodes.{set-size}
+use Rattle.world_laws.proofs.Tally.{total-append, total-one}
+use Rattle.world_laws.proofs.Kept.{is-refl}
+use Rattle.world_laws.proofs.Recorded.{at-set}
+use Rattle.turn_laws.specs.System.{System, IsInStep}
+use Rattle.turn_laws.specs.Shadow.{IsShadow, ClientShadow, PartShadow, StageShadow, HasCommand, HasPosted, Holds, ToldFrom, DownInStep, downs_of, downs_in, down_in}
+use Rattle.turn_laws.specs.Steps.{AtWorker, WorkerStep}
+use Rattle.turn_laws.specs.Refines.{Simulates}
+use Rattle.turn_laws.proofs.Downs.{Pair, OneMore, more-has, more-keeps, is-other}
+use Rattle.turn_laws.proofs.Carriers.{refusals, debts}
+use Rattle.turn_laws.proofs.Lanes.{between-take}
+use Rattle.turn_laws.proofs.AtWorkers.{nat_eq_by, put-cases}
+use Rattle.turn_laws.proofs.AtLanes.{nothing-there}
+use Rattle.turn_laws.proofs.Settling.{same_number}
+use Rattle.turn_laws.proofs.Walks.{walked-sound}
+use Rattle.turn_laws.proofs.Told.{Fitting, fitting, more-cases, none-down}
+use Rattle.turn_laws.proofs.Clients.{worker-frame, unseen-step, held-in, put-holds}
+use Rattle.turn_laws.proofs.Ending.{none-some, one-of, one-item, same-holder}
+
+-- the table with one in its place
+pub put-same : {X : Type 0} (m : FinMap nat_cmp X) (k : ℕ) (x : X) → get (insert m k x) k ≡ Some x
+put-same m k x = get-insert nat_cmp_total m k x k ∙ ap (λ b. cond b (Some x) (get m k)) (sym (unsigned_ties k k) ∙ same_number k)
+
+pub put-other : {X : Type 0} (m : FinMap nat_cmp X) (k q : ℕ) (x : X) → q ≢ k → get (insert m k x) q ≡ get m q
+put-other m k q x ne = go (eq_by_cmp nat_cmp q k) refl
+  where
+    go : (b : Bool) → eq_by_cmp nat_cmp q k ≡ b → get (insert m k x) q ≡ get m q
+    go true e = absurd (ne (nat_eq_by q k e))
+    go false e = get-insert nat_cmp_total m k x q ∙ ap (λ b. cond b (Some x) (get m q)) e
+
+told-ticket : (f : CommandModel) (told : Told) → (progress_told f told).ticket ≡ f.ticket
+told-ticket f (Reply v) = refl
+told-ticket f Lost = refl
+told-ticket f (Moved slot m) = refl
+told-ticket f (Ask slot m) = refl
+told-ticket f TryAgain = refl
+told-ticket f ClusterDown = refl
+told-ticket f Unclear = refl
+told-ticket f Unsent = refl
+
+abbrev told_commands : CommandsModel → ℕ → CommandModel → Told → CommandsModel
+told_commands commands part f told = record commands { posted = insert commands.posted part (progress_told f told) }
+
+-- ---- one pair less is on its way
+
+module _ (downs downs' : List Pair) (t : Ticket) (told : Told) (more : OneMore downs' (t, told) downs) (once : (u : Ticket) → total (λ (p : Pair). is u p.0) downs ≤ 1) where
+  own-one : is t t ≡ 1
+  own-one = is-refl t
+
+  pub gone-now : total (λ (p : Pair). is t p.0) downs' ≡ 0
+  gone-now = omega (arith, once t, more (λ (p : Pair). is t p.0), own-one)
+
+  -- of another command
+  less-from : (d c : CommandModel) → (d.ticket ≡ t → ⊥) → ToldFrom downs d c → ToldFrom downs' d c
+  less-from d c ne h = ⊎_elim
+      (λ (x : (c ≡ d) × (total (λ (p : Pair). is d.ticket p.0) downs ≡ 0)). inl (x.0, omega (arith, x.1, more (λ (p : Pair). is d.ticket p.0))))
+      (λ (x : (said : Told) × (i : ℕ) × (slice_get downs i ≡ Some (d.ticket, said)) × (c ≡ progress_told d said)). ⊎_elim
+      (λ (z : (j : ℕ) × (slice_get downs' j ≡ Some (d.ticket, x.0))). inr (x.0, z.0, z.1, x.3))
+      (λ (z : (d.ticket, x.0) ≡ (t, told)). absurd (ne (ap (λ (p : Pair). p.0) z)))
+      (more-cases downs' downs (t, told) more x.1 (d.ticket, x.0) x.2))
+      h
+
+  less-stage : (gone : Bool) (commands : CommandsModel) (stage : PartStage) (end : Ended) (c : Arrival)
+      → ((d : CommandModel) → HasCommand commands c.command.ticket.part d → d.ticket ≡ t → ⊥) → StageShadow downs gone commands stage end c → StageShadow downs' gone commands stage end c
+  less-stage gone commands (Waiting part) end c ne x = x
+  less-stage gone commands (Out slot) end c ne x = (x.0, ⊎_elim
+      (λ (y : (d : CommandModel) × HasCommand commands c.command.ticket.part d × ToldFrom downs d c.command). inl (y.0, y.1, less-from y.0 c.command (ne y.0 y.1) y.2)) (λ y. inr y) x.1)
+  less-stage gone commands Done end c ne x = x
+
+  -- of the command that is told
+  told-from : (d c : CommandModel) → d.ticket ≡ t → ToldFrom downs d c → c ≡ progress_told d told
+  told-from d c e h = ⊎_elim
+      (λ (x : (c ≡ d) × (total (λ (p : Pair). is d.ticket p.0) downs ≡ 0)).
+      let zero' : total (λ (p : Pair). is t p.0) downs ≡ 0 = subst (λ (u : Ticket). total (λ (p : Pair). is u p.0) downs ≡ 0) e x.1 in
+      absurd (omega (arith, zero', more (λ (p : Pair). is t p.0), own-one)))
+      (λ (x : (said : Told) × (i : ℕ) × (slice_get downs i ≡ Some (d.ticket, said)) × (c ≡ progress_told d said)). ⊎_elim
+      (λ (z : (j : ℕ) × (slice_get downs' j ≡ Some (d.ticket, x.0))).
+      let there : slice_get downs' z.0 ≡ Some (t, x.0) = z.1 ∙ ap (λ u. Some (u, x.0)) e in
+      absurd (omega (arith, gone-now, total-one (λ (p : Pair). is t p.0) downs' z.0 (t, x.0) there, own-one)))
+      (λ (z : (d.ticket, x.0) ≡ (t, told)). x.3 ∙ ap (λ (p : Pair). progress_told d p.1) z)
+      (more-cases downs' downs (t, told) more x.1 (d.ticket, x.0) x.2))
+      h
+
+  -- another client
+  pub less-client : {C : Type 0} (worker number : ℕ) (client : ClientModel C) (arrivals : List Arrival) → number ≢ t.client
+      → ClientShadow downs worker number client arrivals → ClientShadow downs' worker number client arrivals
+  less-client {C} worker number client arrivals ne h = record {
+    numbered = h.numbered;
+    housed = h.housed;
+    all = h.all;
+    stands = h.stands;
+    homes = h.homes;
+    parts = λ j c e n. ⊎_elim (λ x. inl x)
+        (λ x. inr (x.0, x.1, (x.2.0, x.2.1, x.2.2, x.2.3, less-stage client.gone client.commands x.2.0 x.2.1 c (λ d has same. other d c.command.ticket.part has same) x.2.4)))
+        (h.parts j c e n);
+    commands = h.commands;
+    owed = h.owed;
+    ends = h.ends;
+  }
+    where
+      other : (d : CommandModel) (part : ℕ) → HasCommand client.commands part d → d.ticket ≡ t → ⊥
+      other d part has same =
+          let out = ⊎_elim (λ (z : (client.commands.fresh ≡ Some d) × (d.ticket.part ≡ part)). ((h.commands).fresh d z.0).0) (λ (z : get client.commands.posted part ≡ Some d). ((h.commands).posted part d z).1) has in
+          ne (sym h.numbered ∙ sym out.4 ∙ ap (λ (u : Ticket). u.client) same)
+
+  -- the client that is told
+  pub told-now : {C : Type 0} (worker : ℕ) (client : ClientModel C) (arrivals : List Arrival) (f : CommandModel) → get client.commands.posted t.part ≡ Some f → f.ticket ≡ t
+      → ClientShadow downs worker t.client client arrivals
+      → ClientShadow downs' worker t.client (record client { commands = record (client.commands) { posted = insert client.commands.posted t.part (progress_told f told) } }) arrivals
+  told-now {C} worker client arrivals f has one h = record {
+    numbered = h.numbered;
+    housed = h.housed;
+    all = h.all;
+    stands = h.stands;
+    homes = h.homes;
+    parts = λ j c e n. ⊎_elim (λ x. inl x)
+        (λ x. inr (x.0, x.1, (x.2.0, x.2.1, x.2.2, x.2.3, stage x.2.0 x.2.1 c x.2.4)))
+        (h.parts j c e n);
+    commands = record {
+      posted = λ m c e. ⊎_elim
+          (λ (z : ((m == t.part) ≡ true) × (m ≡ t.part)).
+          let same : progress_told f told ≡ c = one-of (get (told_commands client.commands t.part f told).posted m) (progress_told f told) c (ap (get (told_commands client.commands t.part f told).posted) z.1 ∙ put-same client.commands.posted t.part (progress_told f told)) e in
+          let was = (h.commands).posted t.part f has in
+          let ticket : c.ticket ≡ f.ticket = ap (λ (d : CommandModel). d.ticket) (sym same) ∙ told-ticket f told in
+          (ap (λ (u : Ticket). u.part) ticket ∙ was.0 ∙ sym z.1, subst (IsHandedOut client.session) (sym ticket) was.1))
+          (λ (z : ((m == t.part) ≡ false) × (m ≢ t.part)). (h.commands).posted m c (sym (put-other client.commands.posted t.part m (progress_told f told) z.1) ∙ e))
+          (eqb_tells m t.part);
+      fresh = λ c e.
+          let was = (h.commands).fresh c e in
+          let ne : c.ticket.part ≢ t.part = λ same. none-some (get client.commands.posted t.part) f (ap (get client.commands.posted) (sym same) ∙ was.2) has in
+          (was.0, was.1, put-other client.commands.posted t.part c.ticket.part (progress_told f told) ne ∙ was.2);
+    };
+    owed = h.owed;
+    ends = h.ends;
+  }
+    where
+      other-part : (d : CommandModel) (part : ℕ) → HasCommand client.commands part d → part ≢ t.part → d.ticket ≡ t → ⊥
+      other-part d part hd ne same =
+          let here : d.ticket.part ≡ part = ⊎_elim (λ (z : (client.commands.fresh ≡ Some d) × (d.ticket.part ≡ part)). z.1) (λ (z : get client.commands.posted part ≡ Some d). ((h.commands).posted part d z).0) hd in
+          ne (sym here ∙ ap (λ (u : Ticket). u.part) same)
+
+      still : (c : Arrival) → c.command.ticket.part ≢ t.part → (st : PartStage) (end : Ended) → StageShadow downs' client.gone client.commands st end c → StageShadow downs' client.gone (told_commands client.commands t.part f told) st end c
+      still c ne (Waiting part) end x = x
+      still c ne (Out slot) end x = (x.0, ⊎_elim
+          (λ (y : (d : CommandModel) × HasCommand client.commands c.command.ticket.part d × ToldFrom downs' d c.command). inl (y.0, ⊎_elim (λ z. inl z) (λ z. inr (put-other client.commands.posted t.part c.command.ticket.part (progress_told f told) ne ∙ z)) y.1, y.2))
+          (λ y. inr (y.0, y.1, put-other client.commands.posted t.part c.command.ticket.part (progress_told f told) ne ∙ y.2)) x.1)
+      still c ne Done end x = x
+
+      own : (c : Arrival) → c.command.ticket.part ≡ t.part → (st : PartStage) (end : Ended) → StageShadow downs client.gone client.commands st end c → StageShadow downs' client.gone (told_commands client.commands t.part f told) st end c
+      own c at (Waiting part) end x = x
+      own c at (Out slot) end x = (x.0, ⊎_elim
+          (λ (y : (d : CommandModel) × HasCommand client.commands c.command.ticket.part d × ToldFrom downs d c.command).
+          let here : get client.commands.posted c.command.ticket.part ≡ Some f = ap (get client.commands.posted) at ∙ has in
+          let same : y.0 ≡ f = ⊎_elim
+          (λ (z : (client.commands.fresh ≡ Some y.0) × ((y.0).ticket.part ≡ c.command.ticket.part)). absurd (none-some (get client.commands.posted c.command.ticket.part) f (ap (get client.commands.posted) (sym z.1) ∙ ((h.commands).fresh y.0 z.0).2) here))
+          (λ (z : get client.commands.posted c.command.ticket.part ≡ Some y.0). one-of (get client.commands.posted c.command.ticket.part) y.0 f z here) y.1 in
+          let so : c.command ≡ progress_told f told = told-from y.0 c.command (ap (λ (d : CommandModel). d.ticket) same ∙ one) y.2 ∙ ap (λ d. progress_told d told) same in
+          inl (
+            progress_told f told,
+            inr (ap (get (told_commands client.commands t.part f told).posted) at ∙ put-same client.commands.posted t.part (progress_told f told)),
+            inl (so, subst (λ (u : Ticket). total (λ (p : Pair). is u p.0) downs' ≡ 0) (sym (told-ticket f told ∙ one)) gone-now),
+          ))
+          (λ y. absurd (none-some (get client.commands.posted c.command.ticket.part) f y.2 (ap (get client.commands.posted) at ∙ has))) x.1)
+      own c at Done end x = x
+
+      stage : (st : PartStage) (end : Ended) (c : Arrival) → StageShadow downs client.gone client.commands st end c → StageShadow downs' client.gone (told_commands client.commands t.part f told) st end c
+      stage st end c x = ⊎_elim
+          (λ (z : ((c.command.ticket.part == t.part) ≡ true) × (c.command.ticket.part ≡ t.part)). own c z.1 st end x)
+          (λ (z : ((c.command.ticket.part == t.part) ≡ false) × (c.command.ticket.part ≢ t.part)).
+          still c z.1 st end (less-stage client.gone client.commands st end c (λ d hd same. other-part d c.command.ticket.part hd z.1 same) x))
+          (eqb_tells c.command.ticket.part t.part)
