@@ -9,7 +9,7 @@ use Rattle.key_split.specs.declared.travel.Told.{Told}
 use Rattle.key_split.specs.declared.travel.Ended.{Ended}
 use Rattle.session_order.specs.declared.fault.SessionFault.{SessionFault}
 use Rattle.proxy_turns.specs.ClientTurn.{Read, Posted, Drained}
-use Rattle.proxy_turns.specs.WorkerModel.{Did, Took}
+use Rattle.proxy_turns.specs.WorkerModel.{Did}
 use Rattle.turn_laws.specs.Steps.{AtWorker, AtNode, AtBroken}
 use Rattle.turn_laws.specs.Refines.{Simulates}
 
@@ -30,6 +30,3 @@ module _ (C J : Type 0) where
 
   pub drained : (k number n : ℕ) → Simulates C J (AtWorker k (Did number (Drained n)))
   drained k number n = ?
-
-  pub took : (k : ℕ) (ticket : Ticket) (told : Told) → Simulates C J (AtWorker k (Took ticket told))
-  took k ticket told = ?

@@ -29,7 +29,7 @@ use Rattle.turn_laws.proofs.Asked.{asked}
 use Rattle.turn_laws.proofs.Sent.{sent-on}
 use Rattle.turn_laws.proofs.Ending.{dropped, finished, handed-out}
 use Rattle.turn_laws.proofs.Came.{came}
-use Rattle.turn_laws.proofs.Took.{told-now}
+use Rattle.turn_laws.proofs.Took.{took}
 use Rattle.turn_laws.proofs.Open as still
 
 module _ (C J : Type 0) where
@@ -93,7 +93,7 @@ module _ (C J : Type 0) where
   worker-step : (k : ℕ) (event : WorkerEvent) → Simulates C J (AtWorker k event)
   worker-step k (Did number event) = context-step k number event
   worker-step k (Finished number ticket end) = finished C J k number ticket end
-  worker-step k (TookPair ticket told) = still.took C J k ticket told
+  worker-step k (TookPair ticket told) = took C J k ticket told
   worker-step k FoundNone = unseen-at k FoundNone (at-worker.found-none k)
   worker-step k (Came number) = came C J k number
   worker-step k (TurnedAway number) = unseen-at k (TurnedAway number) (at-worker.turned-away k number)
