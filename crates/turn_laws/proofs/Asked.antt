@@ -130,9 +130,12 @@ module _ {C J : Type 0} (s s' : System C J) (w : WorldModel) (h : IsShadow s w) 
     id = ⊎_elim (λ x. ap (λ (p : Wire). p.id) x.1) (λ x. ap (λ (p : Wire). p.id) x.1) sends;
     node = ⊎_elim (λ x. ap (λ (p : Wire). p.node) x.1) (λ x. ap (λ (p : Wire). p.node) x.1) sends;
     asking = ⊎_elim (λ x. ap (λ (p : Wire). p.asking) x.1) (λ x. ap (λ (p : Wire). p.asking) x.1) sends;
-    requests = ([], append-nil (requests_in link'.port.requests) ∙ ⊎_elim
-        (λ x. ap (λ (p : Wire). requests_in p.requests) x.1 ∙ requests-append link.port.requests (Slots ∷ []) ∙ append-nil (requests_in link.port.requests))
-        (λ x. ap (λ (p : Wire). requests_in p.requests) x.1 ∙ ap requests_in (append-nil link.port.requests)) sends);
+    requests = (
+      [],
+      append-nil (requests_in link'.port.requests) ∙ ⊎_elim
+          (λ x. ap (λ (p : Wire). requests_in p.requests) x.1 ∙ requests-append link.port.requests (Slots ∷ []) ∙ append-nil (requests_in link.port.requests))
+          (λ x. ap (λ (p : Wire). requests_in p.requests) x.1 ∙ ap requests_in (append-nil link.port.requests)) sends,
+    );
     known = λ commands all. ⊎_elim
         (λ x. subst (λ (p : Wire). All (IsKnown commands) p.requests) (sym x.1) (All-append (IsKnown commands) link.port.requests (Slots ∷ []) all (all-slots commands)))
         (λ x. subst (λ (p : Wire). All (IsKnown commands) p.requests) (sym x.1) (subst (All (IsKnown commands)) (sym (append-nil link.port.requests)) all)) sends;

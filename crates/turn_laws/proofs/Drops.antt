@@ -207,9 +207,9 @@ module _ {C J : Type 0} (s s' : System C J) (w : WorldModel) (h : IsShadow s w) 
         ap (λ ls. total f (debts ls)) o.backends,
         total-set-flat f (λ (backend : Backend Wire). told_in backend.pending_told ++ lost_in backend.link) s.carrier.backends o.k o.backend o.backend' o.here,
         (let e : total f (told_in o.backend'.pending_told ++ lost_in o.backend'.link) ≡ total f (told_in o.backend.pending_told ++ lost) =
-        (λ i. total f (told_in (o.owes i) ++ lost_in (o.is i))) ∙ (λ i. total f (told_in o.backend.pending_told ++ lost_by (o.failed i) o.link'.due)) ∙ ap (λ ts. total f (told_in o.backend.pending_told ++ lost_tickets ts)) o.due in e),
+            (λ i. total f (told_in (o.owes i) ++ lost_in (o.is i))) ∙ (λ i. total f (told_in o.backend.pending_told ++ lost_by (o.failed i) o.link'.due)) ∙ ap (λ ts. total f (told_in o.backend.pending_told ++ lost_tickets ts)) o.due in e),
         (let e : total f (told_in o.backend.pending_told ++ lost_in o.backend.link) ≡ total f (told_in o.backend.pending_told ++ []) =
-        (λ i. total f (told_in o.backend.pending_told ++ lost_in (o.was i))) ∙ (λ i. total f (told_in o.backend.pending_told ++ lost_by (o.worked i) o.link.due)) in e),
+            (λ i. total f (told_in o.backend.pending_told ++ lost_in (o.was i))) ∙ (λ i. total f (told_in o.backend.pending_told ++ lost_by (o.worked i) o.link.due)) in e),
         total-append f (told_in o.backend.pending_told) lost,
         total-append f (told_in o.backend.pending_told) [],
       )

@@ -255,24 +255,32 @@ module _ {C : Type 0} (downs : List Pair) (worker number : ℕ) (client : Client
               let m : c.command.ticket.part - held.first ≡ n = ap (λ u. u - held.first) same in
               let is-out : stage ≡ Out out.0 = one-item held.stages n stage (Out out.0) (ap (slice_get held.stages) (sym m) ∙ p) out.2 in
               let ended = ended-stage downs client.gone client.commands ticket.part f end has over (λ d z. ((old.commands).fresh d z).2) alone c same out.0 e (subst (λ s. StageShadow downs client.gone client.commands s e c) is-out x) in
-              inr (le, open', (
-                Done,
-                end,
-                ap (slice_get (slice_set held.stages n Done)) m ∙ set-same held.stages n (Out out.0) Done out.2,
-                ap (slice_get (slice_set held.ends n end)) m ∙ set-same held.ends n e end (ap (slice_get held.ends) (sym m) ∙ q),
-                ended,
-              ))
+              inr (
+                le,
+                open',
+                (
+                  Done,
+                  end,
+                  ap (slice_get (slice_set held.stages n Done)) m ∙ set-same held.stages n (Out out.0) Done out.2,
+                  ap (slice_get (slice_set held.ends n end)) m ∙ set-same held.ends n e end (ap (slice_get held.ends) (sym m) ∙ q),
+                  ended,
+                ),
+              )
 
           there : c.command.ticket.part ≢ ticket.part → PartShadow downs (record client { session = session'; commands = commands' }) c
           there ne =
               let m : c.command.ticket.part - held.first ≢ n = λ z. ne (apart-places held.first c.command.ticket.part ticket.part le out.1 z) in
-              inr (le, open', (
-                stage,
-                e,
-                set-other held.stages n Done (c.command.ticket.part - held.first) stage m p,
-                set-other held.ends n end (c.command.ticket.part - held.first) e m q,
-                finished-stage downs client.gone client.commands ticket.part c ne stage e x,
-              ))
+              inr (
+                le,
+                open',
+                (
+                  stage,
+                  e,
+                  set-other held.stages n Done (c.command.ticket.part - held.first) stage m p,
+                  set-other held.ends n end (c.command.ticket.part - held.first) e m q,
+                  finished-stage downs client.gone client.commands ticket.part c ne stage e x,
+                ),
+              )
 
           go : (u : ℕ) → c.command.ticket.part ≡ u → PartShadow downs (record client { session = session'; commands = commands' }) c
           go u z = ⊎_elim
@@ -410,16 +418,20 @@ module _ {C : Type 0} (downs : List Pair) (worker number : ℕ) (client : Client
           let so : c.command ≡ fresh c.command.ticket part = subst (λ (s : PartStage). StageShadow downs client.gone client.commands s e c) waits x in
           let mine' : c.command.ticket ≡ ticket' = ticket-of c.command.ticket ticket' (old.homes j c at n ∙ sym old.housed) (n ∙ sym old.numbered) (place-of c.command.ticket.part le m) in
           let same : c.command ≡ given = so ∙ ap (λ t. fresh t part) mine' in
-          inr (le, open', (
-            Out (slot_of part.key),
-            e,
-            ap (slice_get (slice_set holds.stages i (Out (slot_of part.key)))) m ∙ set-same holds.stages i (Waiting part) (Out (slot_of part.key)) next,
-            q,
+          inr (
+            le,
+            open',
             (
-              ap (λ (d : CommandModel). slot_of d.part.key) (sym same),
-              inl (given, inl (refl, ap (λ (t : Ticket). t.part) (sym mine')), inl (same, told-nobody downs ticket' alone)),
+              Out (slot_of part.key),
+              e,
+              ap (slice_get (slice_set holds.stages i (Out (slot_of part.key)))) m ∙ set-same holds.stages i (Waiting part) (Out (slot_of part.key)) next,
+              q,
+              (
+                ap (λ (d : CommandModel). slot_of d.part.key) (sym same),
+                inl (given, inl (refl, ap (λ (t : Ticket). t.part) (sym mine')), inl (same, told-nobody downs ticket' alone)),
+              ),
             ),
-          ))
+          )
 
   pub begun-shadow : ClientShadow downs worker number client2 arrivals
   begun-shadow = record {

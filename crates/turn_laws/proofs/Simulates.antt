@@ -1,4 +1,4 @@
--- Each step of the system is some events of the machine.
+-- What the carrier does, what a worker does unseen, and the moves are some events of the machine.
 use Rattle.std.proofs.Common.{◌≡◌, ℕ, ◌+◌, List, [], ◌∷◌, ◌++◌, Some, refl, sym, ap, ◌∙◌, subst}
 use Rattle.world_laws.specs.State.{WorldModel}
 use Rattle.world_laws.specs.declared.event.Event.{Event}
@@ -11,7 +11,7 @@ use Rattle.turn_laws.specs.Walks.{Walk, IsWalked}
 use Rattle.turn_laws.specs.System.{System}
 use Rattle.turn_laws.specs.Shadow.{IsShadow}
 use Rattle.turn_laws.specs.Steps.{SystemEvent, AtWorker, AtCarrier, AtNode, AtBroken, Thrown, Moved, CarrierStep, WorkerStep}
-use Rattle.turn_laws.specs.Refines.{IsStart, Simulates}
+use Rattle.turn_laws.specs.Refines.{IsStart, IsUnseen, Simulates}
 use Rattle.turn_laws.proofs.Starts.{shadow, walked}
 use Rattle.turn_laws.proofs.AtLines as at-line
 use Rattle.turn_laws.proofs.AtLanes as at-lane
@@ -30,7 +30,6 @@ use Rattle.turn_laws.proofs.Sent.{sent-on}
 use Rattle.turn_laws.proofs.Ending.{dropped, finished, handed-out}
 use Rattle.turn_laws.proofs.Came.{came}
 use Rattle.turn_laws.proofs.Took.{took}
-use Rattle.turn_laws.proofs.Open as still
 
 module _ (C J : Type 0) where
   pub start-shadow : (s : System C J) → IsStart s → (w : WorldModel) × IsWalked w × IsShadow s w
@@ -55,7 +54,7 @@ module _ (C J : Type 0) where
   backend-step backend.Unread = unseen (AtBackend backend.Unread) at-line.unread
   backend-step backend.Renewed = unseen (AtBackend backend.Renewed) at-line.renewed
 
-  carrier-step : (event : CarrierEvent) → Simulates C J (AtCarrier event)
+  pub carrier-step : (event : CarrierEvent) → Simulates C J (AtCarrier event)
   carrier-step (AtBackend step) = backend-step step
   carrier-step Starved = unseen Starved starved
   carrier-step WorkerAdded = unseen WorkerAdded at-lane.added
@@ -76,34 +75,32 @@ module _ (C J : Type 0) where
   unseen-at : (k : ℕ) (event : WorkerEvent) → ((s s' : System C J) (w : WorldModel) → IsShadow s w → WorkerStep s k event s' → IsShadow s' w) → Simulates C J (AtWorker k event)
   unseen-at k event keeps s s' w h _ on = ([], w, refl, keeps s s' w h on)
 
-  context-step : (k number : ℕ) (event : ClientEvent) → Simulates C J (AtWorker k (Did number event))
-  context-step k number (Pulled bytes) = unseen-at k (Did number (Pulled bytes)) (at-worker.pulled k number bytes)
-  context-step k number (Fed result) = unseen-at k (Did number (Fed result)) (at-worker.fed-in k number result)
-  context-step k number (Read result) = still.read C J k number result
-  context-step k number (HandedOut ticket part) = handed-out C J k number ticket part
-  context-step k number (LookedUp slot) = unseen-at k (Did number (LookedUp slot)) (at-worker.looked k number slot)
-  context-step k number (CameBack batch) = unseen-at k (Did number (CameBack batch)) (at-worker.came-back k number batch)
-  context-step k number (Posted batch) = still.posted C J k number batch
-  context-step k number (Drained n) = still.drained C J k number n
-  context-step k number (Pushed bytes) = unseen-at k (Did number (Pushed bytes)) (at-worker.pushed k number bytes)
-  context-step k number Tried = unseen-at k (Did number Tried) (at-worker.tried k number)
-  context-step k number Parted = unseen-at k (Did number Parted) (at-worker.parted k number)
-  context-step k number (Dropped ticket) = dropped C J k number ticket
+  client-unseen : (k number : ℕ) (event : ClientEvent) → IsUnseen (Did number event) → Simulates C J (AtWorker k (Did number event))
+  client-unseen k number (Pulled bytes) _ = unseen-at k (Did number (Pulled bytes)) (at-worker.pulled k number bytes)
+  client-unseen k number (Fed result) _ = unseen-at k (Did number (Fed result)) (at-worker.fed-in k number result)
+  client-unseen k number (Read result) no' = absurd no'
+  client-unseen k number (HandedOut ticket part) _ = handed-out C J k number ticket part
+  client-unseen k number (LookedUp slot) _ = unseen-at k (Did number (LookedUp slot)) (at-worker.looked k number slot)
+  client-unseen k number (CameBack batch) _ = unseen-at k (Did number (CameBack batch)) (at-worker.came-back k number batch)
+  client-unseen k number (Posted batch) no' = absurd no'
+  client-unseen k number (Drained n) no' = absurd no'
+  client-unseen k number (Pushed bytes) _ = unseen-at k (Did number (Pushed bytes)) (at-worker.pushed k number bytes)
+  client-unseen k number Tried _ = unseen-at k (Did number Tried) (at-worker.tried k number)
+  client-unseen k number Parted _ = unseen-at k (Did number Parted) (at-worker.parted k number)
+  client-unseen k number (Dropped ticket) _ = dropped C J k number ticket
 
-  worker-step : (k : ℕ) (event : WorkerEvent) → Simulates C J (AtWorker k event)
-  worker-step k (Did number event) = context-step k number event
-  worker-step k (Finished number ticket end) = finished C J k number ticket end
-  worker-step k (TookPair ticket told) = took C J k ticket told
-  worker-step k FoundNone = unseen-at k FoundNone (at-worker.found-none k)
-  worker-step k (Came number) = came C J k number
-  worker-step k (TurnedAway number) = unseen-at k (TurnedAway number) (at-worker.turned-away k number)
-  worker-step k FoundNobody = unseen-at k FoundNobody (at-worker.found-nobody k)
-  worker-step k (Left number) = unseen-at k (Left number) (at-worker.left k number)
+  pub worker-unseen : (k : ℕ) (event : WorkerEvent) → IsUnseen event → Simulates C J (AtWorker k event)
+  worker-unseen k (Did number event) u = client-unseen k number event u
+  worker-unseen k (Finished number ticket end) _ = finished C J k number ticket end
+  worker-unseen k (TookPair ticket told) _ = took C J k ticket told
+  worker-unseen k FoundNone _ = unseen-at k FoundNone (at-worker.found-none k)
+  worker-unseen k (Came number) _ = came C J k number
+  worker-unseen k (TurnedAway number) _ = unseen-at k (TurnedAway number) (at-worker.turned-away k number)
+  worker-unseen k FoundNobody _ = unseen-at k FoundNobody (at-worker.found-nobody k)
+  worker-unseen k (Left number) _ = unseen-at k (Left number) (at-worker.left k number)
 
-  pub simulates : (step : SystemEvent) → Simulates C J step
-  simulates (AtWorker k event) = worker-step k event
-  simulates (AtCarrier event) = carrier-step event
-  simulates (AtNode k verdict) = still.served C J k verdict
-  simulates (AtBroken j verdict) = still.served-late C J j verdict
-  simulates (Thrown j) = thrown C J j
-  simulates (Moved event) = at-node.moved C J event
+  pub moved : (event : Event) → Simulates C J (Moved event)
+  moved = at-node.moved C J
+
+  pub thrown-away : (j : ℕ) → Simulates C J (Thrown j)
+  thrown-away = thrown C J

@@ -91,8 +91,11 @@ module _ (downs downs' : List Pair) (t : Ticket) (told : Told) (more : OneMore d
   less-stage : (gone : Bool) (commands : CommandsModel) (stage : PartStage) (end : Ended) (c : Arrival)
       → ((d : CommandModel) → HasCommand commands c.command.ticket.part d → d.ticket ≡ t → ⊥) → StageShadow downs gone commands stage end c → StageShadow downs' gone commands stage end c
   less-stage gone commands (Waiting part) end c ne x = x
-  less-stage gone commands (Out slot) end c ne x = (x.0, ⊎_elim
-      (λ (y : (d : CommandModel) × HasCommand commands c.command.ticket.part d × ToldFrom downs d c.command). inl (y.0, y.1, less-from y.0 c.command (ne y.0 y.1) y.2)) (λ y. inr y) x.1)
+  less-stage gone commands (Out slot) end c ne x = (
+    x.0,
+    ⊎_elim
+        (λ (y : (d : CommandModel) × HasCommand commands c.command.ticket.part d × ToldFrom downs d c.command). inl (y.0, y.1, less-from y.0 c.command (ne y.0 y.1) y.2)) (λ y. inr y) x.1,
+  )
   less-stage gone commands Done end c ne x = x
 
   -- of the command that is told
@@ -169,26 +172,32 @@ module _ (downs downs' : List Pair) (t : Ticket) (told : Told) (more : OneMore d
 
       still : (c : Arrival) → c.command.ticket.part ≢ t.part → (st : PartStage) (end : Ended) → StageShadow downs' client.gone client.commands st end c → StageShadow downs' client.gone (told_commands client.commands t.part f told) st end c
       still c ne (Waiting part) end x = x
-      still c ne (Out slot) end x = (x.0, ⊎_elim
-          (λ (y : (d : CommandModel) × HasCommand client.commands c.command.ticket.part d × ToldFrom downs' d c.command). inl (y.0, ⊎_elim (λ z. inl z) (λ z. inr (put-other client.commands.posted t.part c.command.ticket.part (progress_told f told) ne ∙ z)) y.1, y.2))
-          (λ y. inr (y.0, y.1, put-other client.commands.posted t.part c.command.ticket.part (progress_told f told) ne ∙ y.2)) x.1)
+      still c ne (Out slot) end x = (
+        x.0,
+        ⊎_elim
+            (λ (y : (d : CommandModel) × HasCommand client.commands c.command.ticket.part d × ToldFrom downs' d c.command). inl (y.0, ⊎_elim (λ z. inl z) (λ z. inr (put-other client.commands.posted t.part c.command.ticket.part (progress_told f told) ne ∙ z)) y.1, y.2))
+            (λ y. inr (y.0, y.1, put-other client.commands.posted t.part c.command.ticket.part (progress_told f told) ne ∙ y.2)) x.1,
+      )
       still c ne Done end x = x
 
       own : (c : Arrival) → c.command.ticket.part ≡ t.part → (st : PartStage) (end : Ended) → StageShadow downs client.gone client.commands st end c → StageShadow downs' client.gone (told_commands client.commands t.part f told) st end c
       own c at (Waiting part) end x = x
-      own c at (Out slot) end x = (x.0, ⊎_elim
-          (λ (y : (d : CommandModel) × HasCommand client.commands c.command.ticket.part d × ToldFrom downs d c.command).
-          let here : get client.commands.posted c.command.ticket.part ≡ Some f = ap (get client.commands.posted) at ∙ has in
-          let same : y.0 ≡ f = ⊎_elim
-          (λ (z : (client.commands.fresh ≡ Some y.0) × ((y.0).ticket.part ≡ c.command.ticket.part)). absurd (none-some (get client.commands.posted c.command.ticket.part) f (ap (get client.commands.posted) (sym z.1) ∙ ((h.commands).fresh y.0 z.0).2) here))
-          (λ (z : get client.commands.posted c.command.ticket.part ≡ Some y.0). one-of (get client.commands.posted c.command.ticket.part) y.0 f z here) y.1 in
-          let so : c.command ≡ progress_told f told = told-from y.0 c.command (ap (λ (d : CommandModel). d.ticket) same ∙ one) y.2 ∙ ap (λ d. progress_told d told) same in
-          inl (
-            progress_told f told,
-            inr (ap (get (told_commands client.commands t.part f told).posted) at ∙ put-same client.commands.posted t.part (progress_told f told)),
-            inl (so, subst (λ (u : Ticket). total (λ (p : Pair). is u p.0) downs' ≡ 0) (sym (told-ticket f told ∙ one)) gone-now),
-          ))
-          (λ y. absurd (none-some (get client.commands.posted c.command.ticket.part) f y.2 (ap (get client.commands.posted) at ∙ has))) x.1)
+      own c at (Out slot) end x = (
+        x.0,
+        ⊎_elim
+            (λ (y : (d : CommandModel) × HasCommand client.commands c.command.ticket.part d × ToldFrom downs d c.command).
+            let here : get client.commands.posted c.command.ticket.part ≡ Some f = ap (get client.commands.posted) at ∙ has in
+            let same : y.0 ≡ f = ⊎_elim
+            (λ (z : (client.commands.fresh ≡ Some y.0) × ((y.0).ticket.part ≡ c.command.ticket.part)). absurd (none-some (get client.commands.posted c.command.ticket.part) f (ap (get client.commands.posted) (sym z.1) ∙ ((h.commands).fresh y.0 z.0).2) here))
+            (λ (z : get client.commands.posted c.command.ticket.part ≡ Some y.0). one-of (get client.commands.posted c.command.ticket.part) y.0 f z here) y.1 in
+            let so : c.command ≡ progress_told f told = told-from y.0 c.command (ap (λ (d : CommandModel). d.ticket) same ∙ one) y.2 ∙ ap (λ d. progress_told d told) same in
+            inl (
+              progress_told f told,
+              inr (ap (get (told_commands client.commands t.part f told).posted) at ∙ put-same client.commands.posted t.part (progress_told f told)),
+              inl (so, subst (λ (u : Ticket). total (λ (p : Pair). is u p.0) downs' ≡ 0) (sym (told-ticket f told ∙ one)) gone-now),
+            ))
+            (λ y. absurd (none-some (get client.commands.posted c.command.ticket.part) f y.2 (ap (get client.commands.posted) at ∙ has))) x.1,
+      )
       own c at Done end x = x
 
       stage : (st : PartStage) (end : Ended) (c : Arrival) → StageShadow downs client.gone client.commands st end c → StageShadow downs' client.gone (told_commands client.commands t.part f told) st end c
@@ -323,9 +332,11 @@ module _ {C J : Type 0} where
       within = λ i p e. let x = more-keeps (downs_of s2) (downs_of s) pair more i p e in fits.within x.0 p x.1;
       clients = λ j f n x p q. ⊎_elim
           (λ (z : (j ≡ k) × (f ≡ model')). ⊎_elim
-          (λ (y : (n ≡ ticket.client) × (x ≡ client')).
-          (ap (λ m. m % w.workers) y.0 ∙ home ∙ sym z.0, subst (λ m. ClientShadow (downs_of s2) m n x w.commands) (sym z.0) (subst (λ m. ClientShadow (downs_of s2) k m x w.commands) (sym y.0) (subst (λ (c : ClientModel C). ClientShadow (downs_of s2) k ticket.client c w.commands) (sym y.1)
-          (told-now (downs_of s) (downs_of s2) ticket told more fits.once k client w.commands awaited.0 here.2 here.3 (fits.clients k model ticket.client client on.at here.1).1)))))
+          (λ (y : (n ≡ ticket.client) × (x ≡ client')). (
+            ap (λ m. m % w.workers) y.0 ∙ home ∙ sym z.0,
+            subst (λ m. ClientShadow (downs_of s2) m n x w.commands) (sym z.0) (subst (λ m. ClientShadow (downs_of s2) k m x w.commands) (sym y.0) (subst (λ (c : ClientModel C). ClientShadow (downs_of s2) k ticket.client c w.commands) (sym y.1)
+                (told-now (downs_of s) (downs_of s2) ticket told more fits.once k client w.commands awaited.0 here.2 here.3 (fits.clients k model ticket.client client on.at here.1).1))),
+          ))
           (λ (y : (n ≢ ticket.client) × (get model.clients n ≡ Some x)).
           let t = fits.clients j model n x (ap (slice_get s.workers) z.0 ∙ on.at) y.1 in
           (t.0, less-client (downs_of s) (downs_of s2) ticket told more fits.once j n x w.commands y.0 t.1))

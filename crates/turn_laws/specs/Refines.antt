@@ -7,14 +7,16 @@ use Rattle.slot_map.specs.Table.{Endpoint}
 use Rattle.proxy_lanes.specs.Lane.{posted, taken}
 use Rattle.proxy_lanes.specs.declared.ends.lane_ends.LaneEnds.{LaneEnds}
 use Rattle.proxy_turns.specs.declared.newcomer.Newcomer.{Newcomer}
-use Rattle.proxy_turns.specs.WorkerModel.{WorkerModel}
+use Rattle.proxy_turns.specs.WorkerModel.{WorkerModel, WorkerEvent, Did}
 use Rattle.world_laws.specs.State.{WorldModel}
 use Rattle.world_laws.specs.Headline.{Headline, IsNew}
 use Rattle.world_laws.specs.declared.event.Event.{Event}
 use Rattle.turn_laws.specs.Walks.{Walk, IsWalked}
 use Rattle.turn_laws.specs.System.{System, between, IsInStep}
 use Rattle.turn_laws.specs.Shadow.{IsShadow, AreApart, down_in, DownInStep}
-use Rattle.turn_laws.specs.Steps.{SystemEvent, SystemStep}
+use Rattle.proxy_turns.specs.ClientTurn.{Read, Posted, Drained}
+use Rattle.proxy_turns.specs.CarrierModel.{CarrierEvent}
+use Rattle.turn_laws.specs.Steps.{SystemEvent, AtWorker, AtCarrier, Thrown, Moved, SystemStep}
 
 -- nothing has happened: no clients, empty lanes, no backends, settled slots and no keys
 pub record IsStart {C J : Type 0} (s : System C J) : Type 0 where
@@ -32,11 +34,37 @@ pub record IsStart {C J : Type 0} (s : System C J) : Type 0 where
   pub log : s.log ≡ []
   pub new : IsNew s.cluster
 
+-- the machine does not see it
+abbrev pub IsUnseen : WorkerEvent → Type 0
+IsUnseen (Did number (Read result)) = ⊥
+IsUnseen (Did number (Posted batch)) = ⊥
+IsUnseen (Did number (Drained n)) = ⊥
+IsUnseen event = Unit {0}
+
 module _ (C J : Type 0) where
   -- one step of the system is some events of the machine
   abbrev pub Simulates : SystemEvent → Type 0
   Simulates event = (s s' : System C J) (w : WorldModel) → IsShadow s w → IsWalked w → SystemStep s event s'
       → (events : List Event) × (w' : WorldModel) × Walk w events w' × IsShadow s' w'
+
+  -- what the carrier does
+  abbrev pub CarrierRefines : Type 0
+  CarrierRefines = (event : CarrierEvent) → Simulates (AtCarrier event)
+
+  -- what a worker does, but for parts that are read, commands that are posted, and replies that are drained
+  abbrev pub WorkersRefine : Type 0
+  WorkersRefine = (k : ℕ) (event : WorkerEvent) → IsUnseen event → Simulates (AtWorker k event)
+
+  -- the steps of a move, and requests of a broken connection that are thrown away
+  abbrev pub MovesRefine : Type 0
+  MovesRefine = (event : Event) → Simulates (Moved event)
+
+  abbrev pub ThrownRefine : Type 0
+  ThrownRefine = (j : ℕ) → Simulates (Thrown j)
+
+  -- a system that has done nothing stands for a world of the machine
+  abbrev pub StartsRefine : Type 0
+  StartsRefine = (s : System C J) → IsStart s → (w : WorldModel) × IsWalked w × IsShadow s w
 
   -- whatever the system does from its start, the machine may do, and the headline holds of it
   abbrev pub Refines : Type 0

@@ -2,7 +2,7 @@
 
 ghost use Rattle.turn_laws.specs.Walks.{EveryWalk};
 ghost use Rattle.turn_laws.specs.Settling.{Settling, SettlingAfter};
-ghost use Rattle.turn_laws.specs.Refines.{Refines};
+ghost use Rattle.turn_laws.specs.Refines.{CarrierRefines, MovesRefine, Refines, StartsRefine, ThrownRefine, WorkersRefine};
 
 use proxy_lanes::Naming;
 
@@ -15,6 +15,27 @@ pub fn every_walk()
 pub fn settles_at_once()
     ensures at_once { Settling }
     ensures after { SettlingAfter }
+{}
+
+/// A system that has done nothing stands for a world of the machine.
+pub fn starts_refine<C: Drop, J: Naming>()
+    ensures { StartsRefine C J }
+{}
+
+/// Each event of the carrier is some events of the machine: what comes down is told at once.
+pub fn carrier_refines<C: Drop, J: Naming>()
+    ensures { CarrierRefines C J }
+{}
+
+/// Each event of a worker is no event of the machine, but for parts that are read, commands that are posted and replies that are drained.
+pub fn workers_refine<C: Drop, J: Naming>()
+    ensures { WorkersRefine C J }
+{}
+
+/// Each step of a move is the machine's, and throwing away a broken connection's requests is none.
+pub fn moves_refine<C: Drop, J: Naming>()
+    ensures moves { MovesRefine C J }
+    ensures thrown { ThrownRefine C J }
 {}
 
 /// Each run of the system is a run of the machine, and the headline holds of it.
