@@ -1,8 +1,7 @@
 -- A connection goes on and the machine's links stay: the reply to CLUSTER SLOTS is read.
-use Rattle.std.proofs.Common.{◌≡◌, ◌≢◌, ◌⊎◌, inl, inr, ⊎_elim, ℕ, zero, suc, ◌+◌, ◌<◌, ◌≤◌, Bool, true, false, List, [], ◌∷◌, ◌++◌, Some, None, Result, Ok, Err, refl, sym, ap, ◌∙◌, subst, arith, length}
-use Rattle.std.specs.Prelude.{slice_get, slice_set, Option, All, map}
+use Rattle.std.proofs.Common.{◌≡◌, ◌≢◌, ◌⊎◌, inl, inr, ⊎_elim, ℕ, suc, ◌<◌, List, ◌∷◌, ◌++◌, Some, None, refl, sym, ap, ◌∙◌, subst, arith, length}
+use Rattle.std.specs.Prelude.{slice_get, slice_set, All, map}
 use Rattle.resp_wire.specs.declared.value.Value.{Value}
-use Rattle.slot_map.specs.Table.{Endpoint}
 use Rattle.node_link.specs.LinkModel.{LinkModel}
 use Rattle.node_link.specs.LinkCalls.{Comes, due_of}
 use Rattle.node_link.specs.declared.link.Due.{Due}
@@ -11,7 +10,7 @@ use Rattle.proxy_turns.specs.declared.newcomer.Newcomer.{Newcomer}
 use Rattle.proxy_turns.specs.declared.backend.Backend.{Backend}
 use Rattle.proxy_turns.specs.declared.backend_step.BackendStep.TheVariants.{Answered}
 use Rattle.proxy_turns.specs.Backend.{BackendContext}
-use Rattle.proxy_turns.specs.CarrierModel.{CarrierModel, CarrierEvent, AtBackend}
+use Rattle.proxy_turns.specs.CarrierModel.{CarrierModel, AtBackend}
 use Rattle.world_laws.specs.State.{WorldModel, Link}
 use Rattle.turn_laws.specs.Wire.{Wire, Exchanges}
 use Rattle.turn_laws.specs.System.{System}

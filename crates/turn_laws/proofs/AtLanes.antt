@@ -1,40 +1,36 @@
 -- The carrier's steps at a worker's lanes and at its pending_batches that the machine does not see.
-use Rattle.std.proofs.Common.{◌≡◌, ◌≢◌, ◌⊎◌, inl, inr, ⊎_elim, ℕ, zero, suc, ◌+◌, ◌<◌, ◌≤◌, ◌-◌, Bool, true, false, List, [], ◌∷◌, ◌++◌, Some, None, Result, Ok, Err, refl, sym, ap, ◌∙◌, subst, arith, length}
-use Rattle.std.specs.Prelude.{slice_get, slice_set, IsSome, Option, map, All}
+use Rattle.std.proofs.Common.{◌≡◌, ◌≢◌, ◌⊎◌, inl, inr, ⊎_elim, ℕ, zero, suc, ◌+◌, ◌<◌, ◌≤◌, List, [], ◌∷◌, ◌++◌, Some, None, Result, Ok, Err, refl, sym, ap, ◌∙◌, subst, arith, length}
+use Rattle.std.specs.Prelude.{slice_get, slice_set, Option, map, All}
 use Rattle.std.specs.List.{flat_map}
 use Rattle.std.proofs.lemmas.Grind.{flat_map-append}
-use Rattle.std.proofs.lemmas.Option.{slice_get_within}
-use Rattle.std.proofs.lemmas.Bool.{false≢true}
 use Rattle.key_split.specs.declared.travel.Batch.{Batch}
 use Rattle.key_split.specs.declared.travel.Ticket.{Ticket}
-use Rattle.key_split.specs.declared.travel.Told.{Told}
 use Rattle.key_split.specs.declared.travel.Told.TheVariants.{Unsent}
-use Rattle.node_link.specs.LinkModel.{LinkModel}
 use Rattle.proxy_lanes.specs.declared.ends.lane_ends.LaneEnds.{LaneEnds}
 use Rattle.proxy_lanes.specs.declared.ring.Outlet.{Outlet}
 use Rattle.proxy_lanes.specs.declared.ring.Inlet.{Inlet}
 use Rattle.proxy_lanes.specs.Lane.{Posts}
-use Rattle.proxy_lanes.specs.Ends.{ChangesAt, Gives, GivesDown, TakesUp}
+use Rattle.proxy_lanes.specs.Ends.{ChangesAt, Gives, GivesDown}
 use Rattle.proxy_turns.specs.declared.newcomer.Newcomer.{Newcomer}
 use Rattle.proxy_turns.specs.declared.pending_batch.PendingBatch.{PendingBatch}
 use Rattle.proxy_turns.specs.declared.backend.Backend.{Backend}
 use Rattle.proxy_turns.specs.declared.backend.PendingTold.{PendingTold}
 use Rattle.proxy_turns.specs.WorkerModel.{WorkerModel}
-use Rattle.proxy_turns.specs.PendingBatch.{no_pending_batch, WaitsToGive, WaitsToTell, Delivers, ComesBack, GiveOutcome, TellOutcome, TakeOutcome}
+use Rattle.proxy_turns.specs.PendingBatch.{no_pending_batch, Delivers}
 use Rattle.proxy_turns.specs.Backend.{new_backend}
-use Rattle.proxy_turns.specs.CarrierModel.{CarrierModel, CarrierEvent, WorkerAdded, BackendAdded, Missed, NotFound, Looked, Took, Gave, GaveUnsent}
+use Rattle.proxy_turns.specs.CarrierModel.{CarrierModel, CarrierEvent, WorkerAdded, BackendAdded, Missed, NotFound, Took, Gave, GaveUnsent}
 use Rattle.world_laws.specs.State.{WorldModel}
 use Rattle.world_laws.specs.Places.{total}
 use Rattle.world_laws.proofs.Nodes.{set-size}
-use Rattle.world_laws.proofs.Tally.{total-append, total-one}
-use Rattle.world_laws.proofs.Recorded.{at-set, at-last, before-last, set-same, set-other}
+use Rattle.world_laws.proofs.Tally.{total-append}
+use Rattle.world_laws.proofs.Recorded.{at-set, at-last, before-last, set-same}
 use Rattle.turn_laws.specs.Wire.{Wire}
 use Rattle.turn_laws.specs.System.{System, between, IsInStep}
-use Rattle.turn_laws.specs.Shadow.{IsShadow, IsWorking, UpsShadow, LaneShadow, HasPart, lane_of, lying, AreSeated, DownInStep, downs_of, downs_in, down_in, refused_in, told_in, lost_in, ups_in, batch_in}
-use Rattle.turn_laws.specs.Steps.{CarrierStep, FailsAt, opened_by}
+use Rattle.turn_laws.specs.Shadow.{IsShadow, UpsShadow, HasPart, lane_of, lying, AreSeated, downs_of, downs_in, down_in, refused_in, told_in, lost_in, ups_in, batch_in}
+use Rattle.turn_laws.specs.Steps.{CarrierStep, opened_by}
 use Rattle.std.proofs.lemmas.List.Elements.{All-append, All-cons, All-nil}
 use Rattle.turn_laws.proofs.Downs.{Pair, SameBag, total-set-flat}
-use Rattle.turn_laws.proofs.Lanes.{between-post, post-steps, between-back, back-steps, between-take, between-none}
+use Rattle.turn_laws.proofs.Lanes.{between-post, post-steps, between-back, back-steps, between-take}
 use Rattle.turn_laws.proofs.Frames.{SameLinks, works-still, no-failure, carrier-stutter, same-seats, set-seats, DownFits, down-fits}
 use Rattle.turn_laws.proofs.Carriers.{refusals, debts, bag-parts}
 
@@ -82,7 +78,7 @@ in-flat g [] k x p at e = absurd (nothing-there k x at)
 in-flat g (z ∷ xs) zero x p at e = let same : z ≡ x = cc in (0, before-last (g z) (flat_map g xs) 0 p (ap (λ u. slice_get (g u) 0) same ∙ e))
 in-flat g (z ∷ xs) (suc k) x p at e = let r = in-flat g xs k x p at e in in-right (g z) (flat_map g xs) r.0 p r.1
 
-abbrev DownSteps : Option (Outlet Pair) → Inlet Pair → Type 0
+abbrev pub DownSteps : Option (Outlet Pair) → Inlet Pair → Type 0
 DownSteps o inlet = (outlet : Outlet Pair) → o ≡ Some outlet → IsInStep outlet inlet
 
 one-outlet : (b : Option (Outlet Pair)) (next outlet : Outlet Pair) → b ≡ Some next → b ≡ Some outlet → next ≡ outlet
@@ -91,7 +87,7 @@ one-outlet b next outlet p q = let one : Some next ≡ Some outlet = sym p ∙ q
 steps-of : (b : Option (Outlet Pair)) (next : Outlet Pair) (inlet : Inlet Pair) → b ≡ Some next → IsInStep next inlet → DownSteps b inlet
 steps-of b next inlet e step outlet q = subst (λ o. IsInStep o inlet) (one-outlet b next outlet e q) step
 
-abbrev AfterGiven : Option (Outlet Pair) → Option (Outlet Pair) → Pair → Inlet Pair → Type 0
+abbrev pub AfterGiven : Option (Outlet Pair) → Option (Outlet Pair) → Pair → Inlet Pair → Type 0
 AfterGiven a b pair inlet = (down_in b inlet ≡ down_in a inlet ++ pair ∷ []) × DownSteps b inlet
 
 given-some : (old next : Outlet Pair) (b : Option (Outlet Pair)) (pair : Pair) → b ≡ Some next → Posts old next pair (Ok tt) → (inlet : Inlet Pair) → IsInStep old inlet → AfterGiven (Some old) b pair inlet
@@ -108,7 +104,7 @@ given : (a b : Option (Outlet Pair)) (pair : Pair) → Gives a b pair (Ok tt) �
 given None b pair g inlet steps = absurd (not-given (Ok tt) pair refl g.1)
 given (Some old) b pair g inlet steps = given-some old g.0 b pair g.1 g.2 inlet (steps old refl)
 
-abbrev AfterBack : Option (Outlet Pair) → Option (Outlet Pair) → Inlet Pair → Type 0
+abbrev pub AfterBack : Option (Outlet Pair) → Option (Outlet Pair) → Inlet Pair → Type 0
 AfterBack a b inlet = (down_in b inlet ≡ down_in a inlet) × DownSteps b inlet
 
 back-some : (old next : Outlet Pair) (b : Option (Outlet Pair)) (pair : Pair) → b ≡ Some next → Posts old next pair (Err pair) → (inlet : Inlet Pair) → IsInStep old inlet → AfterBack (Some old) b inlet
@@ -121,12 +117,12 @@ back-none : (b : Option (Outlet Pair)) (inlet : Inlet Pair) → b ≡ None → D
 back-none b inlet e steps = (ap (λ o. down_in o inlet) e, λ outlet q. steps outlet (sym e ∙ q))
 
 -- a pair comes back
-came-back : (a b : Option (Outlet Pair)) (pair : Pair) → Gives a b pair (Err pair) → (inlet : Inlet Pair) → DownSteps a inlet → AfterBack a b inlet
+pub came-back : (a b : Option (Outlet Pair)) (pair : Pair) → Gives a b pair (Err pair) → (inlet : Inlet Pair) → DownSteps a inlet → AfterBack a b inlet
 came-back None b pair g inlet steps = back-none b inlet g.0 steps
 came-back (Some old) b pair g inlet steps = back-some old g.0 b pair g.1 g.2 inlet (steps old refl)
 
 -- what comes down the lane is still for its worker
-abbrev AllFor : ℕ → List Pair → Type 0
+abbrev pub AllFor : ℕ → List Pair → Type 0
 AllFor k pairs = All (λ (q : Pair). q.0.worker ≡ k) pairs
 
 one-for : (pair : Pair) → AllFor pair.0.worker (pair ∷ [])
@@ -135,7 +131,7 @@ one-for pair = All-cons (λ (q : Pair). q.0.worker ≡ pair.0.worker) pair [] re
 given-fits : (a b : Option (Outlet Pair)) (pair : Pair) (inlet : Inlet Pair) → AfterGiven a b pair inlet → AllFor pair.0.worker (down_in a inlet) → DownSteps b inlet × AllFor pair.0.worker (down_in b inlet)
 given-fits a b pair inlet g all = (g.1, subst (AllFor pair.0.worker) (sym g.0) (All-append (λ (q : Pair). q.0.worker ≡ pair.0.worker) (down_in a inlet) (pair ∷ []) all (one-for pair)))
 
-back-fits : (a b : Option (Outlet Pair)) (k : ℕ) (inlet : Inlet Pair) → AfterBack a b inlet → AllFor k (down_in a inlet) → DownSteps b inlet × AllFor k (down_in b inlet)
+pub back-fits : (a b : Option (Outlet Pair)) (k : ℕ) (inlet : Inlet Pair) → AfterBack a b inlet → AllFor k (down_in a inlet) → DownSteps b inlet × AllFor k (down_in b inlet)
 back-fits a b k inlet g all = (g.1, subst (AllFor k) (sym g.0) all)
 
 tail-case : (f : Pair → ℕ) (a r r' : List Pair) (p q : ℕ) → total f r' + p ≡ total f r + q → total f (a ++ r') + p ≡ total f (a ++ r) + q
@@ -314,7 +310,7 @@ module _ {C J : Type 0} where
         ap (λ (z : PendingBatch). total f (refused_in z.refused)) now,
       ))
 
-  ups-up : (model : WorkerModel C J) (x y : LaneEnds (Newcomer C J)) → y.up ≡ x.up → (pending_batch : Option PendingBatch) → ups_in model y pending_batch ≡ ups_in model x pending_batch
+  pub ups-up : (model : WorkerModel C J) (x y : LaneEnds (Newcomer C J)) → y.up ≡ x.up → (pending_batch : Option PendingBatch) → ups_in model y pending_batch ≡ ups_in model x pending_batch
   ups-up model x y e None = ap (between model.outlet) e
   ups-up model x y e (Some pending_batch) = ap (λ u. batch_in pending_batch.batch ++ between model.outlet u) e
 
@@ -408,72 +404,3 @@ module _ {C J : Type 0} where
         ap (λ (z : PendingBatch). total f (refused_in z.refused)) now,
         ap (total f) owes,
       ))
-
-  -- lanes that gave nothing, or were full
-  module _ (s s' : System C J) (w : WorldModel) (h : IsShadow s w) (on : CarrierStep s Looked s') where
-    backends : s'.carrier.backends ≡ s.carrier.backends
-    backends = ap (λ (c : CarrierModel (Newcomer C J) Wire). c.backends) on.does.0
-
-    pending_batches : s'.carrier.pending_batches ≡ s.carrier.pending_batches
-    pending_batches = ap (λ (c : CarrierModel (Newcomer C J) Wire). c.pending_batches) on.does.0
-
-    looked-kept : s'.carrier.lanes ≡ s.carrier.lanes → IsShadow s' w
-    looked-kept lanes = pending_batches-stutter Looked s s' w h on refl (same-backends s s' backends) lanes (same-seats s s' (ap length lanes) pending_batches).seated
-        (λ j model lane. λ i. ups_in model lane (slice_get (pending_batches i) j))
-        (λ f. λ i. total f (refusals (pending_batches i)) + total f (debts (backends i)))
-
-    looked-back : (pair : Pair) → ComesBack s.carrier.lanes pair s'.carrier.lanes → IsShadow s' w
-    looked-back pair c =
-        let x : LaneEnds (Newcomer C J) = c.0 in
-        let y : LaneEnds (Newcomer C J) = c.1 in
-        let up : y.up ≡ x.up = ap (λ (l : LaneEnds (Newcomer C J)). l.up) c.4.0 in
-        lane-stutter Looked s s' w h on refl (same-backends s s' backends) pair.0.worker x y c.2 c.3 (same-seats s s' (ap length c.3 ∙ set-size s.carrier.lanes pair.0.worker y) pending_batches).seated
-        (λ model p. back-fits x.down y.down pair.0.worker model.inlet (came-back x.down y.down pair c.4.1 model.inlet (h.down_steps pair.0.worker model x p c.2)) (h.to_worker pair.0.worker model x p c.2))
-        (λ model p. ups-up model x y up (slice_get s'.carrier.pending_batches pair.0.worker) ∙ (λ i. ups_in model x (slice_get (pending_batches i) pair.0.worker)))
-        (λ j ne model lane. λ i. ups_in model lane (slice_get (pending_batches i) j))
-        (λ model p f. omega (
-          arith,
-          ap (total f) (came-back x.down y.down pair c.4.1 model.inlet (h.down_steps pair.0.worker model x p c.2)).0,
-          ap (λ hs. total f (refusals hs)) pending_batches,
-          ap (λ ls. total f (debts ls)) backends,
-        ))
-
-    looked-none : (k : ℕ) → ChangesAt s.carrier.lanes k s'.carrier.lanes (λ lane lane'. TakesUp lane lane' None) → IsShadow s' w
-    looked-none k c =
-        let x : LaneEnds (Newcomer C J) = c.0 in
-        let y : LaneEnds (Newcomer C J) = c.1 in
-        let down : y.down ≡ x.down = ap (λ (l : LaneEnds (Newcomer C J)). l.down) c.4.0 in
-        lane-stutter Looked s s' w h on refl (same-backends s s' backends) k x y c.2 c.3 (same-seats s s' (ap length c.3 ∙ set-size s.carrier.lanes k y) pending_batches).seated
-        (λ model p. (λ outlet e. h.down_steps k model x p c.2 outlet (sym down ∙ e), subst (λ o. All (λ (q : Pair). q.0.worker ≡ k) (down_in o model.inlet)) (sym down) (h.to_worker k model x p c.2)))
-        (λ model p. same-up model x y (between-none model.outlet x.up y.up c.4.1) (slice_get s'.carrier.pending_batches k) ∙ (λ i. ups_in model x (slice_get (pending_batches i) k)))
-        (λ j ne model lane. λ i. ups_in model lane (slice_get (pending_batches i) j))
-        (λ model p f. omega (
-          arith,
-          ap (λ o. total f (down_in o model.inlet)) down,
-          ap (λ hs. total f (refusals hs)) pending_batches,
-          ap (λ ls. total f (debts ls)) backends,
-        ))
-      where
-        same-up : (model : WorkerModel C J) (x y : LaneEnds (Newcomer C J)) → between model.outlet y.up ≡ between model.outlet x.up → (pending_batch : Option PendingBatch) → ups_in model y pending_batch ≡ ups_in model x pending_batch
-        same-up model x y e None = e
-        same-up model x y e (Some pending_batch) = ap (λ u. batch_in pending_batch.batch ++ u) e
-
-    gives-none : (o : Option PendingTold) → WaitsToGive o s.carrier.lanes s'.carrier.lanes → IsShadow s' w
-    gives-none None x = looked-kept x
-    gives-none (Some pending_told) x = ⊎_elim
-        (λ (y : IsSome pending_told.change × (s'.carrier.lanes ≡ s.carrier.lanes)). looked-kept y.1)
-        (λ (y : (pending_told.change ≡ None) × ComesBack s.carrier.lanes (pending_told.ticket, pending_told.told) s'.carrier.lanes). looked-back (pending_told.ticket, pending_told.told) y.1)
-        x
-
-    tells-none : (o : Option Ticket) → WaitsToTell o s.carrier.lanes s'.carrier.lanes → IsShadow s' w
-    tells-none None x = looked-kept x
-    tells-none (Some ticket) x = looked-back (ticket, Unsent) x
-
-    pub looked : IsShadow s' w
-    looked = ⊎_elim
-        (λ (x : (k : ℕ) × (backend : Backend Wire) × (slice_get s.carrier.backends k ≡ Some backend) × GiveOutcome backend s.carrier.lanes false backend s'.carrier.lanes). gives-none (x.1).pending_told x.3.1)
-        (λ (x : (k : ℕ) × (pending_batch : PendingBatch) × (slice_get s.carrier.pending_batches k ≡ Some pending_batch)
-        × (TellOutcome pending_batch s.carrier.lanes false pending_batch s'.carrier.lanes ⊎ TakeOutcome k pending_batch s.carrier.lanes false pending_batch s'.carrier.lanes)).
-        ⊎_elim (λ (y : TellOutcome x.1 s.carrier.lanes false x.1 s'.carrier.lanes). tells-none (x.1).refused y.1)
-        (λ (y : TakeOutcome x.0 x.1 s.carrier.lanes false x.1 s'.carrier.lanes). ⊎_elim (λ z. looked-kept z.1) (λ z. looked-none x.0 z.1) y.1) x.3)
-        on.does.1

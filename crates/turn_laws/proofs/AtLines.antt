@@ -1,24 +1,21 @@
 -- The carrier's steps at one backend that the machine does not see: what came is given, lost tickets are pending_told one by one, the map is renewed.
-use Rattle.std.proofs.Common.{◌≡◌, ◌≢◌, ◌⊎◌, inl, inr, ⊎_elim, ℕ, zero, suc, ◌+◌, ◌<◌, ◌≤◌, ◌-◌, Bool, true, false, List, [], ◌∷◌, ◌++◌, Some, None, refl, sym, ap, ◌∙◌, subst, arith, length}
+use Rattle.std.proofs.Common.{◌≡◌, inl, inr, ℕ, true, false, List, [], ◌∷◌, ◌++◌, Some, None, refl, sym, ap, ◌∙◌, subst, arith}
 use Rattle.std.specs.Prelude.{slice_get, slice_set, IsSome, Option, map}
 use Rattle.std.specs.List.{list_any}
 use Rattle.std.proofs.lemmas.Bool.{false≢true}
 use Rattle.key_split.specs.declared.travel.Ticket.{Ticket}
-use Rattle.key_split.specs.declared.travel.Told.{Told}
 use Rattle.key_split.specs.declared.travel.Told.TheVariants.{Lost}
 use Rattle.node_link.specs.LinkModel.{LinkModel}
 use Rattle.node_link.specs.LinkCalls.{tickets_of}
 use Rattle.node_link.specs.declared.link.Due.{Due}
 use Rattle.node_link.specs.declared.link.Failure.{Failure}
 use Rattle.proxy_turns.specs.declared.backend.Backend.{Backend}
-use Rattle.proxy_turns.specs.declared.backend.PendingTold.{PendingTold}
 use Rattle.proxy_turns.specs.declared.backend_step.BackendStep.{BackendStep}
 use Rattle.proxy_turns.specs.declared.backend_step.BackendStep.TheVariants.{Idle, GaveUp, Closed, Published, Spared, Read, Unread, Renewed}
 use Rattle.proxy_turns.specs.Backend.{BackendContext, BackendDoes, is_unanswered}
 use Rattle.proxy_turns.specs.CarrierModel.{CarrierModel, context_of, AtBackend, SeedReached, Sought}
 use Rattle.world_laws.specs.State.{WorldModel}
 use Rattle.world_laws.specs.Places.{total}
-use Rattle.world_laws.proofs.Tally.{total-append}
 use Rattle.turn_laws.specs.Wire.{Wire, Exchanges}
 use Rattle.turn_laws.specs.System.{System}
 use Rattle.turn_laws.specs.Shadow.{IsShadow, told_in, lost_in, lost_by}

@@ -1,16 +1,13 @@
 -- The steps of a move: the machine makes the same step of its nodes.
-use Rattle.std.proofs.Common.{◌≡◌, ◌≢◌, ◌⊎◌, ℕ, zero, suc, ◌+◌, ◌<◌, ◌≤◌, List, [], ◌∷◌, Some, refl, sym, ap, ◌∙◌, subst, arith}
+use Rattle.std.proofs.Common.{◌≡◌, [], ◌∷◌, refl, sym, ap, ◌∙◌, subst, arith}
 use Rattle.node_model.specs.Nodes.{ClusterModel}
 use Rattle.node_model.specs.Moves.{MayImport, MayMigrate, MayMoveKey, MayOwn, MayRelease, MayForget, MayStay, import_done, migrate_done, move_key_done, own_done, release_done, forget_done, stay_done}
 use Rattle.world_laws.specs.State.{WorldModel}
 use Rattle.world_laws.specs.World.{WorldDoes, with_nodes}
 use Rattle.world_laws.specs.declared.event.Event.{Event}
 use Rattle.world_laws.specs.declared.event.Event.TheVariants as core
-use Rattle.turn_laws.specs.Walks.{ticked, Walk, IsWalked}
-use Rattle.std.specs.Prelude.{map}
-use Rattle.world_laws.specs.declared.state.Arrival.{Arrival}
-use Rattle.world_laws.specs.declared.history.Answer.{Answer}
-use Rattle.turn_laws.specs.System.{System, Mark}
+use Rattle.turn_laws.specs.Walks.{ticked}
+use Rattle.turn_laws.specs.System.{System}
 use Rattle.turn_laws.specs.Shadow.{IsShadow}
 use Rattle.turn_laws.specs.Steps.{MovesOn, Moved}
 use Rattle.turn_laws.proofs.Frames.{log-later}

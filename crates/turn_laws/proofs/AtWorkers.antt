@@ -2,19 +2,17 @@
 use Rattle.std.proofs.Common.{◌≡◌, ◌≢◌, ◌⊎◌, inl, inr, ⊎_elim, ℕ, zero, suc, ◌+◌, ◌-◌, ◌<◌, ◌≤◌, ◌==◌, Bool, true, false, List, [], ◌∷◌, ◌++◌, Some, None, Result, Ok, Err, refl, sym, ap, ◌∙◌, subst, arith, length}
 use Rattle.std.specs.Prelude.{slice_get, slice_set, Option, map, drop, All, cond}
 use Rattle.std.proofs.lemmas.List.{append-nil}
-use Rattle.std.specs.FinMap.{FinMap, get, insert, remove, get-insert, get-remove, get-empty}
+use Rattle.std.specs.FinMap.{FinMap, get, insert, remove, get-insert, get-remove}
 use Rattle.std.proofs.lemmas.Bool.Decides.{eqb_tells}
 use Rattle.std.specs.Ordering.{nat_cmp, eq_by_cmp}
-use Rattle.std.specs.Cmp.{nat_cmp_total, eq_by_cmp_equiv}
+use Rattle.std.specs.Cmp.{nat_cmp_total}
 use Rattle.std.proofs.Common.{eqb→eq}
 use Rattle.std.specs.Prelude.{T}
 use Rattle.std.specs.Cmp.{unsigned_ties}
-use Rattle.resp_wire.specs.declared.fault.NoMemory.{NoMemory}
 use Rattle.key_split.specs.declared.travel.Batch.{Batch}
 use Rattle.key_split.specs.declared.travel.Ticket.{Ticket}
-use Rattle.key_split.specs.declared.travel.Told.{Told}
 use Rattle.key_split.specs.declared.travel.Ended.{Ended}
-use Rattle.command_future.specs.CommandModel.{CommandModel, fresh}
+use Rattle.command_future.specs.CommandModel.{CommandModel}
 use Rattle.command_future.specs.declared.stage.Stage.TheVariants.{Over}
 use Rattle.session_order.specs.declared.queue.PartStage.{PartStage}
 use Rattle.session_order.specs.declared.queue.PartStage.TheVariants.{Waiting, Out, Done}
@@ -26,7 +24,7 @@ use Rattle.proxy_lanes.specs.Lane.{posted, taken}
 use Rattle.proxy_turns.specs.declared.newcomer.Newcomer.{Newcomer}
 use Rattle.proxy_turns.specs.declared.pending_batch.PendingBatch.{PendingBatch}
 use Rattle.proxy_turns.specs.Commands.{CommandsModel}
-use Rattle.proxy_turns.specs.ClientModel.{ClientModel, IsDone, IsClientServed, IsLeft}
+use Rattle.proxy_turns.specs.ClientModel.{ClientModel}
 use Rattle.session_order.specs.SessionModel.{SessionModel}
 use Rattle.session_order.specs.RequestReaderModel.{RequestReaderModel}
 use Rattle.session_order.specs.Replies.{parts_of}
@@ -36,18 +34,16 @@ use Rattle.session_order.specs.declared.closing.Closing.TheVariants.{Open, Quit}
 use Rattle.session_order.specs.declared.fault.SessionFault.{SessionFault}
 use Rattle.session_order.specs.declared.fault.SessionFault.TheVariants as fault
 use Rattle.proxy_turns.specs.ClientTurn.{ClientContext, ClientEvent, Pulled, Fed, Looked, CameBack, Pushed, Tried, Parted}
-use Rattle.proxy_turns.specs.WorkerModel.{WorkerModel, WorkerEvent, IsAbove, Did, FoundNone, TurnedAway, FoundNobody, Left}
-use Rattle.world_laws.specs.State.{WorldModel, slot_for}
+use Rattle.proxy_turns.specs.WorkerModel.{WorkerModel, WorkerEvent, IsAbove, Did, FoundNone, TurnedAway, FoundNobody}
+use Rattle.world_laws.specs.State.{WorldModel}
 use Rattle.world_laws.specs.declared.state.Arrival.{Arrival}
 use Rattle.world_laws.specs.Places.{total, is}
 use Rattle.world_laws.proofs.Nodes.{set-size}
 use Rattle.world_laws.proofs.Recorded.{at-set, set-same, set-other}
-use Rattle.turn_laws.specs.Wire.{Wire}
-use Rattle.turn_laws.specs.System.{System, Mark, between, IsInStep}
-use Rattle.turn_laws.specs.Shadow.{IsShadow, LinksShadow, LogShadow, ClientShadow, PartShadow, StageShadow, HasCommand, HasPosted, Holds, ToldFrom, DownInStep, downs_of, downs_in, down_in, ups_in, batch_in}
+use Rattle.turn_laws.specs.System.{System, IsInStep}
+use Rattle.turn_laws.specs.Shadow.{IsShadow, ClientShadow, PartShadow, StageShadow, HasCommand, HasPosted, Holds, ToldFrom, DownInStep, downs_of, downs_in, down_in, ups_in, batch_in}
 use Rattle.turn_laws.specs.Steps.{WorkerStep}
-use Rattle.turn_laws.proofs.Downs.{Pair, SameBag}
-use Rattle.turn_laws.proofs.Frames.{client-same}
+use Rattle.turn_laws.proofs.Downs.{Pair}
 use Rattle.turn_laws.proofs.Carriers.{refusals, debts}
 use Rattle.turn_laws.proofs.AtLanes.{ListShadow, nothing-there}
 
@@ -138,7 +134,7 @@ still-there {C} m k q t e = go (eq_by_cmp nat_cmp q k) (sym (get-remove nat_cmp_
     go true x = absurd (cc)
     go false x = x
 
-alike-itself : {C : Type 0} (client : ClientModel C) → Alike client client
+pub alike-itself : {C : Type 0} (client : ClientModel C) → Alike client client
 alike-itself client = record { client = refl; worker = refl; first = refl; stages = refl; ends = refl; requests = refl; commands = refl; gone = λ e. e }
 
 -- the clients with one in its place
@@ -189,26 +185,6 @@ by-parts {C} old new k commands gone = record { client = k.0; worker = k.1; firs
 down-same : (o : Option (Outlet Pair)) (old new : Inlet Pair) → taken new ≡ taken old → down_in o new ≡ down_in o old
 down-same None old new e = refl
 down-same (Some outlet) old new e = ap (λ xs. map (λ (x : Numbered Pair). x.item) (drop (length xs) (posted outlet))) e
-
--- a client that is done has no command that was posted
-done-none : {C : Type 0} (downs : List Pair) (worker number : ℕ) (client : ClientModel C) (arrivals : List Arrival) → ClientShadow downs worker number client arrivals → IsDone client
-    → (part : ℕ) (c : CommandModel) → get client.commands.posted part ≡ Some c → ⊥
-done-none {C} downs worker number client arrivals h done part c e = ⊎_elim
-    (λ (z : IsClientServed client).
-    let none : length client.session.stages ≡ 0 = sym h.owed ∙ ap parts_of z.0.1 in
-    let out = ((h.commands).posted part c e).1 in
-    no-place client.session.stages (c.ticket.part - client.session.first) (Out out.0) none out.2)
-    (λ (z : IsLeft client).
-    let none : get client.commands.posted part ≡ None = ap (λ (cs : CommandsModel). get cs.posted part) z.1 ∙ get-empty nat_cmp part in
-    some-none c (sym e ∙ none))
-    done
-  where
-    no-place : {X : Type 0} (xs : List X) (i : ℕ) (x : X) → length xs ≡ 0 → slice_get xs i ≡ Some x → ⊥
-    no-place [] i x n e = nothing-there i x e
-    no-place (y ∷ xs) i x n e = absurd (omega (arith, n))
-
-    some-none : (c : CommandModel) → Some c ≡ None → ⊥
-    some-none c e = cc
 
 module _ {C J : Type 0} where
   pub rings-same : (workers : List (WorkerModel C J)) (lanes : List (LaneEnds (Newcomer C J))) (k : ℕ) (model model' : WorkerModel C J) → slice_get workers k ≡ Some model
@@ -373,40 +349,6 @@ module _ {C J : Type 0} where
       let e = on.does.8 in
       worker-stutter k (TurnedAway number) s s' w h on on.seen
       (quiet-none on.old on.new (ap (λ (x : WorkerModel C J). x.worker) e) (ap (λ (x : WorkerModel C J). x.newest) e) (ap (λ (x : WorkerModel C J). x.outlet) e) (ap (λ (x : WorkerModel C J). taken x.inlet) e) (ap (λ (x : WorkerModel C J). x.clients) e))
-
-  -- a client that is done leaves: its commands stay in the machine, as they ended
-  pub left : (k number : ℕ) (s s' : System C J) (w : WorldModel) → IsShadow s w → WorkerStep s k (Left number) s' → IsShadow s' w
-  left k number s s' w h on =
-      let d = on.does in
-      let e = d.4 in
-      let gone = d.2 in
-      let shadow = (h.clients k on.old number gone.0 on.at gone.1).1 in
-      worker-stutter k (Left number) s s' w h on on.seen
-      (record {
-        worker = ap (λ (x : WorkerModel C J). x.worker) e;
-        newest = ap (λ (x : WorkerModel C J). x.newest) e;
-        posts = ap (λ (x : WorkerModel C J). posted x.outlet) e;
-        takes = ap (λ (x : WorkerModel C J). taken x.inlet) e;
-        clients = λ q t at. (t, still-there on.old.clients number q t (sym (ap (λ m. get m q) gone.4) ∙ at), alike-itself t);
-        keeps = λ t c x. goes on.old.clients on.new.clients number gone.0 gone.1 gone.4
-            (λ part y f. done-none (downs_of s) k number gone.0 w.commands shadow gone.2 part y f) t c x;
-      })
-    where
-      goes : (m m' : FinMap nat_cmp (ClientModel C)) (number : ℕ) (client : ClientModel C) → get m number ≡ Some client → m' ≡ remove m number
-          → ((part : ℕ) (c : CommandModel) → get client.commands.posted part ≡ Some c → ⊥)
-          → (t : Ticket) (c : CommandModel) → ((x : ClientModel C) × (get m t.client ≡ Some x) × (get x.commands.posted t.part ≡ Some c) × (c.ticket ≡ t))
-          → (x : ClientModel C) × (get m' t.client ≡ Some x) × (get x.commands.posted t.part ≡ Some c) × (c.ticket ≡ t)
-      goes m m' number client at e none t c x = go (eq_by_cmp nat_cmp t.client number) refl
-        where
-          there : get m' t.client ≡ cond (eq_by_cmp nat_cmp t.client number) None (get m t.client)
-          there = ap (λ y. get y t.client) e ∙ get-remove nat_cmp_total m number t.client
-
-          go : (b : Bool) → eq_by_cmp nat_cmp t.client number ≡ b → (x : ClientModel C) × (get m' t.client ≡ Some x) × (get x.commands.posted t.part ≡ Some c) × (c.ticket ≡ t)
-          go true f =
-              let one : Some x.0 ≡ Some client = sym x.1 ∙ ap (get m) (nat_eq_by t.client number f) ∙ at in
-              let same : x.0 ≡ client = cc in
-              absurd (none t.part c (ap (λ (y : ClientModel C). get y.commands.posted t.part) (sym same) ∙ x.2))
-          go false f = (x.0, there ∙ ap (λ b. cond b None (get m t.client)) f ∙ x.1, x.2, x.3)
 
   -- What one client does that leaves its parts, its commands and the lane as they were.
   did : (k number : ℕ) (event : ClientEvent) (s s' : System C J) (w : WorldModel) → IsShadow s w → (on : WorkerStep s k (Did number event) s')

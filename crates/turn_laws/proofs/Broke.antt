@@ -1,12 +1,10 @@
 -- A connection breaks as it is read.
-use Rattle.std.proofs.Common.{◌≡◌, ◌≢◌, ◌⊎◌, inl, inr, ⊎_elim, ℕ, zero, suc, ◌+◌, ◌<◌, ◌≤◌, Bool, true, false, List, [], ◌∷◌, ◌++◌, Some, None, Result, Ok, Err, refl, sym, ap, ◌∙◌, subst, arith, length}
+use Rattle.std.proofs.Common.{◌≡◌, ◌≢◌, inl, ⊎_elim, ℕ, suc, List, [], ◌∷◌, ◌++◌, Some, None, Err, refl, sym, ap, ◌∙◌, subst, arith, length}
 use Rattle.std.specs.Prelude.{slice_get, slice_set, Option, IsSome, All}
 use Rattle.std.proofs.lemmas.List.{append-nil}
 use Rattle.resp_wire.specs.declared.value.Value.{Value}
-use Rattle.slot_map.specs.Table.{Endpoint}
-use Rattle.node_link.specs.Port.{Rose}
 use Rattle.node_link.specs.LinkModel.{LinkModel}
-use Rattle.node_link.specs.LinkCalls.{Comes, Fails, Receives, tickets_of}
+use Rattle.node_link.specs.LinkCalls.{Comes, Receives, tickets_of}
 use Rattle.node_link.specs.declared.link.Due.{Due}
 use Rattle.node_link.specs.declared.link.Failure.{Failure}
 use Rattle.node_link.specs.declared.link.Failure.TheVariants as failure
@@ -22,7 +20,7 @@ use Rattle.world_laws.specs.declared.event.Event.{Event}
 use Rattle.turn_laws.specs.Walks.{Walk, IsWalked}
 use Rattle.turn_laws.specs.Wire.{Wire, Exchanges}
 use Rattle.turn_laws.specs.System.{System}
-use Rattle.turn_laws.specs.Shadow.{IsShadow, IsWorking, OpenShadow, IsIdle, IsUnnumbered, Numbers, coming, told_in, requests_in, IsKnown}
+use Rattle.turn_laws.specs.Shadow.{IsShadow, OpenShadow, IsIdle, IsUnnumbered, Numbers, told_in, requests_in, IsKnown}
 use Rattle.turn_laws.specs.Steps.{AtCarrier, CarrierStep, any_failures, any_garbled}
 use Rattle.turn_laws.specs.Refines.{Simulates}
 use Rattle.turn_laws.proofs.Carriers.{backend-stutter}

@@ -1,8 +1,7 @@
 -- A client comes: the machine does nothing.
-use Rattle.std.proofs.Common.{◌≡◌, ◌≢◌, ◌⊎◌, inl, inr, ⊎_elim, ℕ, zero, suc, ◌+◌, ◌-◌, ◌<◌, ◌≤◌, ◌%◌, ◌==◌, Bool, true, false, List, [], ◌∷◌, ◌++◌, Some, None, refl, sym, ap, ◌∙◌, subst, arith, length}
+use Rattle.std.proofs.Common.{◌≡◌, ◌≢◌, ⊎_elim, ℕ, zero, suc, ◌<◌, ◌%◌, ◌==◌, Bool, true, false, List, [], ◌∷◌, ◌++◌, Some, None, refl, sym, ap, ◌∙◌, subst, arith, length}
 use Rattle.std.specs.Prelude.{slice_get, slice_set, Option, All, cond, count_by}
 use Rattle.std.proofs.lemmas.List.Sums.{sum_by-cons}
-use Rattle.std.proofs.lemmas.Bool.Decides.{nat_tests}
 use Rattle.std.specs.FinMap.{FinMap, get, insert, get-insert, get-empty}
 use Rattle.std.specs.Ordering.{nat_cmp, eq_by_cmp}
 use Rattle.std.specs.Cmp.{nat_cmp_total}
@@ -14,13 +13,12 @@ use Rattle.proxy_lanes.specs.declared.ring.Outlet.{Outlet}
 use Rattle.proxy_lanes.specs.Lane.{posted}
 use Rattle.proxy_turns.specs.ClientModel.{ClientModel, new_client}
 use Rattle.proxy_turns.specs.WorkerModel.{WorkerModel, IsAbove, Came}
-use Rattle.world_laws.specs.State.{WorldModel}
 use Rattle.world_laws.specs.declared.state.Arrival.{Arrival}
 use Rattle.world_laws.proofs.Nodes.{set-size}
 use Rattle.world_laws.proofs.Recorded.{at-set}
-use Rattle.turn_laws.specs.System.{System, IsInStep}
-use Rattle.turn_laws.specs.Shadow.{IsShadow, ClientShadow, HasPosted, Holds, downs_of, downs_in, down_in}
-use Rattle.turn_laws.specs.Steps.{AtWorker, WorkerStep}
+use Rattle.turn_laws.specs.System.{IsInStep}
+use Rattle.turn_laws.specs.Shadow.{ClientShadow, Holds, downs_of, downs_in, down_in}
+use Rattle.turn_laws.specs.Steps.{AtWorker}
 use Rattle.turn_laws.specs.Refines.{Simulates}
 use Rattle.turn_laws.proofs.Downs.{Pair}
 use Rattle.turn_laws.proofs.Frames.{down-fits}

@@ -1,30 +1,22 @@
 -- What the carrier does that the machine does not see.
-use Rattle.std.proofs.Common.{◌≡◌, ◌≢◌, ◌⊎◌, inl, inr, ⊎_elim, ℕ, zero, suc, ◌+◌, ◌<◌, ◌≤◌, ◌-◌, Bool, true, false, List, [], ◌∷◌, ◌++◌, Some, None, refl, sym, ap, ◌∙◌, subst, arith, length}
-use Rattle.std.specs.Prelude.{slice_get, slice_set, IsSome, Option, map, drop}
+use Rattle.std.proofs.Common.{◌≡◌, ◌≢◌, ◌⊎◌, ⊎_elim, ℕ, ◌+◌, List, ◌++◌, Some, None, refl, sym, ap, ◌∙◌, subst, arith, length}
+use Rattle.std.specs.Prelude.{slice_get, slice_set, IsSome, Option}
 use Rattle.std.specs.List.{flat_map}
 use Rattle.std.proofs.lemmas.Bool.{false≢true}
-use Rattle.std.proofs.lemmas.Grind.{flat_map-append}
-use Rattle.key_split.specs.declared.travel.Ticket.{Ticket}
-use Rattle.key_split.specs.declared.travel.Told.{Told}
 use Rattle.node_link.specs.LinkModel.{LinkModel}
-use Rattle.proxy_lanes.specs.declared.ends.lane_ends.LaneEnds.{LaneEnds}
-use Rattle.proxy_turns.specs.declared.newcomer.Newcomer.{Newcomer}
 use Rattle.proxy_turns.specs.declared.pending_batch.PendingBatch.{PendingBatch}
 use Rattle.proxy_turns.specs.declared.backend.Backend.{Backend}
-use Rattle.proxy_turns.specs.WorkerModel.{WorkerModel}
-use Rattle.proxy_turns.specs.PendingBatch.{no_pending_batch}
-use Rattle.proxy_turns.specs.Backend.{new_backend}
-use Rattle.proxy_turns.specs.CarrierModel.{CarrierModel, CarrierEvent, WorkerAdded, BackendAdded, Missed, SeedReached}
+use Rattle.proxy_turns.specs.CarrierModel.{CarrierEvent}
 use Rattle.world_laws.specs.State.{WorldModel}
 use Rattle.world_laws.specs.Places.{total}
 use Rattle.world_laws.proofs.Tally.{total-append}
-use Rattle.world_laws.proofs.Recorded.{at-set, at-last, set-same}
+use Rattle.world_laws.proofs.Recorded.{at-set}
 use Rattle.turn_laws.specs.Wire.{Wire}
-use Rattle.turn_laws.specs.System.{System, between}
-use Rattle.turn_laws.specs.Shadow.{IsShadow, IsWorking, UpsShadow, LaneShadow, DownInStep, downs_of, downs_in, down_in, refused_in, told_in, lost_in, ups_in, batch_in}
+use Rattle.turn_laws.specs.System.{System}
+use Rattle.turn_laws.specs.Shadow.{IsShadow, IsWorking, UpsShadow, LaneShadow, downs_of, downs_in, refused_in, told_in, lost_in}
 use Rattle.turn_laws.specs.Steps.{CarrierStep, FailsAt, opened_by}
 use Rattle.turn_laws.proofs.Downs.{Pair, SameBag, total-set-flat}
-use Rattle.turn_laws.proofs.Frames.{same-seats, SameLinks, works-still, no-failure, carrier-stutter, down-fits}
+use Rattle.turn_laws.proofs.Frames.{same-seats, carrier-stutter, down-fits}
 
 abbrev pub refusals : List PendingBatch → List Pair
 refusals pending_batches = flat_map (λ (pending_batch : PendingBatch). refused_in pending_batch.refused) pending_batches

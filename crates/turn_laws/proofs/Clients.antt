@@ -1,18 +1,16 @@
 -- One client of a worker goes on, and the machine does nothing.
-use Rattle.std.proofs.Common.{◌≡◌, ◌≢◌, ◌⊎◌, inl, inr, ⊎_elim, ℕ, zero, suc, ◌+◌, ◌-◌, ◌<◌, ◌≤◌, ◌%◌, ◌==◌, Bool, true, false, List, [], ◌∷◌, ◌++◌, Some, None, Result, Ok, Err, refl, sym, ap, ◌∙◌, subst, arith, length}
-use Rattle.std.specs.Prelude.{slice_get, slice_set, Option, map, All, cond, count_by}
+use Rattle.std.proofs.Common.{◌≡◌, ◌≢◌, ⊎_elim, ℕ, ◌%◌, ◌==◌, Bool, true, false, List, [], ◌++◌, Some, refl, sym, ap, ◌∙◌, subst, length}
+use Rattle.std.specs.Prelude.{slice_get, slice_set, All, cond}
 use Rattle.std.proofs.lemmas.List.{append-nil}
 use Rattle.std.proofs.lemmas.Bool.Decides.{eqb_tells}
-use Rattle.std.specs.FinMap.{FinMap, get, insert, remove, get-insert, get-remove, get-empty}
+use Rattle.std.specs.FinMap.{FinMap, get, insert, get-insert}
 use Rattle.std.specs.Ordering.{nat_cmp, eq_by_cmp}
 use Rattle.std.specs.Cmp.{nat_cmp_total}
-use Rattle.key_split.specs.declared.travel.Batch.{Batch}
 use Rattle.key_split.specs.declared.travel.Ticket.{Ticket}
-use Rattle.key_split.specs.declared.travel.Told.{Told}
 use Rattle.command_future.specs.CommandModel.{CommandModel}
 use Rattle.command_future.specs.declared.stage.Stage.TheVariants.{Awaits}
 use Rattle.proxy_lanes.specs.declared.ends.lane_ends.LaneEnds.{LaneEnds}
-use Rattle.proxy_lanes.specs.Lane.{posted, taken}
+use Rattle.proxy_lanes.specs.Lane.{posted}
 use Rattle.proxy_turns.specs.declared.newcomer.Newcomer.{Newcomer}
 use Rattle.proxy_turns.specs.ClientModel.{ClientModel}
 use Rattle.proxy_turns.specs.WorkerModel.{WorkerModel, WorkerEvent, IsAbove}
@@ -22,10 +20,10 @@ use Rattle.world_laws.specs.declared.event.Event.{Event}
 use Rattle.world_laws.proofs.Nodes.{set-size}
 use Rattle.world_laws.proofs.Recorded.{at-set, set-same, set-other}
 use Rattle.turn_laws.specs.Walks.{Walk}
-use Rattle.turn_laws.specs.System.{System, Mark, IsInStep}
-use Rattle.turn_laws.specs.Shadow.{IsShadow, LogShadow, ClientShadow, HasPosted, Holds, DownInStep, downs_of, downs_in, down_in, ups_in}
+use Rattle.turn_laws.specs.System.{System, IsInStep}
+use Rattle.turn_laws.specs.Shadow.{IsShadow, ClientShadow, HasPosted, Holds, downs_of, downs_in, down_in, ups_in}
 use Rattle.turn_laws.specs.Steps.{WorkerStep}
-use Rattle.turn_laws.proofs.Downs.{Pair, SameBag}
+use Rattle.turn_laws.proofs.Downs.{Pair}
 use Rattle.turn_laws.proofs.Frames.{DownFits, down-fits}
 use Rattle.turn_laws.proofs.AtLanes.{ListShadow}
 use Rattle.turn_laws.proofs.AtWorkers.{nat_eq_by, put-cases, ups-out, rings-same}

@@ -1,12 +1,11 @@
--- The command of a part begins, is dropped, or ends: the machine does nothing.
-use Rattle.std.proofs.Common.{◌≡◌, ◌≢◌, ◌⊎◌, inl, inr, ⊎_elim, ℕ, zero, suc, ◌+◌, ◌-◌, ◌<◌, ◌≤◌, ◌%◌, ◌==◌, Bool, true, false, List, [], ◌∷◌, ◌++◌, Some, None, Result, Ok, Err, refl, sym, ap, ◌∙◌, subst, arith, length}
-use Rattle.std.specs.Prelude.{slice_get, slice_set, Option, All, cond, if◌then◌else◌}
-use Rattle.std.specs.FinMap.{FinMap, get, insert, remove, get-remove}
+-- The command of a part is dropped, or ends: the machine does nothing.
+use Rattle.std.proofs.Common.{◌≡◌, ◌≢◌, inl, inr, ⊎_elim, ℕ, zero, suc, ◌+◌, ◌-◌, ◌<◌, ◌≤◌, ◌%◌, ◌==◌, Bool, true, false, List, Some, None, refl, sym, ap, ◌∙◌, subst, arith, length}
+use Rattle.std.specs.Prelude.{slice_get, slice_set, Option, cond, if◌then◌else◌}
+use Rattle.std.specs.FinMap.{FinMap, get, remove, get-remove}
 use Rattle.std.specs.Ordering.{nat_cmp, eq_by_cmp}
 use Rattle.std.specs.Cmp.{nat_cmp_total, unsigned_ties}
 use Rattle.std.proofs.lemmas.Bool.Decides.{eqb_tells}
 use Rattle.turn_laws.proofs.Settling.{same_number}
-use Rattle.slot_hash.specs.Slot.{slot_of}
 use Rattle.key_split.specs.Same.{same_ticket, same_ticket-Decides}
 use Rattle.key_split.specs.PartModel.{PartModel}
 use Rattle.key_split.specs.declared.travel.Ticket.{Ticket}
@@ -21,23 +20,18 @@ use Rattle.session_order.specs.declared.queue.PartStage.{PartStage}
 use Rattle.session_order.specs.declared.queue.PartStage.TheVariants.{Waiting, Out, Done}
 use Rattle.proxy_turns.specs.Commands.{CommandsModel}
 use Rattle.proxy_turns.specs.ClientModel.{ClientModel}
-use Rattle.proxy_turns.specs.ClientTurn.{ClientContext, HandedOut, Dropped}
-use Rattle.proxy_turns.specs.WorkerModel.{WorkerModel, WorkerEvent, Did, Finished}
-use Rattle.world_laws.specs.State.{WorldModel, slot_for}
+use Rattle.proxy_turns.specs.ClientTurn.{ClientContext, Dropped}
+use Rattle.proxy_turns.specs.WorkerModel.{WorkerModel, Did, Finished}
 use Rattle.world_laws.specs.declared.state.Arrival.{Arrival}
 use Rattle.world_laws.specs.Places.{total, is}
 use Rattle.world_laws.proofs.Nodes.{set-size}
 use Rattle.world_laws.proofs.Tally.{total-found}
 use Rattle.world_laws.proofs.Recorded.{at-set, set-same, set-other}
-use Rattle.turn_laws.specs.Walks.{IsWalked}
-use Rattle.turn_laws.specs.System.{System}
-use Rattle.turn_laws.specs.Shadow.{IsShadow, ClientShadow, PartShadow, StageShadow, CommandsShadow, HasCommand, HasPosted, Holds, ToldFrom, ticket_at, downs_of, downs_in}
-use Rattle.turn_laws.specs.Steps.{AtWorker, WorkerStep}
+use Rattle.turn_laws.specs.Shadow.{ClientShadow, PartShadow, StageShadow, HasCommand, Holds, ToldFrom, downs_of}
+use Rattle.turn_laws.specs.Steps.{AtWorker}
 use Rattle.turn_laws.specs.Refines.{Simulates}
-use Rattle.turn_laws.proofs.Downs.{Pair, SameBag}
-use Rattle.turn_laws.proofs.Frames.{down-fits}
-use Rattle.turn_laws.proofs.Carriers.{refusals, debts}
-use Rattle.turn_laws.proofs.AtWorkers.{nat_eq_by, rings-same, still-there}
+use Rattle.turn_laws.proofs.Downs.{Pair}
+use Rattle.turn_laws.proofs.AtWorkers.{nat_eq_by}
 use Rattle.turn_laws.proofs.Walks.{walked-sound}
 use Rattle.turn_laws.proofs.Told.{Fitting, fitting}
 use Rattle.turn_laws.proofs.Clients.{unseen-step, one-client}
@@ -51,7 +45,7 @@ one-of o x y p q = let one : Some x ≡ Some y = sym p ∙ q in cc
 pub none-some : {X : Type 0} (o : Option X) (x : X) → o ≡ None → o ≡ Some x → ⊥
 none-some o x p q = cc
 
-waits-out : (o : Option PartStage) (part : PartModel) (slot : ℕ) → o ≡ Some (Waiting part) → o ≡ Some (Out slot) → ⊥
+pub waits-out : (o : Option PartStage) (part : PartModel) (slot : ℕ) → o ≡ Some (Waiting part) → o ≡ Some (Out slot) → ⊥
 waits-out o part slot p q = cc
 
 pub awaits-over : (s : Stage) (e : Ended) → s ≡ Awaits → s ≡ Over e → ⊥
@@ -351,140 +345,3 @@ module _ (C J : Type 0) where
       (one-client s w h k number on.old on.new client client' on.at d.2 (ap (λ (x : WorkerModel C J). x.worker) e) (ap (λ (x : WorkerModel C J). x.newest) e) (ap (λ (x : WorkerModel C J). x.outlet) e) (ap (λ (x : WorkerModel C J). x.inlet) e) (ap (λ (x : WorkerModel C J). x.clients) e)
       fits (subst (λ (c : ClientModel C). ClientShadow (downs_of s) k number c w.commands) (sym now) shadow)
       (λ part c p q. ap (λ (x : ClientModel C). get x.commands.posted part) now ∙ (removed-other client.commands.posted ticket.part part (λ same. awaits-over c.stage end q (ap (λ (y : CommandModel). y.stage) (one-of (get client.commands.posted ticket.part) c f (ap (get client.commands.posted) (sym same) ∙ p) has) ∙ over)) ∙ p)))
-
--- ---- handed out
-
-ticket-of : (t u : Ticket) → t.worker ≡ u.worker → t.client ≡ u.client → t.part ≡ u.part → t ≡ u
-ticket-of t u a b c = λ i. record { worker = a i; client = b i; part = c i }
-
-begun-stage : (downs : List Pair) (gone : Bool) (commands : CommandsModel) (f : CommandModel) (c : Arrival) → commands.fresh ≡ None
-    → (stage : PartStage) (end : Ended) → StageShadow downs gone commands stage end c → StageShadow downs gone (record commands { fresh = Some f }) stage end c
-begun-stage downs gone commands f c none (Waiting part) end x = x
-begun-stage downs gone commands f c none (Out slot) end x = (
-  x.0,
-  ⊎_elim
-      (λ (y : (d : CommandModel) × HasCommand commands c.command.ticket.part d × ToldFrom downs d c.command). ⊎_elim
-      (λ (z : (commands.fresh ≡ Some y.0) × ((y.0).ticket.part ≡ c.command.ticket.part)). absurd (none-some commands.fresh y.0 none z.0))
-      (λ (z : get commands.posted c.command.ticket.part ≡ Some y.0). inl (y.0, inr z, y.2))
-      y.1)
-      (λ y. inr y)
-      x.1,
-)
-begun-stage downs gone commands f c none Done end x = x
-
-module _ {C : Type 0} (downs : List Pair) (worker number : ℕ) (client : ClientModel C) (arrivals : List Arrival) (old : ClientShadow downs worker number client arrivals)
-    (i : ℕ) (part : PartModel) (next : slice_get client.session.stages i ≡ Some (Waiting part)) (none : client.commands.fresh ≡ None)
-    (alone : (n : ℕ) (pair : Pair) → slice_get downs n ≡ Some pair → pair.0 ≡ ticket_at client.session (client.session.first + i) → ⊥) where
-  abbrev holds : SessionModel
-  holds = client.session
-
-  abbrev ticket' : Ticket
-  ticket' = ticket_at holds (holds.first + i)
-
-  abbrev given : CommandModel
-  given = fresh ticket' part
-
-  abbrev session2 : SessionModel
-  session2 = record holds { stages = slice_set holds.stages i (Out (slot_of part.key)) }
-
-  abbrev client2 : ClientModel C
-  client2 = record client { session = session2; commands = record (client.commands) { fresh = Some given } }
-
-  out-still : (t : Ticket) → IsHandedOut holds t → IsHandedOut session2 t
-  out-still t x = (x.0, x.1, set-other holds.stages i (Out (slot_of part.key)) (t.part - holds.first) (Out x.0) (λ e. waits-out (slice_get holds.stages i) part x.0 next (ap (slice_get holds.stages) (sym e) ∙ x.2)) x.2, x.3, x.4)
-
-  place-of : (p : ℕ) → holds.first ≤ p → p - holds.first ≡ i → p ≡ holds.first + i
-  place-of p le e = omega (arith, le, e)
-
-  part2 : (j : ℕ) (c : Arrival) → slice_get arrivals j ≡ Some c → c.command.ticket.client ≡ number → PartShadow downs client2 c
-  part2 j c at n = ⊎_elim
-      (λ (x : (c.command.ticket.part < holds.first) × (c.answered ≡ true) × ((ended : Ended) × (c.command.stage ≡ Over ended))). inl x)
-      (λ (x : (holds.first ≤ c.command.ticket.part) × (c.answered ≡ false) × ((stage : PartStage) × (e : Ended)
-      × (slice_get holds.stages (c.command.ticket.part - holds.first) ≡ Some stage)
-      × (slice_get holds.ends (c.command.ticket.part - holds.first) ≡ Some e)
-      × StageShadow downs client.gone client.commands stage e c)).
-      ⊎_elim
-      (λ (y : (((c.command.ticket.part - holds.first) == i) ≡ true) × ((c.command.ticket.part - holds.first) ≡ i)). here x.0 x.1 x.2.0 x.2.1 x.2.2 x.2.3 x.2.4 y.1)
-      (λ (y : (((c.command.ticket.part - holds.first) == i) ≡ false) × ((c.command.ticket.part - holds.first) ≢ i)).
-      inr (x.0, x.1, (x.2.0, x.2.1, set-other holds.stages i (Out (slot_of part.key)) (c.command.ticket.part - holds.first) x.2.0 y.1 x.2.2, x.2.3, begun-stage downs client.gone client.commands given c none x.2.0 x.2.1 x.2.4)))
-      (eqb_tells (c.command.ticket.part - holds.first) i))
-      (old.parts j c at n)
-    where
-      here : holds.first ≤ c.command.ticket.part → c.answered ≡ false → (stage : PartStage) (e : Ended) → slice_get holds.stages (c.command.ticket.part - holds.first) ≡ Some stage
-          → slice_get holds.ends (c.command.ticket.part - holds.first) ≡ Some e → StageShadow downs client.gone client.commands stage e c
-          → (c.command.ticket.part - holds.first) ≡ i → PartShadow downs client2 c
-      here le open' stage e p q x m =
-          let waits : stage ≡ Waiting part = one-item holds.stages i stage (Waiting part) (ap (slice_get holds.stages) (sym m) ∙ p) next in
-          let so : c.command ≡ fresh c.command.ticket part = subst (λ (s : PartStage). StageShadow downs client.gone client.commands s e c) waits x in
-          let mine' : c.command.ticket ≡ ticket' = ticket-of c.command.ticket ticket' (old.homes j c at n ∙ sym old.housed) (n ∙ sym old.numbered) (place-of c.command.ticket.part le m) in
-          let same : c.command ≡ given = so ∙ ap (λ t. fresh t part) mine' in
-          inr (
-            le,
-            open',
-            (
-              Out (slot_of part.key),
-              e,
-              ap (slice_get (slice_set holds.stages i (Out (slot_of part.key)))) m ∙ set-same holds.stages i (Waiting part) (Out (slot_of part.key)) next,
-              q,
-              (
-                ap (λ (d : CommandModel). slot_of d.part.key) (sym same),
-                inl (given, inl (refl, ap (λ (t : Ticket). t.part) (sym mine')), inl (same, told-nobody downs ticket' alone)),
-              ),
-            ),
-          )
-
-  pub begun-shadow : ClientShadow downs worker number client2 arrivals
-  begun-shadow = record {
-    numbered = old.numbered;
-    housed = old.housed;
-    all = old.all ∙ ap (λ m. holds.first + m) (sym (set-size holds.stages i (Out (slot_of part.key))));
-    stands = λ p lt. old.stands p (subst (λ m. p < holds.first + m) (set-size holds.stages i (Out (slot_of part.key))) lt);
-    homes = old.homes;
-    parts = part2;
-    commands = record {
-      posted = λ m c e. let was = (old.commands).posted m c e in (was.0, out-still c.ticket was.1);
-      fresh = λ c e. subst (λ (d : CommandModel). IsHandedOut session2 d.ticket × (d ≡ fresh d.ticket d.part) × (get client.commands.posted d.ticket.part ≡ None)) (one-of (Some given) given c refl e) (
-        (slot_of part.key, omega arith, ap (slice_get (slice_set holds.stages i (Out (slot_of part.key)))) (less holds.first i) ∙ set-same holds.stages i (Waiting part) (Out (slot_of part.key)) next, refl, refl),
-        refl,
-        vacant (get client.commands.posted (holds.first + i)) refl,
-      );
-    };
-    owed = old.owed ∙ sym (set-size holds.stages i (Out (slot_of part.key)));
-    ends = old.ends ∙ sym (set-size holds.stages i (Out (slot_of part.key)));
-  }
-    where
-      less : (a b : ℕ) → (a + b) - a ≡ b
-      less a b = omega arith
-
-      vacant : (o : Option CommandModel) → get client.commands.posted (holds.first + i) ≡ o → get client.commands.posted (holds.first + i) ≡ None
-      vacant None e = e
-      vacant (Some d) e =
-          let was = (old.commands).posted (holds.first + i) d e in
-          absurd (waits-out (slice_get holds.stages i) part was.1.0 next (ap (slice_get holds.stages) (sym (less holds.first i) ∙ ap (λ p. p - holds.first) (sym was.0)) ∙ was.1.2))
-
-module _ (C J : Type 0) where
-  pub handed-out : (k number : ℕ) (ticket : Ticket) (part : PartModel) → Simulates C J (AtWorker k (Did number (HandedOut ticket part)))
-  handed-out k number ticket part s s' w h walked on =
-      let d = on.does in
-      let client : ClientModel C = d.0 in
-      let client' : ClientModel C = d.1 in
-      let r = d.3.2 in
-      let i : ℕ = r.0 in
-      let next : slice_get client.session.stages i ≡ Some (Waiting part) = r.1.2 in
-      let fits = fitting s w (walked-sound w walked).placed h in
-      let old : ClientShadow (downs_of s) k number client w.commands = (h.clients k on.old number client on.at d.2).1 in
-      let t : Ticket = ticket_at client.session (client.session.first + i) in
-      let alone : (n : ℕ) (pair : Pair) → slice_get (downs_of s) n ≡ Some pair → pair.0 ≡ t → ⊥ = λ n pair x same.
-      let a = told-awaits s.workers (length s.carrier.lanes) w.workers (downs_of s) w.commands fits k number on.old client on.at d.2 t n pair.1 (x ∙ ap (λ u. Some (u, pair.1)) same) old.numbered in
-      let out = ((old.commands).posted (client.session.first + i) a.0 a.1) in
-      waits-out (slice_get client.session.stages i) part out.1.0 next (ap (slice_get client.session.stages) (back client.session.first i (a.0).ticket.part out.0) ∙ out.1.2) in
-      let plain : ClientModel C = record client { session = record (client.session) { stages = slice_set client.session.stages i (Out (slot_of part.key)) }; commands = record (client.commands) { fresh = Some (fresh t part) } } in
-      let now : client' ≡ plain = ap (λ (x : ClientContext C). x.client) d.3.3 ∙ (λ n. record client { session = r.3 n; commands = record (client.commands) { fresh = Some (fresh (r.2 n) part) } }) in
-      let e = d.4 in
-      unseen-step k (Did number (HandedOut ticket part)) s s' w on on.seen.4
-      (one-client s w h k number on.old on.new client client' on.at d.2 (ap (λ (x : WorkerModel C J). x.worker) e) (ap (λ (x : WorkerModel C J). x.newest) e) (ap (λ (x : ClientContext C). x.outlet) d.3.3) (ap (λ (x : WorkerModel C J). x.inlet) e) (ap (λ (x : WorkerModel C J). x.clients) e)
-      fits (subst (λ (c : ClientModel C). ClientShadow (downs_of s) k number c w.commands) (sym now) (begun-shadow (downs_of s) k number client w.commands old i part next d.3.1 alone))
-      (λ p c q z. ap (λ (x : ClientModel C). get x.commands.posted p) now ∙ q))
-    where
-      back : (first i p : ℕ) → p ≡ first + i → i ≡ p - first
-      back first i p e = omega (arith, e)

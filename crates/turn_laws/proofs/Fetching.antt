@@ -1,35 +1,19 @@
 -- The carrier reads: nothing, or the reply to ASKING, which the machine fetches too.
-use Rattle.std.proofs.Common.{◌≡◌, ◌≢◌, ◌⊎◌, inl, inr, ⊎_elim, ℕ, zero, suc, ◌+◌, ◌<◌, ◌≤◌, Bool, true, false, List, [], ◌∷◌, ◌++◌, Some, None, Result, Ok, Err, refl, sym, ap, ◌∙◌, subst, arith, length}
-use Rattle.std.specs.Prelude.{slice_get, slice_set, Option, All, map}
-use Rattle.std.specs.List.{list_any}
+use Rattle.std.proofs.Common.{◌≡◌, ⊎_elim, List, [], ◌∷◌, ◌++◌, Some, None, sym, ap, ◌∙◌, subst, arith, length}
+use Rattle.std.specs.Prelude.{All, map}
 use Rattle.std.proofs.lemmas.List.{append-nil}
 use Rattle.resp_wire.specs.declared.value.Value.{Value}
-use Rattle.key_split.specs.declared.travel.Ticket.{Ticket}
-use Rattle.key_split.specs.declared.travel.Told.{Told}
-use Rattle.key_split.specs.Requests.{Request}
 use Rattle.slot_map.specs.Table.{Endpoint}
 use Rattle.node_link.specs.LinkModel.{LinkModel}
 use Rattle.node_link.specs.LinkCalls.{due_of, Comes}
 use Rattle.node_link.specs.declared.link.Due.{Due}
-use Rattle.node_link.specs.declared.link.Due.TheVariants as due
-use Rattle.proxy_lanes.specs.declared.ends.lane_ends.LaneEnds.{LaneEnds}
-use Rattle.proxy_turns.specs.declared.newcomer.Newcomer.{Newcomer}
-use Rattle.proxy_turns.specs.declared.backend.Backend.{Backend}
-use Rattle.proxy_turns.specs.declared.backend_step.BackendStep.TheVariants.{Waited}
-use Rattle.proxy_turns.specs.Backend.{BackendContext, BackendDoes, is_unanswered}
-use Rattle.proxy_turns.specs.WorkerModel.{WorkerModel}
-use Rattle.proxy_turns.specs.CarrierModel.{CarrierModel, CarrierEvent, AtBackend, context_of}
-use Rattle.world_laws.specs.State.{WorldModel, Link}
+use Rattle.world_laws.specs.State.{Link}
 use Rattle.world_laws.specs.declared.state.Arrival.{Arrival}
 use Rattle.world_laws.specs.declared.state.LinkReply.{LinkReply}
-use Rattle.world_laws.specs.declared.state.LinkReply.TheVariants.{Welcome}
-use Rattle.world_laws.specs.Places.{total, is}
+use Rattle.world_laws.specs.Places.{is}
 use Rattle.turn_laws.specs.Wire.{Wire, Exchanges}
-use Rattle.turn_laws.specs.System.{System}
-use Rattle.turn_laws.specs.Shadow.{IsShadow, IsWorking, LinksShadow, UpsShadow, LogShadow, ClientShadow, OpenShadow, IsIdle, DownInStep, downs_of, coming, coming_of, backs_in, back_of, requests_in, IsKnown}
-use Rattle.turn_laws.specs.Steps.{CarrierStep, any_failures, any_garbled}
-use Rattle.turn_laws.proofs.Downs.{Pair, SameBag, bag-has}
-use Rattle.turn_laws.proofs.Frames.{client-same}
+use Rattle.turn_laws.specs.Shadow.{OpenShadow, coming, coming_of, backs_in, back_of, requests_in, IsKnown}
+use Rattle.turn_laws.specs.Steps.{any_failures, any_garbled}
 
 -- the value that is next stands first among those that come
 pub comes-first : (link : LinkModel Wire) (port : Wire) (value : Value) → Comes any_failures any_garbled Exchanges link (Some value) port

@@ -1,18 +1,14 @@
 -- One connection and its link change together, and the others stay.
-use Rattle.std.proofs.Common.{◌≡◌, ◌≢◌, ◌⊎◌, inl, inr, ⊎_elim, ℕ, zero, suc, ◌+◌, ◌<◌, ◌≤◌, ◌==◌, Bool, true, false, List, [], ◌∷◌, ◌++◌, Some, None, refl, sym, ap, ◌∙◌, subst, arith, length}
-use Rattle.std.specs.Prelude.{slice_get, slice_set, Option, All}
-use Rattle.std.proofs.lemmas.Bool.{false≢true}
+use Rattle.std.proofs.Common.{◌≡◌, ◌≢◌, ◌⊎◌, inl, inr, ⊎_elim, ℕ, ◌<◌, ◌==◌, true, false, List, Some, sym, ap, ◌∙◌, subst, length}
+use Rattle.std.specs.Prelude.{slice_get, slice_set}
 use Rattle.std.proofs.lemmas.Bool.Decides.{eqb_tells}
-use Rattle.key_split.specs.Requests.{Request}
-use Rattle.slot_map.specs.Table.{Endpoint}
 use Rattle.node_link.specs.LinkModel.{LinkModel}
 use Rattle.world_laws.specs.State.{WorldModel, Link}
-use Rattle.world_laws.specs.declared.state.Arrival.{Arrival}
 use Rattle.world_laws.proofs.Nodes.{set-size}
-use Rattle.world_laws.proofs.Recorded.{at-set, set-same, set-other}
+use Rattle.world_laws.proofs.Recorded.{set-same, set-other}
 use Rattle.proxy_turns.specs.CarrierModel.{CarrierModel}
 use Rattle.turn_laws.specs.Wire.{Wire}
-use Rattle.turn_laws.specs.Shadow.{IsWorking, LinksShadow, BackendShadow, WireShadow, OpenShadow, ClosedShadow, Numbers}
+use Rattle.turn_laws.specs.Shadow.{IsWorking, LinksShadow, BackendShadow, OpenShadow, ClosedShadow, Numbers}
 
 module _ {H : Type 0} (a b : CarrierModel H Wire) (closed : List Wire) (opened : ℕ) (w w' : WorldModel) (h : LinksShadow a closed opened w) where
   -- The connection of backend k goes from `link` to `link'`, and its link, number n, from l to l'.

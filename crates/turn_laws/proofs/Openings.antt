@@ -1,11 +1,9 @@
 -- A node is dialled: the new connection is idle, and the machine has no link for it yet.
-use Rattle.std.proofs.Common.{◌≡◌, ◌≢◌, ◌⊎◌, inl, inr, ⊎_elim, ℕ, zero, suc, ◌+◌, ◌<◌, ◌≤◌, Bool, true, false, List, [], ◌∷◌, ◌++◌, Some, None, refl, sym, ap, ◌∙◌, subst, arith, length}
-use Rattle.std.specs.Prelude.{slice_get, slice_set, IsSome, Option, All}
-use Rattle.std.proofs.lemmas.Bool.{false≢true}
+use Rattle.std.proofs.Common.{◌≡◌, ◌≢◌, ◌⊎◌, inl, inr, ⊎_elim, ℕ, suc, ◌<◌, true, false, List, [], ◌++◌, Some, None, refl, sym, ap, ◌∙◌, subst, arith, length}
+use Rattle.std.specs.Prelude.{slice_get, slice_set, Option}
 use Rattle.slot_map.specs.Table.{Endpoint}
 use Rattle.node_link.specs.LinkModel.{LinkModel}
 use Rattle.proxy_turns.specs.declared.newcomer.Newcomer.{Newcomer}
-use Rattle.proxy_lanes.specs.declared.ends.lane_ends.LaneEnds.{LaneEnds}
 use Rattle.proxy_turns.specs.declared.backend.Backend.{Backend}
 use Rattle.proxy_turns.specs.Backend.{fresh_link}
 use Rattle.proxy_turns.specs.CarrierModel.{CarrierModel, CarrierEvent, Opened, Reached}
@@ -16,7 +14,7 @@ use Rattle.turn_laws.specs.Wire.{Wire, new_wire}
 use Rattle.turn_laws.specs.System.{System}
 use Rattle.turn_laws.specs.Shadow.{IsShadow, IsWorking, LinksShadow, BackendShadow, LaneShadow, IsIdle, IsUnnumbered, downs_of, downs_in, told_in, lost_in}
 use Rattle.turn_laws.specs.Steps.{CarrierStep, Opens, FailsAt}
-use Rattle.turn_laws.proofs.Downs.{Pair, SameBag, total-set-flat}
+use Rattle.turn_laws.proofs.Downs.{SameBag, total-set-flat}
 use Rattle.turn_laws.proofs.Frames.{same-seats, down-fits, carrier-frame, still-closed}
 use Rattle.turn_laws.proofs.Carriers.{refusals, debts, bag-parts, not-up}
 

@@ -1,35 +1,31 @@
 -- The first batch of a lane leaves it: it is refused, and the machine tells so at once.
-use Rattle.std.proofs.Common.{◌≡◌, ◌≢◌, ◌⊎◌, inl, inr, ⊎_elim, ℕ, zero, suc, ◌+◌, ◌<◌, ◌≤◌, ◌==◌, Bool, true, false, List, [], ◌∷◌, ◌++◌, Some, None, Result, Ok, Err, refl, sym, ap, ◌∙◌, subst, arith, length}
-use Rattle.std.specs.Prelude.{slice_get, slice_set, Option, All, map, filter, remove, position, if◌then◌else◌}
+use Rattle.std.proofs.Common.{◌≡◌, ◌≢◌, ⊎_elim, ℕ, zero, suc, ◌+◌, ◌<◌, ◌==◌, Bool, true, false, List, [], ◌∷◌, ◌++◌, Some, None, refl, sym, ap, ◌∙◌, subst, arith, length}
+use Rattle.std.specs.Prelude.{slice_get, slice_set, Option, All, map, filter, remove, if◌then◌else◌}
 use Rattle.std.specs.List.{position_from}
 use Rattle.std.proofs.lemmas.Iterator.Adapters.{position_from-zero}
-use Rattle.std.proofs.lemmas.Bool.Decides.{nat_tests, eqb_tells}
-use Rattle.std.proofs.lemmas.Bool.{false≢true}
+use Rattle.std.proofs.lemmas.Bool.Decides.{eqb_tells}
 use Rattle.key_split.specs.declared.travel.Batch.{Batch}
-use Rattle.key_split.specs.declared.travel.Ticket.{Ticket}
-use Rattle.key_split.specs.declared.travel.Told.{Told}
 use Rattle.key_split.specs.declared.travel.Told.TheVariants.{Unsent}
 use Rattle.proxy_lanes.specs.declared.ends.lane_ends.LaneEnds.{LaneEnds}
 use Rattle.proxy_turns.specs.declared.newcomer.Newcomer.{Newcomer}
 use Rattle.proxy_turns.specs.declared.pending_batch.PendingBatch.{PendingBatch}
-use Rattle.proxy_turns.specs.declared.backend.Backend.{Backend}
 use Rattle.proxy_turns.specs.WorkerModel.{WorkerModel}
 use Rattle.proxy_turns.specs.CarrierModel.{CarrierModel, Refused}
 use Rattle.world_laws.specs.State.{WorldModel}
 use Rattle.world_laws.specs.declared.state.Posted.{Posted}
-use Rattle.world_laws.specs.World.{IsFirst, lies_in, starts_at}
+use Rattle.world_laws.specs.World.{IsFirst, lies_in}
 use Rattle.world_laws.specs.declared.event.Event.{Event}
 use Rattle.world_laws.specs.declared.event.Event.TheVariants.{Refuse}
 use Rattle.world_laws.specs.Places.{total}
 use Rattle.world_laws.proofs.Tally.{total-append}
-use Rattle.world_laws.proofs.Recorded.{at-set, set-same}
+use Rattle.world_laws.proofs.Recorded.{set-same}
 use Rattle.turn_laws.specs.Walks.{Walk, IsWalked}
 use Rattle.turn_laws.specs.Wire.{Wire}
 use Rattle.turn_laws.specs.System.{System, between}
-use Rattle.turn_laws.specs.Shadow.{IsShadow, LinksShadow, UpsShadow, HasPart, lane_of, lying, ups_in, batch_in, downs_of, downs_in, refused_in, IsWorking}
+use Rattle.turn_laws.specs.Shadow.{IsShadow, UpsShadow, HasPart, lane_of, lying, ups_in, batch_in, downs_of, downs_in, refused_in}
 use Rattle.turn_laws.specs.Steps.{AtCarrier, CarrierStep}
 use Rattle.turn_laws.specs.Refines.{Simulates}
-use Rattle.turn_laws.proofs.Downs.{Pair, SameBag, total-set-flat}
+use Rattle.turn_laws.proofs.Downs.{SameBag, total-set-flat}
 use Rattle.turn_laws.proofs.Frames.{set-seats, down-fits, links-still, still-closed, still-opened, works-still, no-failure}
 use Rattle.turn_laws.proofs.Carriers.{refusals, debts, bag-parts}
 use Rattle.turn_laws.proofs.AtLanes.{ListShadow, same-backends, beside, get-other}

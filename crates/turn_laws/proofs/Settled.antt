@@ -1,16 +1,11 @@
 -- A step of the carrier by which something comes down: the machine's event, and all that came down is told at once.
-use Rattle.std.proofs.Common.{◌≡◌, ◌≢◌, ◌⊎◌, inl, inr, ⊎_elim, ℕ, zero, suc, ◌+◌, ◌<◌, ◌≤◌, Bool, true, false, List, [], ◌∷◌, ◌++◌, Some, None, refl, sym, ap, ◌∙◌, subst, arith, length}
-use Rattle.std.specs.Prelude.{slice_get, slice_set, Option, All, map}
+use Rattle.std.proofs.Common.{◌≡◌, ℕ, ◌≤◌, List, [], ◌∷◌, ◌++◌, Some, refl, sym, ap, ◌∙◌, subst, arith, length}
+use Rattle.std.specs.Prelude.{slice_get, map}
 use Rattle.world_laws.specs.declared.history.Answer.{Answer}
-use Rattle.std.specs.FinMap.{get}
-use Rattle.key_split.specs.declared.travel.Ticket.{Ticket}
-use Rattle.key_split.specs.declared.travel.Told.{Told}
-use Rattle.command_future.specs.CommandModel.{CommandModel}
 use Rattle.proxy_lanes.specs.declared.ends.lane_ends.LaneEnds.{LaneEnds}
 use Rattle.proxy_turns.specs.declared.newcomer.Newcomer.{Newcomer}
-use Rattle.proxy_turns.specs.ClientModel.{ClientModel}
 use Rattle.proxy_turns.specs.WorkerModel.{WorkerModel}
-use Rattle.proxy_turns.specs.CarrierModel.{CarrierModel, CarrierEvent}
+use Rattle.proxy_turns.specs.CarrierModel.{CarrierEvent}
 use Rattle.world_laws.specs.State.{WorldModel, Link}
 use Rattle.world_laws.specs.declared.state.Posted.{Posted}
 use Rattle.world_laws.specs.declared.state.Arrival.{Arrival}
@@ -18,12 +13,10 @@ use Rattle.world_laws.specs.World.{WorldDoes}
 use Rattle.world_laws.specs.declared.event.Event.{Event}
 use Rattle.world_laws.proofs.Placed.{Placed}
 use Rattle.world_laws.proofs.Lives.{does-moment}
-use Rattle.world_laws.proofs.Runs.{Sound}
 use Rattle.turn_laws.specs.Walks.{ticked, Walk, IsWalked}
-use Rattle.turn_laws.specs.Settling.{TellsAll, Settles}
-use Rattle.turn_laws.specs.Wire.{Wire}
+use Rattle.turn_laws.specs.Settling.{TellsAll}
 use Rattle.turn_laws.specs.System.{System, Mark}
-use Rattle.turn_laws.specs.Shadow.{IsShadow, LinksShadow, UpsShadow, LaneShadow, LogShadow, AreApart, Holds, downs_of}
+use Rattle.turn_laws.specs.Shadow.{IsShadow, LinksShadow, UpsShadow, LogShadow, AreApart, Holds, downs_of}
 use Rattle.turn_laws.specs.Steps.{CarrierStep, UpsInStep}
 use Rattle.turn_laws.proofs.Downs.{Pair, SameBag}
 use Rattle.turn_laws.proofs.Frames.{DownFits, Seats}

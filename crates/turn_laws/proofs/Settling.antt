@@ -1,12 +1,11 @@
 -- Takings empty what came down, whatever came.
-use Rattle.std.proofs.Common.{◌≡◌, ℕ, ◌+◌, ◌<◌, ◌==◌, Bool, true, false, List, [], ◌∷◌, ◌++◌, Some, None, refl, sym, ap, ◌∙◌, subst, arith}
-use Rattle.std.specs.Prelude.{slice_get, slice_set, remove, position, if◌then◌else◌}
+use Rattle.std.proofs.Common.{◌≡◌, ℕ, ◌==◌, Bool, true, false, List, [], ◌∷◌, ◌++◌, Some, refl, sym, ap, ◌∙◌, subst, arith}
+use Rattle.std.specs.Prelude.{slice_get, slice_set, remove, if◌then◌else◌}
 use Rattle.std.specs.List.{position_from}
 use Rattle.std.proofs.lemmas.Iterator.Adapters.{position_from-zero}
 use Rattle.std.proofs.lemmas.Bool.Decides.{nat_tests}
 use Rattle.key_split.specs.declared.travel.Ticket.{Ticket}
 use Rattle.key_split.specs.declared.travel.Told.{Told}
-use Rattle.command_future.specs.declared.stage.Stage.TheVariants.{Awaits}
 use Rattle.world_laws.specs.State.{WorldModel, after_told, start}
 use Rattle.world_laws.specs.declared.state.Arrival.{Arrival}
 use Rattle.world_laws.specs.World.{WorldDoes, IsFirst, IsOf}
@@ -16,7 +15,7 @@ use Rattle.world_laws.proofs.Placed.{Placed}
 use Rattle.world_laws.proofs.Lives.{ticket-is}
 use Rattle.world_laws.proofs.Allowed.{awaited, found, down-here, ticked as placed-ticked}
 use Rattle.world_laws.proofs.Runs.{Sound, does-sound}
-use Rattle.turn_laws.specs.Walks.{ticked, Walk, IsWalked}
+use Rattle.turn_laws.specs.Walks.{ticked, Walk}
 use Rattle.turn_laws.specs.Settling.{Tells, TellsAll, Settles, Settling, SettlingAfter}
 use Rattle.turn_laws.proofs.Walks.{walked-sound, walks_join}
 

@@ -1,5 +1,5 @@
 -- What the carrier does, what a worker does unseen, and the moves are some events of the machine.
-use Rattle.std.proofs.Common.{◌≡◌, ℕ, ◌+◌, List, [], ◌∷◌, ◌++◌, Some, refl, sym, ap, ◌∙◌, subst}
+use Rattle.std.proofs.Common.{ℕ, [], refl}
 use Rattle.world_laws.specs.State.{WorldModel}
 use Rattle.world_laws.specs.declared.event.Event.{Event}
 use Rattle.proxy_turns.specs.declared.backend_step.BackendStep.{BackendStep}
@@ -7,14 +7,16 @@ use Rattle.proxy_turns.specs.declared.backend_step.BackendStep.TheVariants as ba
 use Rattle.proxy_turns.specs.CarrierModel.{CarrierEvent, AtBackend, Starved, WorkerAdded, BackendAdded, Looked, Took, Opened, Refused, Missed, SeedReached, Sought, Reached, NotFound, Sent, Gave, GaveUnsent}
 use Rattle.proxy_turns.specs.ClientTurn.{ClientEvent, Pulled, Fed, Read, HandedOut, Looked as LookedUp, CameBack, Posted, Drained, Pushed, Tried, Parted, Dropped}
 use Rattle.proxy_turns.specs.WorkerModel.{WorkerEvent, Did, Finished, Took as TookPair, FoundNone, Came, TurnedAway, FoundNobody, Left}
-use Rattle.turn_laws.specs.Walks.{Walk, IsWalked}
+use Rattle.turn_laws.specs.Walks.{IsWalked}
 use Rattle.turn_laws.specs.System.{System}
 use Rattle.turn_laws.specs.Shadow.{IsShadow}
-use Rattle.turn_laws.specs.Steps.{SystemEvent, AtWorker, AtCarrier, AtNode, AtBroken, Thrown, Moved, CarrierStep, WorkerStep}
+use Rattle.turn_laws.specs.Steps.{AtWorker, AtCarrier, Thrown, Moved, CarrierStep, WorkerStep}
 use Rattle.turn_laws.specs.Refines.{IsStart, IsUnseen, Simulates}
 use Rattle.turn_laws.proofs.Starts.{shadow, walked}
 use Rattle.turn_laws.proofs.AtLines as at-line
 use Rattle.turn_laws.proofs.AtLanes as at-lane
+use Rattle.turn_laws.proofs.Looked.{looked}
+use Rattle.turn_laws.proofs.Departing.{left}
 use Rattle.turn_laws.proofs.Openings.{opened, reached}
 use Rattle.turn_laws.proofs.Waiting.{waited}
 use Rattle.turn_laws.proofs.Starving.{starved}
@@ -27,7 +29,8 @@ use Rattle.turn_laws.proofs.Refused.{refused}
 use Rattle.turn_laws.proofs.Broke.{broke}
 use Rattle.turn_laws.proofs.Asked.{asked}
 use Rattle.turn_laws.proofs.Sent.{sent-on}
-use Rattle.turn_laws.proofs.Ending.{dropped, finished, handed-out}
+use Rattle.turn_laws.proofs.Begun.{handed-out}
+use Rattle.turn_laws.proofs.Ending.{dropped, finished}
 use Rattle.turn_laws.proofs.Came.{came}
 use Rattle.turn_laws.proofs.Took.{took}
 
@@ -59,7 +62,7 @@ module _ (C J : Type 0) where
   carrier-step Starved = unseen Starved starved
   carrier-step WorkerAdded = unseen WorkerAdded at-lane.added
   carrier-step BackendAdded = unseen BackendAdded at-lane.lined
-  carrier-step Looked = unseen Looked at-lane.looked
+  carrier-step Looked = unseen Looked looked
   carrier-step Took = unseen Took at-lane.took
   carrier-step Opened = unseen Opened (λ s s' w h on. opened s s' w h on)
   carrier-step Refused = refused C J
@@ -97,7 +100,7 @@ module _ (C J : Type 0) where
   worker-unseen k (Came number) _ = came C J k number
   worker-unseen k (TurnedAway number) _ = unseen-at k (TurnedAway number) (at-worker.turned-away k number)
   worker-unseen k FoundNobody _ = unseen-at k FoundNobody (at-worker.found-nobody k)
-  worker-unseen k (Left number) _ = unseen-at k (Left number) (at-worker.left k number)
+  worker-unseen k (Left number) _ = unseen-at k (Left number) (left k number)
 
   pub moved : (event : Event) → Simulates C J (Moved event)
   moved = at-node.moved C J

@@ -1,24 +1,19 @@
 -- The start of the system is that of the machine.
-use Rattle.std.proofs.Common.{◌≡◌, ◌⊎◌, ℕ, zero, suc, ◌+◌, ◌<◌, ◌≤◌, List, [], ◌∷◌, ◌++◌, Some, None, refl, sym, ap, ◌∙◌, subst, arith, length}
-use Rattle.std.specs.Prelude.{slice_get, Option, All, map}
+use Rattle.std.proofs.Common.{◌≡◌, ℕ, suc, List, [], ◌∷◌, Some, None, refl, sym, ap, ◌∙◌, subst, arith, length}
+use Rattle.std.specs.Prelude.{slice_get, All}
 use Rattle.std.specs.FinMap.{get, empty, get-empty}
 use Rattle.std.specs.Ordering.{nat_cmp}
-use Rattle.key_split.specs.declared.travel.Batch.{Batch}
-use Rattle.key_split.specs.declared.travel.Ticket.{Ticket}
-use Rattle.key_split.specs.declared.travel.Told.{Told}
 use Rattle.proxy_lanes.specs.declared.ends.lane_ends.LaneEnds.{LaneEnds}
 use Rattle.proxy_turns.specs.declared.newcomer.Newcomer.{Newcomer}
 use Rattle.proxy_turns.specs.declared.pending_batch.PendingBatch.{PendingBatch}
-use Rattle.proxy_turns.specs.declared.backend.Backend.{Backend}
 use Rattle.proxy_turns.specs.ClientModel.{ClientModel}
 use Rattle.proxy_turns.specs.WorkerModel.{WorkerModel}
 use Rattle.world_laws.specs.State.{WorldModel, start}
 use Rattle.world_laws.specs.Places.{total, is}
 use Rattle.world_laws.proofs.Tally.{total-append, total-one}
 use Rattle.turn_laws.specs.Walks.{IsWalked}
-use Rattle.turn_laws.specs.Wire.{Wire}
-use Rattle.turn_laws.specs.System.{System, Mark, between}
-use Rattle.turn_laws.specs.Shadow.{IsShadow, LinksShadow, LogShadow, IsWorking, downs_of, downs_in, down_in, ups_in}
+use Rattle.turn_laws.specs.System.{System}
+use Rattle.turn_laws.specs.Shadow.{IsShadow, LinksShadow, LogShadow, downs_of, downs_in, down_in, ups_in}
 use Rattle.turn_laws.specs.Refines.{IsStart}
 use Rattle.turn_laws.proofs.Downs.{Pair}
 use Rattle.turn_laws.proofs.Carriers.{refusals, debts, bag-parts}

@@ -1,5 +1,5 @@
 -- A pair goes on its way down, and the machine tells it at once: the clients' shadows stay. This is what Fetched, Refused and a broken link want.
-use Rattle.std.proofs.Common.{◌≡◌, ◌≢◌, ◌⊎◌, inl, inr, ⊎_elim, ℕ, zero, suc, ◌+◌, ◌-◌, ◌<◌, ◌≤◌, ◌==◌, Bool, true, false, List, [], ◌∷◌, Some, None, refl, sym, ap, ◌∙◌, subst, arith, length}
+use Rattle.std.proofs.Common.{◌≡◌, ◌≢◌, inl, inr, ⊎_elim, ℕ, zero, suc, ◌+◌, ◌-◌, ◌<◌, ◌≤◌, ◌==◌, Bool, true, false, List, [], ◌∷◌, Some, None, refl, sym, ap, ◌∙◌, subst, arith}
 use Rattle.std.specs.Prelude.{slice_get, slice_set, count_by, cond, if◌then◌else◌}
 use Rattle.std.proofs.lemmas.List.Sums.{sum_by-cons}
 use Rattle.std.proofs.lemmas.Bool.Decides.{eqb_tells}
@@ -7,14 +7,14 @@ use Rattle.key_split.specs.declared.travel.Ticket.{Ticket}
 use Rattle.key_split.specs.declared.travel.Told.{Told}
 use Rattle.key_split.specs.declared.travel.Told.TheVariants.{Reply, Moved, Ask, TryAgain, ClusterDown, Unclear, Unsent}
 use Rattle.key_split.specs.declared.travel.Ended.{Ended}
-use Rattle.command_future.specs.CommandModel.{CommandModel, fresh, progress_told, refused_at}
+use Rattle.command_future.specs.CommandModel.{CommandModel, progress_told, refused_at}
 use Rattle.command_future.specs.declared.stage.Stage.{Stage as Life}
 use Rattle.command_future.specs.declared.stage.Stage.TheVariants.{Wants, WantsAsking, Awaits, Over}
 use Rattle.session_order.specs.declared.queue.PartStage.{PartStage}
 use Rattle.session_order.specs.declared.queue.PartStage.TheVariants.{Waiting, Out, Done}
 use Rattle.proxy_turns.specs.Commands.{CommandsModel}
 use Rattle.proxy_turns.specs.ClientModel.{ClientModel}
-use Rattle.world_laws.specs.State.{WorldModel, after_told, slot_for}
+use Rattle.world_laws.specs.State.{after_told}
 use Rattle.world_laws.specs.declared.state.Arrival.{Arrival}
 use Rattle.world_laws.specs.Places.{total, is}
 use Rattle.world_laws.proofs.Recorded.{at-set, set-same, set-other}

@@ -1,18 +1,15 @@
 -- The requests of a broken connection are thrown away.
-use Rattle.std.proofs.Common.{◌≡◌, ◌≢◌, ◌⊎◌, inl, inr, ⊎_elim, ℕ, zero, suc, ◌+◌, ◌<◌, ◌≤◌, ◌==◌, Bool, true, false, List, [], ◌∷◌, Some, None, refl, sym, ap, ◌∙◌, subst, arith, length}
-use Rattle.std.specs.Prelude.{slice_get, slice_set, All}
+use Rattle.std.proofs.Common.{◌≡◌, ◌≢◌, inl, inr, ⊎_elim, ℕ, ◌<◌, ◌≤◌, ◌==◌, true, false, List, [], Some, refl, sym, ap, ◌∙◌, subst, arith, length}
+use Rattle.std.specs.Prelude.{slice_get, slice_set}
 use Rattle.std.proofs.lemmas.Bool.Decides.{eqb_tells}
-use Rattle.node_link.specs.LinkModel.{LinkModel}
 use Rattle.proxy_turns.specs.CarrierModel.{CarrierModel}
 use Rattle.world_laws.specs.State.{WorldModel, Link}
 use Rattle.world_laws.specs.declared.event.Event.{Event}
-use Rattle.world_laws.specs.declared.event.Event.TheVariants.{Discard}
-use Rattle.world_laws.proofs.Nodes.{set-size}
-use Rattle.world_laws.proofs.Recorded.{at-set, set-same, set-other}
-use Rattle.turn_laws.specs.Walks.{ticked, Walk}
+use Rattle.world_laws.proofs.Recorded.{at-set, set-other}
+use Rattle.turn_laws.specs.Walks.{Walk}
 use Rattle.turn_laws.specs.Wire.{Wire}
 use Rattle.turn_laws.specs.System.{System}
-use Rattle.turn_laws.specs.Shadow.{IsShadow, IsWorking, LinksShadow, BackendShadow, WireShadow, OpenShadow, ClosedShadow, IsUnnumbered, Numbers, requests_in}
+use Rattle.turn_laws.specs.Shadow.{IsShadow, LinksShadow, WireShadow, OpenShadow, ClosedShadow, IsUnnumbered, Numbers, requests_in}
 use Rattle.turn_laws.specs.Steps.{Thrown, Discards}
 use Rattle.turn_laws.specs.Refines.{Simulates}
 use Rattle.turn_laws.proofs.Frames.{log-later}

@@ -1,5 +1,5 @@
 -- The machine tells the commands what came down; of one pair after another the workers' and clients' shadows stay.
-use Rattle.std.proofs.Common.{◌≡◌, ◌≢◌, ◌⊎◌, inl, inr, ⊎_elim, ℕ, zero, suc, ◌+◌, ◌-◌, ◌<◌, ◌≤◌, ◌%◌, ◌==◌, Bool, true, false, List, [], ◌∷◌, ◌++◌, Some, None, refl, sym, ap, ◌∙◌, subst, arith, length}
+use Rattle.std.proofs.Common.{◌≡◌, ◌≢◌, ◌⊎◌, inl, inr, ⊎_elim, ℕ, zero, suc, ◌<◌, ◌≤◌, ◌%◌, ◌==◌, Bool, true, false, List, [], ◌∷◌, ◌++◌, Some, refl, sym, ap, ◌∙◌, subst, arith, length}
 use Rattle.std.specs.Prelude.{slice_get, slice_set, count_by, map, All, if◌then◌else◌}
 use Rattle.std.specs.FinMap.{get}
 use Rattle.std.proofs.lemmas.List.{append_assoc, append-nil}
@@ -9,20 +9,14 @@ use Rattle.key_split.specs.PartModel.{PartModel}
 use Rattle.key_split.specs.Requests.{Request, Asking, Command, Slots}
 use Rattle.key_split.specs.declared.travel.Batch.{Batch}
 use Rattle.key_split.specs.declared.travel.Ticket.{Ticket}
-use Rattle.key_split.specs.declared.travel.Told.{Told}
-use Rattle.key_split.specs.declared.travel.Ended.{Ended}
-use Rattle.command_future.specs.CommandModel.{CommandModel, fresh, progress_told}
-use Rattle.command_future.specs.declared.stage.Stage.TheVariants.{Awaits, Over}
+use Rattle.command_future.specs.CommandModel.{CommandModel}
+use Rattle.command_future.specs.declared.stage.Stage.TheVariants.{Awaits}
 use Rattle.slot_map.specs.Table.{Endpoint}
 use Rattle.node_link.specs.LinkModel.{LinkModel}
-use Rattle.session_order.specs.declared.queue.PartStage.{PartStage}
-use Rattle.session_order.specs.declared.queue.PartStage.TheVariants.{Waiting, Out, Done}
-use Rattle.proxy_turns.specs.declared.newcomer.Newcomer.{Newcomer}
-use Rattle.proxy_turns.specs.Commands.{CommandsModel}
 use Rattle.proxy_turns.specs.ClientModel.{ClientModel}
 use Rattle.proxy_turns.specs.WorkerModel.{WorkerModel, IsAbove}
 use Rattle.proxy_turns.specs.CarrierModel.{CarrierModel}
-use Rattle.world_laws.specs.State.{WorldModel, Link, after_told, slot_for}
+use Rattle.world_laws.specs.State.{WorldModel, Link, after_told}
 use Rattle.world_laws.specs.declared.state.Arrival.{Arrival}
 use Rattle.world_laws.specs.Places.{total, is}
 use Rattle.world_laws.proofs.Tally.{total-append, total-found, total-one}
@@ -32,7 +26,7 @@ use Rattle.world_laws.proofs.Recorded.{at-set, set-same, set-other}
 use Rattle.turn_laws.specs.Wire.{Wire}
 use Rattle.turn_laws.specs.System.{System}
 use Rattle.turn_laws.specs.Settling.{Tells, TellsAll}
-use Rattle.turn_laws.specs.Shadow.{IsShadow, LinksShadow, BackendShadow, WireShadow, OpenShadow, ClosedShadow, LaneShadow, IsKnown, HasPart, IsUnnumbered, Numbers, IsIdle, ClientShadow, PartShadow, StageShadow, HasCommand, HasPosted, Holds, ToldFrom, downs_of}
+use Rattle.turn_laws.specs.Shadow.{IsShadow, LinksShadow, OpenShadow, ClosedShadow, IsKnown, HasPart, IsUnnumbered, Numbers, IsIdle, ClientShadow, Holds, downs_of}
 use Rattle.turn_laws.proofs.Downs.{Pair, SameBag, OneMore, one_for, pair-is, pair-itself, bag-has, is-other}
 use Rattle.turn_laws.proofs.Frames.{client-same}
 use Rattle.turn_laws.proofs.AtLanes.{short}

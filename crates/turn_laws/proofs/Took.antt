@@ -1,5 +1,5 @@
 -- A worker takes what came down and tells it: the machine did so before.
-use Rattle.std.proofs.Common.{◌≡◌, ◌≢◌, ◌⊎◌, inl, inr, ⊎_elim, ℕ, zero, suc, ◌+◌, ◌-◌, ◌<◌, ◌≤◌, ◌%◌, ◌==◌, Bool, true, false, List, [], ◌∷◌, ◌++◌, Some, None, refl, sym, ap, ◌∙◌, subst, arith, length}
+use Rattle.std.proofs.Common.{◌≡◌, ◌≢◌, ◌⊎◌, inl, inr, ⊎_elim, ℕ, zero, suc, ◌+◌, ◌<◌, ◌≤◌, ◌%◌, ◌==◌, Bool, true, false, List, [], ◌∷◌, ◌++◌, Some, None, refl, sym, ap, ◌∙◌, subst, arith, length}
 use Rattle.std.specs.Prelude.{slice_get, slice_set, Option, IsSome, All, cond}
 use Rattle.std.proofs.lemmas.Bool.{false≢true}
 use Rattle.std.proofs.lemmas.Bool.Decides.{eqb_tells}
@@ -11,14 +11,13 @@ use Rattle.key_split.specs.declared.travel.Told.{Told}
 use Rattle.key_split.specs.declared.travel.Told.TheVariants.{Reply, Moved, Ask, TryAgain, ClusterDown, Unclear, Lost, Unsent}
 use Rattle.session_order.specs.Steps.{IsHandedOut}
 use Rattle.key_split.specs.declared.travel.Ended.{Ended}
-use Rattle.command_future.specs.CommandModel.{CommandModel, fresh, progress_told}
-use Rattle.command_future.specs.declared.stage.Stage.TheVariants.{Awaits, Over}
+use Rattle.command_future.specs.CommandModel.{CommandModel, progress_told}
+use Rattle.command_future.specs.declared.stage.Stage.TheVariants.{Awaits}
 use Rattle.session_order.specs.declared.queue.PartStage.{PartStage}
 use Rattle.session_order.specs.declared.queue.PartStage.TheVariants.{Waiting, Out, Done}
 use Rattle.proxy_lanes.specs.declared.ends.lane_ends.LaneEnds.{LaneEnds}
-use Rattle.proxy_lanes.specs.declared.ring.Inlet.{Inlet}
 use Rattle.proxy_lanes.specs.declared.ring.Outlet.{Outlet}
-use Rattle.proxy_lanes.specs.Lane.{Takes, posted}
+use Rattle.proxy_lanes.specs.Lane.{posted}
 use Rattle.proxy_turns.specs.declared.newcomer.Newcomer.{Newcomer}
 use Rattle.proxy_turns.specs.Commands.{CommandsModel}
 use Rattle.proxy_turns.specs.ClientModel.{ClientModel}
@@ -30,20 +29,20 @@ use Rattle.world_laws.proofs.Nodes.{set-size}
 use Rattle.world_laws.proofs.Tally.{total-append, total-one}
 use Rattle.world_laws.proofs.Kept.{is-refl}
 use Rattle.world_laws.proofs.Recorded.{at-set}
-use Rattle.turn_laws.specs.System.{System, IsInStep}
-use Rattle.turn_laws.specs.Shadow.{IsShadow, ClientShadow, PartShadow, StageShadow, HasCommand, HasPosted, Holds, ToldFrom, DownInStep, downs_of, downs_in, down_in}
+use Rattle.turn_laws.specs.System.{System}
+use Rattle.turn_laws.specs.Shadow.{IsShadow, ClientShadow, StageShadow, HasCommand, HasPosted, Holds, ToldFrom, DownInStep, downs_of, downs_in, down_in}
 use Rattle.turn_laws.specs.Steps.{AtWorker, WorkerStep}
 use Rattle.turn_laws.specs.Refines.{Simulates}
-use Rattle.turn_laws.proofs.Downs.{Pair, OneMore, more-has, more-keeps, is-other}
+use Rattle.turn_laws.proofs.Downs.{Pair, OneMore, more-has, more-keeps}
 use Rattle.turn_laws.proofs.Carriers.{refusals, debts}
 use Rattle.turn_laws.proofs.Lanes.{between-take}
-use Rattle.turn_laws.proofs.AtWorkers.{nat_eq_by, put-cases}
+use Rattle.turn_laws.proofs.AtWorkers.{nat_eq_by}
 use Rattle.turn_laws.proofs.AtLanes.{nothing-there}
 use Rattle.turn_laws.proofs.Settling.{same_number}
 use Rattle.turn_laws.proofs.Walks.{walked-sound}
 use Rattle.turn_laws.proofs.Told.{Fitting, fitting, more-cases, none-down}
 use Rattle.turn_laws.proofs.Clients.{worker-frame, unseen-step, held-in, put-holds}
-use Rattle.turn_laws.proofs.Ending.{none-some, one-of, one-item, same-holder}
+use Rattle.turn_laws.proofs.Ending.{none-some, one-of, one-item}
 
 -- the table with one in its place
 pub put-same : {X : Type 0} (m : FinMap nat_cmp X) (k : ℕ) (x : X) → get (insert m k x) k ≡ Some x

@@ -1,39 +1,34 @@
 -- A step by which one connection goes on; and the step that reads nothing, or the reply to ASKING.
-use Rattle.std.proofs.Common.{◌≡◌, ◌≢◌, ◌⊎◌, inl, inr, ⊎_elim, ℕ, zero, suc, ◌+◌, ◌<◌, ◌≤◌, Bool, true, false, List, [], ◌∷◌, ◌++◌, Some, None, Result, Ok, Err, refl, sym, ap, ◌∙◌, subst, arith, length}
-use Rattle.std.specs.Prelude.{slice_get, slice_set, Option, All}
-use Rattle.std.specs.List.{list_any}
+use Rattle.std.proofs.Common.{◌≡◌, ◌≢◌, ◌⊎◌, inl, inr, ⊎_elim, ℕ, ◌+◌, List, [], ◌∷◌, ◌++◌, Some, None, refl, sym, ap, ◌∙◌, subst, arith, length}
+use Rattle.std.specs.Prelude.{slice_get, slice_set, All}
 use Rattle.std.proofs.lemmas.List.{append-nil}
 use Rattle.resp_wire.specs.declared.value.Value.{Value}
-use Rattle.key_split.specs.declared.travel.Ticket.{Ticket}
-use Rattle.key_split.specs.declared.travel.Told.{Told}
-use Rattle.slot_map.specs.Table.{Endpoint}
 use Rattle.node_link.specs.LinkModel.{LinkModel}
-use Rattle.node_link.specs.LinkCalls.{Comes, Receives}
+use Rattle.node_link.specs.LinkCalls.{Comes}
 use Rattle.node_link.specs.declared.link.Due.{Due}
 use Rattle.node_link.specs.declared.link.Due.TheVariants as due
-use Rattle.proxy_lanes.specs.declared.ends.lane_ends.LaneEnds.{LaneEnds}
 use Rattle.proxy_turns.specs.declared.newcomer.Newcomer.{Newcomer}
 use Rattle.proxy_turns.specs.declared.backend.Backend.{Backend}
 use Rattle.proxy_turns.specs.declared.backend_step.BackendStep.TheVariants.{Waited}
-use Rattle.proxy_turns.specs.Backend.{BackendContext, BackendDoes, is_unanswered}
-use Rattle.proxy_turns.specs.CarrierModel.{CarrierModel, CarrierEvent, AtBackend, context_of}
+use Rattle.proxy_turns.specs.Backend.{BackendContext}
+use Rattle.proxy_turns.specs.CarrierModel.{CarrierModel, CarrierEvent, AtBackend}
 use Rattle.world_laws.specs.State.{WorldModel, Link}
 use Rattle.world_laws.specs.World.{WorldDoes}
 use Rattle.world_laws.specs.declared.event.Event.{Event}
 use Rattle.world_laws.specs.declared.event.Event.TheVariants.{Fetch}
 use Rattle.world_laws.specs.Places.{total}
-use Rattle.world_laws.proofs.Recorded.{at-set, set-same}
+use Rattle.world_laws.proofs.Recorded.{at-set}
 use Rattle.turn_laws.specs.Walks.{ticked, Walk}
 use Rattle.turn_laws.specs.Wire.{Wire, Exchanges}
 use Rattle.turn_laws.specs.System.{System}
-use Rattle.turn_laws.specs.Shadow.{IsShadow, IsWorking, LinksShadow, LaneShadow, OpenShadow, ClosedShadow, IsIdle, IsUnnumbered, Numbers, downs_of, downs_in, told_in, lost_in, lost_by}
+use Rattle.turn_laws.specs.Shadow.{IsShadow, IsWorking, LinksShadow, LaneShadow, OpenShadow, IsIdle, IsUnnumbered, Numbers, downs_of, downs_in, told_in, lost_in, lost_by}
 use Rattle.turn_laws.specs.Steps.{AtCarrier, CarrierStep, FailsAt, opened_by, any_failures, any_garbled}
 use Rattle.turn_laws.specs.Refines.{Simulates}
-use Rattle.turn_laws.proofs.Downs.{Pair, SameBag, total-set-flat}
+use Rattle.turn_laws.proofs.Downs.{SameBag, total-set-flat}
 use Rattle.turn_laws.proofs.Frames.{same-seats, still-closed, still-opened, link-frame, down-fits}
 use Rattle.turn_laws.proofs.Carriers.{refusals, debts, bag-parts, not-up, backend-stutter}
 use Rattle.turn_laws.proofs.AtLines.{same-owing}
-use Rattle.turn_laws.proofs.Openings.{no-link, one-backend, one-connection}
+use Rattle.turn_laws.proofs.Openings.{one-backend, one-connection}
 use Rattle.turn_laws.proofs.Lines.{backend-changes}
 use Rattle.turn_laws.proofs.Fetching.{fetched-shadow, comes-first}
 

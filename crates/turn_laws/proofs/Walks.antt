@@ -1,10 +1,9 @@
 -- What every event keeps holds after every walk; and takings empty what came down.
-use Rattle.std.proofs.Common.{◌≡◌, ℕ, ◌+◌, ◌==◌, List, [], ◌∷◌, ◌++◌, Some, refl, sym, ap, ◌∙◌, subst}
+use Rattle.std.proofs.Common.{List, [], ◌∷◌, ◌++◌, sym, subst}
 use Rattle.world_laws.specs.State.{WorldModel, start}
-use Rattle.world_laws.specs.World.{WorldDoes}
 use Rattle.world_laws.specs.declared.event.Event.{Event}
 use Rattle.world_laws.proofs.Runs.{Sound, does-sound, start-sound, headline}
-use Rattle.turn_laws.specs.Walks.{ticked, Walk, IsWalked, EveryWalk}
+use Rattle.turn_laws.specs.Walks.{Walk, IsWalked, EveryWalk}
 
 pub walk-sound : (es : List Event) (w w' : WorldModel) → Sound w → Walk w es w' → Sound w'
 walk-sound [] w w' s r = subst Sound (sym r) s

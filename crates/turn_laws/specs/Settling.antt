@@ -1,5 +1,5 @@
 -- What came down to the workers is told to its commands at once: the machine may run ahead of the code that way.
-use Rattle.std.specs.Prelude.{◌≡◌, ℕ, ◌+◌, List, [], ◌∷◌, slice_set}
+use Rattle.std.specs.Prelude.{◌≡◌, ℕ, List, [], ◌∷◌, slice_set}
 use Rattle.key_split.specs.declared.travel.Ticket.{Ticket}
 use Rattle.key_split.specs.declared.travel.Told.{Told}
 use Rattle.command_future.specs.declared.stage.Stage.TheVariants.{Awaits}

@@ -1,10 +1,9 @@
 -- Which world of the machine a system stands for. The core runs ahead: what is on its way down to a worker was told there already.
-use Rattle.std.specs.Prelude.{◌≡◌, ◌≢◌, ◌⊎◌, ◌↔◌, ◌<◌, ◌≤◌, ◌+◌, ◌-◌, ◌%◌, ◌==◌, ℕ, suc, zero, List, [], ◌∷◌, ◌++◌, Bool, true, false, if◌then◌else◌, Option, Some, None, IsSome, All, length, map, filter, slice_get, count_by}
+use Rattle.std.specs.Prelude.{◌≡◌, ◌≢◌, ◌⊎◌, ◌<◌, ◌≤◌, ◌+◌, ◌-◌, ◌%◌, ◌==◌, ℕ, suc, List, [], ◌∷◌, ◌++◌, Bool, true, false, Option, Some, None, All, length, map, filter, slice_get, count_by}
 use Rattle.std.specs.List.{flat_map}
 use Rattle.std.specs.FinMap.{get}
 use mathlib.Core.List.{IsPrefix}
 use Rattle.resp_wire.specs.declared.value.Value.{Value}
-use Rattle.key_split.specs.Same.{same_ticket}
 use Rattle.key_split.specs.PartModel.{PartModel}
 use Rattle.key_split.specs.Requests.{Request, Asking, Command, Slots}
 use Rattle.key_split.specs.declared.travel.Batch.{Batch}
@@ -15,7 +14,6 @@ use Rattle.key_split.specs.declared.travel.Ended.{Ended}
 use Rattle.command_future.specs.CommandModel.{CommandModel, fresh as new_command, progress_told}
 use Rattle.command_future.specs.declared.stage.Stage.TheVariants.{Awaits, Over}
 use Rattle.slot_map.specs.Table.{Endpoint}
-use Rattle.node_model.specs.Nodes.{ClusterModel}
 use Rattle.node_link.specs.LinkModel.{LinkModel}
 use Rattle.node_link.specs.LinkCalls.{due_of, tickets_of}
 use Rattle.node_link.specs.Telling.{told_by}

@@ -1,36 +1,26 @@
 -- What may happen in a system: an event of a worker's turn, an event of the carrier's turn, a node serves the next request of a
 -- connection, the requests of a broken one are thrown away, a slot moves one step.
-use Rattle.std.specs.Prelude.{◌≡◌, ◌⊎◌, ◌<◌, ◌+◌, ◌-◌, ◌%◌, ◌^◌, ℕ, suc, List, [], ◌∷◌, ◌++◌, Bool, true, false, Option, Some, None, Result, Ok, Err, IsSome, All, length, map, take, drop, slice_get, slice_set, remove, HoldsAt}
-use Rattle.std.specs.FinMap.{get, empty}
-use mathlib.Core.List.{IsPrefix}
+use Rattle.std.specs.Prelude.{◌≡◌, ◌⊎◌, ◌+◌, ◌-◌, ◌%◌, ◌^◌, ℕ, suc, List, [], ◌∷◌, ◌++◌, Some, None, IsSome, length, take, drop, slice_get, slice_set}
+use Rattle.std.specs.FinMap.{get}
 use Rattle.resp_wire.specs.declared.value.Value.{Value}
-use Rattle.key_split.specs.Requests.{Request, Asking, Command, Slots, requests_of}
-use Rattle.key_split.specs.declared.travel.Batch.{Batch}
 use Rattle.key_split.specs.declared.travel.Ticket.{Ticket}
-use Rattle.key_split.specs.declared.travel.Told.{Told}
 use Rattle.key_split.specs.declared.travel.Ended.{Ended}
-use Rattle.slot_hash.specs.Slot.{slot_of}
 use Rattle.slot_map.specs.Table.{Endpoint}
 use Rattle.node_model.specs.Nodes.{ClusterModel}
 use Rattle.node_model.specs.Moves.{MayImport, MayMigrate, MayMoveKey, MayOwn, MayRelease, MayForget, MayStay, import_done, migrate_done, move_key_done, own_done, release_done, forget_done, stay_done}
 use Rattle.node_model.specs.declared.role.Verdict.{Verdict}
 use Rattle.node_link.specs.LinkModel.{LinkModel}
-use Rattle.node_link.specs.LinkCalls.{due_of}
 use Rattle.session_order.specs.SessionModel.{SessionModel}
 use Rattle.session_order.specs.declared.queue.PartStage.{PartStage}
 use Rattle.session_order.specs.declared.queue.PartStage.TheVariants.{Waiting, Out, Done}
-use Rattle.proxy_lanes.specs.declared.ring.Outlet.{Outlet}
-use Rattle.proxy_lanes.specs.declared.ring.Inlet.{Inlet}
 use Rattle.proxy_lanes.specs.declared.ends.lane_ends.LaneEnds.{LaneEnds}
 use Rattle.proxy_turns.specs.declared.newcomer.Newcomer.{Newcomer}
-use Rattle.proxy_turns.specs.declared.pending_batch.PendingBatch.{PendingBatch}
 use Rattle.proxy_turns.specs.declared.backend.Backend.{Backend}
 use Rattle.proxy_turns.specs.Port.{Moves}
 use Rattle.proxy_turns.specs.ClientModel.{ClientModel}
 use Rattle.proxy_turns.specs.ClientTurn.{ClientEvent, Pulled, Fed, Read, HandedOut, Looked, CameBack, Posted, Drained, Pushed, Tried, Parted, Dropped}
 use Rattle.proxy_turns.specs.WorkerModel.{WorkerModel, WorkerEvent, Did, Finished, Took, FoundNone, Came, TurnedAway, FoundNobody, Left, WorkerDoes}
-use Rattle.proxy_turns.specs.Backend.{fresh_link}
-use Rattle.proxy_turns.specs.CarrierModel.{CarrierModel, CarrierEvent, Opened as OpenedLink, Reached, CarrierDoes as CarrierDoes}
+use Rattle.proxy_turns.specs.CarrierModel.{CarrierEvent, Opened as OpenedLink, Reached, CarrierDoes as CarrierDoes}
 use Rattle.world_laws.specs.State.{WorldModel}
 use Rattle.world_laws.specs.World.{IsNode, NoneAsks}
 use Rattle.world_laws.specs.declared.event.Event.{Event}

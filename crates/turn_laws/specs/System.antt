@@ -1,5 +1,5 @@
 -- The workers, the carrier, the lanes between them, the connections and the nodes.
-use Rattle.std.specs.Prelude.{◌≡◌, ℕ, List, length, drop, map}
+use Rattle.std.specs.Prelude.{ℕ, List, length, drop, map}
 use mathlib.Core.List.{IsPrefix}
 use Rattle.resp_wire.specs.declared.value.Value.{Value}
 use Rattle.key_split.specs.PartModel.{PartModel}

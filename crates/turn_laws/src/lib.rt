@@ -1,7 +1,7 @@
 //! What the turns of workers and carrier do is what the machine of `world_laws` does: laws alone.
 //!
 //! ```text
-//! laws::refines::<C, J>();
+//! laws::carrier_refines::<C, J>();
 //! ```
 //!
 //! A system is the workers, the carrier, the lanes between them, the connections and the nodes (`specs/System.antt`); its events
