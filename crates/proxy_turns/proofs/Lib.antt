@@ -21,3 +21,4 @@ pub mod Seeking
 pub mod Draining
 pub mod Noting
 pub mod Settling
+pub mod Undrained

@@ -1,16 +1,18 @@
 //! What a client of a worker has, and each step of its turn.
 
-ghost use Rattle.std.specs.Prelude.{◌≡◌, ◌≤◌, ◌↔◌, [], ℕ, List, Result, Ok, Some, drop, false, true, length, take, IsTrue, None};
+mod writing;
+
+ghost use Rattle.std.specs.Prelude.{◌≡◌, ◌↔◌, [], ℕ, Result, Ok, Some, false, true, IsTrue, None};
 ghost use Rattle.std.specs.FinMap as map;
 
 use crate::client_bytes::{SMALLEST_PIECE, let_go, piece_after, pull_into, take_off};
-use crate::client_limits::{MAX_ASKED, MAX_READS, MAX_SENT, MAX_UNPUSHED};
+use crate::client_limits::{MAX_ASKED, MAX_READS, MAX_SENT};
 use crate::commands::Commands;
 use crate::port::ClientPort;
 use crate::reply_size::ReplySize;
 use crate::turned::{Settled, has_read, note_read};
 use crate::unpushed::Unpushed;
-use key_split::{Batch, Ended, Ticket, Told};
+use key_split::{Batch, Ticket, Told};
 use node_link::Flow;
 use proxy_lanes::{MapView, Naming, Outlet};
 use resp_wire::{Limits, NoMemory};
@@ -147,8 +149,8 @@ impl<C: ClientPort + Drop> ClientParts<C> {
     ghost use Rattle.session_order.specs.Turn.{MayPost};
     ghost use Rattle.proxy_turns.specs.ClientModel.{IsClientServed, IsLeft};
     ghost use Rattle.proxy_turns.specs.Commands.{PostsAtResult, WantsPostAt};
-    ghost use Rattle.proxy_turns.specs.ClientRest.{BeginsNone, DrainsNone, FeedsNone, HasNoPlace, IfStill, IsAnswered, MayBeHeld, PostsNone, PullsNone, PushesNone, ReadsNone, SendsNone, WorksNone, WritesNone};
-    ghost use Rattle.proxy_turns.specs.ClientTurn.{BeginsCommand, ClientContext, DoesWork, DrainsReplies, DropsCommand, FeedsSession, FinishOutcome, PostsCommand, PullsBytes, PushesBytes, ReadsRequests, SendsCommands, WritesReplies};
+    ghost use Rattle.proxy_turns.specs.ClientRest.{BeginsNone, FeedsNone, HasNoPlace, IfStill, IsAnswered, MayBeHeld, PostsNone, PullsNone, ReadsNone, SendsNone, WorksNone};
+    ghost use Rattle.proxy_turns.specs.ClientTurn.{BeginsCommand, DoesWork, DropsCommand, FeedsSession, FinishOutcome, PostsCommand, PullsBytes, ReadsRequests, SendsCommands};
 
     // Whether its session is finished and it has all its bytes.
     fn is_served(&self) -> bool
@@ -417,60 +419,5 @@ impl<C: ClientPort + Drop> ClientParts<C> {
         self.reply_size.note(&end);
         self.session.ended(ticket, end);
         Ok(true)
-    }
-
-    // Drains the session, and pushes what the client takes.
-    fn write(&mut self) -> Result<bool, NoMemory>
-        ensures writes { WritesReplies C.moves self.old result self.new }
-        ensures none { IfStill result (WritesNone C.takes_none self.old self.new) }
-    {
-        let drained = self.drain()?;
-        let pushed = self.push()?;
-        Ok(drained | pushed)
-    }
-
-    // Whether the client is there, and takes its bytes. A client that does not read is asked for no more.
-    fn may_drain(&self) -> bool
-        ensures { self.now.gone ≡ false → self.now.unpushed ≡ [] → result ≡ true }
-    {
-        !self.gone && self.unpushed.len() < MAX_UNPUSHED
-    }
-
-    fn drain(&mut self) -> Result<bool, NoMemory>
-        ensures drains { DrainsReplies C.moves self.old result self.new }
-        ensures none { IfStill result (DrainsNone self.old self.new) }
-    {
-        if !self.may_drain() {
-            return Ok(false);
-        }
-        let count = self.unpushed.drain(&mut self.session)?;
-        Ok(count > 0)
-    }
-
-    // Whether the client is there, and has not all its bytes.
-    fn may_push(&self) -> bool
-        ensures { IsTrue result ↔ (self.now.gone ≡ false) × (self.now.unpushed ≡ [] → ⊥) }
-    {
-        !self.gone && !self.unpushed.is_empty()
-    }
-
-    fn push(&mut self) -> Result<bool, NoMemory>
-        ensures pushes { PushesBytes C.moves self.old result self.new }
-        ensures none { IfStill result (PushesNone C.takes_none self.old self.new) }
-    {
-        if !self.may_push() {
-            return Ok(false);
-        }
-        match self.port.push(self.unpushed.as_slice())? {
-            Flow::Bytes(count) => {
-                self.unpushed.count_pushed(count);
-                Ok(count > 0)
-            }
-            Flow::Nothing => Ok(false),
-            Flow::Gone => {
-                self.part();
-                Ok(true)
-            }
-        }
     }
 }

@@ -33,6 +33,7 @@ mod commands;
 mod dial;
 mod due_commands;
 mod gate;
+mod kept_ports;
 mod newcomer;
 mod owing;
 mod pause;

@@ -1,11 +1,18 @@
-//! A new client, as it is handed to its worker.
+//! A new client, as it is handed to its worker, and how it is taken in.
 
-ghost use Rattle.std.specs.Prelude.{◌↔◌, IsTrue};
-ghost use Rattle.proxy_turns.specs.WorkerModel.{IsAbove, IsNew, clients_in};
+ghost use Rattle.std.specs.Prelude.{◌≡◌, ◌<◌, ◌≤◌, ◌+◌, ◌↔◌, IsTrue, OnOk, Some, length, vec_capacity};
+ghost use Rattle.std.specs.FinMap.{insert};
+ghost use Rattle.std.specs.HashMap.{spare};
+ghost use Rattle.proxy_turns.specs.WorkerModel.{IsAbove, IsNew, OneCame, clients_in};
+ghost use Rattle.proxy_turns.specs.Arrivals.{AreToCome, PutsNew};
 
+use crate::client_state::ClientState;
 use crate::client_table::ClientTable;
+use crate::kept_ports::{closed, keep_port};
 use crate::port::ClientPort;
 use proxy_lanes::{Front, Naming};
+use resp_wire::NoMemory;
+use std::alloc::AllocFailed;
 
 /// A new client: its number, its port, and a beginning of what was published, where one was told. A worker takes it only
 /// where its number is greater than that of each client before it; else it closes the port.
@@ -34,4 +41,88 @@ fn is_above(newest: Option<u32>, number: u32) -> bool
         Some(newest) => newest < number,
         None => true,
     }
+}
+
+/// Whether any clients are to come.
+pub(crate) fn are_to_come(left: Option<u32>) -> bool
+    ensures { IsTrue result ↔ AreToCome left }
+{
+    match left {
+        Some(left) => left > 0,
+        None => true,
+    }
+}
+
+pub(crate) fn is_none_to_come(left: Option<u32>) -> bool
+    ensures { IsTrue result ↔ (left ≡ Some 0) }
+{
+    match left {
+        Some(left) => left == 0,
+        None => false,
+    }
+}
+
+/// How many are to come after one came.
+pub(crate) fn one_fewer(left: Option<u32>) -> Option<u32>
+    requires { AreToCome left }
+    ensures { OneCame left result }
+{
+    match left {
+        Some(left) => Some(left - 1),
+        None => None,
+    }
+}
+
+/// Makes room for one more client, and for its port beside those of all others.
+pub(crate) fn make_room<C: ClientPort + Drop>(
+    clients: &mut ClientTable<C>,
+    ports: &mut Vec<C>,
+) -> Result<(), NoMemory>
+    ensures clients { clients_in clients.new.entries ≡ clients_in clients.old.entries }
+    ensures len { length clients.new.entries ≡ length clients.old.entries }
+    ensures ports { ports.new.items ≡ ports.old.items }
+    ensures capacity { vec_capacity ports.old ≤ vec_capacity ports.new }
+    ensures clients_room { OnOk result (0 < spare clients.new) }
+    ensures ports_room { OnOk result (length ports.new.items + length clients.new.entries < vec_capacity ports.new) }
+{
+    ports.reserve(clients.len() + 1)?;
+    clients.reserve(1)?;
+    Ok(())
+}
+
+/// Puts the client under its number, or lets it go where that is not new. There is room.
+pub(crate) fn put_new<C: ClientPort + Drop>(
+    clients: &mut ClientTable<C>,
+    ports: &mut Vec<C>,
+    newest: &mut Option<u32>,
+    left: Option<u32>,
+    number: u32,
+    client: ClientState<C>,
+)
+    requires clients { 0 < spare clients.old }
+    requires ports { length ports.old.items + length clients.old.entries < vec_capacity ports.old }
+    ensures puts { PutsNew C.moves (clients_in clients.old.entries) ports.old.items newest.old left number client (clients_in clients.new.entries) ports.new.items newest.new }
+    ensures ports_fit { length ports.new.items + length clients.new.entries ≤ vec_capacity ports.new }
+{
+    if !is_new(clients, *newest, number) {
+        keep_port(ports, left, closed(client.into_port()));
+        return;
+    }
+    put_ready(clients, number, client);
+    *newest = Some(number);
+}
+
+fn put_ready<C: ClientPort + Drop>(
+    clients: &mut ClientTable<C>,
+    number: u32,
+    client: ClientState<C>,
+)
+    requires { 0 < spare clients.old }
+    ensures puts { clients_in clients.new.entries ≡ insert (clients_in clients.old.entries) number client }
+    ensures len { length clients.new.entries ≤ length clients.old.entries + 1 }
+{
+    let put: Result<Option<ClientState<C>>, AllocFailed<(u32, ClientState<C>)>> = clients.insert(
+        number, client,
+    );
+    put.unwrap();
 }

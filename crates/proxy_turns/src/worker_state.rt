@@ -1,21 +1,20 @@
 //! The clients of a worker, between them and the carrier the lanes.
 
-ghost use Rattle.std.specs.Prelude.{◌≡◌, ◌⊎◌, ◌<◌, ◌≤◌, ◌+◌, [], ◌∷◌, ◌++◌, ℕ, List, IfOk, IsTrue, ◌↔◌, OnOk, Ok, Some, length, true, vec_capacity};
-ghost use Rattle.std.specs.FinMap.{empty, insert};
-ghost use Rattle.std.specs.HashMap.{spare};
-ghost use Rattle.proxy_turns.specs.WorkerModel.{AdmitsClients, AreAllServed, GivesBack, Learns, OneCame, RemovesClient, ServesClients, SettlesDue, TakesTold, TurnsClient, WorkerTurns, clients_in, with_port};
+ghost use Rattle.std.specs.Prelude.{◌≡◌, ◌⊎◌, ◌<◌, ◌≤◌, ◌+◌, [], IfOk, IsTrue, ◌↔◌, OnOk, Ok, Some, length, true, vec_capacity};
+ghost use Rattle.proxy_turns.specs.WorkerModel.{AdmitsClients, AreAllServed, Learns, RemovesClient, ServesClients, SettlesDue, TakesTold, TurnsClient, WorkerTurns, clients_in};
 ghost use Rattle.proxy_turns.specs.ClientRest.{HasNoPlace, IfStill};
 ghost use Rattle.proxy_turns.specs.DueCommands.{AreNoted, IsSettled, IsToSettleAt};
 ghost use Rattle.proxy_turns.specs.WorkerRest.{AreClientsAtRest, ArePostedAtRest, HasNoNewcomer, HasNothingToTell};
-ghost use Rattle.proxy_turns.specs.Arrivals.{AreToCome, PutsNew, counted_by, settled_in, turned_in};
+ghost use Rattle.proxy_turns.specs.Arrivals.{counted_by, settled_in, turned_in};
 
 use crate::client_state::ClientState;
 use crate::client_table::{
-    ClientTable, pause_before_post, settle_at, take_any, take_done, tell_client, turn_at,
+    ClientTable, pause_before_post, settle_at, take_done, tell_client, turn_at,
 };
 use crate::due_commands::DueCommands;
 use crate::gate::Gate;
-use crate::newcomer::{Newcomer, is_new};
+use crate::kept_ports::{closed, give_back, keep_port};
+use crate::newcomer::{Newcomer, are_to_come, is_none_to_come, make_room, one_fewer, put_new};
 use crate::port::ClientPort;
 use crate::round::Round;
 use crate::turned::{Settled, Turned};
@@ -24,7 +23,7 @@ use indexmap::IndexMap;
 use key_split::{Batch, Ticket, Told};
 use proxy_lanes::{Front, Inlet, LANE_PLACES, MapView, Naming, Newcomers, Outlet, WorkerEnds};
 use resp_wire::{Limits, NoMemory};
-use std::alloc::{AllocFailed, Global};
+use std::alloc::Global;
 use std::mem;
 
 /// The clients of a worker with its ends of the lanes.
@@ -345,23 +344,6 @@ impl<C: ClientPort + Drop, J: Naming> WorkerState<C, J> {
     }
 }
 
-// Makes room for one more client, and for its port beside those of all others.
-fn make_room<C: ClientPort + Drop>(
-    clients: &mut ClientTable<C>,
-    ports: &mut Vec<C>,
-) -> Result<(), NoMemory>
-    ensures clients { clients_in clients.new.entries ≡ clients_in clients.old.entries }
-    ensures len { length clients.new.entries ≡ length clients.old.entries }
-    ensures ports { ports.new.items ≡ ports.old.items }
-    ensures capacity { vec_capacity ports.old ≤ vec_capacity ports.new }
-    ensures clients_room { OnOk result (0 < spare clients.new) }
-    ensures ports_room { OnOk result (length ports.new.items + length clients.new.entries < vec_capacity ports.new) }
-{
-    ports.reserve(clients.len() + 1)?;
-    clients.reserve(1)?;
-    Ok(())
-}
-
 // What was published is known to the view from now on, as far as the front goes.
 fn learn<J: Naming>(view: &mut MapView<J>, front: Option<Front<J>>)
     ensures { Learns view.old front view.new }
@@ -370,108 +352,6 @@ fn learn<J: Naming>(view: &mut MapView<J>, front: Option<Front<J>>)
         Some(front) => view.learn(front),
         None => {}
     }
-}
-
-// Whether any clients are to come.
-fn are_to_come(left: Option<u32>) -> bool
-    ensures { IsTrue result ↔ AreToCome left }
-{
-    match left {
-        Some(left) => left > 0,
-        None => true,
-    }
-}
-
-fn is_none_to_come(left: Option<u32>) -> bool
-    ensures { IsTrue result ↔ (left ≡ Some 0) }
-{
-    match left {
-        Some(left) => left == 0,
-        None => false,
-    }
-}
-
-// How many are to come after one came.
-fn one_fewer(left: Option<u32>) -> Option<u32>
-    requires { AreToCome left }
-    ensures { OneCame left result }
-{
-    match left {
-        Some(left) => Some(left - 1),
-        None => None,
-    }
-}
-
-// Puts the client under its number, or lets it go where that is not new. There is room.
-fn put_new<C: ClientPort + Drop>(
-    clients: &mut ClientTable<C>,
-    ports: &mut Vec<C>,
-    newest: &mut Option<u32>,
-    left: Option<u32>,
-    number: u32,
-    client: ClientState<C>,
-)
-    requires clients { 0 < spare clients.old }
-    requires ports { length ports.old.items + length clients.old.entries < vec_capacity ports.old }
-    ensures puts { PutsNew C.moves (clients_in clients.old.entries) ports.old.items newest.old left number client (clients_in clients.new.entries) ports.new.items newest.new }
-    ensures ports_fit { length ports.new.items + length clients.new.entries ≤ vec_capacity ports.new }
-{
-    if !is_new(clients, *newest, number) {
-        keep_port(ports, left, closed(client.into_port()));
-        return;
-    }
-    put_ready(clients, number, client);
-    *newest = Some(number);
-}
-
-fn put_ready<C: ClientPort + Drop>(
-    clients: &mut ClientTable<C>,
-    number: u32,
-    client: ClientState<C>,
-)
-    requires { 0 < spare clients.old }
-    ensures puts { clients_in clients.new.entries ≡ insert (clients_in clients.old.entries) number client }
-    ensures len { length clients.new.entries ≤ length clients.old.entries + 1 }
-{
-    let put: Result<Option<ClientState<C>>, AllocFailed<(u32, ClientState<C>)>> = clients.insert(
-        number, client,
-    );
-    put.unwrap();
-}
-
-// The port of a client that is let go.
-fn closed<C: ClientPort>(port: C) -> C
-    ensures { C.moves port [] [] [] result }
-{
-    let mut port = port;
-    port.close();
-    port
-}
-
-// Keeps the port, where clients do not come without end. There is room.
-fn keep_port<C: Drop>(ports: &mut Vec<C>, left: Option<u32>, port: C)
-    requires { length ports.old.items < vec_capacity ports.old }
-    ensures ports { ports.new.items ≡ with_port left ports.old.items port }
-    ensures len { length ports.new.items ≤ length ports.old.items + 1 }
-    ensures capacity { vec_capacity ports.new ≡ vec_capacity ports.old }
-{
-    match left {
-        Some(_) => ports.push_reserved(port),
-        None => drop(port),
-    }
-}
-
-// Gives the ports back, and behind them those of the clients. There is room.
-fn give_back<C: ClientPort + Drop>(clients: ClientTable<C>, ports: Vec<C>) -> Vec<C>
-    requires { length ports.items + length clients.entries ≤ vec_capacity ports }
-    ensures { (numbers : List ℕ) × GivesBack (clients_in clients.entries) ports.items numbers result.items }
-{
-    let mut clients = clients;
-    let mut ports = ports;
-    while let Some(port) = take_any(&mut clients) {
-        ports.push_reserved(port);
-    }
-    ports
 }
 
 // How many parts have ended, after a step of a command.

@@ -2,7 +2,7 @@ use Rattle.std.proofs.Common.{◌≡◌, nat_eq, subst, Some, Ok, Result}
 use Rattle.std.specs.Result.{OnOk}
 use Rattle.std.specs.HashMap.{Updates}
 use Rattle.proxy_turns.proofs.Tables.{put_at}
-use Rattle.proxy_turns.proofs.worker_state.put_ready.Goals as goal
+use Rattle.proxy_turns.proofs.newcomer.put_ready.Goals as goal
 
 on-ok : {T E : Type 0} (P : Type 0) (r : Result T E) (x : T) → r ≡ Ok x → OnOk r P → P
 on-ok P r x e h = subst (λ z. OnOk z P) e h

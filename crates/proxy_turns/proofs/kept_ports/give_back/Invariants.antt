@@ -1,6 +1,6 @@
 use Rattle.std.proofs.Common.{◌≤◌, ◌+◌, ℕ, List, length, vec_capacity}
 use Rattle.proxy_turns.specs.WorkerModel.{GivesBack, clients_in}
-use Rattle.proxy_turns.proofs.worker_state.give_back.Given as goal
+use Rattle.proxy_turns.proofs.kept_ports.give_back.Given as goal
 
 abbrev pub invariant-loop-port : goal.invariant-loop-port
 invariant-loop-port g l =

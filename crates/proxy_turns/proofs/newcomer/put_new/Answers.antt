@@ -1,6 +1,6 @@
 use Rattle.std.proofs.Common.{◌∙◌, sym, refl, subst, inl, inr, []}
 use Rattle.std.proofs.lemmas.Bool.{false≢true}
-use Rattle.proxy_turns.proofs.worker_state.put_new.Goals as goal
+use Rattle.proxy_turns.proofs.newcomer.put_new.Goals as goal
 
 pub returns-then-not-is_new-clause-puts : goal.returns-then-not-is_new-clause-puts
 returns-then-not-is_new-clause-puts g c =

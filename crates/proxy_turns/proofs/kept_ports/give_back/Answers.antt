@@ -1,6 +1,6 @@
 use Rattle.std.proofs.Common.{◌≡◌, ◌+◌, refl, [], ◌∷◌, arith, rules, length}
 use Rattle.proxy_turns.proofs.Lifting.{leaves_too}
-use Rattle.proxy_turns.proofs.worker_state.give_back.Goals as goal
+use Rattle.proxy_turns.proofs.kept_ports.give_back.Goals as goal
 
 pub returns : goal.returns
 returns g c = c.loop-port.invariant.1 [] _ (c.in_default.ensures.takes.0, refl)
