@@ -66,7 +66,7 @@ def what_a_client_left_behind_a_command(world):
             client.send(request("SET", "first", "1"))
             wait_until(lambda: len(node.words_seen()) == 1, "the node to get a command")
         process, words = proxy.process, node.words_seen
-        before = most = resident_mebibytes(process)
+        before = resident_mebibytes(process)
         with ExitStack() as leaving:
             for number in range(UNREAD):
                 client = leaving.enter_context(proxy.client())
@@ -80,7 +80,7 @@ def what_a_client_left_behind_a_command(world):
         after = resident_mebibytes(process)
         ended.set()
     note = f"resident {before:.0f} MiB before, {most:.0f} at most, {after:.0f} after {UNREAD} clients left"
-    check(after < before + MOST_KEPT, note)
+    check_time(after < before + MOST_KEPT, note)
     return note
 
 
