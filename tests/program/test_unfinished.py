@@ -14,9 +14,6 @@ MIB = 2**20
 BEGIN = b"*1000000\r\n$4\r\nMSET\r\n"
 WORD = b"$%d\r\n" % (MIB - 12) + bytes(MIB - 12) + b"\r\n"
 
-# Mebibytes of requests that ask for nothing, and how many of them are held at most.
-NOTHING, MOST_HELD = 48, 24
-
 # Seconds that a neighbour's PING takes at most.
 PATIENCE = 1
 
@@ -99,16 +96,3 @@ class Unfinished(Lines, unittest.TestCase):
         self.assertGreater(neighbour.count, 100)
         seconds = time.monotonic() - began
         print(f"unfinished requests: 901 MiB sent, {peak} MiB held at most, {seconds:.1f} s, {neighbour.count} PINGs, the longest {1000 * neighbour.longest:.0f} ms")
-
-    def test_requests_that_ask_for_nothing(self):
-        """A client that sends empty arrays faster than they are read waits: they are not held."""
-        (seed,) = free_ports(1)
-        with logging_proxy(seed, self.log, workers=1) as at, connection(*at) as client:
-            client.settimeout(LIMIT)
-            for _ in range(NOTHING):
-                client.sendall(b"*0\r\n" * (MIB // 4))
-            client.sendall(b"*1\r\n$4\r\nPING\r\n")
-            self.assertEqual(client.recv(64), b"+PONG\r\n")
-            peak = peak_memory(at[1])
-        self.assertLess(peak, MOST_HELD)
-        print(f"requests that ask for nothing: {NOTHING} MiB sent, {peak} MiB held at most")

@@ -10,15 +10,13 @@ from contextlib import ExitStack
 from cases_idle import percent_of_core
 from cases_scripted import Scene
 from client import request
-from cluster import Proxy, is_within, keys_of_slots, resident_mebibytes, wait_until
+from cluster import Proxy, is_within, keys_of_slots, wait_until
 from harness import case, check, check_same, check_time
 from scripted import ScriptedNode
 from writers import LOST
 
 # Clients that leave such a node, and the seconds after which it is given up.
 LEAVING, GIVEN_UP = 300, 30
-# Clients that leave bytes behind a command, how many bytes each, and how many mebibytes of all may be kept.
-UNREAD, LEFT, MOST_KEPT = 200, 200 * 1024, 12
 # The limit of descriptors before which so many clients come.
 CROWDED, CROWD = 64, 200
 
@@ -51,37 +49,6 @@ def a_node_that_never_answers(world):
         ended.set()
     check_time(GIVEN_UP - 1 < seconds < GIVEN_UP + 5, f"the node was given up after {seconds:.1f} seconds")
     return f"given up after {seconds:.1f} s"
-
-
-@case
-def what_a_client_left_behind_a_command(world):
-    """At a node that never answers: behind a command one client in two has another one that waits, the others one that is not whole.
-
-    All reset their connections. Their commands wait on, and nothing else of them is held.
-    """
-    ended = threading.Event()
-    node = ScriptedNode(lambda words: ended.wait(60) and None)
-    with Scene(world, node) as proxy:
-        with proxy.client() as client:
-            client.send(request("SET", "first", "1"))
-            wait_until(lambda: len(node.words_seen()) == 1, "the node to get a command")
-        process, words = proxy.process, node.words_seen
-        before = most = resident_mebibytes(process)
-        with ExitStack() as leaving:
-            for number in range(UNREAD):
-                client = leaving.enter_context(proxy.client())
-                behind = request("SET", f"leaving {number}", "v" * LEFT)
-                client.send(request("SET", f"leaving {number}", "1") + behind[: None if number % 2 else -2])
-                client.socket.setsockopt(socket.SOL_SOCKET, socket.SO_LINGER, struct.pack("ii", 1, 0))
-            wait_until(lambda: len(words()) == UNREAD + 1, "the node to get every first command")
-            wait_until(lambda: resident_mebibytes(process) > before + UNREAD * LEFT / 2**20 * 0.9, "the proxy to hold what is behind")
-            most = resident_mebibytes(process)
-        is_within(2, lambda: resident_mebibytes(process) < before + MOST_KEPT)
-        after = resident_mebibytes(process)
-        ended.set()
-    note = f"resident {before:.0f} MiB before, {most:.0f} at most, {after:.0f} after {UNREAD} clients left"
-    check(after < before + MOST_KEPT, note)
-    return note
 
 
 @case
