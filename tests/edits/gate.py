@@ -45,13 +45,17 @@ def free_memory():
         return next(1024 * int(line.split()[1]) for line in lines if line.startswith("MemAvailable"))
 
 
+# What `rt ci` says of a crate, a test or a program that failed: said once more at the end, where it is found.
+FAILURE = re.compile(r"NOT PROVED|FAILED|out/stdout|ended with status|had not ended|was stopped by signal|did not compile|killed")
+
+
 class Gate:
     """One run: what `rt ci` said, and what came of the edits."""
 
     def __init__(self, tree, proved):
         self.tree, self.proved = Path(tree), Path(proved)
         self.crates, self.where = checks.crates_of(proved), checks.kit()
-        self.names, self.ready, self.outcomes = {}, [], {}
+        self.names, self.ready, self.outcomes, self.failures = {}, [], {}, []
         self.running, self.closed, self.is_over = 0, False, False
         self.changed = threading.Condition()
 
@@ -60,10 +64,12 @@ class Gate:
         return self.tree / "crates" / name / "must-fail"
 
     def heard(self, line):
-        """Takes in a line of `rt ci`: a function's name, or that a crate is proved."""
+        """Takes in a line of `rt ci`: a function's name, that a crate is proved, or what went wrong."""
         told = re.match(r"(?:fn|impl) (\w+)::(\S+): ", line)
         if told:
             self.names.setdefault(told[1], set()).add(told[2])
+        if FAILURE.search(line) and line.startswith(("rt: ", "test ")):
+            self.failures.append(line)
         proved = re.match(r"rt: (\w+) proved$", line)
         if proved and self.edits_of(proved[1]).is_dir():
             with self.changed:
@@ -185,7 +191,7 @@ def main(words):
         used = resource.getrusage(resource.RUSAGE_CHILDREN)
         whole = f"edits: {refused} refused, {left} not; proofs, tests and edits took {(used.ru_utime + used.ru_stime) / 60:.0f} minutes of a processor"
         say_took([whole, *gate.took(watch.end())])
-        print(f"{refused} passed, {left + (status != 0)} failed")
+        print("\n".join([*gate.failures, f"{refused} passed, {left + (status != 0)} failed"]))
         return 1 if status or left else 0
     finally:
         if not os.environ.get("GATE_KEEPS"):

@@ -158,14 +158,15 @@ class Hostile(unittest.TestCase):
         self.check_replies(request("MGET", "{a}1", "{a}2"), [MGET_REPLY], expected, "MGET")
 
     def check_sent_on(self, line, end, what):
-        """A client asks GET of another key each time, and the seed's first reply is changed: a line that may send it on, whose
-        bytes from `end` on to its CR stay. Where that is no whole value, the node ends the connection."""
+        """A client asks GET of another key each time, and the seed's first reply, whole and byte by byte, is changed: a line that
+        may send it on, whose bytes from `end` on to its CR stay. Where that is no whole value, the node ends the connection."""
         with scene() as (it, proxied):
             keys, sent_on = keys_below(FIRST_LISTED), set()
             text = line(it, next(keys))
             kept = range(end, len(text) - 2)
-            with self.neighbour(proxied, f"changed {what}, {counted([text], kept)}"):
-                for number, _ in enumerate(changed(text, kept)):
+            count = len(list(changed(text, kept)))
+            with self.neighbour(proxied, f"changed {what}, {counted([text], kept)}, twice"):
+                for number, it.seed.piece in itertools.product(range(count), (None, 1)):
                     key = next(key for key in keys if slot_of(key) not in sent_on)
                     data = list(changed(line(it, key), kept))[number]
                     sent_on.add(self.check_one_sent_on(it, proxied, key, data))
@@ -197,13 +198,13 @@ class Hostile(unittest.TestCase):
         self.check_sent_on(lambda it, key: it.moved(key, b"ASK"), len(b"-ASK 15495 "), "ASK")
 
     def test_changed_listings(self):
-        """A node sends each command on, and its answer to the CLUSTER SLOTS that follows is changed and ends the connection. The
-        last one is right, and is followed."""
+        """A node sends each command on, and its answer to the CLUSTER SLOTS that follows, whole and byte by byte, is changed and
+        ends the connection. The last one is right, and is followed."""
         with scene() as (it, proxied):
             text, keys = listing(it.other.port), keys_below(FIRST_LISTED)
-            with self.neighbour(proxied, f"changed answers to CLUSTER SLOTS, {counted([text])}"):
+            with self.neighbour(proxied, f"changed answers to CLUSTER SLOTS, {counted([text])}, twice"):
                 self.assertEqual(heard_to_the_end(proxied, request("GET", next(keys))), RIGHT)
-                for data in [*changed(text), text, text]:
+                for data, it.seed.piece in itertools.product([*changed(text), text], (None, 1)):
                     ended = it.seed.ended + 1
                     it.slots = [(data, True)]
                     self.have_slots_asked(it, proxied, keys, data)

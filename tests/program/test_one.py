@@ -1,6 +1,7 @@
 """`one`: the first request of standard input, answered from an empty store."""
 
 import fcntl
+import itertools
 import socket
 import struct
 import subprocess
@@ -8,14 +9,31 @@ import termios
 import time
 
 from program import INPUT_LIMIT, LIMIT, PROGRAM, Runs, pairs_of
+from wire import REQUESTS, changed, counted, request_of, values_in
 
 SET = b"*3\r\n$3\r\nSET\r\n$1\r\na\r\n$1\r\n1\r\n"
 
+REPLIES = {b"SET": b"+OK\r\n", b"GET": b"$-1\r\n", b"PING": b"+PONG\r\n"}
+PROTOCOL = b"-ERR proxy: protocol error\r\n"
 
-def wait_until_read(source):
-    """Until nothing that was sent lies unread in a pipe."""
+
+def answer_to(data):
+    """The status and what is written for bytes that begin with a request of a name in REPLIES, or of no name that there is."""
+    values, fault = values_in(data)
+    for words in (request_of(value) for value, _ in values):
+        if words is None:
+            return 1, PROTOCOL
+        if words:
+            return 0, REPLIES.get(words[0], b"-ERR unknown command\r\n")
+    return 1, PROTOCOL if fault else b""
+
+
+def wait_until_read(source, program=None):
+    """Until nothing that was sent lies unread in a pipe, or the program has ended."""
     end = time.monotonic() + LIMIT
     while struct.unpack("i", fcntl.ioctl(source, termios.FIONREAD, bytes(4)))[0]:
+        if program and program.poll() is not None:
+            return
         if time.monotonic() > end:
             raise TimeoutError("the program does not read")
         time.sleep(0.0005)
@@ -58,6 +76,27 @@ class One(Runs):
                 wait_until_read(program.stdin)
                 written, _ = program.communicate(SET[place:], timeout=LIMIT)
                 self.assertEqual((program.returncode, written), (0, b"+OK\r\n"))
+
+    def test_changed_requests(self):
+        """Whole and byte by byte: the reply, the named error or an end."""
+        began, texts = time.monotonic(), [SET, REQUESTS]
+        for data in itertools.chain(*map(changed, texts)):
+            with self.subTest(data=data):
+                self.check(["one"], data, *answer_to(data))
+                self.assertEqual(self.given_byte_by_byte(data), answer_to(data))
+        print(f"changed requests of one, {counted(texts)}, twice: {time.monotonic() - began:.1f} s")
+
+    def given_byte_by_byte(self, data):
+        """The status and what is written, where each byte is read before the next is given."""
+        with self.start() as program:
+            try:
+                for place in range(len(data)):
+                    program.stdin.write(data[place : place + 1])
+                    wait_until_read(program.stdin, program)
+            except BrokenPipeError:
+                pass  # it has ended
+            written, _ = program.communicate(timeout=LIMIT)
+        return program.returncode, written
 
     def test_a_read_that_fails(self):
         self.check_failed_read(["one"], b"")

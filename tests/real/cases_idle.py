@@ -1,10 +1,12 @@
 """What an idle proxy costs, and how fast it wakes."""
 
+import socket
 import statistics
+import struct
 import time
 
 from client import request
-from cluster import Proxy, processor_seconds, resident_mebibytes
+from cluster import Proxy, is_within, processor_seconds, resident_mebibytes
 from harness import case, check, check_same, check_time
 
 SECONDS = 4.0
@@ -12,6 +14,8 @@ SECONDS = 4.0
 MOST_PERCENT = 2.0
 # In mebibytes: what may stay after clients with big values have left.
 MOST_KEPT = 32
+# Bytes of a large value; and in mebibytes what may stay after clients that were served many of them.
+LARGE, MOST_LEFT = 4 * 2**20, 16
 
 
 def percent_of_core(process, seconds=SECONDS):
@@ -78,4 +82,35 @@ def memory_is_given_back(world):
         proxy.process.wait(10)
     note = f"resident {before:.0f} MiB before, {most:.0f} at most, {after:.0f} after"
     check(after < before + MOST_KEPT, note)
+    return note
+
+
+@case
+def what_a_client_left_behind(world):
+    """Of a proxy's own: clients that were served large replies, read or reset in the midst of them, leave little behind."""
+    variables = {"MALLOC_TRIM_THRESHOLD_": "131072", "MALLOC_MMAP_THRESHOLD_": "131072"}
+    proxy = Proxy(world.room, world.program, world.cluster.nodes[0].port, name="left", variables=variables)
+    keys = [b"large %d" % number for number in range(16)]
+    try:
+        with proxy.client() as client:
+            for key in keys:
+                check_same(client.ask("SET", key, LARGE * b"v"), b"+OK\r\n", "SET")
+        before = most = resident_mebibytes(proxy.process)
+        for is_read in [True, False] * 3:
+            with proxy.client() as client:
+                client.send(request("MGET", *keys))
+                if is_read:
+                    check_same(len(client.reply()), len(b"*16\r\n") + 16 * (LARGE + len(b"$4194304\r\n\r\n")), "length of a reply")
+                else:
+                    check_same(client.socket.recv(4), b"*16\r", "the first bytes of a reply")
+                most = max(most, resident_mebibytes(proxy.process))
+                client.socket.setsockopt(socket.SOL_SOCKET, socket.SO_LINGER, struct.pack("ii", 1, 0))
+        is_within(2, lambda: resident_mebibytes(proxy.process) < before + MOST_LEFT)
+        after = resident_mebibytes(proxy.process)
+    finally:
+        proxy.process.terminate()
+        proxy.process.wait(10)
+    note = f"resident {before:.0f} MiB before, {most:.0f} at most, {after:.0f} after"
+    check(most > before + 32, note)
+    check_time(after < before + MOST_LEFT, note)
     return note

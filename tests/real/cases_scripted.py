@@ -17,9 +17,9 @@ TRYAGAIN = b"-TRYAGAIN Multiple keys request during rehashing of slot\r\n"
 class Scene:
     """A proxy of its own before scripted nodes, the first of them the seed."""
 
-    def __init__(self, world, *nodes, workers=2):
+    def __init__(self, world, *nodes, workers=2, variables=None):
         self.nodes = nodes
-        self.proxy = Proxy(world.room, world.program, nodes[0].port, workers=workers, name="scene")
+        self.proxy = Proxy(world.room, world.program, nodes[0].port, workers=workers, name="scene", variables=variables)
 
     def __enter__(self):
         return self.proxy

@@ -1,5 +1,6 @@
-"""A node that takes requests and never answers, and clients that wait for a descriptor."""
+"""A node that takes requests and never answers, ends that vanish, and clients that wait for a descriptor."""
 
+import os
 import resource
 import socket
 import struct
@@ -8,15 +9,19 @@ import time
 from contextlib import ExitStack
 
 from cases_idle import percent_of_core
-from cases_scripted import Scene
+from cases_scripted import Scene, moved
 from client import request
-from cluster import Proxy, is_within, keys_of_slots, wait_until
+from cluster import Proxy, is_within, keys_of_slots, resident_mebibytes, wait_until
 from harness import case, check, check_same, check_time
-from scripted import ScriptedNode
+from scripted import ScriptedNode, bulk, slots_reply
 from writers import LOST
 
 # Clients that leave such a node, and the seconds after which it is given up.
 LEAVING, GIVEN_UP = 300, 30
+# Clients that leave bytes behind a command, how many bytes each, and how many mebibytes of all may be kept.
+UNREAD, LEFT, MOST_KEPT = 200, 200 * 1024, 12
+# Seconds in which nothing came before the system asks whether the other end is there.
+IDLE = 60
 # The limit of descriptors before which so many clients come.
 CROWDED, CROWD = 64, 200
 
@@ -49,6 +54,99 @@ def a_node_that_never_answers(world):
         ended.set()
     check_time(GIVEN_UP - 1 < seconds < GIVEN_UP + 5, f"the node was given up after {seconds:.1f} seconds")
     return f"given up after {seconds:.1f} s"
+
+
+@case
+def what_a_client_left_behind_a_command(world):
+    """At a node that never answers: behind a command one client in two has another one that waits, the others one that is not whole.
+
+    All reset their connections. Their commands wait on, and nothing else of them is held: the allocator gives back what is free.
+    """
+    ended = threading.Event()
+    node = ScriptedNode(lambda words: ended.wait(60) and None)
+    variables = {"MALLOC_TRIM_THRESHOLD_": "65536", "MALLOC_MMAP_THRESHOLD_": "65536"}
+    with Scene(world, node, variables=variables) as proxy:
+        with proxy.client() as client:
+            client.send(request("SET", "first", "1"))
+            wait_until(lambda: len(node.words_seen()) == 1, "the node to get a command")
+        process, words = proxy.process, node.words_seen
+        before = resident_mebibytes(process)
+        with ExitStack() as leaving:
+            for number in range(UNREAD):
+                client = leaving.enter_context(proxy.client())
+                behind = request("SET", f"leaving {number}", "v" * LEFT)
+                client.send(request("SET", f"leaving {number}", "1") + behind[: None if number % 2 else -2])
+                client.socket.setsockopt(socket.SOL_SOCKET, socket.SO_LINGER, struct.pack("ii", 1, 0))
+            wait_until(lambda: len(words()) == UNREAD + 1, "the node to get every first command")
+            wait_until(lambda: resident_mebibytes(process) > before + UNREAD * LEFT / 2**20 * 0.9, "the proxy to hold what is behind")
+            most = resident_mebibytes(process)
+        is_within(2, lambda: resident_mebibytes(process) < before + MOST_KEPT)
+        after = resident_mebibytes(process)
+        ended.set()
+    note = f"resident {before:.0f} MiB before, {most:.0f} at most, {after:.0f} after {UNREAD} clients left"
+    check_time(after < before + MOST_KEPT, note)
+    return note
+
+
+@case
+def a_node_that_never_lists_its_slots(world):
+    """It sends a command on, and never answers the CLUSTER SLOTS that follows: once it is given up another node is asked."""
+    ended = threading.Event()
+    other = ScriptedNode(lambda words: bulk(b"other"))
+    other.slots = lambda: slots_reply([(0, 16383, other.port)])
+    seed = ScriptedNode(lambda words: moved(b"a", other.port))
+    listings = iter([slots_reply([(0, 16383, seed.port)])])
+    seed.slots = lambda: next(listings, None) or (ended.wait(60) and None)
+    with Scene(world, seed, other) as proxy, proxy.client(limit=GIVEN_UP + 15) as client, proxy.client() as waiting:
+        wait_until(lambda: seed.asked_slots == 1, "the seed to be asked for its slots")
+        time.sleep(0.2)
+        check_same(client.ask("GET", "a"), bulk(b"other"), "GET by way of MOVED")
+        wait_until(lambda: seed.asked_slots == 2, "the seed to be asked for its slots again")
+        began = time.monotonic()
+        waiting.send(request("GET", "b"))
+        check_same(client.ask("GET", "a"), bulk(b"other"), "GET of the slot that is known, beside it")
+        check_same(other.asked_slots, 0, "requests of the other node for its slots, while the seed owes its own")
+        client.send(request("GET", "c"))
+        check_same(client.reply(), LOST, "the reply of a command behind the request for slots")
+        seconds = time.monotonic() - began
+        wait_until(lambda: other.asked_slots > 0, "the other node to be asked", 5)
+        check_same(waiting.reply(), LOST, "the reply of the first command behind it")
+        time.sleep(0.2)
+        check_same(waiting.ask("GET", "b"), bulk(b"other"), "GET by the map of the other node")
+        check_same([words[1] for words in seed.words_seen()], [b"a", b"b", b"c"], "keys that the seed was asked for")
+        ended.set()
+    check_time(GIVEN_UP - 1 < seconds < GIVEN_UP + 5, f"the node was given up after {seconds:.1f} seconds")
+    return f"given up after {seconds:.1f} s"
+
+
+def keepalive_timers(process):
+    """Of each connection of a process that stands, the seconds until the other end is asked whether it is there, or None."""
+    folder, inodes = f"/proc/{process.pid}/fd", set()
+    for name in os.listdir(folder):
+        inodes.add(os.readlink(f"{folder}/{name}").removeprefix("socket:[").removesuffix("]"))
+    with open(f"/proc/{process.pid}/net/tcp", encoding="ascii") as lines:
+        rows = [line.split() for line in lines.read().splitlines()[1:]]
+    timers = [row[5].split(":") for row in rows if row[3] == "01" and row[9] in inodes]
+    return [int(when, 16) / os.sysconf("SC_CLK_TCK") if kind == "02" else None for kind, when in timers]
+
+
+@case
+def ends_that_vanish_are_asked(world):
+    """Clients and nodes: the system asks each end from which nothing came for a minute."""
+    nodes = [ScriptedNode(lambda words: bulk(words[1])) for _ in range(3)]
+    ranges = [(5500 * number, min(5500 * number + 5499, 16383), node.port) for number, node in enumerate(nodes)]
+    for node in nodes:
+        node.slots = lambda: slots_reply(ranges)
+    with Scene(world, *nodes) as proxy, ExitStack() as clients:
+        time.sleep(0.2)
+        for _ in range(10):
+            client = clients.enter_context(proxy.client())
+            for key in keys_of_slots(0, 16383, 12):
+                check_same(client.ask("GET", key), bulk(key), "GET")
+        check(all(node.words_seen() for node in nodes), "a node got no command")
+        is_asked = lambda timers: len(timers) >= 13 and all(it is not None and IDLE - 10 < it <= IDLE for it in timers)
+        check(is_within(5, lambda: is_asked(keepalive_timers(proxy.process))), f"timers: {keepalive_timers(proxy.process)}")
+        return f"{len(keepalive_timers(proxy.process))} connections"
 
 
 @case

@@ -5,6 +5,7 @@ import os
 import re
 import subprocess
 import tempfile
+from collections import Counter
 
 from growths import Growths, compiler
 
@@ -24,6 +25,33 @@ LEFT_OUT = {
     "a_worker_is_stopped_by_its_gate",
 }
 
+# Calls that take no memory, by their object: all others find none at least once. Some lines are of one word.
+QUIET = {
+    "cluster": "forget import migrate own rest",
+    "command": "end finish posted slot ticket want",
+    "copy": "node slot",
+    "courier": "later new node posts",
+    "jump": "",
+    "lane": "node take",
+    "lanes": "finish hand learn newcomer node take told",
+    "link": "failed lose new patience written",
+    "map": "node range slot",
+    "nodes": "fail leave own served",
+    "plan": "name",
+    "port": "new written",
+    "reader": "new",
+    "report": "new",
+    "session": "awaits finished follow new ready",
+    "slot": "new node of tag",
+    "state": "forget history import migrate own",
+    "store": "new",
+    "stream": "room slow",
+    "table": "endpoint new",
+    "turns": " held jump worker",
+    "value": "request show",
+}
+TAKE_NONE = {f"{thing} {name}".strip() for thing, names in QUIET.items() for name in names.split(" ")}
+
 # Seconds that a run of a driver may take, as a last resort.
 LIMIT = 60
 
@@ -42,6 +70,8 @@ class Sweep:
     def __init__(self, driver):
         self.driver, self.growths = driver, Growths()
         self.again = self.of_driver = self.unneeded = 0
+        # the kinds of calls that were made, those that found no memory, and the growths of lines that make no call
+        self.made, self.refused, self.of_words = set(), set(), {}
 
     def close(self):
         self.growths.close()
@@ -62,14 +92,29 @@ class Sweep:
 
     def failures(self, row):
         """A line for each growth of the row whose refusal leads to something else."""
-        self.answers([], 0)
-        first = self.growths.count
+        first = self.growths_of([])
         if self.answers(row.calls, 0) != row.wanted:
             return [f"{row.name}: is answered otherwise while there is memory"]
         last = self.growths.count
-        return list(filter(None, (self.failure(row, number) for number in range(first + 1, last + 1))))
+        places = Counter()
+        failures = list(filter(None, (self.failure(row, number, places) for number in range(first + 1, last + 1))))
+        self.made.update(map(kind_of, row.calls))
+        self.refused.update(kind_of(row.calls[at]) for at, count in places.items() if count > self.growths_of_words(row.calls[at]))
+        return failures
 
-    def failure(self, row, number):
+    def growths_of(self, calls):
+        self.answers(calls, 0)
+        return self.growths.count
+
+    def growths_of_words(self, call):
+        """How many growths the driver takes for a line of the same words that names no object."""
+        words = " ".join(["none", *call.split(" ")[1:]])
+        if words not in self.of_words:
+            self.of_words[words] = self.growths_of([words]) - self.growths_of([])
+        return self.of_words[words]
+
+    def failure(self, row, number, places):
+        """A line where this refusal leads to something else. Where the call at a place finds no memory, it is counted there."""
         found = self.answers(row.calls, number)
         if found == row.wanted:
             self.unneeded += 1
@@ -82,6 +127,7 @@ class Sweep:
             again = self.answers(row.calls[: at + 1] + row.calls[at:], number)
             if again == row.wanted[:at] + [odd] + row.wanted[at:]:
                 self.again += 1
+                places[at] += 1
                 return None
         if self.is_of_driver(odd, wanted, found[at + 1 :], row.wanted[at + 1 :]):
             self.of_driver += 1
@@ -98,12 +144,13 @@ class Sweep:
         return TICKET.sub("", wanted).strip() == TICKET.sub("", odd).strip() and found == behind
 
 
-def failures_refused(tables):
-    """Sweeps the rows of tables, each with its driver, and prints how many growths were refused."""
+def failures_refused(tables, are_all):
+    """Sweeps the rows of tables, each with its driver, and prints how many growths were refused. Where these are all tables, each
+    kind of call is to find no memory, or is listed above."""
     if not compiler():
         print("growths refused: NOT RUN, since no C compiler is there")
         return []
-    failures = []
+    failures, made, refused = [], set(), set()
     for path, driver, rows in tables:
         chosen = [row for row in rows if is_swept(row)]
         if not chosen:
@@ -112,11 +159,22 @@ def failures_refused(tables):
         for row in chosen:
             failures += [f"{path.name}: {line}" for line in sweep.failures(row)]
         sweep.close()
+        made |= sweep.made
+        refused |= sweep.refused
         print(
             f"{path.name}: growths refused in {len(chosen)} rows: {sweep.again} calls made again, "
             f"{sweep.of_driver} of the driver's own, {sweep.unneeded} not needed"
         )
+    if are_all:
+        failures += [f"{kind}: never finds no memory" for kind in sorted(made - refused - TAKE_NONE)]
+    failures += [f"{kind}: finds no memory, though it takes none" for kind in sorted(refused & TAKE_NONE)]
+    print(f"{len(refused)} kinds of calls find no memory, {len(made & TAKE_NONE)} take none")
     return failures
+
+
+def kind_of(call):
+    """The object of a call and its name."""
+    return " ".join(call.split(" ")[:2])
 
 
 def is_swept(row):

@@ -17,7 +17,8 @@ CLIENTS, REQUESTS = 10, 100
 # Clients that count one counter up, and so many requests of each.
 COUNTERS, COUNTS = 2, 50
 
-WORKERS = 3
+# So many workers are turned, of so many that have lanes. Clients are dealt to all of them by their numbers.
+WORKERS, LANES = 3, 4
 
 # So many slots move while the clients are served, with so many turns between two steps.
 MOVES, TURNS = 24, 4
@@ -42,6 +43,11 @@ class Fitting(str):
 
 def one_of(*answers):
     return Fitting(" or ".join(answers), lambda answer: str(answer) in answers)
+
+
+def number_of(client):
+    """The number of a client that is dealt to one of the workers that are turned."""
+    return client // WORKERS * LANES + client % WORKERS
 
 
 def own_key(client, number):
@@ -160,17 +166,17 @@ def each_client_is_served_as_by_one_store():
     row.call("nodes refuse")
     for client, requests in enumerate(asked):
         data = b"".join(request(*(word.encode() for word in words)) for words in requests)
-        row.call(f"turns client {client % WORKERS} {client} {quoted(data)}")
+        row.call(f"turns client {client % WORKERS} {number_of(client)} {quoted(data)}")
     add_moves(row)
     row.call("turns all 1", "moved")
     row.call("turns all 2000", "moved")
     row.call("turns all 4", "rests")
     for client, requests in enumerate(asked[:CLIENTS]):
         wanted = quoted(replies_of_one_store(requests))
-        row.call(f"turns held {client}", Fitting(wanted, lambda answer, wanted=wanted: answer.startswith(wanted + " ")))
+        row.call(f"turns held {number_of(client)}", Fitting(wanted, lambda answer, wanted=wanted: answer.startswith(wanted + " ")))
     held = {}
     for client in range(CLIENTS, CLIENTS + COUNTERS):
-        row.call(f"turns held {client}", counted(held, client))
+        row.call(f"turns held {number_of(client)}", counted(held, client))
     return row
 
 

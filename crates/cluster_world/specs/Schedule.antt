@@ -2,7 +2,7 @@
 -- This project's format. A request stands in it only where its plan has one part. A script that doesn't fit is refused
 -- by its lowest bad line, the header's lines among them.
 use Rattle.std.specs.Prelude.{◌≡◌, ◌≢◌, ℕ, ◌+◌, ◌%◌, ◌^◌, ◌==◌, nat_le, Bool, ◌&&◌, if◌then◌else◌, List, [], ◌∷◌, length, drop, slice_index_or, Option, None, Some, Result, Ok, Err, codes}
-use Rattle.std.specs.List.{find, before_first, after_first}
+use Rattle.std.specs.List.{find, before_first, after_first, slice_split}
 use Rattle.std.specs.Option.{option_map}
 use Rattle.std.specs.Str.{bytes_eq}
 use Rattle.slot_map.specs.declared.ops.MapOp.{MapOp}
@@ -46,16 +46,27 @@ both make None second = None
 both make (Some a) None = None
 both make (Some a) (Some b) = Some (make a b)
 
--- CLIENT.PART: a client's worker is its number modulo the workers
+-- CLIENT.PART+PART..: the parts of a run, in order; a client's worker is its number modulo the workers
 abbrev pub is_dot : ℕ → Bool
 is_dot b = b == 46
+
+abbrev pub is_plus : ℕ → Bool
+is_plus b = b == 43
 
 abbrev pub ticket_of : ℕ → ℕ → ℕ → Ticket
 ticket_of workers client part = record { worker = client % workers; client = client; part = part }
 
+abbrev pub tickets_of : ℕ → ℕ → Words → Option (List Ticket)
+tickets_of workers client [] = Some []
+tickets_of workers client (word ∷ words) = both (λ part more. ticket_of workers client part ∷ more) (number_below (2 ^ 64) word) (tickets_of workers client words)
+
+abbrev pub tickets_for : ℕ → Option ℕ → Words → Option (List Ticket)
+tickets_for workers None words = None
+tickets_for workers (Some client) words = tickets_of workers client words
+
 -- without a dot there is nothing behind it, which is no number
-abbrev pub ticket_in : ℕ → List ℕ → Option Ticket
-ticket_in workers word = both (ticket_of workers) (client_in (before_first is_dot word)) (number_below (2 ^ 64) (after_first is_dot word))
+abbrev pub tickets_in : ℕ → List ℕ → Option (List Ticket)
+tickets_in workers word = tickets_for workers (client_in (before_first is_dot word)) (slice_split is_plus (after_first is_dot word))
 
 -- Events.
 
@@ -132,14 +143,10 @@ verdict_in words =
 abbrev pub serving_in : Words → Option Event
 serving_in args = if nat_le 1 (length args) then both event.Serve (link_in (word_at args 0)) (verdict_in (drop 1 args)) else None
 
--- a command goes alone
-abbrev pub post_alone : Ticket → ℕ → Event
-post_alone ticket node = event.Post (ticket ∷ []) node
-
 -- the event of a verb and the words behind it
 abbrev pub event_as : ℕ → Verb → Words → Option Event
 event_as workers Arrive args = arrival_in args
-event_as workers Post args = of_two post_alone (ticket_in workers) node_in args
+event_as workers Post args = of_two event.Post (tickets_in workers) node_in args
 event_as workers Carry args = of_two event.Carry lane_in link_in args
 event_as workers Refuse args = of_one event.Refuse lane_in args
 event_as workers Serve args = serving_in args

@@ -1,17 +1,17 @@
 //! The events that lines say.
 
-ghost use Rattle.std.specs.Prelude.{◌≡◌, ◌≢◌, ◌<◌, [], ◌∷◌, Some, length, IfOk};
+ghost use Rattle.std.specs.Prelude.{◌≡◌, ◌≢◌, ◌<◌, Some, length, IfOk};
 ghost use Rattle.key_split.specs.Plan.{plan_of};
 ghost use Rattle.cluster_world.specs.Schedule as schedule;
 
-use crate::fields::{client_in, lane_in, link_in, node_in, slot_in, ticket_in};
+use crate::fields::{client_in, lane_in, link_in, node_in, slot_in, tickets_in};
 use crate::verb::Verb;
-use key_split::{Part, Parts, PlanFault, Planned, Ticket, plan};
+use key_split::{Part, Parts, PlanFault, Planned, plan};
 use node_model::Verdict;
 use resp_wire::{Bytes, NoMemory, Words};
 use slot_hash::Slot;
 use std::alloc::Global;
-use world_laws::{Event, Tickets};
+use world_laws::Event;
 
 /// The event that a line's words say, where they say one.
 #[tactic(auto, unfolding(crate::specs::Schedule::event_of))]
@@ -132,7 +132,7 @@ fn client_alone(args: &[Bytes]) -> Option<u32>
     client_in(args[0].as_slice())
 }
 
-/// `post CLIENT.PART NODE`
+/// `post CLIENT.PART+PART.. NODE`
 fn post_in(alloc: Global, workers: u16, args: &[Bytes]) -> Result<Option<Event>, NoMemory>
     requires { 0 < workers }
     ensures { IfOk result (λ event. event ≡ schedule.event_as workers Verb.Post args.now) }
@@ -140,23 +140,13 @@ fn post_in(alloc: Global, workers: u16, args: &[Bytes]) -> Result<Option<Event>,
     if args.len() != 2 {
         return Ok(None);
     }
-    let Some(ticket) = ticket_in(workers, args[0].as_slice()) else {
+    let Some(tickets) = tickets_in(alloc, workers, args[0].as_slice())? else {
         return Ok(None);
     };
     let Some(node) = node_in(args[1].as_slice()) else {
         return Ok(None);
     };
-    let tickets = alone(alloc, ticket)?;
     Ok(Some(Event::Post { tickets, node }))
-}
-
-/// A run of one.
-fn alone(alloc: Global, ticket: Ticket) -> Result<Tickets, NoMemory>
-    ensures { IfOk result (λ tickets. tickets ≡ ticket ∷ []) }
-{
-    let mut tickets = Vec::new(alloc);
-    tickets.push(ticket)?;
-    Ok(Tickets::new(tickets))
 }
 
 /// `carry LANE LINK`

@@ -1,13 +1,18 @@
 //! Words that name clients, lanes, links, nodes, slots and tickets.
 
-ghost use Rattle.std.specs.Prelude.{◌≡◌, ◌<◌, IfSome};
+ghost use Rattle.std.specs.Prelude.{◌≡◌, ◌<◌, ◌^◌, IfOk, IfSome};
+ghost use Rattle.std.specs.List.{slice_split};
+ghost use Rattle.std.specs.Option.{option_map};
 ghost use Rattle.cluster_world.specs.Script.{number_below};
-ghost use Rattle.cluster_world.specs.Schedule.{client_in, lane_in, link_in, node_in, slot_in, ticket_in};
+ghost use Rattle.cluster_world.specs.Schedule.{client_in, lane_in, link_in, is_plus, node_in, slot_in, ticket_of, tickets_in, tickets_of};
 
 use crate::script::{cut, number};
 use key_split::Ticket;
+use resp_wire::NoMemory;
 use slot_hash::{SLOT_COUNT, Slot};
 use slot_map::{NODE_LIMIT, NodeId};
+use std::alloc::Global;
+use world_laws::Tickets;
 
 /// The number that a word writes, where it is below a bound.
 pub fn number_under(word: &[u8], bound: u64) -> Option<u64>
@@ -54,13 +59,55 @@ pub fn slot_in(word: &[u8]) -> Option<Slot>
     Slot::new(slot as u16)
 }
 
-/// CLIENT.PART
-pub(crate) fn ticket_in(workers: u16, word: &[u8]) -> Option<Ticket>
+/// CLIENT.PART+PART..
+pub(crate) fn tickets_in(
+    alloc: Global,
+    workers: u16,
+    word: &[u8],
+) -> Result<Option<Tickets>, NoMemory>
     requires { 0 < workers }
-    ensures { result ≡ ticket_in workers word.now }
+    ensures { IfOk result (λ tickets. tickets ≡ tickets_in workers word.now) }
 {
-    let (client, part) = cut(word, b'.')?;
-    let client = client_in(client)?;
+    let Some((client, parts)) = cut(word, b'.') else {
+        return Ok(None);
+    };
+    let Some(client) = client_in(client) else {
+        return Ok(None);
+    };
+    tickets_of(alloc, workers, client, parts)
+}
+
+/// PART+PART.., of this client.
+fn tickets_of(
+    alloc: Global,
+    workers: u16,
+    client: u32,
+    parts: &[u8],
+) -> Result<Option<Tickets>, NoMemory>
+    requires { 0 < workers }
+    ensures { IfOk result (λ tickets. tickets ≡ tickets_of workers client (slice_split is_plus parts.now)) }
+{
+    let mut tickets = Vec::new(alloc);
+    let mut rest = parts;
+    while let Some((part, behind)) = cut(rest, b'+') {
+        let Some(ticket) = ticket_of(workers, client, part) else {
+            return Ok(None);
+        };
+        tickets.push(ticket)?;
+        rest = behind;
+    }
+    let Some(ticket) = ticket_of(workers, client, rest) else {
+        return Ok(None);
+    };
+    tickets.push(ticket)?;
+    Ok(Some(Tickets::new(tickets)))
+}
+
+/// PART, of this client.
+fn ticket_of(workers: u16, client: u32, part: &[u8]) -> Option<Ticket>
+    requires { 0 < workers }
+    ensures { result ≡ option_map (ticket_of workers client) (number_below (2 ^ 64) part.now) }
+{
     let part = number(part)?;
     Some(Ticket {
         worker: (client % u32::from(workers)) as u16,

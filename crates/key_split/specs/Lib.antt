@@ -9,5 +9,6 @@ pub mod Texts
 pub mod Woven
 pub mod Join
 pub mod Requests
+pub mod Runs
 pub mod Told
 pub mod Laws

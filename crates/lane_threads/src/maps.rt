@@ -24,7 +24,8 @@ fn another_thread_sees_what_it_learnt(rt: HostRuntime) -> Result<(), Fail> {
     Ok(())
 }
 
-// A view in another thread learns two fronts, the later first: whether it shows the later.
+// A view in another thread learns two fronts, the later first: whether it shows the later, and knows nothing that was not
+// published.
 fn learns<J, R>(rt: R, opened: Opened) -> Result<bool, Fail>
 where
     J: Naming + Send + Sync + 'static,
@@ -33,13 +34,41 @@ where
 {
     let (ends, mut carrier) = lanes::<u32, J, R>(rt.alloc(), rt, opened, 1)?;
     let worker = ends.into_iter().next().ok_or("a worker")?;
-    let first = publish_at(&mut carrier.map, 1)?;
-    let second = publish_at(&mut carrier.map, 2)?;
+    shows_the_later(&rt, &mut carrier.map, view_of(worker))
+}
+
+fn view_of<J: Naming>(worker: WorkerEnds<u32, J>) -> MapView<J> {
     let WorkerEnds { view, .. } = worker;
-    let Ok(child) = thread::spawn(&rt, move || last_seen(view, first, second)) else {
+    view
+}
+
+fn shows_the_later<J, R>(rt: &R, map: &mut Publisher<J, R>, view: MapView<J>) -> Result<bool, Fail>
+where
+    J: Naming + Send + Sync + 'static,
+    R: Threads + Wait + Drop,
+{
+    let first = publish_at(map, 1)?;
+    let second = publish_at(map, 2)?;
+    let (node, view) = seen_elsewhere(rt, view, first, second)?;
+    let published = map.tell().ok_or("a front")?;
+    Ok(node == NodeId::new(2) && view.is_in(&published))
+}
+
+// What a view that learns these fronts in another thread sees there.
+fn seen_elsewhere<J, R>(
+    rt: &R,
+    view: MapView<J>,
+    first: Front<J>,
+    second: Front<J>,
+) -> Result<(Option<NodeId>, MapView<J>), Fail>
+where
+    J: Naming + Send + Sync + 'static,
+    R: Threads + Wait,
+{
+    let Ok(child) = thread::spawn(rt, move || last_seen(view, first, second)) else {
         return Err(Fail::new("a thread"));
     };
-    Ok(child.join(&rt) == NodeId::new(2))
+    Ok(child.join(rt))
 }
 
 // Publishes that the slot is at this node, and tells what was published.
@@ -53,11 +82,16 @@ where
     Ok(map.tell().ok_or("a front")?)
 }
 
-// Where a view sees the slot that learns these fronts, the second first.
-fn last_seen<J: Naming>(mut view: MapView<J>, first: Front<J>, second: Front<J>) -> Option<NodeId> {
+// Where a view sees the slot that learns these fronts, the second first, and the view.
+fn last_seen<J: Naming>(
+    mut view: MapView<J>,
+    first: Front<J>,
+    second: Front<J>,
+) -> (Option<NodeId>, MapView<J>) {
     view.learn(second);
     view.learn(first);
-    view.node_of(slot()).ok().flatten()
+    let node = view.node_of(slot()).ok().flatten();
+    (node, view)
 }
 
 const LISTS: u64 = 100_000;
@@ -104,18 +138,30 @@ where
     let (ends, mut carrier) = lanes::<u32, J, R>(rt.alloc(), rt, opened, 2)?;
     let mut readers = Vec::new(rt.alloc());
     for worker in ends {
-        let WorkerEnds { view, .. } = worker;
-        let Ok(reader) = thread::spawn(&rt, move || never_falls(view)) else {
-            return Err(Fail::new("a thread"));
-        };
-        readers.push(reader)?;
+        readers.push(reader_of(&rt, view_of(worker))?)?;
     }
     publish_all(&mut carrier.map)?;
+    Ok(any_fell(&rt, readers))
+}
+
+// A thread that looks until the slot's node is the last one, or falls.
+fn reader_of<J, R>(rt: &R, view: MapView<J>) -> Result<JoinHandle<bool>, Fail>
+where
+    J: Naming + Send + Sync + 'static,
+    R: Threads,
+{
+    match thread::spawn(rt, move || never_falls(view)) {
+        Ok(reader) => Ok(reader),
+        Err(_) => Err(Fail::new("a thread")),
+    }
+}
+
+fn any_fell<R: Threads + Wait>(rt: &R, readers: Vec<JoinHandle<bool>>) -> bool {
     let mut fell = false;
     for reader in readers {
-        fell = !reader.join(&rt) || fell;
+        fell = !reader.join(rt) || fell;
     }
-    Ok(fell)
+    fell
 }
 
 fn publish_all<J, R>(map: &mut Publisher<J, R>) -> Result<(), NoMemory>

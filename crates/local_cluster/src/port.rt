@@ -105,7 +105,7 @@ impl<'c, R: Wait> LocalPort<'c, R> {
 }
 
 impl<'c, R: Wait> NodePort for LocalPort<'c, R> {
-    ghost use Rattle.std.specs.Prelude.{[], refl};
+    ghost use Rattle.std.specs.Prelude.{◌≡◌, [], refl};
     ghost use Rattle.std.proofs.lemmas.List.{append-nil};
     ghost use Rattle.local_cluster.specs.Conversation.{Converses};
 
@@ -114,6 +114,9 @@ impl<'c, R: Wait> NodePort for LocalPort<'c, R> {
     ghost is_garbled = { λ _. ⊥ };
 
     ghost exchange = { Converses };
+
+    // No request waits.
+    ghost gives_none = { λ p. p.waiting ≡ [] };
 
     ghost still = { λ p. ([], append-nil p.waiting, refl, refl) };
 

@@ -89,6 +89,8 @@ impl<P: NodePort> NodePort for CountedPort<P> {
 
     ghost exchange = { λ old requests values new. P.exchange old.port requests values new.port };
 
+    ghost gives_none = { λ counted. P.gives_none counted.port };
+
     ghost still = { λ counted. P.still counted.port };
 
     fn send(&mut self, batch: &Batch) -> Result<(), PortFault> {

@@ -6,3 +6,4 @@ pub mod Blowing
 pub mod Moves
 pub mod Ranges
 pub mod Words
+pub mod Answering

@@ -6,7 +6,7 @@ use Rattle.std.specs.List.{flat_map}
 use Rattle.resp_wire.specs.LimitsModel.{LimitsModel}
 use Rattle.resp_wire.specs.Canonical.{canonical}
 use Rattle.resp_wire.specs.Data.{Data, bulk, array, items_of}
-use Rattle.resp_wire.specs.Front.{front, Whole, Faulty}
+use Rattle.resp_wire.specs.Front.{front, Whole, Partial, Faulty}
 use Rattle.resp_wire.specs.ReaderModel.{ReaderModel}
 use Rattle.resp_wire.specs.Seen.{data_of}
 use Rattle.resp_wire.specs.declared.value.Value.{Value}
@@ -118,7 +118,7 @@ ReadChunkOutcome failures moved old (Err _) new chunk = Rose (failures old) (fai
 -- the first value of what is unread is taken
 abbrev pub TakeOutcome : ReaderModel → Result (Option Value) PortFault → ReaderModel → Type 0
 TakeOutcome old (Ok (Some value)) new = (front old.bounds old.unread ≡ Whole (data_of value) new.unread) × (new.bounds ≡ old.bounds)
-TakeOutcome old (Ok None) new = (new.unread ≡ old.unread) × (new.bounds ≡ old.bounds)
+TakeOutcome old (Ok None) new = (new.unread ≡ old.unread) × (new.bounds ≡ old.bounds) × (front new.bounds new.unread ≡ Partial)
 TakeOutcome old (Err NoMemory) new = (new.unread ≡ old.unread) × (new.bounds ≡ old.bounds)
 TakeOutcome old (Err BadWire) new =
     (new.unread ≡ old.unread) × (new.bounds ≡ old.bounds) × (fault : WireFault) × (front new.bounds new.unread ≡ Faulty fault)

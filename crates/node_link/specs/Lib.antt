@@ -8,3 +8,6 @@ pub mod LinkCalls
 pub mod Laws
 pub mod Spelling
 pub mod Bytes
+pub mod Runs
+pub mod Items
+pub mod Waiting

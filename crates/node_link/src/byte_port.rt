@@ -4,6 +4,7 @@ ghost use Rattle.std.specs.Prelude.{◌≡◌, ◌≤◌, ◌∷◌, [], None, f
 ghost use Rattle.key_split.specs.Requests.{Slots, requests_of};
 ghost use Rattle.node_link.specs.Bytes.{Exchanges, IsGarbled, OffersFirst};
 ghost use Rattle.node_link.specs.Port.{SendOutcome, NextOutcome};
+ghost use Rattle.node_link.specs.Waiting.{GaveNone, GivesNone};
 
 use crate::inbox::Inbox;
 use crate::outbox::Outbox;
@@ -69,6 +70,8 @@ impl<S: Stream> NodePort for BytePort<S> {
 
     ghost exchange = { Exchanges S.moved };
 
+    ghost gives_none = { GivesNone S.asked };
+
     ghost still = { λ p. ([], [], S.still p.stream, append-nil p.unsent, append-nil p.input.unread, refl) };
 
     fn send(&mut self, batch: &Batch) -> Result<(), PortFault>
@@ -109,6 +112,7 @@ impl<S: Stream> NodePort for BytePort<S> {
         ensures does { NextOutcome (λ (p : BytePortModel S). S.failures p.stream) IsGarbled (Exchanges S.moved) self.old result self.new }
         ensures count { S.failures self.old.stream ≤ S.failures self.new.stream }
         ensures offers { OffersFirst S.asked S.offered self.old self.new }
+        ensures none { GaveNone result → GivesNone S.asked self.new }
     {
         let flushed = self
             .outbox

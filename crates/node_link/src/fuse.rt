@@ -3,6 +3,7 @@
 ghost use Rattle.std.specs.Prelude.{◌≡◌, ◌≤◌, ◌+◌, List, [], ◌∷◌};
 ghost use Rattle.key_split.specs.Requests.{Request, Slots, requests_of};
 ghost use Rattle.node_link.specs.Port.{SendOutcome, NextOutcome};
+ghost use Rattle.node_link.specs.Waiting.{GaveNone};
 
 use crate::port::{NodePort, PortFault};
 use key_split::Batch;
@@ -62,6 +63,8 @@ impl<P: NodePort> NodePort for Fuse<P> {
 
     ghost exchange = { ExchangesInside P.exchange };
 
+    ghost gives_none = { Inside P.gives_none };
+
     ghost still = { λ f. P.still f.port };
 
     fn send(&mut self, batch: &Batch) -> Result<(), PortFault>
@@ -90,6 +93,7 @@ impl<P: NodePort> NodePort for Fuse<P> {
         ensures does { NextOutcome (failures_with P.failures) (Inside P.is_garbled) (ExchangesInside P.exchange) self.old result self.new }
         ensures count { failures_with P.failures self.old ≤ failures_with P.failures self.new }
         ensures fuse { FuseOutcome (NextOutcome P.failures P.is_garbled P.exchange) self.old result self.new }
+        ensures none { GaveNone result → Inside P.gives_none self.new }
     {
         if !self.passes() {
             return Err(PortFault::Failed);

@@ -3,6 +3,7 @@
 ghost use Rattle.std.specs.Prelude.{◌≡◌, ◌≤◌, [], None, OnOk, length, take};
 ghost use Rattle.node_link.specs.declared.stream.Flow.{Flow};
 ghost use Rattle.node_link.specs.Bytes.{input_of, FillOutcome, ReadChunkOutcome, TakeOutcome};
+ghost use Rattle.node_link.specs.Waiting.{IsWaiting, WasRead};
 
 use crate::port::PortFault;
 use crate::stream::{Flow, Gone, Stream};
@@ -65,6 +66,7 @@ impl Inbox {
 
     /// The same, where bytes were read since.
     pub fn take_more(&mut self) -> Result<Option<Value>, PortFault>
+        requires { IsWaiting self.old.fed }
         ensures { TakeOutcome (input_of self.old) result (input_of self.new) }
     {
         if self.filled == 0 {
@@ -94,6 +96,7 @@ impl Inbox {
         ensures read { FillOutcome S.failures S.moved stream.old self.old result stream.new self.new }
         ensures count { S.failures stream.old ≤ S.failures stream.new }
         ensures asked { (given : Flow) × S.asked stream.old given stream.new }
+        ensures read_now { OnOk result (WasRead S.asked stream.new) }
     {
         match read_chunk(stream, &mut self.chunk) {
             Ok(count) => {
@@ -110,6 +113,7 @@ fn read_chunk<S: Stream>(stream: &mut S, chunk: &mut Vec<u8>) -> Result<usize, G
     ensures read { ReadChunkOutcome S.failures S.moved stream.old result stream.new chunk.new.items }
     ensures count { S.failures stream.old ≤ S.failures stream.new }
     ensures asked { (given : Flow) × S.asked stream.old given stream.new }
+    ensures read_now { OnOk result (WasRead S.asked stream.new) }
 {
     match stream.read(chunk) {
         Flow::Bytes(count) => Ok(count),

@@ -11,6 +11,7 @@
 //! `OffersFirst` of specs/Bytes.antt. What a line of a node says is `told_by` of specs/Telling.antt.
 #![tactic(auto)]
 
+mod block;
 mod byte_port;
 mod byte_queue;
 mod fuse;
@@ -20,10 +21,12 @@ mod link;
 mod outbox;
 mod port;
 mod redirect;
+mod run_port;
 mod spelling;
 mod stream;
 mod told;
 
+pub use block::take_told;
 pub use byte_port::BytePort;
 pub use byte_queue::{drop_front, free_large};
 pub use fuse::Fuse;
@@ -32,5 +35,6 @@ pub use link::{Due, Failure, Got, Link, LinkFault};
 pub use outbox::FLUSH_AFTER_READS;
 pub use port::{NodePort, PortFault};
 pub use redirect::{endpoint_in, number_within};
+pub use run_port::RunPort;
 pub use stream::{Flow, Stream};
 pub use told::told_of;

@@ -1,14 +1,18 @@
 //! A connection to a node, on which many commands are under way.
 
-ghost use Rattle.std.specs.Prelude.{◌≡◌, ◌<◌, ◌≤◌, ◌+◌, ◌++◌, ◌∷◌, [], ℕ, List, IsTrue, ◌↔◌, IsSome, None, Some, MatchOption, length, map};
+ghost use Rattle.std.specs.Prelude.{◌≡◌, ◌<◌, ◌≤◌, ◌+◌, ◌*◌, ◌++◌, ◌∷◌, [], ℕ, List, IsTrue, ◌↔◌, IsSome, None, Some, MatchOption, length, map};
 ghost use Rattle.std.specs.VecDeque.{deque_len, deque_capacity};
+ghost use Rattle.std.specs.List.{flat_map};
 ghost use Rattle.key_split.specs.Requests.{Slots, requests_of};
+ghost use Rattle.key_split.specs.Runs.{count_in, requests_of_run};
 ghost use Rattle.slot_map.specs.Table.{Grows};
 ghost use Rattle.node_link.specs.LinkCalls.{due_of, tickets_of, fault_of, Sends, LinkGives, Receives};
+ghost use Rattle.node_link.specs.Waiting.{ReceivesNone};
 
 use crate::port::{NodePort, PortFault};
+use crate::run_port::RunPort;
 use crate::told::told_of;
-use key_split::{Batch, Ticket, Told};
+use key_split::{Batch, Run, Ticket, Told};
 use resp_wire::Value;
 use slot_map::{NodeId, NodeTable};
 use std::alloc::Global;
@@ -185,6 +189,7 @@ impl<P: NodePort> Link<P> {
     pub fn receive(&mut self, table: &mut NodeTable) -> Result<Option<Got>, LinkFault>
         requires { self.old.node < length table.old }
         ensures does { Receives P.failures P.is_garbled P.exchange self.old table.old result self.new table.new }
+        ensures none { ReceivesNone P.gives_none self.old result self.new }
         ensures grown { Grows table.old table.new }
     {
         self.receive_next(table)
@@ -192,7 +197,8 @@ impl<P: NodePort> Link<P> {
 
     fn receive_next(&mut self, table: &mut NodeTable) -> Result<Option<Got>, LinkFault>
         requires { self.old.node < length table.old }
-        ensures { Receives P.failures P.is_garbled P.exchange self.old table.old result self.new table.new }
+        ensures does { Receives P.failures P.is_garbled P.exchange self.old table.old result self.new table.new }
+        ensures none { ReceivesNone P.gives_none self.old result self.new }
     {
         if let Some(failure) = self.failure {
             return Err(failure.fault());
@@ -249,6 +255,54 @@ impl<P: NodePort> Link<P> {
     }
 }
 
+impl<P: RunPort> Link<P> {
+    /// How many commands a run may have.
+    pub fn longest_run(&self) -> usize
+        ensures { result ≡ P.longest self.now.port }
+    {
+        self.port.longest_run()
+    }
+
+    /// Sends a run, whose tickets wait from then on.
+    pub fn send_run(&mut self, run: &Run) -> Result<(), LinkFault>
+        requires { count_in run.now ≤ P.longest self.old.port }
+        ensures { Sends P.failures P.is_garbled P.exchange self.old (requests_of_run run.now) result self.new }
+    {
+        if let Some(failure) = self.failure {
+            return Err(failure.fault());
+        }
+        if !has_room(&mut self.due, run) {
+            return Err(LinkFault::NoMemory);
+        }
+        match self.port.send_run(run) {
+            Err(PortFault::NoMemory) => Err(LinkFault::NoMemory),
+            Ok(()) => {
+                owe_run(&mut self.due, run);
+                Ok(())
+            }
+            Err(PortFault::Failed) => {
+                owe_run(&mut self.due, run); // it may have been sent
+                Err(self.fail(Failure::PortFailed))
+            }
+            Err(PortFault::BadWire) => {
+                owe_run(&mut self.due, run);
+                Err(self.fail(Failure::BadWire))
+            }
+        }
+    }
+}
+
+// Makes room for what the sender of a run waits for: each command has two requests at most.
+fn has_room(due: &mut VecDeque<Due>, run: &Run) -> bool
+    ensures items { due.new.items ≡ due.old.items }
+    ensures room { IsTrue result → deque_len due.new + 2 * count_in run.now ≤ deque_capacity due.new }
+{
+    let Some(room) = run.len().checked_mul(2) else {
+        return false;
+    };
+    due.reserve(room).is_ok()
+}
+
 // Puts what the sender of a request waits for behind the others.
 fn owe(due: &mut VecDeque<Due>, last: Due)
     requires { deque_len due.old < deque_capacity due.old }
@@ -261,12 +315,33 @@ fn owe(due: &mut VecDeque<Due>, last: Due)
 
 fn owe_batch(due: &mut VecDeque<Due>, batch: &Batch)
     requires { deque_len due.old + 2 ≤ deque_capacity due.old }
-    ensures { due.new.items ≡ due.old.items ++ map due_of (requests_of batch.now) }
+    ensures items { due.new.items ≡ due.old.items ++ map due_of (requests_of batch.now) }
+    ensures len { deque_len due.new ≤ deque_len due.old + 2 }
+    ensures room { deque_capacity due.old ≤ deque_capacity due.new }
 {
     if batch.asking {
         owe(due, Due::Asking);
     }
     owe(due, Due::Command(batch.ticket));
+}
+
+fn owe_run(due: &mut VecDeque<Due>, run: &Run)
+    requires { deque_len due.old + 2 * count_in run.now ≤ deque_capacity due.old }
+    ensures { due.new.items ≡ due.old.items ++ map due_of (requests_of_run run.now) }
+{
+    owe_batch(due, run.first());
+    owe_batches(due, run.later());
+}
+
+fn owe_batches(due: &mut VecDeque<Due>, batches: &[Batch])
+    requires { deque_len due.old + 2 * length batches.now ≤ deque_capacity due.old }
+    ensures { due.new.items ≡ due.old.items ++ map due_of (flat_map requests_of batches.now) }
+{
+    let mut rest = batches;
+    while let [batch, further @ ..] = rest {
+        owe_batch(due, batch);
+        rest = further;
+    }
 }
 
 // Takes all off up to the first ticket.

@@ -1,18 +1,21 @@
 -- How a node serves a run: it executes all its commands, in order and at once, or none of them.
 -- Redis documentation, MULTI and EXEC. The node looks at the keys once, at the run's start, as at those of one command
 -- (Serving.antt): a run is no chain of single serves, of which the first could delete a key that the second needs held.
-use Rattle.std.specs.Prelude.{◌≡◌, ℕ, Bool, List, [], ◌∷◌, ◌++◌, All}
+use Rattle.std.specs.Prelude.{◌≡◌, ℕ, Bool, List, [], ◌∷◌, ◌++◌, All, MatchOption, Result, Ok, Err, Vec}
 use Rattle.std.specs.List.{list_all}
 use Rattle.std.specs.Str.{bytes_eq}
+use Rattle.std.specs.declared.alloc.Global.{Global}
 use Rattle.slot_hash.specs.Slot.{slot_of}
 use Rattle.key_split.specs.PartModel.{PartModel, keys_of}
 use Rattle.key_split.specs.declared.travel.Told.{Told}
 use Rattle.node_model.specs.declared.role.Deed.{Deed}
 use Rattle.node_model.specs.declared.role.Deed.TheVariants.{Executes, Says}
 use Rattle.node_model.specs.declared.role.Verdict.{Verdict}
+use Rattle.node_model.specs.declared.role.ServeFault.{ServeFault}
+use Rattle.node_model.specs.declared.role.ServeFault.TheVariants.{NoMemory}
 use Rattle.node_model.specs.Store.{StoreModel, store_after, reply_to}
 use Rattle.node_model.specs.Nodes.{ClusterModel, role_of, store_at, with_store}
-use Rattle.node_model.specs.Serving.{IsReply, deed_of, held_of}
+use Rattle.node_model.specs.Serving.{IsReply, deed_of, held_of, refusal_of}
 
 -- the keys of a run, and the first of them
 abbrev pub keys_in : List PartModel → List (List ℕ)
@@ -55,3 +58,17 @@ AllTold said (c ∷ cs) [] = ⊥
 abbrev pub DoesRun : Deed → ClusterModel → ℕ → List PartModel → List Told → ClusterModel → Type 0
 DoesRun Executes k node cs tolds k' = AreReplies (store_at k node) cs tolds × (k' ≡ with_store k node (store_after_all (store_at k node) cs))
 DoesRun (Says said) k node cs tolds k' = AllTold said cs tolds × (k' ≡ k)
+
+-- all keys of the run have the slot of the first
+abbrev pub HaveOneSlot : List PartModel → Type 0
+HaveOneSlot cs = All (λ key. slot_of key ≡ slot_of (first_key cs)) (keys_in cs)
+
+-- the node does what the definition says, and tells each command; or it finds no memory, and nothing changes
+abbrev pub RunAnswers : Deed → ClusterModel → ℕ → List PartModel → Result (Vec Told Global) ServeFault → ClusterModel → Type 0
+RunAnswers deed k node cs (Ok tolds) k' = DoesRun deed k node cs tolds.items k'
+RunAnswers deed k node cs (Err fault) k' = (fault ≡ NoMemory) × (k' ≡ k)
+
+-- the reasons that need no memory come first
+abbrev pub ServesAll : ClusterModel → ℕ → Bool → List PartModel → Verdict → Result (Vec Told Global) ServeFault → ClusterModel → Type 0
+ServesAll k node asking cs verdict result k' =
+    MatchOption (refusal_of k node verdict) (RunAnswers (deed_for k node asking cs verdict) k node cs result k') (λ fault. (result ≡ Err fault) × (k' ≡ k))

@@ -11,17 +11,18 @@ abbrev pub lanes_of : {H M : Type 0} → CarrierEnds H M → List (LaneEnds H)
 lanes_of ends = ends.lanes.items
 
 module _ {H J : Type 0} where
-  -- the two ends of this worker's lanes, in which nothing was posted, beside a view that knows of nothing published
-  abbrev pub AreLanesOf : ℕ → WorkerEnds H J → LaneEnds H → Type 0
-  AreLanesOf k w lane =
-      (w.worker ≡ k) × IsNewLane w.outlet lane.up × IsSomeAnd lane.down (λ outlet. IsNewLane outlet w.inlet)
+  -- the two ends of the lanes of this one of so many workers, in which nothing was posted, beside a view that knows of nothing
+  -- published
+  abbrev pub AreLanesOf : ℕ → ℕ → WorkerEnds H J → LaneEnds H → Type 0
+  AreLanesOf workers k w lane =
+      (w.worker ≡ k) × (w.workers ≡ workers) × IsNewLane w.outlet lane.up × IsSomeAnd lane.down (λ outlet. IsNewLane outlet w.inlet)
       × IsNewLane lane.door w.newcomers × (w.view ≡ [])
 
   -- those of worker k and on, in order
-  abbrev pub AreLanesFrom : ℕ → List (WorkerEnds H J) → List (LaneEnds H) → Type 0
-  AreLanesFrom k [] [] = Unit {0}
-  AreLanesFrom k (w ∷ ws) (lane ∷ lanes) = AreLanesOf k w lane × AreLanesFrom (k + 1) ws lanes
-  AreLanesFrom k _ _ = ⊥
+  abbrev pub AreLanesFrom : ℕ → ℕ → List (WorkerEnds H J) → List (LaneEnds H) → Type 0
+  AreLanesFrom workers k [] [] = Unit {0}
+  AreLanesFrom workers k (w ∷ ws) (lane ∷ lanes) = AreLanesOf workers k w lane × AreLanesFrom workers (k + 1) ws lanes
+  AreLanesFrom workers k _ _ = ⊥
 
-  abbrev pub AreLanes : List (WorkerEnds H J) → List (LaneEnds H) → Type 0
-  AreLanes ws lanes = AreLanesFrom 0 ws lanes
+  abbrev pub AreLanes : ℕ → List (WorkerEnds H J) → List (LaneEnds H) → Type 0
+  AreLanes workers ws lanes = AreLanesFrom workers 0 ws lanes

@@ -17,6 +17,8 @@ pub type Newcomers<H> = Inlet<H>;
 #[derive(Drop)]
 pub struct WorkerEnds<H: Drop, J: Naming> {
     pub worker: u16,
+    /// How many workers there are.
+    pub workers: u16,
     pub outlet: Outlet<Batch>,
     pub inlet: Inlet<(Ticket, Told)>,
     pub newcomers: Newcomers<H>,

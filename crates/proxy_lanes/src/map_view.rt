@@ -29,7 +29,7 @@ impl<J: Naming> Model for MapView<J> {
 }
 
 impl<J: Naming> MapView<J> {
-    ghost use Rattle.std.specs.Prelude.{◌≡◌, ◌⊎◌, IfOk, OnOk, OnErr};
+    ghost use Rattle.std.specs.Prelude.{◌≡◌, ◌≢◌, ◌⊎◌, IfOk, MatchBool, OnOk, OnErr, length};
     ghost use mathlib.Core.List.{IsPrefix};
     ghost use Rattle.slot_map.specs.Map.{node_after};
 
@@ -55,6 +55,14 @@ impl<J: Naming> MapView<J> {
         let node = guard.node_of(slot);
         *known = guard.front().again();
         Ok(node)
+    }
+
+    /// Whether the front has all that the view knows. Of the two the shorter begins the longer: a view knows nothing that was
+    /// not published.
+    pub fn is_in(&self, front: &Front<J>) -> bool
+        ensures { MatchBool result (IsPrefix self.now front.now) (IsPrefix front.now self.now × (length self.now ≢ length front.now)) }
+    {
+        self.known.is_in(front)
     }
 
     /// From now on the view knows no less than the front.

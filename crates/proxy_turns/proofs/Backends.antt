@@ -52,18 +52,18 @@ waits failures is_garbled exchange link link' nodes nodes' (none, table, (inl ca
 waits failures is_garbled exchange link link' nodes nodes' (none, table, (inr (value, comes, owed, is))) = ap (λ (l : LinkModel _). is_some l.failure) is ∙ ap (λ f. is_some f) none
 
 -- what a link gave is held
-module _ {P : Type 0} (failures : P → ℕ) (is_garbled : P → Type 0) (exchange : P → List Request → List Value → P → Type 0) where
+module _ {P : Type 0} (failures : P → ℕ) (is_garbled : P → Type 0) (exchange : P → List Request → List Value → P → Type 0) (gives_none : P → Type 0) where
   pub holds : (unanswered : Bool) (old new : Backend P) (link link' : LinkModel P) (nodes nodes' : List Endpoint) (published : List MapOp) (got : Got) (step : BackendStep)
       → old.link ≡ Some link → old.pending_told ≡ None → old.answer ≡ None
       → Receives failures is_garbled exchange link nodes (Ok (Some got)) link' nodes'
       → HoldOutcome (record old { link = Some link' }) got step new
-      → BackendFetches failures is_garbled exchange unanswered
+      → BackendFetches failures is_garbled exchange gives_none unanswered
       (record { backend = old; nodes = nodes; published = published }) (Ok step) (record { backend = new; nodes = nodes'; published = published })
   holds unanswered old new link link' nodes nodes' published (got.Ticket ticket told) step is pending_told answer receives (fetched, now) =
-      let P : BackendStep → Type 0 = λ s. BackendFetches failures is_garbled exchange unanswered
+      let P : BackendStep → Type 0 = λ s. BackendFetches failures is_garbled exchange gives_none unanswered
       (record { backend = old; nodes = nodes; published = published }) (Ok s) (record { backend = new; nodes = nodes'; published = published }) in
       subst P (sym fetched) ((link, link', ticket, told, pending_told, (is, receives), λ i. record { backend = now i; nodes = nodes'; published = published }), refl, λ still. absurd (false≢true (sym still)))
   holds unanswered old new link link' nodes nodes' published (got.Slots value) step is pending_told answer receives (answered, now) =
-      let P : BackendStep → Type 0 = λ s. BackendFetches failures is_garbled exchange unanswered
+      let P : BackendStep → Type 0 = λ s. BackendFetches failures is_garbled exchange gives_none unanswered
       (record { backend = old; nodes = nodes; published = published }) (Ok s) (record { backend = new; nodes = nodes'; published = published }) in
       subst P (sym answered) ((link, link', value, answer, (is, receives), λ i. record { backend = now i; nodes = nodes'; published = published }), refl, λ still. absurd (false≢true (sym still)))

@@ -23,8 +23,9 @@ use Rattle.proxy_lanes.specs.Lane.{Posts, free_places, posted}
 use Rattle.slot_map.specs.declared.ops.MapOp.{MapOp}
 use Rattle.proxy_turns.specs.Commands.{CommandsModel, Drops, PostsFreshResult}
 use Rattle.proxy_turns.specs.ClientModel.{ClientModel, read_answer}
+use Rattle.proxy_turns.specs.ClientTurn.{most_drained}
 use Rattle.proxy_turns.specs.ClientRest.{BeginsNone, DrainsNone, FeedsNone, HasNoPlace, HasNoneToBegin, HasNoneToDrain, HasNoneToFeed, HasNoneToPost, HasNoneToPull, HasNoneToPush, HasNoneToRead, IfStill, IsAnswered, IsClientAtRest, IsIdle, MayBeHeld, PostsNone, PullsNone, PushesNone, ReadsNone, SendsNone, TakesNoMore, WorksNone, WritesNone}
-use Rattle.proxy_turns.proofs.Undrained.{drained_none}
+use Rattle.proxy_turns.proofs.Undrained.{append_none, drained_by}
 
 not_below : (i place : ℕ) → (i < place → ⊥) → place ≤ i
 not_below i zero none = omega arith
@@ -40,19 +41,6 @@ held_next session place next oldest first i may =
 
 none_of : (n : ℕ) → nat_lt 0 n ≡ false → n ≡ 0
 none_of n e = grind (arith, nat_tests, e)
-
-drained_by : (old new : SessionModel) (before after : List ℕ) (n : ℕ) → n ≡ 0 → DrainOutcome old before (Ok n) new after → (output old ≡ []) × (after ≡ before) × (new ≡ old)
-drained_by old new before after n none (more, count, is) =
-    let nothing = no_length (output old) (sym none ∙ count) in
-    (nothing, more ∙ ap (λ o. before ++ o) nothing ∙ append_none before, is ∙ drained_none old nothing)
-  where
-    no_length : (xs : List ℕ) → 0 ≡ length xs → xs ≡ []
-    no_length [] e = refl
-    no_length (x ∷ xs) e = absurd (omega (arith, e))
-
-    append_none : (xs : List ℕ) → xs ++ [] ≡ xs
-    append_none [] = refl
-    append_none (x ∷ xs) = ap (λ l. x ∷ l) (append_none xs)
 
 -- ---- one call
 
@@ -98,10 +86,6 @@ read_none old new given result is reads = subst (λ r. IfStill r ((MayRead new �
     by_answer (Err fault.NotRequest) (inr (inr (may, words, rest, reads, is))) = broken (new_broken _ (ap (λ (s : SessionModel). s.closing) is))
 
 -- what was fed where the session took nothing
-append_none : (xs : List ℕ) → xs ++ [] ≡ xs
-append_none [] = refl
-append_none (x ∷ xs) = ap (λ l. x ∷ l) (append_none xs)
-
 fed_nothing : (old : SessionModel) → with_incoming old (fed old.incoming []) ≡ old
 fed_nothing old = λ i. with_incoming old (record old.incoming { input = record old.incoming.input { unread = append_none old.incoming.input.unread i } })
 
@@ -131,6 +115,11 @@ three_still false true c x y z f = tt
 three_still false false true x y z f = tt
 three_still false false false x y z f = f x y z
 
+-- and it was so
+pub with_still : (A : Type 0) (b : Bool) → IfStill (Ok b) A → IfStill (Ok b) (A × (b ≡ false))
+with_still A true still = tt
+with_still A false still = (still, refl)
+
 pub four_still : {A B C D E : Type 0} (a b c d : Bool) → IfStill (Ok a) A → IfStill (Ok b) B → IfStill (Ok c) C → IfStill (Ok d) D → (A → B → C → D → E) → IfStill (Ok (((a || b) || c) || d)) E
 four_still true b c d x y z w f = tt
 four_still false true c d x y z w f = tt
@@ -144,7 +133,7 @@ if_turned false still e = still
 
 module _ {C : Type 0} where
   post_none : (client : ClientModel C) (outlet : Outlet Batch) → client.commands.fresh ≡ None → HasNoneToPost client outlet
-  post_none client outlet none = subst (λ o. IfSome o (λ command. (client.gone ≡ false) × (WantsPost command.stage → HasNoPlace outlet))) (sym none) tt
+  post_none client outlet none = subst (λ o. IfSome o (λ command. (client.gone ≡ false) × HasNoPlace outlet)) (sym none) tt
 
   -- a client that begins nothing, and the command that waits is not posted
   pub sends_none : (old mid new : ClientModel C) (outlet : Outlet Batch) → BeginsNone old mid → PostsNone mid new outlet → SendsNone old new outlet
@@ -293,7 +282,7 @@ empty_by_length [] e = refl
 empty_by_length (x ∷ xs) e = absurd (omega (arith, e))
 
 module _ {C : Type 0} (t : ClientModel C) where
-  pub drain_none : (session : SessionModel) (unpushed : List ℕ) (n : ℕ) → DrainOutcome t.session t.unpushed (Ok n) session unpushed
+  pub drain_none : (session : SessionModel) (unpushed : List ℕ) (n : ℕ) → DrainOutcome most_drained t.session t.unpushed (Ok n) session unpushed
       → IfStill (Ok (nat_lt 0 n)) (DrainsNone t (record t { session = session; unpushed = unpushed }))
   drain_none session unpushed n drains = if_still (nat_lt 0 n) (λ none.
       let was = drained_by t.session session t.unpushed unpushed n (none_of n none) drains in
@@ -348,19 +337,20 @@ module _ {C : Type 0} (t : ClientModel C) where
   drop_none commands true drops not_so = absurd (false≢true (sym not_so))
   drop_none commands false (none, same) not_so = ((λ i. record t { commands = same i }), ap (λ (m : CommandsModel). m.fresh) same ∙ none)
 
-  waits_full : (o : Option CommandModel) (outlet : Outlet Batch) → t.gone ≡ false → IfSome o (λ command. WantsPost command.stage → HasNoPlace outlet)
-      → IfSome o (λ command. (t.gone ≡ false) × (WantsPost command.stage → HasNoPlace outlet))
-  waits_full None outlet here full = tt
-  waits_full (Some command) outlet here full = (here, full)
+  waits_full : (o : Option CommandModel) (outlet : Outlet Batch) → t.gone ≡ false → ((c : CommandModel) → o ≡ Some c → WantsPost c.stage)
+      → IfSome o (λ command. WantsPost command.stage → HasNoPlace outlet) → IfSome o (λ command. (t.gone ≡ false) × HasNoPlace outlet)
+  waits_full None outlet here wants full = tt
+  waits_full (Some command) outlet here wants full = (here, full (wants command refl))
 
-  pub posts_nothing : (commands : CommandsModel) (o o' : Outlet Batch) (v v' : List MapOp) (result : Result Bool NoMemory) → t.gone ≡ false → PostsFreshResult t.commands o v result commands o' v'
+  pub posts_nothing : (commands : CommandsModel) (o o' : Outlet Batch) (v v' : List MapOp) (result : Result Bool NoMemory) → t.gone ≡ false → ((c : CommandModel) → t.commands.fresh ≡ Some c → WantsPost c.stage)
+      → PostsFreshResult t.commands o v result commands o' v'
       → IfStill result (IfSome t.commands.fresh (λ command. WantsPost command.stage → HasNoPlace o')) → IfStill result (PostsNone t (record t { commands = commands }) o')
-  posts_nothing commands o o' v v' (Ok true) here posts full = tt
-  posts_nothing commands o o' v v' (Ok false) here (same, slot, tries) full = record {
+  posts_nothing commands o o' v v' (Ok true) here wants posts full = tt
+  posts_nothing commands o o' v v' (Ok false) here wants (same, slot, tries) full = record {
     kept = λ i. record t { commands = same i };
-    posted = waits_full commands.fresh o' here (subst (λ (m : CommandsModel). IfSome m.fresh (λ command. WantsPost command.stage → HasNoPlace o')) (sym same) full);
+    posted = waits_full commands.fresh o' here (λ c is. wants c (ap (λ (m : CommandsModel). m.fresh) (sym same) ∙ is)) (subst (λ (m : CommandsModel). IfSome m.fresh (λ command. WantsPost command.stage → HasNoPlace o')) (sym same) full);
   }
-  posts_nothing commands o o' v v' (Err refused) here posts full = tt
+  posts_nothing commands o o' v v' (Err refused) here wants posts full = tt
 
   module _ (takes_none : C → Type 0) where
     pub unoffered : (may : Bool) → ((may ≡ true) ↔ ((t.gone ≡ false) × (t.unpushed ≡ [] → ⊥))) → may ≡ false → PushesNone takes_none t t

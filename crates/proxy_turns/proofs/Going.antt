@@ -12,6 +12,7 @@ use Rattle.key_split.specs.declared.travel.Batch.{Batch}
 use Rattle.key_split.specs.declared.travel.Ticket.{Ticket}
 use Rattle.command_future.specs.CommandModel.{CommandModel, fresh}
 use Rattle.session_order.specs.SessionModel.{SessionModel}
+use Rattle.session_order.specs.HangingUp.{HangsUp}
 use Rattle.session_order.specs.declared.fault.SessionFault.{SessionFault}
 use Rattle.session_order.specs.declared.fault.SessionFault.TheVariants as fault
 use Rattle.session_order.specs.Replies.{DrainOutcome}
@@ -22,7 +23,7 @@ use Rattle.proxy_lanes.specs.Lane.{Posts}
 use Rattle.proxy_turns.specs.Port.{Moves}
 use Rattle.proxy_turns.specs.Commands.{CommandsModel, Drops, Looks, PostOutcome, PostsAt, PostsAtResult, PostsFresh, PostsFreshResult, TakesCommand, Tries, with_command}
 use Rattle.proxy_turns.specs.ClientModel.{ClientModel, IsSoundClient, Takings, read_answer}
-use Rattle.proxy_turns.specs.ClientTurn.{ClientContext, ClientEvent, ClientDoes, ClientGoes, ClientGoesBy, ClientTurns, ClientTurnsBy, is_client_move, left_of}
+use Rattle.proxy_turns.specs.ClientTurn.{ClientContext, ClientEvent, ClientDoes, ClientGoes, ClientGoesBy, ClientTurns, ClientTurnsBy, is_client_move, left_of, most_drained}
 use Rattle.proxy_turns.specs.ClientTurn.ClientEvent.{Pulled, Fed, Read, HandedOut, Looked, CameBack, Posted, Drained, Pushed, Tried, Parted, Dropped}
 use Rattle.proxy_turns.proofs.EventKinds.{and_both, and_true}
 
@@ -102,8 +103,8 @@ module _ {C : Type 0} (moves : Moves C) (may : ClientEvent → Bool) where
         let with_unfed : List ℕ → ClientContext C = λ u. at (record t { port = port; unfed = u }) o v in
         by (at t o v) (Pulled bytes) (with_unfed bytes) moved is (kind bytes) (m, ap (λ (u : List ℕ). with_unfed (u ++ bytes)) (sym none))
 
-    pub parted : may Parted ≡ true → t.gone ≡ false → ClientGoesBy moves may (at t o v) true (at (record t { gone = true; unfed = []; unpushed = [] }) o v)
-    parted kind here = by (at t o v) Parted _ true refl kind (here, refl)
+    pub parted : may Parted ≡ true → (t' : ClientModel C) → t.gone ≡ false → HangsUp t.session t'.session → t' ≡ record t { session = t'.session; gone = true; unfed = []; unpushed = [] } → ClientGoesBy moves may (at t o v) true (at t' o v)
+    parted kind t' here hangs is = by (at t o v) Parted (at t' o v) true refl kind (here, hangs, ap (λ x. at x o v) is)
 
     pub fed : ((result : Result ℕ SessionFault) → may (Fed result) ≡ true) → (session : SessionModel) (result : Result ℕ SessionFault) (unfed : List ℕ) (moved : Bool) → FeedOutcome t.session t.unfed result session
         → unfed ≡ left_of t.unfed result → moved ≡ is_client_move (Fed result) → ClientGoesBy moves may (at t o v) moved (at (record t { session = session; unfed = unfed }) o v)
@@ -121,9 +122,9 @@ module _ {C : Type 0} (moves : Moves C) (may : ClientEvent → Bool) where
         let with_commands : CommandsModel → ClientContext C = λ cs. at (record t { session = session; commands = cs }) o v in
         by (at t o v) (HandedOut ticket part) (with_commands commands) true refl (kind ticket part) (here, none, ready, ap with_commands begun)
 
-    pub drained : ((n : ℕ) → may (Drained n) ≡ true) → (session : SessionModel) (n : ℕ) (unpushed : List ℕ) (moved : Bool) → DrainOutcome t.session t.unpushed (Ok n) session unpushed
+    pub drained : ((n : ℕ) → may (Drained n) ≡ true) → (session : SessionModel) (n : ℕ) (unpushed : List ℕ) (moved : Bool) → t.gone ≡ false → DrainOutcome most_drained t.session t.unpushed (Ok n) session unpushed
         → moved ≡ nat_lt 0 n → ClientGoesBy moves may (at t o v) moved (at (record t { session = session; unpushed = unpushed }) o v)
-    drained kind session n unpushed moved drains is = by (at t o v) (Drained n) _ moved is (kind n) (drains, refl)
+    drained kind session n unpushed moved there drains is = by (at t o v) (Drained n) _ moved is (kind n) (there, drains, refl)
 
     pub pushed : ((bytes : List ℕ) → may (Pushed bytes) ≡ true) → (port : C) (bytes unpushed : List ℕ) (moved : Bool) → moves t.port [] bytes [] port → t.unpushed ≡ bytes ++ unpushed
         → moved ≡ nat_lt 0 (length bytes) → ClientGoesBy moves may (at t o v) moved (at (record t { port = port; unpushed = unpushed }) o v)

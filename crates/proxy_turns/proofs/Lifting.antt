@@ -206,7 +206,7 @@ module _ {C J : Type 0} (moves : Moves C) (may : WorkerEvent → Bool) where
   -- the next new client comes, or is turned away; the clients and the ports may have moved to other places before
   pub came : ((number : ℕ) → may (Came number) ≡ true) → ((number : ℕ) → may (TurnedAway number) ≡ true) → (base : WorkerModel C J) (newcomers' : Inlet (Newcomer C J)) (newest' left' : Option ℕ) (view' : List MapOp) (clients' : FinMap nat_cmp (ClientModel C)) (ports' : List C)
       (newcomer : Newcomer C J) (client : ClientModel C) → Takes base.newcomers newcomers' (Some newcomer) → OneCame base.left left' → Learns base.view newcomer.front view'
-      → client ≡ new_client base.worker newcomer.number full newcomer.port → PutsNew moves base.clients base.ports base.newest base.left newcomer.number client clients' ports' newest'
+      → client ≡ new_client base.worker newcomer.number full newcomer.port → PutsNew moves base.workers base.worker base.clients base.ports base.newest base.left newcomer.number client clients' ports' newest'
       → WorkerGoesBy moves may base true (record base { clients = clients'; newest = newest'; newcomers = newcomers'; left = left'; view = view'; ports = ports' })
   came comes away_too base newcomers' newest' left' view' clients' ports' newcomer client takes one learns begins (inl (new, put, same, last)) =
       by_all base (Came newcomer.number) (record base { clients = clients'; newest = newest'; newcomers = newcomers'; left = left'; view = view'; ports = ports' }) true refl (comes newcomer.number)
@@ -227,11 +227,11 @@ module _ {C J : Type 0} (moves : Moves C) (may : WorkerEvent → Bool) where
   pub came_from : ((number : ℕ) → may (Came number) ≡ true) → ((number : ℕ) → may (TurnedAway number) ≡ true) → (base : WorkerModel C J) (middle : FinMap nat_cmp (ClientModel C)) (kept : List C) (newcomers' : Inlet (Newcomer C J)) (newest' left' : Option ℕ) (view' : List MapOp)
       (clients' : FinMap nat_cmp (ClientModel C)) (ports' : List C) (newcomer : Newcomer C J) (client : ClientModel C) → middle ≡ base.clients → kept ≡ base.ports
       → Takes base.newcomers newcomers' (Some newcomer) → OneCame base.left left' → Learns base.view newcomer.front view'
-      → client ≡ new_client base.worker newcomer.number full newcomer.port → PutsNew moves middle kept base.newest base.left newcomer.number client clients' ports' newest'
+      → client ≡ new_client base.worker newcomer.number full newcomer.port → PutsNew moves base.workers base.worker middle kept base.newest base.left newcomer.number client clients' ports' newest'
       → WorkerGoesBy moves may base true (record base { clients = clients'; newest = newest'; newcomers = newcomers'; left = left'; view = view'; ports = ports' })
   came_from comes away_too base middle kept newcomers' newest' left' view' clients' ports' newcomer client a b takes one learns begins puts =
-      let P : FinMap nat_cmp (ClientModel C) → Type 0 = λ cs. PutsNew moves cs kept base.newest base.left newcomer.number client clients' ports' newest' in
-      let Q : List C → Type 0 = λ ps. PutsNew moves base.clients ps base.newest base.left newcomer.number client clients' ports' newest' in
+      let P : FinMap nat_cmp (ClientModel C) → Type 0 = λ cs. PutsNew moves base.workers base.worker cs kept base.newest base.left newcomer.number client clients' ports' newest' in
+      let Q : List C → Type 0 = λ ps. PutsNew moves base.workers base.worker base.clients ps base.newest base.left newcomer.number client clients' ports' newest' in
       came comes away_too base newcomers' newest' left' view' clients' ports' newcomer client takes one learns begins (subst Q b (subst P a puts))
 
   pub nobody : may FoundNobody ≡ true → (base : WorkerModel C J) (middle : FinMap nat_cmp (ClientModel C)) (kept : List C) (newcomers' : Inlet (Newcomer C J)) → middle ≡ base.clients → kept ≡ base.ports

@@ -159,10 +159,10 @@ module _ {H P : Type 0} where
   pair_back old lanes' pair back =
       lane_changes old lanes' pair.0.worker (λ lane lane'. GivesDown lane lane' pair (Err pair)) (λ lane lane' gives. refused_stays lane lane' pair pair gives) back
 
-  gives_none : (old : CarrierModel H P) (lanes' : List (LaneEnds H)) (pending_told : Option PendingTold) → WaitsToGive pending_told old.lanes lanes' → Quiet old (record old { lanes = lanes' })
-  gives_none old lanes' None same = lanes_same old lanes' same
-  gives_none old lanes' (Some pending_told) (inl unpublished) = lanes_same old lanes' unpublished.1
-  gives_none old lanes' (Some pending_told) (inr back) = pair_back old lanes' (pending_told.ticket, pending_told.told) back.1
+  gives_nothing : (old : CarrierModel H P) (lanes' : List (LaneEnds H)) (pending_told : Option PendingTold) → WaitsToGive pending_told old.lanes lanes' → Quiet old (record old { lanes = lanes' })
+  gives_nothing old lanes' None same = lanes_same old lanes' same
+  gives_nothing old lanes' (Some pending_told) (inl unpublished) = lanes_same old lanes' unpublished.1
+  gives_nothing old lanes' (Some pending_told) (inr back) = pair_back old lanes' (pending_told.ticket, pending_told.told) back.1
 
   tells_none : (old : CarrierModel H P) (lanes' : List (LaneEnds H)) (refused : Option Ticket) → WaitsToTell refused old.lanes lanes' → Quiet old (record old { lanes = lanes' })
   tells_none old lanes' None same = lanes_same old lanes' same
@@ -181,9 +181,9 @@ waited_link : {P : Type 0} (failures : P → ℕ) (is_garbled : P → Type 0) (e
 waited_link failures is_garbled exchange link link' nodes nodes' (none, table, (inl came)) = ap (λ (l : LinkModel _). l.failure) came.1
 waited_link failures is_garbled exchange link link' nodes nodes' (none, table, (inr (value, comes, owed, is))) = ap (λ (l : LinkModel _). l.failure) is
 
-module _ {H P : Type 0} (failures : P → ℕ) (is_garbled : P → Type 0) (exchange : P → List Request → List Value → P → Type 0) (opens : Endpoint → P → Type 0) where
-  waited : (old new : CarrierModel H P) → CarrierDoes failures is_garbled exchange opens old (AtBackend step.Waited) new → Quiet old new
-  waited old new (k, backend, backend', at, (link, link', (there, receives), context), is) =
+module _ {H P : Type 0} (failures : P → ℕ) (is_garbled : P → Type 0) (exchange : P → List Request → List Value → P → Type 0) (gives_none : P → Type 0) (opens : Endpoint → P → Type 0) where
+  waited : (old new : CarrierModel H P) → CarrierDoes failures is_garbled exchange gives_none opens old (AtBackend step.Waited) new → Quiet old new
+  waited old new (k, backend, backend', at, (link, link', (there, receives), none, context), is) =
       let now : backend' ≡ record backend { link = Some link' } = ap (λ (c : BackendContext P). c.backend) context in
       let L : Option (LinkModel P) → Type 0 = λ o. LinkStays o (Some link') in
       let B : Backend P → Type 0 = λ b. BackendStays (Some backend) (Some b) in
@@ -197,7 +197,7 @@ module _ {H P : Type 0} (failures : P → ℕ) (is_garbled : P → Type 0) (exch
         backends = set_stays BackendStays backend_same old.backends k backend backend' at stays;
       })
 
-  idle : (old new : CarrierModel H P) → CarrierDoes failures is_garbled exchange opens old (AtBackend step.Idle) new → Quiet old new
+  idle : (old new : CarrierModel H P) → CarrierDoes failures is_garbled exchange gives_none opens old (AtBackend step.Idle) new → Quiet old new
   idle old new (k, backend, backend', at, context, is) =
       let same : backend' ≡ backend = ap (λ (c : BackendContext P). c.backend) context in
       let back : slice_set old.backends k backend' ≡ old.backends = ap (λ x. slice_set old.backends k x) same ∙ set-itself old.backends k backend at in
@@ -211,12 +211,12 @@ module _ {H P : Type 0} (failures : P → ℕ) (is_garbled : P → Type 0) (exch
         backends = λ k. backend_same (slice_get old.backends k);
       }))
 
-  looked : (old new : CarrierModel H P) → CarrierDoes failures is_garbled exchange opens old Looked new → Quiet old new
-  looked old new (is, inl (k, backend, at, (same, gives))) = with_lanes old new is (gives_none old new.lanes backend.pending_told gives)
+  looked : (old new : CarrierModel H P) → CarrierDoes failures is_garbled exchange gives_none opens old Looked new → Quiet old new
+  looked old new (is, inl (k, backend, at, (same, gives))) = with_lanes old new is (gives_nothing old new.lanes backend.pending_told gives)
   looked old new (is, inr (k, pending_batch, at, inl (same, tells))) = with_lanes old new is (tells_none old new.lanes pending_batch.refused tells)
   looked old new (is, inr (k, pending_batch, at, inr takes)) = with_lanes old new is (takes_none old new.lanes k pending_batch takes)
 
-  added : (old new : CarrierModel H P) → CarrierDoes failures is_garbled exchange opens old BackendAdded new → Quiet old new
+  added : (old new : CarrierModel H P) → CarrierDoes failures is_garbled exchange gives_none opens old BackendAdded new → Quiet old new
   added old new is =
       let Q : CarrierModel H P → Type 0 = λ c. Quiet old c in
       subst Q (sym is) (record {
@@ -228,7 +228,7 @@ module _ {H P : Type 0} (failures : P → ℕ) (is_garbled : P → Type 0) (exch
       })
 
   event_quiet : (old : CarrierModel H P) (event : CarrierEvent) (new : CarrierModel H P) → adds_worker event ≡ false → is_carrier_move event ≡ false
-      → CarrierDoes failures is_garbled exchange opens old event new → Quiet old new
+      → CarrierDoes failures is_garbled exchange gives_none opens old event new → Quiet old new
   event_quiet old (AtBackend step.Idle) new few still does = idle old new does
   event_quiet old (AtBackend step.Waited) new few still does = waited old new does
   event_quiet old (AtBackend step.Broke) new few still does = absurd (cc)
@@ -259,7 +259,7 @@ module _ {H P : Type 0} (failures : P → ℕ) (is_garbled : P → Type 0) (exch
   event_quiet old GaveUnsent new few still does = absurd (cc)
 
   events_quiet : (may : CarrierEvent → Bool) → ((event : CarrierEvent) → may event ≡ true → adds_worker event ≡ false) → (old : CarrierModel H P) (events : List CarrierEvent) (new : CarrierModel H P)
-      → list_all may events ≡ true → list_any is_carrier_move events ≡ false → FoldsTo (CarrierDoes failures is_garbled exchange opens) old events new → Quiet old new
+      → list_all may events ≡ true → list_any is_carrier_move events ≡ false → FoldsTo (CarrierDoes failures is_garbled exchange gives_none opens) old events new → Quiet old new
   events_quiet may few old [] new all still same = let Q : CarrierModel H P → Type 0 = λ c. Quiet old c in subst Q same (quiet_same old)
   events_quiet may few old (event ∷ events) new all still (mid, does, rest) =
       let both = and_both (may event) (list_all may events) all in
@@ -268,7 +268,7 @@ module _ {H P : Type 0} (failures : P → ℕ) (is_garbled : P → Type 0) (exch
 
   -- a call that moved nothing was quiet
   stays_quiet : (may : CarrierEvent → Bool) → ((event : CarrierEvent) → may event ≡ true → adds_worker event ≡ false) → (old : CarrierModel H P) (moved : Bool) (new : CarrierModel H P)
-      → moved ≡ false → CarrierGoesBy failures is_garbled exchange opens may old moved new → Quiet old new
+      → moved ≡ false → CarrierGoesBy failures is_garbled exchange gives_none opens may old moved new → Quiet old new
   stays_quiet may few old moved new still (events, folds, is, all) = events_quiet may few old events new all (sym is ∙ still) folds
 
 -- ---- calls
@@ -292,8 +292,8 @@ no_worker may none Sent kind = refl
 no_worker may none Gave kind = refl
 no_worker may none GaveUnsent kind = refl
 
-module _ {H P : Type 0} (failures : P → ℕ) (is_garbled : P → Type 0) (exchange : P → List Request → List Value → P → Type 0) (opens : Endpoint → P → Type 0) where
+module _ {H P : Type 0} (failures : P → ℕ) (is_garbled : P → Type 0) (exchange : P → List Request → List Value → P → Type 0) (gives_none : P → Type 0) (opens : Endpoint → P → Type 0) where
   -- a call that moved nothing was quiet
   pub quiet_by : (may : CarrierEvent → Bool) → may WorkerAdded ≡ false → (old : CarrierModel H P) (moved : Bool) (new : CarrierModel H P)
-      → moved ≡ false → CarrierGoesBy failures is_garbled exchange opens may old moved new → Quiet old new
-  quiet_by may none old moved new still goes = stays_quiet failures is_garbled exchange opens may (no_worker may none) old moved new still goes
+      → moved ≡ false → CarrierGoesBy failures is_garbled exchange gives_none opens may old moved new → Quiet old new
+  quiet_by may none old moved new still goes = stays_quiet failures is_garbled exchange gives_none opens may (no_worker may none) old moved new still goes

@@ -10,7 +10,7 @@ use Rattle.indexmap.specs.IndexMap.{set_value_at}
 use Rattle.resp_wire.specs.declared.fault.NoMemory.{NoMemory}
 use Rattle.slot_map.specs.declared.ops.MapOp.{MapOp}
 use Rattle.key_split.specs.declared.travel.Batch.{Batch}
-use Rattle.command_future.specs.CommandModel.{CommandModel, WantsPost}
+use Rattle.command_future.specs.CommandModel.{CommandModel}
 use Rattle.proxy_lanes.specs.declared.ring.Outlet.{Outlet}
 use Rattle.proxy_turns.specs.Port.{Moves}
 use Rattle.proxy_turns.specs.ClientModel.{ClientModel, IsDone}
@@ -40,7 +40,7 @@ module _ {C : Type 0} (moves : Moves C) where
   full_one (Looked slot) old new still (looks, is) full = subst HasNoPlace (sym (ap (λ (c : ClientContext C). c.outlet) is)) full
   full_one (CameBack batch) old new still (refused, is) full = refused_full old.outlet new.outlet batch batch refused
   full_one (Posted batch) old new still does full = absurd (false≢true (sym still))
-  full_one (Drained n) old new still (drains, is) full = subst HasNoPlace (sym (ap (λ (c : ClientContext C). c.outlet) is)) full
+  full_one (Drained n) old new still (there, drains, is) full = subst HasNoPlace (sym (ap (λ (c : ClientContext C). c.outlet) is)) full
   full_one (Pushed bytes) old new still (m, left, is) full = subst HasNoPlace (sym (ap (λ (c : ClientContext C). c.outlet) is)) full
   full_one Tried old new still (m, is) full = subst HasNoPlace (sym (ap (λ (c : ClientContext C). c.outlet) is)) full
   full_one Parted old new still does full = absurd (false≢true (sym still))
@@ -112,10 +112,9 @@ module _ {C : Type 0} (gives_none takes_none : C → Type 0) where
   post_on : (client : ClientModel C) (old new : Outlet Batch) → (HasNoPlace old → HasNoPlace new) → HasNoneToPost client old → HasNoneToPost client new
   post_on client old new on none = by_fresh client.commands.fresh none
     where
-      by_fresh : (o : Option CommandModel) → IfSome o (λ command. (client.gone ≡ false) × (WantsPost command.stage → HasNoPlace old))
-          → IfSome o (λ command. (client.gone ≡ false) × (WantsPost command.stage → HasNoPlace new))
+      by_fresh : (o : Option CommandModel) → IfSome o (λ command. (client.gone ≡ false) × HasNoPlace old) → IfSome o (λ command. (client.gone ≡ false) × HasNoPlace new)
       by_fresh None none = tt
-      by_fresh (Some command) (here, full) = (here, λ wants. on (full wants))
+      by_fresh (Some command) (here, full) = (here, on full)
 
   rest_on : (client : ClientModel C) (old new : Outlet Batch) → (HasNoPlace old → HasNoPlace new) → IsClientAtRest gives_none takes_none client old → IsClientAtRest gives_none takes_none client new
   rest_on client old new on rests = record {

@@ -139,10 +139,10 @@ module _ {C : Type 0} (moves : Moves C) where
   client_one (Posted batch) old new (number, c, rest, takes, gone, out, goes, made, posts, is) = λ part d stands.
       let now : IsToSettle (with_command rest number (record c { stage = Awaits })) part d = subst (λ (x : ClientContext C). IsToSettle x.client.commands part d) is stands in
       same_posted old.client.commands rest (rest_posted old.client.commands number c rest takes) part d (posted_one rest number (record c { stage = Awaits }) refl part d now)
-  client_one (Drained n) old new (drains, is) = same_posted old.client.commands new.client.commands (ap (λ (x : ClientContext C). x.client.commands.posted) is)
+  client_one (Drained n) old new (there, drains, is) = same_posted old.client.commands new.client.commands (ap (λ (x : ClientContext C). x.client.commands.posted) is)
   client_one (Pushed bytes) old new (m, left, is) = same_posted old.client.commands new.client.commands (ap (λ (x : ClientContext C). x.client.commands.posted) is)
   client_one Tried old new (m, is) = same_posted old.client.commands new.client.commands (ap (λ (x : ClientContext C). x.client.commands.posted) is)
-  client_one Parted old new (there, is) = same_posted old.client.commands new.client.commands (ap (λ (x : ClientContext C). x.client.commands.posted) is)
+  client_one Parted old new (there, hangs, is) = same_posted old.client.commands new.client.commands (ap (λ (x : ClientContext C). x.client.commands.posted) is)
   client_one (Dropped ticket) old new (gone, c, fresh, named, is) = same_posted old.client.commands new.client.commands (ap (λ (x : ClientContext C). x.client.commands.posted) is)
 
 -- the same of all clients
@@ -242,10 +242,10 @@ module _ {C : Type 0} (moves : Moves C) where
   turned_new result entries place old P new (inl (answers, is, absent)) = same_clients old.clients new.clients (ap (λ (x : ClientsContext C). x.clients) is)
   turned_new result entries place old P new (inr (number, client, client', there, does, put, at)) = client_put old.clients new.clients number client client' there put (turned_one result _ _ does)
 
-  pub came_new : (old middle new : FinMap nat_cmp (ClientModel C)) (ports ports' : List C) (left newest newest' : Option ℕ) (number : ℕ) (client : ClientModel C) → middle ≡ old → client.commands.posted ≡ empty
-      → PutsNew moves middle ports newest left number client new ports' newest' → NoneNewAt old new
-  came_new old middle new ports ports' left newest newest' number client same none (inl (fresh, put, kept, is)) = client_came old new number client none (put ∙ ap (λ m. insert m number client) same)
-  came_new old middle new ports ports' left newest newest' number client same none (inr (port, stale, closed, is, kept, was)) = same_clients old new (is ∙ same)
+  pub came_new : (workers worker : ℕ) (old middle new : FinMap nat_cmp (ClientModel C)) (ports ports' : List C) (left newest newest' : Option ℕ) (number : ℕ) (client : ClientModel C) → middle ≡ old → client.commands.posted ≡ empty
+      → PutsNew moves workers worker middle ports newest left number client new ports' newest' → NoneNewAt old new
+  came_new workers worker old middle new ports ports' left newest newest' number client same none (inl (fresh, put, kept, is)) = client_came old new number client none (put ∙ ap (λ m. insert m number client) same)
+  came_new workers worker old middle new ports ports' left newest newest' number client same none (inr (port, stale, closed, is, kept, was)) = same_clients old new (is ∙ same)
 
 pub left_new : {C : Type 0} (old new : FinMap nat_cmp (ClientModel C)) (number : ℕ) (port : C) → Leaves old number port new → NoneNewAt old new
 left_new old new number port (client, there, done, port_is, is) = client_left old new number is

@@ -12,7 +12,7 @@ use Rattle.key_split.specs.declared.travel.Batch.{Batch}
 use Rattle.key_split.specs.declared.travel.Ticket.{Ticket}
 use Rattle.key_split.specs.declared.travel.Told.{Told}
 use Rattle.key_split.specs.declared.travel.Ended.{Ended}
-use Rattle.command_future.specs.CommandModel.{CommandModel, fresh, progress_told}
+use Rattle.command_future.specs.CommandModel.{CommandModel, WantsPost, fresh, progress_told}
 use Rattle.session_order.specs.SessionModel.{SessionModel}
 use Rattle.session_order.specs.Steps.{IsOut, IsHandedOut, KeepsOut}
 use Rattle.proxy_lanes.specs.declared.ring.Outlet.{Outlet}
@@ -25,6 +25,7 @@ sound_new : (session : SessionModel) → IsSoundClient session (record { fresh =
 sound_new session = record {
   posted = λ number c there. absurd (none_some c (sym (get-empty nat_cmp number) ∙ there));
   fresh = λ c there. absurd (none_some c there);
+  wants = λ c there. absurd (none_some c there);
   apart = λ c there. absurd (none_some c there);
 }
 
@@ -36,6 +37,7 @@ pub sound_kept : (old new : SessionModel) (commands : CommandsModel) → KeepsOu
 sound_kept old new commands kept sound = record {
   posted = λ number c there. ((sound.posted number c there).0, kept c.ticket (sound.posted number c there).1);
   fresh = λ c there. kept c.ticket (sound.fresh c there);
+  wants = sound.wants;
   apart = sound.apart;
 }
 
@@ -48,6 +50,7 @@ sound_handed old new commands commands' ticket part kept out was_not begun sound
     subst P (sym begun) (record {
       posted = λ number c there. ((sound.posted number c there).0, kept c.ticket (sound.posted number c there).1);
       fresh = λ c there. subst (IsOut new) (named c there) out;
+      wants = λ c there. subst (λ (x : CommandModel). WantsPost x.stage) (some_same (fresh ticket part) c there) tt;
       apart = λ c there number d at same. was_not (subst (IsOut old) (same ∙ sym (named c there)) (sound.posted number d at).1);
     })
 
@@ -57,6 +60,7 @@ sound_dropped session commands commands' is sound =
     subst (IsSoundClient session) (sym is) (record {
       posted = sound.posted;
       fresh = λ c there. absurd (none_some c there);
+      wants = λ c there. absurd (none_some c there);
       apart = λ c there. absurd (none_some c there);
     })
 
@@ -85,6 +89,7 @@ sound_put session commands number c c' rest (inl (there, named, left)) same soun
       posted = all_put commands.posted number c' (λ q d. (d.ticket.part ≡ q) × IsOut session d.ticket) sound.posted
           (ap (λ (t : Ticket). t.part) same ∙ sym named, subst (IsOut session) (sym same) (sound.fresh c there));
       fresh = λ d is. absurd (none_some d is);
+      wants = λ d is. absurd (none_some d is);
       apart = λ d is. absurd (none_some d is);
     })
 sound_put session commands number c c' rest (inr (there, left)) same sound =
@@ -92,6 +97,7 @@ sound_put session commands number c c' rest (inr (there, left)) same sound =
       posted = all_put commands.posted number c' (λ q d. (d.ticket.part ≡ q) × IsOut session d.ticket) sound.posted
           (ap (λ (t : Ticket). t.part) same ∙ (sound.posted number c there).0, subst (IsOut session) (sym same) (sound.posted number c there).1);
       fresh = sound.fresh;
+      wants = sound.wants;
       apart = λ d is. all_put commands.posted number c' (λ q e. e.ticket ≢ d.ticket) (sound.apart d is) (λ one. sound.apart d is number c there (sym same ∙ one));
     })
 
@@ -153,6 +159,7 @@ sound_ended old new commands commands' number ticket end has kept is sound =
           let was = still commands.posted number q d there in
           let part = (sound.posted q d was.0).0 in
           (part, kept d.ticket (λ same. was.1 (sym part ∙ ap (λ (t : Ticket). t.part) same ∙ sym ended.0)) (sound.posted q d was.0).1);
+      wants = sound.wants;
       fresh = λ c there. kept c.ticket (λ same. sound.apart c there number has.0 has.1 (has.2 ∙ sym same)) (sound.fresh c there);
       apart = λ c there q d at. sound.apart c there q d (still commands.posted number q d at).0;
     })

@@ -1,5 +1,5 @@
 -- A drain that wrote nothing changed nothing.
-use Rattle.std.proofs.Common.{◌≡◌, ◌∙◌, ◌+◌, ◌-◌, ◌++◌, ◌∷◌, [], ℕ, suc, true, false, List, Option, Some, None, refl, ap, arith, drop, length}
+use Rattle.std.proofs.Common.{◌≡◌, ◌∙◌, ◌+◌, ◌-◌, ◌++◌, ◌∷◌, [], ℕ, suc, true, false, List, Option, Some, None, Ok, refl, sym, ap, arith, drop, length}
 use Rattle.std.specs.Prelude.{if◌then◌else◌, nat_le}
 use Rattle.std.proofs.lemmas.Bool.Decides.{nat_tests}
 use Rattle.resp_wire.specs.Data.{Data, simple, error, integer, bulk, null_bulk, array, null_array}
@@ -12,7 +12,8 @@ use Rattle.session_order.specs.declared.replies.PendingReply.{PendingReply}
 use Rattle.session_order.specs.declared.closing.Closing.{Closing}
 use Rattle.session_order.specs.declared.closing.Closing.TheVariants.{Open, Quit, Faulted}
 use Rattle.session_order.specs.SessionModel.{SessionModel}
-use Rattle.session_order.specs.Replies.{bytes_of, drained, last_line, output, replied, replies, reply_of, said, spelling, without}
+use Rattle.session_order.specs.Replies.{DrainOutcome, bytes_of, drained, last_line, output, replied, replies, reply_of, said, spelling, without}
+use Rattle.proxy_turns.specs.ClientTurn.{most_drained}
 
 -- each value is spelled with bytes
 spelled : (value : Data) (more : List ℕ) → canonical value ++ more ≡ [] → ⊥
@@ -57,7 +58,22 @@ without_none held e = λ i. record held { first = add_zero held.first i; closing
     add_zero : (n : ℕ) → n + 0 ≡ n
     add_zero n = omega arith
 
-pub drained_none : (held : SessionModel) → output held ≡ [] → drained held ≡ held
+drained_none : (held : SessionModel) → output held ≡ [] → drained held ≡ held
 drained_none held e =
     let none = wrote_none (replies held.requests held.stages held.ends (last_line held.closing)) e in
     ap (without held) (none_replied held.requests held.stages held.ends (last_line held.closing) none) ∙ without_none held none
+
+pub append_none : (xs : List ℕ) → xs ++ [] ≡ xs
+append_none [] = refl
+append_none (x ∷ xs) = ap (λ l. x ∷ l) (append_none xs)
+
+pub drained_by : (old new : SessionModel) (before after : List ℕ) (n : ℕ) → n ≡ 0 → DrainOutcome most_drained old before (Ok n) new after → (output old ≡ []) × (after ≡ before) × (new ≡ old)
+drained_by old new before after n none (bytes, more, count, drains) =
+    let empty : bytes ≡ [] = no_length bytes (sym none ∙ count) in
+    let all = drains.all (omega (arith, sym none ∙ count)) in
+    let nothing : output old ≡ [] = sym all.0 ∙ empty in
+    (nothing, more ∙ ap (λ o. before ++ o) empty ∙ append_none before, all.1 ∙ drained_none old nothing)
+  where
+    no_length : (xs : List ℕ) → 0 ≡ length xs → xs ≡ []
+    no_length [] e = refl
+    no_length (x ∷ xs) e = absurd (omega (arith, e))

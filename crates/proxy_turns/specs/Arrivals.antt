@@ -10,18 +10,19 @@ use Rattle.proxy_turns.specs.declared.turned.Settled.TheVariants as settled
 use Rattle.proxy_turns.specs.Port.{Moves}
 use Rattle.proxy_turns.specs.ClientModel.{ClientModel}
 use Rattle.proxy_turns.specs.ClientTurn.{is_settled}
-use Rattle.proxy_turns.specs.WorkerModel.{IsNew, one_more, with_port}
+use Rattle.proxy_turns.specs.WorkerModel.{MayCome, one_more, with_port}
 
 -- clients are to come
 abbrev pub AreToCome : Option ℕ → Type 0
 AreToCome None = ⊤
 AreToCome (Some n) = 0 < n
 
--- A client is put under its number, or it is let go where that is not new: its port is closed, and kept where ports are.
-abbrev pub PutsNew : {C : Type 0} → Moves C → FinMap nat_cmp (ClientModel C) → List C → Option ℕ → Option ℕ → ℕ → ClientModel C → FinMap nat_cmp (ClientModel C) → List C → Option ℕ → Type 0
-PutsNew {C} moves old ports newest left number client new ports' newest' =
-    (IsNew old newest number × (new ≡ insert old number client) × (ports' ≡ ports) × (newest' ≡ Some number))
-    ⊎ ((port : C) × (IsNew old newest number → ⊥) × moves client.port [] [] [] port × (new ≡ old) × (ports' ≡ with_port left ports port) × (newest' ≡ newest))
+-- A client of this one of so many workers is put under its number, or it is let go where it may not come: its port is closed, and
+-- kept where ports are.
+abbrev pub PutsNew : {C : Type 0} → Moves C → ℕ → ℕ → FinMap nat_cmp (ClientModel C) → List C → Option ℕ → Option ℕ → ℕ → ClientModel C → FinMap nat_cmp (ClientModel C) → List C → Option ℕ → Type 0
+PutsNew {C} moves workers worker old ports newest left number client new ports' newest' =
+    (MayCome workers worker old newest number × (new ≡ insert old number client) × (ports' ≡ ports) × (newest' ≡ Some number))
+    ⊎ ((port : C) × (MayCome workers worker old newest number → ⊥) × moves client.port [] [] [] port × (new ≡ old) × (ports' ≡ with_port left ports port) × (newest' ≡ newest))
 
 -- whether a client's turn moved something
 abbrev pub turned_in : Result Turned NoMemory → Result Bool NoMemory

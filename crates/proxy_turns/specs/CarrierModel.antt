@@ -256,10 +256,10 @@ module _ {H P : Type 0} where
   AddsWorker old (Ok _) new = new ≡ record old { pending_batches = old.pending_batches ++ no_pending_batch ∷ [] }
   AddsWorker old (Err _) new = new ≡ old
 
-module _ {H P : Type 0} (failures : P → ℕ) (is_garbled : P → Type 0) (exchange : P → List Request → List Value → P → Type 0) (opens : Endpoint → P → Type 0) where
+module _ {H P : Type 0} (failures : P → ℕ) (is_garbled : P → Type 0) (exchange : P → List Request → List Value → P → Type 0) (gives_none : P → Type 0) (opens : Endpoint → P → Type 0) where
   abbrev pub CarrierDoes : CarrierModel H P → CarrierEvent → CarrierModel H P → Type 0
   CarrierDoes old (AtBackend step) new =
-      ChangesBackend old new (λ context context'. BackendDoes failures is_garbled exchange (list_any is_unanswered old.backends) context step context')
+      ChangesBackend old new (λ context context'. BackendDoes failures is_garbled exchange gives_none (list_any is_unanswered old.backends) context step context')
   CarrierDoes old Starved new = ChangesBackend old new (Starves failures is_garbled exchange)
       ⊎ ((k : ℕ) × (backend : Backend P) × (backend' : Backend P) × (batch : Batch) × (e : NoMemory) × (slice_get old.backends k ≡ Some backend)
       × SendOutcome failures is_garbled exchange backend batch (Err e) backend'
@@ -370,7 +370,7 @@ module _ {H P : Type 0} (failures : P → ℕ) (is_garbled : P → Type 0) (exch
   -- a reply is fetched from a backend
   abbrev pub FetchesReply : ℕ → CarrierModel H P → Result Bool NoMemory → CarrierModel H P → Type 0
   FetchesReply node = CarrierTurnsBy fetches (λ left. ForSome (slice_get left.backends node) (λ backend.
-      HasNoneToTake backend × HasReceived (GaveNone failures is_garbled exchange) left.nodes backend))
+      HasNoneToTake backend × HasReceived (GaveNone failures is_garbled exchange gives_none) left.nodes backend))
 
   -- a pending batch is sent
   abbrev pub SendsBatch : ℕ → CarrierModel H P → Result Bool NoMemory → CarrierModel H P → Type 0
@@ -378,11 +378,11 @@ module _ {H P : Type 0} (failures : P → ℕ) (is_garbled : P → Type 0) (exch
 
   -- a backend has its turn
   abbrev pub ServesBackend : ℕ → CarrierModel H P → Result Bool NoMemory → CarrierModel H P → Type 0
-  ServesBackend node = CarrierTurnsBy serves_backend (λ left. ForSome (slice_get left.backends node) (BackendRests (GaveNone failures is_garbled exchange) left.nodes left.lanes))
+  ServesBackend node = CarrierTurnsBy serves_backend (λ left. ForSome (slice_get left.backends node) (BackendRests (GaveNone failures is_garbled exchange gives_none) left.nodes left.lanes))
 
   -- all backends have their turns
   abbrev pub ServesBackends : CarrierModel H P → Result Bool NoMemory → CarrierModel H P → Type 0
-  ServesBackends = CarrierTurnsBy serves_backend (λ left. (node : ℕ) → ForSome (slice_get left.backends node) (BackendRests (GaveNone failures is_garbled exchange) left.nodes left.lanes))
+  ServesBackends = CarrierTurnsBy serves_backend (λ left. (node : ℕ) → ForSome (slice_get left.backends node) (BackendRests (GaveNone failures is_garbled exchange gives_none) left.nodes left.lanes))
 
   -- a worker's lanes have their turn
   abbrev pub ServesLane : ℕ → CarrierModel H P → Result Bool NoMemory → CarrierModel H P → Type 0
@@ -396,7 +396,7 @@ module _ {H P : Type 0} (failures : P → ℕ) (is_garbled : P → Type 0) (exch
 
   -- a whole turn
   abbrev pub TakesTurn : CarrierModel H P → Result Bool NoMemory → CarrierModel H P → Type 0
-  TakesTurn = CarrierTurnsBy (λ event. true) (λ left. IsAtRest (GaveNone failures is_garbled exchange) left)
+  TakesTurn = CarrierTurnsBy (λ event. true) (λ left. IsAtRest (GaveNone failures is_garbled exchange gives_none) left)
 
   -- after a loss the next node is dialled; that moves something
   abbrev pub SeeksByDial : CarrierModel H P → Result Bool NoMemory → CarrierModel H P → Type 0

@@ -7,7 +7,7 @@ use Rattle.resp_wire.specs.LimitsModel.{LimitsModel}
 use Rattle.resp_wire.specs.declared.fault.NoMemory.{NoMemory}
 use Rattle.node_link.specs.declared.stream.Flow.{Flow}
 use Rattle.node_link.specs.declared.stream.Flow.TheVariants.{Bytes, Nothing, Gone}
-use Rattle.command_future.specs.CommandModel.{CommandModel}
+use Rattle.command_future.specs.CommandModel.{CommandModel, WantsPost}
 use Rattle.session_order.specs.SessionModel.{SessionModel}
 use Rattle.session_order.specs.declared.fault.SessionFault.{SessionFault}
 use Rattle.session_order.specs.declared.fault.SessionFault.TheVariants as fault
@@ -26,10 +26,11 @@ pub record ClientModel (C : Type 0) : Type 0 where
   pub unpushed : List ℕ
   pub gone : Bool
 
--- Each command is of a part that is out, and no two are of one part.
+-- Each command is of a part that is out, and no two are of one part. The one that was not posted yet wants its post.
 pub record IsSoundClient (session : SessionModel) (commands : CommandsModel) : Type 0 where
   pub posted : (number : ℕ) (c : CommandModel) → get commands.posted number ≡ Some c → (c.ticket.part ≡ number) × IsOut session c.ticket
   pub fresh : (c : CommandModel) → commands.fresh ≡ Some c → IsOut session c.ticket
+  pub wants : (c : CommandModel) → commands.fresh ≡ Some c → WantsPost c.stage
   pub apart : (c : CommandModel) → commands.fresh ≡ Some c → (number : ℕ) (d : CommandModel) → get commands.posted number ≡ Some d → d.ticket ≢ c.ticket
 
 -- a client with which nothing has happened

@@ -4,7 +4,6 @@ use Rattle.std.specs.Prelude.{◌≡◌, ◌⊎◌, ◌≤◌, ◌^◌, ◌-◌,
 use Rattle.std.specs.FinMap.{empty}
 use Rattle.resp_wire.specs.declared.fault.NoMemory.{NoMemory}
 use Rattle.key_split.specs.declared.travel.Batch.{Batch}
-use Rattle.command_future.specs.CommandModel.{WantsPost}
 use Rattle.session_order.specs.SessionModel.{SessionModel}
 use Rattle.session_order.specs.Turn.{MayPost}
 use Rattle.session_order.specs.RequestReaderModel.{IsDry}
@@ -56,7 +55,7 @@ module _ {C : Type 0} where
 
   -- a command waits for its first post only at a lane that takes nothing more, and only of a client that is there
   abbrev pub HasNoneToPost : ClientModel C → Outlet Batch → Type 0
-  HasNoneToPost client outlet = IfSome client.commands.fresh (λ command. (client.gone ≡ false) × (WantsPost command.stage → HasNoPlace outlet))
+  HasNoneToPost client outlet = IfSome client.commands.fresh (λ command. (client.gone ≡ false) × HasNoPlace outlet)
 
   -- no reply is ready for who is there and has all its bytes
   abbrev pub HasNoneToDrain : ClientModel C → Type 0

@@ -1,7 +1,7 @@
 -- What happens to one client in a worker's turn, at the lane into which the worker posts, and at its view of the slot
 -- map.
 -- A turn is a list of events, and moved exactly where one of them is a move. Nothing says that a turn makes any.
-use Rattle.std.specs.Prelude.{◌||◌, ◌≡◌, ◌↔◌, ◌++◌, ◌∷◌, [], ℕ, List, Bool, true, false, IsTrue, Option, Some, None, Result, Ok, Err, length, drop, nat_lt}
+use Rattle.std.specs.Prelude.{◌*◌, ◌||◌, ◌≡◌, ◌↔◌, ◌++◌, ◌∷◌, [], ℕ, List, Bool, true, false, IsTrue, Option, Some, None, Result, Ok, Err, length, drop, nat_lt}
 use Rattle.std.specs.List.{FoldsTo, list_all, list_any}
 use Rattle.std.specs.FinMap.{get, remove}
 use Rattle.slot_hash.specs.Slot.{slot_of}
@@ -14,6 +14,7 @@ use Rattle.key_split.specs.declared.travel.Ended.{Ended}
 use Rattle.command_future.specs.declared.stage.Stage.TheVariants.{Awaits}
 use Rattle.command_future.specs.CommandModel.{CommandModel, fresh, batch_of}
 use Rattle.session_order.specs.declared.fault.SessionFault.{SessionFault}
+use Rattle.session_order.specs.HangingUp.{HangsUp}
 use Rattle.session_order.specs.Replies.{DrainOutcome}
 use Rattle.session_order.specs.Steps.{IsOut, FeedOutcome, ReadOutcome, ReadyOutcome, EndOutcome}
 use Rattle.proxy_lanes.specs.declared.map_view.NotEntered.{NotEntered}
@@ -44,6 +45,10 @@ pub data ClientEvent : Type 0 where
   Tried : ClientEvent
   Parted : ClientEvent
   Dropped : Ticket → ClientEvent
+
+-- A turn drains replies of so many bytes, and the last of them to its end.
+abbrev pub most_drained : ℕ
+most_drained = 64 * 1024
 
 -- Whether it moved something: a look at the map does not, nor a batch that came back, nor a call that found nothing.
 abbrev pub is_client_move : ClientEvent → Bool
@@ -166,9 +171,10 @@ module _ {C : Type 0} where
         × (batch ≡ batch_of c batch.node)
         × Posts old.outlet new.outlet batch (Ok tt)
         × (new ≡ record { client = record old.client { commands = with_command rest number (record c { stage = Awaits }) }; outlet = new.outlet; view = new.view })
-    -- the session drains the replies that are next in order
+    -- the session of a client that is there drains replies that are next in order, until they have so many bytes
     ClientDoes old (Drained n) new =
-        DrainOutcome old.client.session old.client.unpushed (Ok n) new.client.session new.client.unpushed
+        (old.client.gone ≡ false)
+        × DrainOutcome most_drained old.client.session old.client.unpushed (Ok n) new.client.session new.client.unpushed
         × (new ≡ with_client old (record old.client { session = new.client.session; unpushed = new.client.unpushed }))
     -- bytes go to the client
     ClientDoes old (Pushed bytes) new =
@@ -177,8 +183,12 @@ module _ {C : Type 0} where
         × (new ≡ with_client old (record old.client { port = new.client.port; unpushed = new.client.unpushed }))
     -- a call of the port moves nothing
     ClientDoes old Tried new = moves old.client.port [] [] [] new.client.port × (new ≡ with_client old (record old.client { port = new.client.port }))
-    -- the client is gone: of what was pulled and not fed, and of what was drained and not pushed, nothing is kept
-    ClientDoes old Parted new = (old.client.gone ≡ false) × (new ≡ with_client old (record old.client { gone = true; unfed = []; unpushed = [] }))
+    -- the client is gone: of what was pulled and not fed, of what its session held beside the places of the parts that are out, and of what
+    -- was drained and not pushed, nothing is kept
+    ClientDoes old Parted new =
+        (old.client.gone ≡ false)
+        × HangsUp old.client.session new.client.session
+        × (new ≡ with_client old (record old.client { session = new.client.session; gone = true; unfed = []; unpushed = [] }))
     -- the command of a client that is gone is dropped before its first post
     ClientDoes old (Dropped ticket) new =
         (old.client.gone ≡ true) × (c : CommandModel) × (old.client.commands.fresh ≡ Some c) × (c.ticket ≡ ticket)

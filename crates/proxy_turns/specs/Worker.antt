@@ -29,6 +29,7 @@ IsRunning worker = worker.over ≡ false
 abbrev pub new_worker : {C J : Type 0} → WorkerEnds (Newcomer C J) J → Option ℕ → WorkerModel C J
 new_worker ends left = record {
   worker = ends.worker;
+  workers = ends.workers;
   clients = empty;
   newest = None;
   newcomers = ends.newcomers;

@@ -1,7 +1,7 @@
 -- All clients of a worker.
 -- A turn is a list of events, and moved exactly where one of them is a move. That each client has its turn is said
 -- of those that moved nothing (WorkerRest.antt).
-use Rattle.std.specs.Prelude.{◌||◌, ◌≡◌, ◌⊎◌, ◌<◌, ◌+◌, ◌-◌, ◌^◌, ◌++◌, ◌∷◌, [], ℕ, List, Bool, true, false, Option, Some, None, Result, Ok, Err, min, ⊤}
+use Rattle.std.specs.Prelude.{◌||◌, ◌≡◌, ◌⊎◌, ◌<◌, ◌+◌, ◌-◌, ◌%◌, ◌^◌, ◌++◌, ◌∷◌, [], ℕ, List, Bool, true, false, Option, Some, None, Result, Ok, Err, min, ⊤}
 use Rattle.std.specs.List.{FoldsTo, list_all, list_any}
 use Rattle.std.specs.Ordering.{nat_cmp}
 use Rattle.std.specs.FinMap.{FinMap, empty, get, insert, remove, from_entries}
@@ -22,11 +22,12 @@ use Rattle.proxy_turns.specs.Commands.{AwaitsIn, Hears}
 use Rattle.proxy_turns.specs.ClientModel.{ClientModel, IsDone, new_client}
 use Rattle.proxy_turns.specs.ClientTurn.{ClientEvent, ClientDoes, Finishes, is_client_move}
 
--- The worker's number; its clients by their numbers; the number of the last client that came, `None` before the first; the lane
+-- The worker's number, and how many workers there are; its clients by their numbers; the number of the last client that came, `None` before the first; the lane
 -- of new clients, and how many are still to come, `None` without end; the lane into which the worker posts, its view of the map, and the lane from which it is told what came; how many parts
 -- have ended; and the ports that it keeps of the clients that it has let go.
 pub record WorkerModel (C J : Type 0) : Type 0 where
   pub worker : ℕ
+  pub workers : ℕ
   pub clients : FinMap nat_cmp (ClientModel C)
   pub newest : Option ℕ
   pub newcomers : Inlet (Newcomer C J)
@@ -122,6 +123,14 @@ IsAbove (Some newest) number = newest < number
 abbrev pub IsNew : {C : Type 0} → FinMap nat_cmp (ClientModel C) → Option ℕ → ℕ → Type 0
 IsNew clients newest number = IsAbove newest number × (get clients number ≡ None)
 
+-- clients are dealt to so many workers by their numbers
+abbrev pub IsDealtTo : ℕ → ℕ → ℕ → Type 0
+IsDealtTo workers worker number = (0 < workers) × (number % workers ≡ worker)
+
+-- the client of this number is dealt to this one of so many workers, and none before had its number
+abbrev pub MayCome : {C : Type 0} → ℕ → ℕ → FinMap nat_cmp (ClientModel C) → Option ℕ → ℕ → Type 0
+MayCome workers worker clients newest number = IsDealtTo workers worker number × IsNew clients newest number
+
 -- one client came of those that were to come; without end as many are to come as before
 abbrev pub OneCame : Option ℕ → Option ℕ → Type 0
 OneCame None new = new ≡ None
@@ -154,15 +163,16 @@ module _ {C J : Type 0} (moves : Moves C) where
       × ((heard : Bool) × Tells old.clients ticket told heard new.clients)
       × (new ≡ record old { clients = new.clients; inlet = new.inlet })
   WorkerDoes old FoundNone new = Takes old.inlet new.inlet None × (new ≡ record old { inlet = new.inlet })
-  -- The next new client comes, under a number that no client of this worker had before. So the numbers of those that come rise.
+  -- The next new client comes, which is dealt to this worker, under a number that no client of this worker had before. So the numbers
+  -- of those that come rise.
   WorkerDoes old (Came number) new =
       (newcomer : Newcomer C J) × Takes old.newcomers new.newcomers (Some newcomer) × (newcomer.number ≡ number)
-      × OneCame old.left new.left × IsNew old.clients old.newest number × Learns old.view newcomer.front new.view
+      × OneCame old.left new.left × MayCome old.workers old.worker old.clients old.newest number × Learns old.view newcomer.front new.view
       × (new ≡ record old { clients = insert old.clients number (new_client old.worker number full newcomer.port); newest = Some number; newcomers = new.newcomers; left = new.left; view = new.view })
-  -- the next new client is let go at once, since its number is not new; its port is closed
+  -- the next new client is let go at once, since it is not dealt to this worker or its number is not new; its port is closed
   WorkerDoes old (TurnedAway number) new =
       (newcomer : Newcomer C J) × (port : C) × Takes old.newcomers new.newcomers (Some newcomer) × (newcomer.number ≡ number)
-      × OneCame old.left new.left × (IsNew old.clients old.newest number → ⊥) × Learns old.view newcomer.front new.view × moves newcomer.port [] [] [] port
+      × OneCame old.left new.left × (MayCome old.workers old.worker old.clients old.newest number → ⊥) × Learns old.view newcomer.front new.view × moves newcomer.port [] [] [] port
       × (new ≡ record old { newcomers = new.newcomers; left = new.left; view = new.view; ports = with_port old.left old.ports port })
   WorkerDoes old FoundNobody new = Takes old.newcomers new.newcomers None × (new ≡ record old { newcomers = new.newcomers })
   -- a client with which nothing is left to do leaves, and its port is closed

@@ -8,6 +8,7 @@ use Rattle.proxy_turns.specs.WorkerModel.{WorkerModel, clients_in}
 abbrev pub state_model : {C J : Type 0} {P : port.Ghosts C} {N : naming.Ghosts J} → WorkerState C J P N → WorkerModel C J
 state_model state = record {
   worker = state.worker;
+  workers = state.workers;
   clients = clients_in state.clients.entries;
   newest = state.newest;
   newcomers = state.newcomers;

@@ -189,7 +189,7 @@ impl<P: NodePort + Drop> Backend<P> {
 
     /// Takes one reply, or one ticket that is lost, off the link, where the carrier holds none of it.
     pub(crate) fn fetch(&mut self, nodes: &mut NodeTable) -> Result<BackendStep, NoMemory>
-        ensures { (unanswered : Bool) (published : List MapOp) → BackendFetches P.failures P.is_garbled P.exchange unanswered
+        ensures { (unanswered : Bool) (published : List MapOp) → BackendFetches P.failures P.is_garbled P.exchange P.gives_none unanswered
             (record { backend = self.old; nodes = nodes.old; published = published }) result
             (record { backend = self.new; nodes = nodes.new; published = published }) }
     {
@@ -238,7 +238,7 @@ impl<P: NodePort + Drop> Backend<P> {
     fn give_up(&mut self) -> BackendStep
         requires owes_nothing { self.old.pending_told ≡ None }
         requires failed { IsSomeAnd self.old.link (λ link. IsSome link.failure) }
-        ensures { (unanswered : Bool) (nodes : List Endpoint) (published : List MapOp) → BackendFetches P.failures P.is_garbled P.exchange unanswered
+        ensures { (unanswered : Bool) (nodes : List Endpoint) (published : List MapOp) → BackendFetches P.failures P.is_garbled P.exchange P.gives_none unanswered
             (record { backend = self.old; nodes = nodes; published = published }) (Ok result)
             (record { backend = self.new; nodes = nodes; published = published }) }
     {
@@ -259,7 +259,7 @@ impl<P: NodePort + Drop> Backend<P> {
         &mut self,
         map: &mut Publisher<J, R>,
     ) -> Result<BackendStep, NoMemory>
-        ensures { (unanswered : Bool) (nodes : List Endpoint) → BackendRenews P.failures P.is_garbled P.exchange map_task.Publish unanswered
+        ensures { (unanswered : Bool) (nodes : List Endpoint) → BackendRenews P.failures P.is_garbled P.exchange P.gives_none map_task.Publish unanswered
             (record { backend = self.old; nodes = nodes; published = map.old }) result
             (record { backend = self.new; nodes = nodes; published = map.new }) }
     {
@@ -277,7 +277,7 @@ impl<P: NodePort + Drop> Backend<P> {
 
     /// Asks the node for CLUSTER SLOTS, where it is to be asked, and no such request is unanswered.
     pub(crate) fn ask(&mut self, unanswered: bool) -> Result<BackendStep, NoMemory>
-        ensures { (nodes : List Endpoint) (published : List MapOp) → BackendRenews P.failures P.is_garbled P.exchange map_task.Ask unanswered
+        ensures { (nodes : List Endpoint) (published : List MapOp) → BackendRenews P.failures P.is_garbled P.exchange P.gives_none map_task.Ask unanswered
             (record { backend = self.old; nodes = nodes; published = published }) result
             (record { backend = self.new; nodes = nodes; published = published }) }
     {
@@ -307,7 +307,7 @@ impl<P: NodePort + Drop> Backend<P> {
 
     /// Reads the answer to CLUSTER SLOTS. One that cannot be read is thrown away.
     pub(crate) fn read(&mut self, nodes: &mut NodeTable) -> Result<BackendStep, NoMemory>
-        ensures { (unanswered : Bool) (published : List MapOp) → BackendRenews P.failures P.is_garbled P.exchange map_task.Read unanswered
+        ensures { (unanswered : Bool) (published : List MapOp) → BackendRenews P.failures P.is_garbled P.exchange P.gives_none map_task.Read unanswered
             (record { backend = self.old; nodes = nodes.old; published = published }) result
             (record { backend = self.new; nodes = nodes.new; published = published }) }
     {
@@ -346,7 +346,7 @@ impl<P: NodePort + Drop> Backend<P> {
         &mut self,
         map: &mut Publisher<J, R>,
     ) -> Result<BackendStep, NoMemory>
-        ensures { (unanswered : Bool) (nodes : List Endpoint) → BackendRenews P.failures P.is_garbled P.exchange map_task.Renew unanswered
+        ensures { (unanswered : Bool) (nodes : List Endpoint) → BackendRenews P.failures P.is_garbled P.exchange P.gives_none map_task.Renew unanswered
             (record { backend = self.old; nodes = nodes; published = map.old }) result
             (record { backend = self.new; nodes = nodes; published = map.new }) }
     {
@@ -436,7 +436,7 @@ impl<P: NodePort + Drop> Backend<P> {
         nodes: &mut NodeTable,
         map: &mut Publisher<J, R>,
     ) -> Result<BackendStep, NoMemory>
-        ensures { BackendRenews P.failures P.is_garbled P.exchange task unanswered
+        ensures { BackendRenews P.failures P.is_garbled P.exchange P.gives_none task unanswered
             (record { backend = self.old; nodes = nodes.old; published = map.old }) result
             (record { backend = self.new; nodes = nodes.new; published = map.new }) }
     {

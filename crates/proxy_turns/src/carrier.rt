@@ -95,7 +95,7 @@ where
 
     // Does one task at a backend.
     fn run_map_task(&mut self, at: usize, task: MapTask) -> Result<bool, NoMemory>
-        ensures { DoesMapTask P.failures P.is_garbled P.exchange D.opens task at (carrier_model D.failures self.old) result (carrier_model D.failures self.new) }
+        ensures { DoesMapTask P.failures P.is_garbled P.exchange P.gives_none D.opens task at (carrier_model D.failures self.old) result (carrier_model D.failures self.new) }
     {
         if at >= self.backends.len() {
             return Ok(false);
@@ -108,7 +108,7 @@ where
 
     // Takes what a backend replied.
     fn fetch_from(&mut self, at: usize) -> Result<bool, NoMemory>
-        ensures { FetchesReply P.failures P.is_garbled P.exchange D.opens at (carrier_model D.failures self.old) result (carrier_model D.failures self.new) }
+        ensures { FetchesReply P.failures P.is_garbled P.exchange P.gives_none D.opens at (carrier_model D.failures self.old) result (carrier_model D.failures self.new) }
     {
         if at >= self.backends.len() {
             return Ok(false);
@@ -119,7 +119,7 @@ where
 
     // Gives a worker what a backend has for it.
     fn give_from(&mut self, at: usize) -> bool
-        ensures { GivesReply P.failures P.is_garbled P.exchange D.opens at (carrier_model D.failures self.old) result (carrier_model D.failures self.new) }
+        ensures { GivesReply P.failures P.is_garbled P.exchange P.gives_none D.opens at (carrier_model D.failures self.old) result (carrier_model D.failures self.new) }
     {
         if at >= self.backends.len() {
             return false;
@@ -145,7 +145,7 @@ where
 
     // Takes the next batch of a worker's lane.
     fn take_from(&mut self, at: usize) -> bool
-        ensures { TakesBatch P.failures P.is_garbled P.exchange D.opens at (carrier_model D.failures self.old) result (carrier_model D.failures self.new) }
+        ensures { TakesBatch P.failures P.is_garbled P.exchange P.gives_none D.opens at (carrier_model D.failures self.old) result (carrier_model D.failures self.new) }
     {
         if at >= self.pending_batches.len() {
             return false;
@@ -161,7 +161,7 @@ where
 
     // Tells a worker that a batch is unsent.
     fn tell_unsent_of(&mut self, at: usize) -> bool
-        ensures { TellsUnsent P.failures P.is_garbled P.exchange D.opens at (carrier_model D.failures self.old) result (carrier_model D.failures self.new) }
+        ensures { TellsUnsent P.failures P.is_garbled P.exchange P.gives_none D.opens at (carrier_model D.failures self.old) result (carrier_model D.failures self.new) }
     {
         if at >= self.pending_batches.len() {
             return false;
@@ -171,7 +171,7 @@ where
 
     // Dials the node of a pending batch, where there is no link to it.
     fn dial_for(&mut self, worker: usize) -> Result<bool, NoMemory>
-        ensures { DialsNode P.failures P.is_garbled P.exchange D.opens worker (carrier_model D.failures self.old) result (carrier_model D.failures self.new) }
+        ensures { DialsNode P.failures P.is_garbled P.exchange P.gives_none D.opens worker (carrier_model D.failures self.old) result (carrier_model D.failures self.new) }
     {
         if worker >= self.pending_batches.len() {
             return Ok(false);
@@ -196,7 +196,7 @@ where
 
     // Sends a pending batch.
     fn send_for(&mut self, worker: usize) -> Result<bool, NoMemory>
-        ensures { SendsBatch P.failures P.is_garbled P.exchange D.opens worker (carrier_model D.failures self.old) result (carrier_model D.failures self.new) }
+        ensures { SendsBatch P.failures P.is_garbled P.exchange P.gives_none D.opens worker (carrier_model D.failures self.old) result (carrier_model D.failures self.new) }
     {
         if worker >= self.pending_batches.len() {
             return Ok(false);
@@ -219,7 +219,7 @@ where
 
     // Backends for all nodes up to this one.
     fn add_backends(&mut self, node: NodeId) -> Result<(), NoMemory>
-        ensures { AddsBackends P.failures P.is_garbled P.exchange D.opens node (carrier_model D.failures self.old) result (carrier_model D.failures self.new) }
+        ensures { AddsBackends P.failures P.is_garbled P.exchange P.gives_none D.opens node (carrier_model D.failures self.old) result (carrier_model D.failures self.new) }
     {
         for _next in self.backends.len()..place_of(node) + 1 {
             self.add_backend()?;
@@ -229,7 +229,7 @@ where
 
     // Places for the pending batches of all workers.
     fn add_workers(&mut self) -> Result<(), NoMemory>
-        ensures { AddsWorkers P.failures P.is_garbled P.exchange D.opens (carrier_model D.failures self.old) result (carrier_model D.failures self.new) }
+        ensures { AddsWorkers P.failures P.is_garbled P.exchange P.gives_none D.opens (carrier_model D.failures self.old) result (carrier_model D.failures self.new) }
     {
         for _next in self.pending_batches.len()..self.ends.workers() {
             self.add_worker()?;
@@ -240,7 +240,7 @@ where
     // Dials the seed, which is then to be asked for CLUSTER SLOTS.
     fn dial_seed(&mut self, seed: NodeId) -> Result<bool, NoMemory>
         requires { seed ≡ 0 }
-        ensures { DialsSeed P.failures P.is_garbled P.exchange D.opens (carrier_model D.failures self.old) result (carrier_model D.failures self.new) }
+        ensures { DialsSeed P.failures P.is_garbled P.exchange P.gives_none D.opens (carrier_model D.failures self.old) result (carrier_model D.failures self.new) }
     {
         if !self.seed_to_dial {
             return Ok(false);
@@ -266,7 +266,7 @@ where
 
     // Publishes what a backend says of the slot map, where it says anything.
     fn renew_map(&mut self, at: usize) -> Result<bool, NoMemory>
-        ensures { RenewsMap P.failures P.is_garbled P.exchange D.opens at (carrier_model D.failures self.old) result (carrier_model D.failures self.new) }
+        ensures { RenewsMap P.failures P.is_garbled P.exchange P.gives_none D.opens at (carrier_model D.failures self.old) result (carrier_model D.failures self.new) }
     {
         if at >= self.backends.len() {
             return Ok(false);
@@ -279,7 +279,7 @@ where
 
     // Does each task at a backend, in order.
     fn run_map_tasks(&mut self, at: usize) -> Result<bool, NoMemory>
-        ensures { RenewsMap P.failures P.is_garbled P.exchange D.opens at (carrier_model D.failures self.old) result (carrier_model D.failures self.new) }
+        ensures { RenewsMap P.failures P.is_garbled P.exchange P.gives_none D.opens at (carrier_model D.failures self.old) result (carrier_model D.failures self.new) }
     {
         let published = self.run_map_task(at, MapTask::Publish)?;
         let asked = self.run_map_task(at, MapTask::Ask)?;
@@ -291,7 +291,7 @@ where
     // A backend's turn: what it says of the slot map goes on, then one reply is taken, and given where nothing of it is to be
     // published first.
     fn serve_backend(&mut self, at: usize) -> Result<bool, NoMemory>
-        ensures { ServesBackend P.failures P.is_garbled P.exchange D.opens at (carrier_model D.failures self.old) result (carrier_model D.failures self.new) }
+        ensures { ServesBackend P.failures P.is_garbled P.exchange P.gives_none D.opens at (carrier_model D.failures self.old) result (carrier_model D.failures self.new) }
     {
         let renewed = self.renew_map(at)?;
         let fetched = self.fetch_from(at)?;
@@ -300,7 +300,7 @@ where
     }
 
     fn serve_backends(&mut self) -> Result<bool, NoMemory>
-        ensures { ServesBackends P.failures P.is_garbled P.exchange D.opens (carrier_model D.failures self.old) result (carrier_model D.failures self.new) }
+        ensures { ServesBackends P.failures P.is_garbled P.exchange P.gives_none D.opens (carrier_model D.failures self.old) result (carrier_model D.failures self.new) }
     {
         let mut moved = false;
         for at in 0..self.backends.len() {
@@ -311,7 +311,7 @@ where
 
     // Dials the node of a batch that is still pending.
     fn connect(&mut self, worker: usize) -> Result<bool, NoMemory>
-        ensures { Connects P.failures P.is_garbled P.exchange D.opens worker (carrier_model D.failures self.old) result (carrier_model D.failures self.new) }
+        ensures { Connects P.failures P.is_garbled P.exchange P.gives_none D.opens worker (carrier_model D.failures self.old) result (carrier_model D.failures self.new) }
     {
         if worker >= self.pending_batches.len() {
             return Ok(false);
@@ -325,7 +325,7 @@ where
 
     // The turn of a worker's lanes.
     fn serve_lane(&mut self, worker: usize) -> Result<bool, NoMemory>
-        ensures { ServesLane P.failures P.is_garbled P.exchange D.opens worker (carrier_model D.failures self.old) result (carrier_model D.failures self.new) }
+        ensures { ServesLane P.failures P.is_garbled P.exchange P.gives_none D.opens worker (carrier_model D.failures self.old) result (carrier_model D.failures self.new) }
     {
         let told = self.tell_unsent_of(worker);
         let took = self.take_from(worker);
@@ -335,7 +335,7 @@ where
     }
 
     fn serve_lanes(&mut self) -> Result<bool, NoMemory>
-        ensures { ServesLanes P.failures P.is_garbled P.exchange D.opens (carrier_model D.failures self.old) result (carrier_model D.failures self.new) }
+        ensures { ServesLanes P.failures P.is_garbled P.exchange P.gives_none D.opens (carrier_model D.failures self.old) result (carrier_model D.failures self.new) }
     {
         let mut moved = false;
         for worker in 0..self.pending_batches.len() {
@@ -347,8 +347,8 @@ where
     /// Carries at most one batch of each worker, and takes at most one reply off each link. True exactly where something
     /// moved. After NoMemory what was done stands, and the item at which memory ran out stays where it was.
     pub fn turn(&mut self) -> Result<bool, NoMemory>
-        ensures turns { CarrierTurns P.failures P.is_garbled P.exchange D.opens (carrier_model D.failures self.old) result (carrier_model D.failures self.new) }
-        ensures rests { RestsAfter (GaveNone P.failures P.is_garbled P.exchange) result (carrier_model D.failures self.new) }
+        ensures turns { CarrierTurns P.failures P.is_garbled P.exchange P.gives_none D.opens (carrier_model D.failures self.old) result (carrier_model D.failures self.new) }
+        ensures rests { RestsAfter (GaveNone P.failures P.is_garbled P.exchange P.gives_none) result (carrier_model D.failures self.new) }
         ensures sought { IsSought (D.is_calm self.new.dial) result (carrier_model D.failures self.new) }
     {
         let moved = self.take_turn()?;
@@ -357,7 +357,7 @@ where
     }
 
     fn take_turn(&mut self) -> Result<bool, NoMemory>
-        ensures { TakesTurn P.failures P.is_garbled P.exchange D.opens (carrier_model D.failures self.old) result (carrier_model D.failures self.new) }
+        ensures { TakesTurn P.failures P.is_garbled P.exchange P.gives_none D.opens (carrier_model D.failures self.old) result (carrier_model D.failures self.new) }
     {
         self.add_workers()?;
         let connected = self.connect_seed()?;
@@ -368,7 +368,7 @@ where
 
     // Has a node asked for CLUSTER SLOTS, where one was lost: one that has an open link, else the next of the table.
     fn seek(&mut self) -> Result<bool, NoMemory>
-        ensures { SeekOutcome P.failures P.is_garbled P.exchange D.opens (D.is_calm self.new.dial) (carrier_model D.failures self.old) result (carrier_model D.failures self.new) }
+        ensures { SeekOutcome P.failures P.is_garbled P.exchange P.gives_none D.opens (D.is_calm self.new.dial) (carrier_model D.failures self.old) result (carrier_model D.failures self.new) }
     {
         if any_unanswered(&self.backends) {
             return Ok(false);
@@ -388,7 +388,7 @@ where
     // Dials the next node of the table, which is then to be asked.
     fn dial_next(&mut self) -> Result<bool, NoMemory>
         requires closed { list_any has_open_link self.old.backends.items ≡ false }
-        ensures { SeeksByDial P.failures P.is_garbled P.exchange D.opens (carrier_model D.failures self.old) result (carrier_model D.failures self.new) }
+        ensures { SeeksByDial P.failures P.is_garbled P.exchange P.gives_none D.opens (carrier_model D.failures self.old) result (carrier_model D.failures self.new) }
     {
         let node = self.next_node();
         self.add_backends(node)?;
@@ -411,7 +411,7 @@ where
     fn dial_to_ask(&mut self, node: NodeId) -> Result<bool, NoMemory>
         requires inside { node < length self.old.backends.items }
         requires closed { list_any has_open_link self.old.backends.items ≡ false }
-        ensures { SeeksByDial P.failures P.is_garbled P.exchange D.opens (carrier_model D.failures self.old) result (carrier_model D.failures self.new) }
+        ensures { SeeksByDial P.failures P.is_garbled P.exchange P.gives_none D.opens (carrier_model D.failures self.old) result (carrier_model D.failures self.new) }
     {
         let at = place_of(node);
         let backend = &mut self.backends[at];
@@ -426,7 +426,7 @@ where
     }
 
     fn connect_seed(&mut self) -> Result<bool, NoMemory>
-        ensures { ConnectsSeed P.failures P.is_garbled P.exchange D.opens (carrier_model D.failures self.old) result (carrier_model D.failures self.new) }
+        ensures { ConnectsSeed P.failures P.is_garbled P.exchange P.gives_none D.opens (carrier_model D.failures self.old) result (carrier_model D.failures self.new) }
     {
         if !self.seed_to_dial {
             return Ok(false);

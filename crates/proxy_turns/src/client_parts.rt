@@ -8,8 +8,9 @@ ghost use Rattle.std.specs.FinMap as map;
 use crate::client_bytes::{SMALLEST_PIECE, let_go, piece_after, pull_into, take_off};
 use crate::client_limits::{MAX_ASKED, MAX_READS, MAX_SENT};
 use crate::commands::Commands;
+use crate::held_replies::HeldReplies;
 use crate::port::ClientPort;
-use crate::reply_size::ReplySize;
+use crate::shared_room::SharedRoom;
 use crate::turned::{Settled, has_read, note_read};
 use crate::unpushed::Unpushed;
 use key_split::{Batch, Ticket, Told};
@@ -35,7 +36,9 @@ pub(crate) struct ClientParts<C: ClientPort + Drop> {
     piece: usize,
     // How many bytes were pulled since all was answered.
     asked: usize,
-    reply_size: ReplySize,
+    // Its last read left off where there may be more.
+    reads_on: bool,
+    replies: HeldReplies,
 }
 
 impl<C: ClientPort + Drop> Model for ClientParts<C> {
@@ -88,7 +91,8 @@ impl<C: ClientPort + Drop> ClientParts<C> {
             gone: false,
             piece: SMALLEST_PIECE,
             asked: 0,
-            reply_size: ReplySize::new(),
+            reads_on: false,
+            replies: HeldReplies::new(),
         }
     }
 
@@ -146,6 +150,7 @@ impl<C: ClientPort + Drop> ClientParts<C> {
 }
 
 impl<C: ClientPort + Drop> ClientParts<C> {
+    ghost use Rattle.session_order.specs.HangingUp.{HangsUp};
     ghost use Rattle.session_order.specs.Turn.{MayPost};
     ghost use Rattle.proxy_turns.specs.ClientModel.{IsClientServed, IsLeft};
     ghost use Rattle.proxy_turns.specs.Commands.{PostsAtResult, WantsPostAt};
@@ -171,29 +176,38 @@ impl<C: ClientPort + Drop> ClientParts<C> {
         &mut self,
         outlet: &mut Outlet<Batch>,
         view: &mut MapView<J>,
-        piece: &mut Vec<u8>,
+        room: &mut SharedRoom,
     ) -> Result<bool, NoMemory>
         ensures works { DoesWork C.moves (record { client = self.old; outlet = outlet.old; view = view.old }) result (record { client = self.new; outlet = outlet.new; view = view.new }) }
         ensures none { IfStill result (WorksNone C.takes_none self.old self.new outlet.new) }
     {
-        let fed = self.feed(piece)?;
+        let fed = self.feed(&mut room.piece)?;
         let read = self.read_all()?;
-        let sent = self.send(outlet, view)?;
+        let sent = self.send(outlet, view, room.is_crowded())?;
         let written = self.write()?;
         Ok(fed | read | sent | written)
     }
 
-    /// Whether too much was pulled and is unanswered.
-    pub(crate) fn is_held_back(&self) -> bool {
-        self.asked >= MAX_ASKED
+    /// Whether too much was pulled and is unanswered, by the client or by all together.
+    pub(crate) fn is_held_back(&self, is_crowded: bool) -> bool {
+        self.asked >= MAX_ASKED || (is_crowded && self.asked > 0)
     }
 
-    /// Forgets how much was pulled, where all is answered. True where the client was held back and is no longer.
-    pub(crate) fn forget_asked(&mut self, was_held_back: bool) -> bool
+    /// How many bytes are held for the client, or will be: what waits to be pushed or drained, and replies that are to come.
+    pub(crate) fn held(&self) -> usize {
+        self.unpushed.len().saturating_add(self.replies.held())
+    }
+
+    /// Forgets how much was pulled, where all is answered and no request may be left to read. True where the client was held back
+    /// and is no longer.
+    pub(crate) fn forget_asked(&mut self, was_held_back: bool, worked: bool) -> bool
         ensures same { self.new ≡ self.old }
         ensures again { result ≡ true → (was_held_back ≡ true) × IsAnswered self.old }
-        ensures is_again { was_held_back ≡ true → IsAnswered self.old → result ≡ true }
+        ensures is_again { was_held_back ≡ true → worked ≡ false → IsAnswered self.old → result ≡ true }
     {
+        if worked && self.reads_on {
+            return false;
+        }
         if !self.is_answered() {
             return false;
         }
@@ -243,11 +257,14 @@ impl<C: ClientPort + Drop> ClientParts<C> {
         }
     }
 
-    // The client is gone: nothing is fed or pushed any more, so its bytes and their buffers are let go.
+    #[tactic(auto, using(crate::proofs::Sound::sound_kept))]
+    // The client is gone: nothing is fed or pushed any more, so its bytes and their buffers are let go, and its session hangs up.
     fn part(&mut self)
-        ensures { self.new ≡ record self.old { gone = true; unfed = []; unpushed = [] } }
+        ensures hung_up { HangsUp self.old.session self.new.session }
+        ensures kept { self.new ≡ record self.old { session = self.new.session; gone = true; unfed = []; unpushed = [] } }
     {
         self.gone = true;
+        self.session.hang_up();
         let_go(&mut self.unfed);
         self.unpushed.let_go();
     }
@@ -291,10 +308,12 @@ impl<C: ClientPort + Drop> ClientParts<C> {
             let read = self.read()?;
             if !read {
                 note_read(&self.port, count);
+                self.reads_on = false;
                 return Ok(true);
             }
         }
         note_read(&self.port, MAX_READS);
+        self.reads_on = true;
         Ok(true)
     }
 
@@ -310,16 +329,17 @@ impl<C: ClientPort + Drop> ClientParts<C> {
         &mut self,
         outlet: &mut Outlet<Batch>,
         view: &mut MapView<J>,
+        is_crowded: bool,
     ) -> Result<bool, NoMemory>
         ensures sends { SendsCommands C.moves (record { client = self.old; outlet = outlet.old; view = view.old }) result (record { client = self.new; outlet = outlet.new; view = view.new }) }
         ensures none { IfStill result (SendsNone self.old self.new outlet.new) }
     {
-        let first = self.send_next(outlet, view)?;
+        let first = self.send_next(outlet, view, is_crowded)?;
         if !first {
             return Ok(false);
         }
         for _ in 1..MAX_SENT {
-            let sent = self.send_next(outlet, view)?;
+            let sent = self.send_next(outlet, view, is_crowded)?;
             if !sent {
                 return Ok(true);
             }
@@ -332,6 +352,7 @@ impl<C: ClientPort + Drop> ClientParts<C> {
         &mut self,
         outlet: &mut Outlet<Batch>,
         view: &mut MapView<J>,
+        is_crowded: bool,
     ) -> Result<bool, NoMemory>
         ensures sends { SendsCommands C.moves (record { client = self.old; outlet = outlet.old; view = view.old }) result (record { client = self.new; outlet = outlet.new; view = view.new }) }
         ensures none { IfStill result (SendsNone self.old self.new outlet.new) }
@@ -339,36 +360,39 @@ impl<C: ClientPort + Drop> ClientParts<C> {
         if self.gone {
             return Ok(self.drop_fresh());
         }
-        let begun = self.begin_command();
+        let begun = self.begin_command(is_crowded);
         let posted = self.post_fresh(outlet, view)?;
         Ok(begun | posted)
     }
 
     // Hands out the next part whose turn it is.
-    fn begin_command(&mut self) -> bool
+    fn begin_command(&mut self, is_crowded: bool) -> bool
         requires { self.old.gone ≡ false }
         ensures begins { BeginsCommand C.moves self.old (Ok result) self.new }
         ensures gone { self.new.gone ≡ self.old.gone }
         ensures none { result ≡ false → BeginsNone self.old self.new }
     {
-        if self.commands.has_fresh() || self.holds_next() {
+        if self.commands.has_fresh() || self.holds_next(is_crowded) {
             return false;
         }
         let Some((ticket, part)) = self.session.ready() else {
             return false;
         };
         self.commands.begin(ticket, part);
+        self.replies.begin();
         true
     }
 
-    // Whether the next part whose turn it is waits until replies to earlier ones were drained.
-    fn holds_next(&self) -> bool
+    // Whether the next part whose turn it is waits until replies to earlier ones were drained. Where too much is held for all
+    // clients together the fewest are begun.
+    fn holds_next(&self, is_crowded: bool) -> bool
         ensures { result ≡ true → (i : ℕ) → MayPost self.now.session.stages i → MayBeHeld self.now.session i }
     {
         let Some(place) = self.session.next_place() else {
             return false;
         };
-        place >= self.reply_size.parts_at_once() && place >= self.session.parts_of_oldest() as u64
+        place >= self.replies.parts_at_once(is_crowded)
+            && place >= self.session.parts_of_oldest() as u64
     }
 
     // Drops the command of a client that is gone before its first post.
@@ -416,7 +440,7 @@ impl<C: ClientPort + Drop> ClientParts<C> {
         };
         self.port.note(ticket, end)?;
         let (ticket, end) = self.commands.finish(number);
-        self.reply_size.note(&end);
+        self.replies.end(&end);
         self.session.ended(ticket, end);
         Ok(true)
     }

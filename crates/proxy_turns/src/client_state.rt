@@ -5,6 +5,7 @@ ghost use Rattle.std.specs.FinMap as map;
 
 use crate::client_parts::ClientParts;
 use crate::port::ClientPort;
+use crate::shared_room::SharedRoom;
 use crate::turned::{Settled, Turned};
 use key_split::{Batch, Ticket, Told};
 use proxy_lanes::{MapView, Naming, Outlet};
@@ -68,12 +69,12 @@ impl<C: ClientPort + Drop> ClientState<C> {
         &mut self,
         outlet: &mut Outlet<Batch>,
         view: &mut MapView<J>,
-        piece: &mut Vec<u8>,
+        room: &mut SharedRoom,
     ) -> Result<Turned, NoMemory>
         ensures turns { TurnOutcome C.moves (record { client = self.old; outlet = outlet.old; view = view.old }) result (record { client = self.new; outlet = outlet.new; view = view.new }) }
         ensures rests { IfTurnedStill result (IsClientAtRest C.gives_none C.takes_none self.new outlet.new) }
     {
-        let moved = self.pull_and_work(outlet, view, piece)?;
+        let moved = self.pull_and_work(outlet, view, room)?;
         let done = self.is_done();
         Ok(Turned { moved, done })
     }
@@ -83,21 +84,22 @@ impl<C: ClientPort + Drop> ClientState<C> {
         &mut self,
         outlet: &mut Outlet<Batch>,
         view: &mut MapView<J>,
-        piece: &mut Vec<u8>,
+        room: &mut SharedRoom,
     ) -> Result<bool, NoMemory>
         ensures turns { ClientTurns C.moves (record { client = self.old; outlet = outlet.old; view = view.old }) result (record { client = self.new; outlet = outlet.new; view = view.new }) }
         ensures rests { IfStill result (IsClientAtRest C.gives_none C.takes_none self.new outlet.new) }
     {
         let was_idle = mem::replace(&mut self.is_idle, false);
-        let is_held_back = self.parts.is_held_back();
-        let pulled = self.parts.pull(piece, is_held_back, was_idle)?;
+        room.count(self.parts.held());
+        let is_held_back = self.parts.is_held_back(room.is_crowded());
+        let pulled = self.parts.pull(&mut room.piece, is_held_back, was_idle)?;
         if stays_idle(was_idle, is_held_back, pulled) {
             self.is_idle = true;
             return Ok(false);
         }
-        let worked = self.parts.work(outlet, view, piece)?;
-        let is_asked_again = self.parts.forget_asked(is_held_back);
-        let more = self.parts.pull(piece, !is_asked_again, false)?;
+        let worked = self.parts.work(outlet, view, room)?;
+        let is_asked_again = self.parts.forget_asked(is_held_back, worked);
+        let more = self.parts.pull(&mut room.piece, !is_asked_again, false)?;
         let moved = pulled | worked | more;
         self.is_idle = becomes_idle(moved, self.parts.is_quiet());
         Ok(moved)

@@ -11,6 +11,7 @@ ghost use Rattle.proxy_turns.specs.WorkerModel.{Tells, clients_in};
 
 use crate::client_state::ClientState;
 use crate::port::ClientPort;
+use crate::shared_room::SharedRoom;
 use crate::turned::{Settled, Turned};
 use indexmap::IndexMap;
 use key_split::{Batch, Ticket, Told};
@@ -41,7 +42,7 @@ pub(crate) fn turn_at<C: ClientPort + Drop, J: Naming>(
     place: usize,
     outlet: &mut Outlet<Batch>,
     view: &mut MapView<J>,
-    piece: &mut Vec<u8>,
+    room: &mut SharedRoom,
 ) -> Result<Turned, NoMemory>
     ensures serves { AtPlace clients.old.entries place (record { clients = clients_in clients.old.entries; outlet = outlet.old; view = view.old })
         (λ old new. TurnOutcome C.moves old result new) (result ≡ Ok (record { moved = false; done = false }))
@@ -55,7 +56,7 @@ pub(crate) fn turn_at<C: ClientPort + Drop, J: Naming>(
             done: false,
         });
     };
-    client.turn(outlet, view, piece)
+    client.turn(outlet, view, room)
 }
 
 /// Ends the command of this ticket, or posts it again, as it wants.

@@ -3,7 +3,7 @@
 ghost use Rattle.std.specs.Prelude.{◌≡◌, ◌<◌, ◌≤◌, ◌+◌, ◌↔◌, IsTrue, OnOk, Some, length, vec_capacity};
 ghost use Rattle.std.specs.FinMap.{insert};
 ghost use Rattle.std.specs.HashMap.{spare};
-ghost use Rattle.proxy_turns.specs.WorkerModel.{IsAbove, IsNew, OneCame, clients_in};
+ghost use Rattle.proxy_turns.specs.WorkerModel.{IsAbove, IsDealtTo, IsNew, MayCome, OneCame, clients_in};
 ghost use Rattle.proxy_turns.specs.Arrivals.{AreToCome, PutsNew};
 
 use crate::client_state::ClientState;
@@ -15,7 +15,7 @@ use resp_wire::NoMemory;
 use std::alloc::AllocFailed;
 
 /// A new client: its number, its port, and a beginning of what was published, where one was told. A worker takes it only
-/// where its number is greater than that of each client before it; else it closes the port.
+/// where it is dealt to this worker, and its number is greater than that of each client before it; else it closes the port.
 #[derive(Drop)]
 pub struct Newcomer<C: Drop, J: Naming> {
     pub number: u32,
@@ -23,12 +23,35 @@ pub struct Newcomer<C: Drop, J: Naming> {
     pub front: Option<Front<J>>,
 }
 
-/// Whether no client had this number before, where the last that came had the number `newest`.
-pub(crate) fn is_new<C: ClientPort + Drop>(
+/// Which of how many workers one is. Clients are dealt to the workers by their numbers.
+#[derive(Clone, Copy)]
+pub(crate) struct Seat {
+    pub(crate) worker: u16,
+    pub(crate) workers: u16,
+}
+
+impl Seat {
+    fn is_dealt(self, number: u32) -> bool
+        ensures { IsTrue result ↔ IsDealtTo self.workers self.worker number }
+    {
+        self.workers > 0 && number % u32::from(self.workers) == u32::from(self.worker)
+    }
+}
+
+/// Whether the client of this number is dealt to the worker that has this seat, and none before had its number.
+pub(crate) fn may_come<C: ClientPort + Drop>(
     clients: &ClientTable<C>,
     newest: Option<u32>,
+    seat: Seat,
     number: u32,
 ) -> bool
+    ensures { IsTrue result ↔ MayCome seat.workers seat.worker (clients_in clients.now.entries) newest number }
+{
+    seat.is_dealt(number) && is_new(clients, newest, number)
+}
+
+/// Whether no client had this number before, where the last that came had the number `newest`.
+fn is_new<C: ClientPort + Drop>(clients: &ClientTable<C>, newest: Option<u32>, number: u32) -> bool
     ensures { IsTrue result ↔ IsNew (clients_in clients.now.entries) newest number }
 {
     !clients.contains_key(&number) && is_above(newest, number)
@@ -90,21 +113,22 @@ pub(crate) fn make_room<C: ClientPort + Drop>(
     Ok(())
 }
 
-/// Puts the client under its number, or lets it go where that is not new. There is room.
+/// Puts the client under its number, or lets it go where it may not come. There is room.
 pub(crate) fn put_new<C: ClientPort + Drop>(
     clients: &mut ClientTable<C>,
     ports: &mut Vec<C>,
     newest: &mut Option<u32>,
     left: Option<u32>,
+    seat: Seat,
     number: u32,
     client: ClientState<C>,
 )
     requires clients { 0 < spare clients.old }
     requires ports { length ports.old.items + length clients.old.entries < vec_capacity ports.old }
-    ensures puts { PutsNew C.moves (clients_in clients.old.entries) ports.old.items newest.old left number client (clients_in clients.new.entries) ports.new.items newest.new }
+    ensures puts { PutsNew C.moves seat.workers seat.worker (clients_in clients.old.entries) ports.old.items newest.old left number client (clients_in clients.new.entries) ports.new.items newest.new }
     ensures ports_fit { length ports.new.items + length clients.new.entries ≤ vec_capacity ports.new }
 {
-    if !is_new(clients, *newest, number) {
+    if !may_come(clients, *newest, seat, number) {
         keep_port(ports, left, closed(client.into_port()));
         return;
     }

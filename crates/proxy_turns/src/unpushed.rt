@@ -58,12 +58,12 @@ impl Unpushed {
         self.as_slice().is_empty()
     }
 
-    /// Puts behind them what the session has to drain.
-    pub(crate) fn drain(&mut self, session: &mut Session) -> Result<usize, NoMemory>
-        ensures does { DrainOutcome session.old self.old result session.new self.new }
+    /// Puts behind them what the session has to drain, until it is so many bytes.
+    pub(crate) fn drain(&mut self, session: &mut Session, most: usize) -> Result<usize, NoMemory>
+        ensures does { DrainOutcome most session.old self.old result session.new self.new }
         ensures kept { KeepsOut session.old session.new }
     {
-        session.drain(&mut self.bytes)
+        session.drain(&mut self.bytes, most)
     }
 
     /// So many bytes were pushed.

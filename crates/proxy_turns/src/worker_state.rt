@@ -14,9 +14,12 @@ use crate::client_table::{
 use crate::due_commands::DueCommands;
 use crate::gate::Gate;
 use crate::kept_ports::{closed, give_back, keep_port};
-use crate::newcomer::{Newcomer, are_to_come, is_none_to_come, make_room, one_fewer, put_new};
+use crate::newcomer::{
+    Newcomer, Seat, are_to_come, is_none_to_come, make_room, one_fewer, put_new,
+};
 use crate::port::ClientPort;
 use crate::round::Round;
+use crate::shared_room::SharedRoom;
 use crate::turned::{Settled, Turned};
 use crate::worker_end::{WorkerEnd, WorkerOutcome};
 use indexmap::IndexMap;
@@ -31,6 +34,8 @@ use std::mem;
 pub(crate) struct WorkerState<C: ClientPort + Drop, J: Naming> {
     alloc: Global,
     worker: u16,
+    // How many workers there are.
+    workers: u16,
     clients: ClientTable<C>,
     // The number of the last client that came.
     newest: Option<u32>,
@@ -46,7 +51,7 @@ pub(crate) struct WorkerState<C: ClientPort + Drop, J: Naming> {
     ports: Vec<C>,
     // The parts whose commands have ended or are to be posted again.
     due: DueCommands,
-    piece: Vec<u8>,
+    room: SharedRoom,
     round: Round,
     ghost ports_fit: { length ports.items + length clients.entries ≤ vec_capacity ports },
     ghost due_known: { AreNoted (clients_in clients.entries) due },
@@ -65,6 +70,7 @@ impl<C: ClientPort + Drop, J: Naming> WorkerState<C, J> {
     {
         let WorkerEnds {
             worker,
+            workers,
             outlet,
             inlet,
             newcomers,
@@ -73,6 +79,7 @@ impl<C: ClientPort + Drop, J: Naming> WorkerState<C, J> {
         WorkerState {
             alloc,
             worker,
+            workers,
             clients: IndexMap::new(alloc),
             newest: None,
             newcomers,
@@ -83,7 +90,7 @@ impl<C: ClientPort + Drop, J: Naming> WorkerState<C, J> {
             answered: 0,
             ports: Vec::new(alloc),
             due: DueCommands::new(alloc, worker),
-            piece: Vec::new(alloc),
+            room: SharedRoom::new(alloc),
             round: Round::new(),
         }
     }
@@ -189,11 +196,16 @@ impl<C: ClientPort + Drop, J: Naming> WorkerState<C, J> {
         } = newcomer;
         learn(&mut self.view, front);
         let client = ClientState::new(self.alloc, self.worker, number, Limits::full(), port);
+        let seat = Seat {
+            worker: self.worker,
+            workers: self.workers,
+        };
         put_new(
             &mut self.clients,
             &mut self.ports,
             &mut self.newest,
             self.left,
+            seat,
             number,
             client,
         );
@@ -295,6 +307,7 @@ impl<C: ClientPort + Drop, J: Naming> WorkerState<C, J> {
     {
         let mut moved = false;
         let round = self.round;
+        self.room.begin_round();
         let count = self.clients.len();
         for step in 0..count {
             moved |= self.serve_client_at(round.place(step, count))?;
@@ -327,7 +340,7 @@ impl<C: ClientPort + Drop, J: Naming> WorkerState<C, J> {
             place,
             &mut self.outlet,
             &mut self.view,
-            &mut self.piece,
+            &mut self.room,
         )
     }
 

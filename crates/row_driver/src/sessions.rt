@@ -1,6 +1,6 @@
 //! A client's session.
 
-use key_split::{Ended, Ticket};
+use key_split::{Ended, Part, Ticket};
 use resp_wire::Limits;
 use row_words::{Answer, Args, CallFault};
 use session_order::{Session, SessionFault};
@@ -31,7 +31,8 @@ impl SessionObjects {
                 show_read(self.session.read(), answer);
                 Ok(())
             }
-            "ready" => show_ready(&mut self.session, answer),
+            "ready" => show_given(self.session.ready(), answer),
+            "follow" => self.follow(args.ticket()?, answer),
             "ended" => self.end(args, answer),
             call => self.look(call, args, answer),
         }
@@ -59,6 +60,15 @@ impl SessionObjects {
         self.session = Session::new(self.alloc, worker, client, Limits::full());
         answer.name("ok");
         Ok(())
+    }
+
+    // The part behind one that is out.
+    fn follow(&mut self, ticket: Ticket, answer: &mut Answer) -> Result<(), CallFault> {
+        if !self.session.awaits(ticket) {
+            answer.name("none");
+            return Ok(());
+        }
+        show_given(self.session.follower(ticket), answer)
     }
 
     fn end(&mut self, args: &mut Args<'_>, answer: &mut Answer) -> Result<(), CallFault> {
@@ -93,8 +103,8 @@ fn show_read(read: Result<bool, SessionFault>, answer: &mut Answer) {
     }
 }
 
-fn show_ready(session: &mut Session, answer: &mut Answer) -> Result<(), CallFault> {
-    match session.ready() {
+fn show_given(given: Option<(Ticket, Part)>, answer: &mut Answer) -> Result<(), CallFault> {
+    match given {
         Some((ticket, part)) => {
             answer.ticket(ticket);
             answer.part(&part)?;
@@ -106,7 +116,7 @@ fn show_ready(session: &mut Session, answer: &mut Answer) -> Result<(), CallFaul
 
 fn drain(alloc: Global, session: &mut Session, answer: &mut Answer) -> Result<(), CallFault> {
     let mut out = Vec::new(alloc);
-    session.drain(&mut out)?;
+    session.drain(&mut out, usize::MAX)?;
     answer.bytes(&out);
     Ok(())
 }

@@ -18,7 +18,7 @@ impl Gate for Open {
 }
 
 /// Two workers wait for each other. Each one's first pass waits until the other's first pass has begun, worker 0's then until
-/// worker 1 has answered a command. A pass that has yielded a million times says no, and so does every pass after it.
+/// worker 1 has answered a command. A pass that has yielded thirty million times says no, and so does every pass after it.
 #[derive(Drop)]
 pub struct Meeting {
     first_begun: AtomicBool,
@@ -38,7 +38,7 @@ impl Meeting {
     }
 
     fn wait_for(&self, begun: &AtomicBool) -> bool {
-        for _ in 0..1_000_000u32 {
+        for _ in 0..30_000_000u32 {
             if begun.load(Ordering::SeqCst) {
                 return true;
             }
@@ -48,7 +48,7 @@ impl Meeting {
     }
 
     fn wait_for_answer(&self) -> bool {
-        for _ in 0..1_000_000u32 {
+        for _ in 0..30_000_000u32 {
             if self.answered.load(Ordering::SeqCst) > 0 {
                 return true;
             }

@@ -1,5 +1,5 @@
 -- Which part is the first of its slot, and which is the last.
-use Rattle.std.proofs.Common.{◌≡◌, ◌≢◌, ◌<◌, ◌+◌, ◌++◌, ◌∷◌, [], ℕ, List, Bool, true, false, Some, None, zero, suc, inl, inr, length, take, sym, ap, subst, ◌∙◌, arith, rules, refl, nat_eq, ◌⊎◌}
+use Rattle.std.proofs.Common.{◌≡◌, ◌≢◌, ◌<◌, ◌+◌, ◌++◌, ◌∷◌, [], ℕ, List, Bool, true, false, Some, zero, suc, inl, inr, length, take, sym, ap, subst, ◌∙◌, arith, rules, refl, nat_eq, ◌⊎◌}
 use Rattle.std.specs.Prelude.{slice_get, slice_set}
 use Rattle.std.specs.List.{list_any}
 use Rattle.slot_hash.specs.Slot.{slot_of}
@@ -102,11 +102,6 @@ avoids slot n zero m (h ∷ ss) s sum at free =
     subst (λ (b : Bool). Avoids m (in_front b n (open_parts slot (suc n) ss))) (sym (ap (blocks slot) is ∙ free)) (avoids_low slot (suc n) m ss (omega (arith, sum)))
 avoids slot n (suc i) m (h ∷ ss) s sum at free =
     avoids_in (blocks slot h) n m (open_parts slot (suc n) ss) (λ same. omega (arith, same, sum)) (avoids slot (suc n) i m ss s (omega (arith, sum)) at free)
-
-pub last_none : (ns : List ℕ) → last_of ns ≡ None → ns ≡ []
-last_none [] is = refl
-last_none (n ∷ []) is = cc
-last_none (n ∷ m ∷ rest) is = (let h : m ∷ rest ≡ [] = last_none (m ∷ rest) is in cc)
 
 pub first_more : (ns more : List ℕ) (m : ℕ) → first_of ns ≡ Some m → first_of (ns ++ more) ≡ Some m
 first_more [] more m is = cc

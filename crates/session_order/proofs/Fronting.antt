@@ -8,7 +8,7 @@ use Rattle.slot_hash.specs.Slot.{slot_of}
 use Rattle.key_split.specs.PartModel.{PartModel}
 use Rattle.session_order.specs.declared.queue.PartStage.{PartStage}
 use Rattle.session_order.specs.declared.queue.PartStage.TheVariants.{Waiting, Out, Done}
-use Rattle.session_order.specs.Turn.{is_done, QueueModel, IsNumbered, HandOutcome}
+use Rattle.session_order.specs.Turn.{is_done, QueueModel, IsNumbered, HandOutcome, FollowOutcome}
 use Rattle.session_order.specs.Front.{done_at_front}
 
 all_both : (b rest : Bool) → b && rest ≡ true → (b ≡ true) × (rest ≡ true)
@@ -123,3 +123,14 @@ pub handed_numbered : (old new : QueueModel) (given : Option (ℕ × PartModel))
 handed_numbered old new None (none, is) fits = subst (λ (q : QueueModel). IsNumbered q.first q.stages) (sym is) fits
 handed_numbered old new (Some given) (i, next, numbered, is) fits =
     subst (λ (q : QueueModel). IsNumbered q.first q.stages) (sym is) (omega (arith, fits, length-set old.stages i (Out (slot_of given.1.key))))
+
+-- nor does handing out one behind another
+pub front_followed : (old new : QueueModel) (number : ℕ) (given : Option (ℕ × PartModel)) → FollowOutcome old number given new → done_at_front new.stages ≡ done_at_front old.stages
+front_followed old new number None (none, is) = ap (λ (q : QueueModel). done_at_front q.stages) is
+front_followed old new number (Some given) (j, follows, numbered, is) =
+    ap (λ (q : QueueModel). done_at_front q.stages) is ∙ front_set old.stages j (Waiting given.1) (Out (slot_of given.1.key)) follows.waits refl
+
+pub followed_numbered : (old new : QueueModel) (number : ℕ) (given : Option (ℕ × PartModel)) → FollowOutcome old number given new → IsNumbered old.first old.stages → IsNumbered new.first new.stages
+followed_numbered old new number None (none, is) fits = subst (λ (q : QueueModel). IsNumbered q.first q.stages) (sym is) fits
+followed_numbered old new number (Some given) (j, follows, numbered, is) fits =
+    subst (λ (q : QueueModel). IsNumbered q.first q.stages) (sym is) (omega (arith, fits, length-set old.stages j (Out (slot_of given.1.key))))

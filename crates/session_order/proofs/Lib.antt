@@ -5,11 +5,16 @@ pub mod Drained
 pub mod Added
 pub mod Keeping
 pub mod Told
+pub mod Fewer
 pub mod Quitting
 pub mod Lifelong
 pub mod Opening
+pub mod Linking
 pub mod Chaining
 pub mod Blocking
 pub mod Tabling
+pub mod Following
 pub mod Turning
 pub mod Fronting
+pub mod Forgetting
+pub mod HangingUp

@@ -1,8 +1,9 @@
 -- What was drained and what is next are the output of the requests that were read and the ends that were told.
-use Rattle.std.proofs.Common.{◌≡◌, ◌≤◌, ◌<◌, ◌+◌, ◌-◌, ◌^◌, ◌++◌, ◌∷◌, [], List, ℕ, length, drop, refl, ap, sym, subst, ◌∙◌, inl, inr, arith, zero, suc, Option, Some, None, Result, Ok, Err, length-drop, length-append, append_assoc, cond, true, false, Bool, ◌||◌, ◌⊎◌}
-use Rattle.std.specs.Prelude.{map, replicate, nat_le}
+use Rattle.std.proofs.Common.{◌≡◌, ◌≤◌, ◌<◌, ◌+◌, ◌-◌, ◌^◌, ◌++◌, ◌∷◌, [], List, ℕ, length, drop, take, refl, ap, sym, subst, ◌∙◌, inl, inr, arith, zero, suc, Option, Some, None, Result, Ok, Err, length-drop, length-append, append_assoc, cond, true, false, Bool, ◌||◌, ◌⊎◌}
+use Rattle.std.specs.Prelude.{map, replicate, nat_le, slice_get}
 use Rattle.std.specs.List.{list_any, flat_map, FoldsTo}
 use Rattle.std.proofs.lemmas.Grind.{flat_map-append}
+use Rattle.std.proofs.Math.ListN.{take-append-drop}
 use Rattle.std.proofs.lemmas.List.{append-nil, map-append, length-set, length-map}
 use Rattle.std.proofs.lemmas.Option.{slice_get_within}
 use Rattle.std.proofs.Math.Bool.{or-false, or-true}
@@ -31,14 +32,15 @@ use Rattle.session_order.specs.declared.fault.SessionFault.TheVariants.{NoMemory
 use Rattle.session_order.specs.RequestReaderModel.{RequestReaderModel}
 use Rattle.session_order.specs.PendingReply.{owed_by, owed_for, plan_for, goodbye, protocol_error}
 use Rattle.session_order.specs.SessionModel.{SessionModel}
-use Rattle.session_order.specs.Replies.{replies, replied, parts_of, bytes_of, spelling, last_line, lines_owed, output, said, drained}
-use Rattle.session_order.specs.Steps.{added, with_incoming, ReadsWords, FeedOutcome, ReadOutcome, ReadyOutcome, IsHandedOut, EndOutcome, FaultedBy}
+use Rattle.session_order.specs.Turn.{handed_out}
+use Rattle.session_order.specs.Replies.{replies, replied, first_replies, parts_of, bytes_of, spelling, last_line, lines_owed, output, said, Drains, DrainOutcome}
+use Rattle.session_order.specs.Steps.{added, with_incoming, ReadsWords, FeedOutcome, ReadOutcome, ReadyOutcome, FollowerOutcome, IsHandedOut, EndOutcome, FaultedBy}
 use Rattle.session_order.specs.Output.{end_of, replies_told}
-use Rattle.session_order.specs.Life.{SessionCall, Fed, Read, Handed, Told, Drained, Reads, SessionDoes, read_by, told_by, drained_by, met_fault, output_for, fresh, DrainsOutput}
+use Rattle.session_order.specs.Life.{SessionCall, Fed, Read, Handed, Followed, Told, Drained, Reads, SessionDoes, read_by, told_by, drained_by, met_fault, output_for, fresh, DrainsOutput}
 use Rattle.session_order.proofs.Lists.{eqb-no}
 use Rattle.session_order.proofs.Added.{parts_of_push}
-use Rattle.session_order.proofs.Drained.{replies_all, replies_part, parts_of_drop}
-use Rattle.session_order.proofs.Told.{is_below, is_above, Tables, tables_drop, replies_left, same_replies, tables_set, end_other, tables_end, tables_append, tables_new, split_ok}
+use Rattle.session_order.proofs.Fewer.{first_replied, first_last, parts_split, take_few}
+use Rattle.session_order.proofs.Told.{is_below, Tables, tables_drop, replies_left, same_replies, tables_set, end_other, tables_end, tables_append, tables_new, split_ok}
 use Rattle.session_order.proofs.Quitting.{quit_is_last}
 
 -- how the session is closed, whether a fault was met, and the lines that were drained behind the replies
@@ -175,50 +177,79 @@ line_left (Faulted why true) f tail requests n false all line = line
 line_left (Faulted why false) f tail requests n true all line = (line.0, append-nil tail ∙ line.1, drop-all n requests (is_below (length requests) n all))
 line_left (Faulted why false) f tail requests n false all line = (line.0, line.1, drop-all n requests (rw line.2 (omega arith)))
 
-empty_line : (all : Bool) (said tail : List Value) → (said ++ tail) ++ [] ≡ (said ++ []) ++ cond {A = List Value} all (tail ++ []) tail
+empty_line : (all : Bool) (said tail : List Value) → (said ++ tail) ++ cond {A = List Value} all [] [] ≡ (said ++ []) ++ cond {A = List Value} all (tail ++ []) tail
 empty_line true said tail = append-nil (said ++ tail) ∙ rw (append-nil said, append-nil tail) refl
 empty_line false said tail = append-nil (said ++ tail) ∙ rw (append-nil said) refl
 
-no_tail : (last said tail : List Value) (requests : List PendingReply) (stages : List PartStage) (ends : List Ended) (all : Bool)
-    → nat_le (length requests) (replied requests stages ends).0 ≡ all → tail ≡ []
-    → (said ++ tail) ++ replies requests stages ends last ≡ (said ++ replies requests stages ends []) ++ cond {A = List Value} all (tail ++ last) tail
-no_tail last said tail requests stages ends true test none =
-    ap (λ vs. (said ++ vs) ++ replies requests stages ends last) none ∙ ap (λ vs. vs ++ replies requests stages ends last) (append-nil said)
-    ∙ ap (λ vs. said ++ vs) (replies_all requests stages ends last (is_below (length requests) (replied requests stages ends).0 test)) ∙ sym (append_assoc said (replies requests stages ends []) last)
-    ∙ ap (λ vs. (said ++ replies requests stages ends []) ++ (vs ++ last)) (sym none)
-no_tail last said tail requests stages ends false test none =
-    ap (λ vs. (said ++ vs) ++ replies requests stages ends last) none ∙ ap (λ vs. vs ++ replies requests stages ends last) (append-nil said)
-    ∙ ap (λ vs. said ++ vs) (replies_part requests stages ends last (is_above (length requests) (replied requests stages ends).0 test)) ∙ sym (append-nil (said ++ replies requests stages ends []))
-    ∙ ap (λ vs. (said ++ replies requests stages ends []) ++ vs) (sym none)
+no_tail : (last said tail : List Value) (requests : List PendingReply) (stages : List PartStage) (ends : List Ended) (count : ℕ) (all : Bool)
+    → count ≤ (replied requests stages ends).0 → tail ≡ []
+    → (said ++ tail) ++ replies (take count requests) stages ends (cond {A = List Value} all last [])
+    ≡ (said ++ replies (take count requests) stages ends []) ++ cond {A = List Value} all (tail ++ last) tail
+no_tail last said tail requests stages ends count true in_order none =
+    let first = take count requests in
+    ap (λ vs. (said ++ vs) ++ replies first stages ends last) none ∙ ap (λ vs. vs ++ replies first stages ends last) (append-nil said)
+    ∙ ap (λ vs. said ++ vs) (first_last count requests stages ends last in_order) ∙ sym (append_assoc said (replies first stages ends []) last)
+    ∙ ap (λ vs. (said ++ replies first stages ends []) ++ (vs ++ last)) (sym none)
+no_tail last said tail requests stages ends count false in_order none =
+    let first = take count requests in
+    ap (λ vs. (said ++ vs) ++ replies first stages ends []) none ∙ ap (λ vs. vs ++ replies first stages ends []) (append-nil said)
+    ∙ sym (append-nil (said ++ replies first stages ends []))
+    ∙ ap (λ vs. (said ++ replies first stages ends []) ++ vs) (sym none)
+
+take_none : (count : ℕ) → ◌≡◌ {A = List PendingReply} (take count []) []
+take_none zero = refl
+take_none (suc count) = refl
 
 -- what is drained stands behind what was
-said_line : (closing : Closing) (f : Bool) (said tail : List Value) (requests : List PendingReply) (stages : List PartStage) (ends : List Ended) (all : Bool)
-    → nat_le (length requests) (replied requests stages ends).0 ≡ all → Line closing f tail requests
-    → (said ++ tail) ++ replies requests stages ends (last_line closing) ≡ (said ++ replies requests stages ends []) ++ cond all (tail ++ last_line closing) tail
-said_line Open f said tail requests stages ends all test line = no_tail [] said tail requests stages ends all test line.1
-said_line Quit f said tail requests stages ends all test line = no_tail [] said tail requests stages ends all test line.1
-said_line (Faulted why true) f said tail requests stages ends all test line = no_tail (last_line (Faulted why true)) said tail requests stages ends all test line.1
-said_line (Faulted why false) f said tail requests stages ends all test line =
-    ap (λ rs. (said ++ tail) ++ replies rs stages ends []) line.2 ∙ empty_line all said tail
-    ∙ ap (λ rs. (said ++ replies rs stages ends []) ++ cond {A = List Value} all (tail ++ []) tail) (sym line.2)
+said_line : (closing : Closing) (f : Bool) (said tail : List Value) (requests : List PendingReply) (stages : List PartStage) (ends : List Ended) (count : ℕ) (all : Bool)
+    → count ≤ (replied requests stages ends).0 → Line closing f tail requests
+    → (said ++ tail) ++ replies (take count requests) stages ends (cond all (last_line closing) [])
+    ≡ (said ++ replies (take count requests) stages ends []) ++ cond all (tail ++ last_line closing) tail
+said_line Open f said tail requests stages ends count all in_order line = no_tail [] said tail requests stages ends count all in_order line.1
+said_line Quit f said tail requests stages ends count all in_order line = no_tail [] said tail requests stages ends count all in_order line.1
+said_line (Faulted why true) f said tail requests stages ends count all in_order line = no_tail (last_line (Faulted why true)) said tail requests stages ends count all in_order line.1
+said_line (Faulted why false) f said tail requests stages ends count all in_order line =
+    let none : take count requests ≡ [] = ap (take count) line.2 ∙ take_none count in
+    ap (λ rs. (said ++ tail) ++ replies rs stages ends (cond {A = List Value} all [] [])) none ∙ empty_line all said tail
+    ∙ ap (λ rs. (said ++ replies rs stages ends []) ++ cond {A = List Value} all (tail ++ []) tail) (sym none)
 
-lived_drained : (r : List (List (List ℕ))) (t : List (Ticket × Ended)) (f : Bool) (d : List ℕ) (old : SessionModel) → Lived r t f d old → Lived r t f (d ++ output old) (drained old)
-lived_drained r t f d old l =
-    let n = replied old.requests old.stages old.ends in
-    let all = nat_le (length old.requests) n.0 in
-    record {
-      said = l.said ++ replies old.requests old.stages old.ends [];
+-- the output is the replies of the first requests, and what the others give
+first_left : (t more : List (Ticket × Ended)) (first count : ℕ) (requests later : List PendingReply) (stages : List PartStage) (ends : List Ended) (last : List Value)
+    → Tables t first stages ends → parts_of requests ≡ length stages → count ≤ (replied requests stages ends).0
+    → replies_told (t ++ more) first (requests ++ later) last
+    ≡ replies (take count requests) stages ends [] ++ replies_told (t ++ more) (first + parts_of (take count requests)) (drop count requests ++ later) last
+first_left t more first count requests later stages ends last tables counted in_order =
+    let some = take count requests in
+    let others = drop count requests ++ later in
+    let whole : requests ++ later ≡ some ++ others = ap (λ rs. rs ++ later) (sym (take-append-drop count requests)) ∙ append_assoc some (drop count requests) later in
+    let pair : replied some stages ends ≡ (count, parts_of some) = first_replied count requests stages ends in_order in
+    let parts : first + parts_of some ≡ first + (replied some stages ends).1 = ap (λ (n : ℕ × ℕ). first + n.1) (sym pair) in
+    let none : drop (replied some stages ends).0 some ≡ [] = ap (λ (n : ℕ × ℕ). drop n.0 some) pair ∙ drop-all count some (take_few count requests) in
+    ap (λ rs. replies_told (t ++ more) first rs last) whole
+    ∙ replies_left some stages ends t more first (first + parts_of some) others last tables (omega (arith, parts_split count requests, counted)) parts
+    ∙ ap (λ rs. replies some stages ends [] ++ replies_told (t ++ more) (first + parts_of some) (rs ++ others) last) none
+
+lived_drained : (r : List (List (List ℕ))) (t : List (Ticket × Ended)) (f : Bool) (d : List ℕ) (most : ℕ) (old new : SessionModel) (bytes : List ℕ) → Drains most old bytes new
+    → Lived r t f d old → Lived r t f (d ++ bytes) new
+lived_drained r t f d most old new bytes drains l =
+    let count = drains.count in
+    let some = take count old.requests in
+    let parts = parts_of some in
+    let all = nat_le (length old.requests) count in
+    subst (λ held. Lived r t f (d ++ bytes) held) (sym drains.left) (record {
+      said = l.said ++ replies some old.stages old.ends [];
       tail = cond all (l.tail ++ last_line old.closing) l.tail;
-      wrote = ap (λ bytes. bytes ++ output old) l.wrote ∙ sym (flat_map-append spelling (l.said ++ l.tail) (replies old.requests old.stages old.ends (last_line old.closing)))
-          ∙ ap bytes_of (said_line old.closing f l.said l.tail old.requests old.stages old.ends all refl l.line);
+      wrote = ap (λ before. before ++ bytes) l.wrote ∙ ap (λ more. bytes_of (l.said ++ l.tail) ++ more) drains.written.spelled
+          ∙ sym (flat_map-append spelling (l.said ++ l.tail) (first_replies count old.requests old.stages old.ends (last_line old.closing)))
+          ∙ ap bytes_of (said_line old.closing f l.said l.tail old.requests old.stages old.ends count all drains.written.in_order l.line);
       owing = λ more later last. l.owing more later last
-          ∙ ap (λ vs. l.said ++ vs) (replies_left old.requests old.stages old.ends t more old.first (old.first + n.1) later last l.tables l.counted refl)
-          ∙ sym (append_assoc l.said (replies old.requests old.stages old.ends []) (replies_told (t ++ more) (old.first + n.1) (drop n.0 old.requests ++ later) last));
-      tables = tables_drop t old.first n.1 (old.first + n.1) old.stages old.ends refl l.tables;
-      counted = omega (arith, parts_of_drop old.requests old.stages old.ends l.counted, length-drop n.1 old.stages);
-      unused = λ k le. l.unused k (omega (arith, le, length-drop n.1 old.stages));
-      line = line_left old.closing f l.tail old.requests n.0 all refl l.line;
-    }
+          ∙ ap (λ vs. l.said ++ vs) (first_left t more old.first count old.requests later old.stages old.ends last l.tables l.counted drains.written.in_order)
+          ∙ sym (append_assoc l.said (replies some old.stages old.ends []) (replies_told (t ++ more) (old.first + parts) (drop count old.requests ++ later) last));
+      tables = tables_drop t old.first parts (old.first + parts) old.stages old.ends refl l.tables;
+      counted = omega (arith, parts_split count old.requests, l.counted, length-drop parts old.stages);
+      unused = λ k le. l.unused k (omega (arith, le, length-drop parts old.stages));
+      line = line_left old.closing f l.tail old.requests count all refl l.line;
+    })
 
 same_held : (r : List (List (List ℕ))) (t : List (Ticket × Ended)) (f : Bool) (d : List ℕ) (old new : SessionModel) → new ≡ old → Lived r t f d old → Lived r t f d new
 same_held r t f d old new is l = subst (λ held. Lived r t f d held) (sym is) l
@@ -251,10 +282,10 @@ garbled r t f d fault old new (inr (may, first, is)) l = broke r t f d (broken.W
 wanting : (r : List (List (List ℕ))) (t : List (Ticket × Ended)) (f : Bool) (d : List ℕ) (old new : SessionModel) → ReadOutcome old (Err NoMemory) new → Lived r t f d old → Lived r t f d new
 wanting r t f d old new (may, keeps, is) l = moved r t f d old new (rw is refl) (rw is refl) (rw is refl) (rw is refl) (rw is refl) l
 
-handed : (r : List (List (List ℕ))) (t : List (Ticket × Ended)) (f : Bool) (d : List ℕ) (old : SessionModel) (given : Option (Ticket × PartModel)) (new : SessionModel) → ReadyOutcome old given new
-    → Lived r t f d old → Lived r t f d new
-handed r t f d old None new (none, is) l = same_held r t f d old new is l
-handed r t f d old (Some (ticket, part)) new (i, (may, earliest, at), numbered, is) l = subst (λ held. Lived r t f d held) (sym is) (record {
+-- the part at i is handed out
+handed_at : (r : List (List (List ℕ))) (t : List (Ticket × Ended)) (f : Bool) (d : List ℕ) (old new : SessionModel) (i : ℕ) (part : PartModel) → slice_get old.stages i ≡ Some (Waiting part)
+    → new ≡ record old { stages = handed_out old.stages i part } → Lived r t f d old → Lived r t f d new
+handed_at r t f d old new i part at is l = subst (λ held. Lived r t f d held) (sym is) (record {
   said = l.said;
   tail = l.tail;
   wrote = l.wrote;
@@ -264,6 +295,16 @@ handed r t f d old (Some (ticket, part)) new (i, (may, earliest, at), numbered, 
   unused = λ k le. l.unused k (omega (arith, le, length-set old.stages i (Out (slot_of part.key))));
   line = l.line;
 })
+
+handed : (r : List (List (List ℕ))) (t : List (Ticket × Ended)) (f : Bool) (d : List ℕ) (old : SessionModel) (given : Option (Ticket × PartModel)) (new : SessionModel) → ReadyOutcome old given new
+    → Lived r t f d old → Lived r t f d new
+handed r t f d old None new (none, is) l = same_held r t f d old new is l
+handed r t f d old (Some (ticket, part)) new (i, (may, earliest, at), numbered, is) l = handed_at r t f d old new i part at is l
+
+followed : (r : List (List (List ℕ))) (t : List (Ticket × Ended)) (f : Bool) (d : List ℕ) (old : SessionModel) (ticket : Ticket) (given : Option (Ticket × PartModel)) (new : SessionModel) → FollowerOutcome old ticket given new
+    → Lived r t f d old → Lived r t f d new
+followed r t f d old ticket None new (none, is) l = same_held r t f d old new is l
+followed r t f d old ticket (Some (given, part)) new (j, follows, numbered, is) l = handed_at r t f d old new j part follows.waits is l
 
 ended : (r : List (List (List ℕ))) (t : List (Ticket × Ended)) (f : Bool) (d : List ℕ) (ticket : Ticket) (end : Ended) (old new : SessionModel) → IsHandedOut old ticket → EndOutcome old ticket end new
     → Lived r t f d old → Lived r (t ++ (ticket, end) ∷ []) f d new
@@ -298,10 +339,11 @@ step r t f d (Read (Err NoMemory) (Some words)) old new does l = absurd does
 step r t f d (Read (Err (Wire fault)) (Some words)) old new does l = absurd does
 step r t f d (Read (Err NotRequest) (Some words)) old new does l = absurd does
 step r t f d (Handed given) old new does l = plain r t f d new (handed r t f d old given new does l)
+step r t f d (Followed ticket given) old new does l = plain r t f d new (followed r t f d old ticket given new does l)
 step r t f d (Told ticket end) old new (out, ends) l = rw (append-nil r, or-false f, append-nil d) (ended r t f d ticket end old new out ends l)
-step r t f d (Drained (Ok n) bytes) old new (is_bytes, count, is) l =
-    rw (append-nil r, append-nil t, or-false f, is_bytes, is) (lived_drained r t f d old l)
-step r t f d (Drained (Err refused) bytes) old new (is_bytes, is) l = rw is_bytes (plain r t f d new (same_held r t f d old new is l))
+step r t f d (Drained most (Ok n) bytes) old new (own, is_bytes, count, drains) l =
+    rw (append-nil r, append-nil t, or-false f, is_bytes) (lived_drained r t f d most old new own drains l)
+step r t f d (Drained most (Err refused) bytes) old new (is_bytes, is) l = rw is_bytes (plain r t f d new (same_held r t f d old new is l))
 
 or_assoc : (a b c : Bool) → (a || b) || c ≡ a || (b || c)
 or_assoc true b c = refl
@@ -352,24 +394,27 @@ balance worker client bounds calls held runs =
     (steps calls [] [] false [] (fresh worker client bounds) held runs (at_first worker client bounds))
     ∙ ap (λ (rs : List (List (List ℕ))). bytes_of (replies_told told 0 (map owed_for rs) lines)) (sym (quit_is_last worker client bounds calls held runs))
 
-any_push : (calls : List SessionCall) (n : ℕ) (bytes : List ℕ) → list_any met_fault (calls ++ Drained (Ok n) bytes ∷ []) ≡ list_any met_fault calls
-any_push [] n bytes = refl
-any_push (c ∷ cs) n bytes = ap (λ (b : Bool). met_fault c || b) (any_push cs n bytes)
+any_push : (calls : List SessionCall) (most n : ℕ) (bytes : List ℕ) → list_any met_fault (calls ++ Drained most (Ok n) bytes ∷ []) ≡ list_any met_fault calls
+any_push [] most n bytes = refl
+any_push (c ∷ cs) most n bytes = ap (λ (b : Bool). met_fault c || b) (any_push cs most n bytes)
 
-all_drained : (worker client : ℕ) (bounds : LimitsModel) (calls : List SessionCall) (n : ℕ) (bytes : List ℕ) (held : SessionModel)
-    → FoldsTo SessionDoes (fresh worker client bounds) (calls ++ Drained (Ok n) bytes ∷ []) held
-    → flat_map drained_by (calls ++ Drained (Ok n) bytes ∷ []) ≡ output_for (calls ++ Drained (Ok n) bytes ∷ [])
-all_drained worker client bounds calls n bytes held runs =
-    let last = last_call calls (Drained (Ok n) bytes) (fresh worker client bounds) held runs in
+all_bytes : (most n : ℕ) (old new : SessionModel) (bytes : List ℕ) → n < most → DrainOutcome most old [] (Ok n) new bytes → bytes ≡ output old
+all_bytes most n old new bytes less (own, is_bytes, count, drains) = is_bytes ∙ (drains.all (subst (λ k. k < most) count less)).0
+
+all_drained : (worker client : ℕ) (bounds : LimitsModel) (calls : List SessionCall) (most n : ℕ) (bytes : List ℕ) (held : SessionModel) → n < most
+    → FoldsTo SessionDoes (fresh worker client bounds) (calls ++ Drained most (Ok n) bytes ∷ []) held
+    → flat_map drained_by (calls ++ Drained most (Ok n) bytes ∷ []) ≡ output_for (calls ++ Drained most (Ok n) bytes ∷ [])
+all_drained worker client bounds calls most n bytes held less runs =
+    let last = last_call calls (Drained most (Ok n) bytes) (fresh worker client bounds) held runs in
     rw (
-      flat_map-append read_by calls (Drained (Ok n) bytes ∷ []),
-      flat_map-append told_by calls (Drained (Ok n) bytes ∷ []),
-      flat_map-append drained_by calls (Drained (Ok n) bytes ∷ []),
-      any_push calls n bytes,
+      flat_map-append read_by calls (Drained most (Ok n) bytes ∷ []),
+      flat_map-append told_by calls (Drained most (Ok n) bytes ∷ []),
+      flat_map-append drained_by calls (Drained most (Ok n) bytes ∷ []),
+      any_push calls most n bytes,
       append-nil (flat_map read_by calls),
       append-nil (flat_map told_by calls),
       append-nil bytes,
-      last.2.0,
+      all_bytes most n last.0 held bytes less last.2,
     )
     (balance worker client bounds calls last.0 last.1)
 

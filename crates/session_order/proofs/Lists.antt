@@ -1,5 +1,5 @@
 -- On lists: what stands at a place, and what passes a test.
-use Rattle.std.proofs.Common.{◌≡◌, ◌≢◌, ◌++◌, ◌∷◌, [], ◌+◌, ◌≤◌, ℕ, List, Bool, true, false, Some, zero, suc, take, drop, ap, subst, arith, rules, refl, ◌||◌, ◌&&◌, nat_eq}
+use Rattle.std.proofs.Common.{◌≡◌, ◌≢◌, ◌++◌, ◌∷◌, [], ◌+◌, ◌≤◌, ◌<◌, ℕ, List, Bool, true, false, Some, zero, suc, take, drop, sym, ap, subst, ◌∙◌, length, arith, rules, refl, ◌||◌, ◌&&◌, nat_eq}
 use Rattle.std.specs.Prelude.{slice_get, slice_set}
 use Rattle.std.specs.List.{list_any, list_all}
 use Rattle.std.proofs.lemmas.Bool.{eqb-false}
@@ -95,3 +95,92 @@ all_take p (h ∷ xs) (suc n) m zero sum front back = refl
 all_take p (h ∷ xs) (suc n) m (suc k) sum front back =
     all_both (p h) (list_all p (take k xs)) (all_first (p h) (list_all p (take n xs)) front)
     (all_take p xs n m k (omega (arith, sum)) (all_rest (p h) (list_all p (take n xs)) front) back)
+
+-- ---- what stands before a place
+
+-- two items that stand at one place are one
+pub one_of : {A : Type 0} (xs : List A) (i : ℕ) (x y : A) → slice_get xs i ≡ Some x → slice_get xs i ≡ Some y → x ≡ y
+one_of xs i x y a b = (let e : Some x ≡ Some y = sym a ∙ b in search rules)
+
+pub get_take : {A : Type 0} (xs : List A) (n i : ℕ) (x : A) → slice_get xs i ≡ Some x → i < n → slice_get (take n xs) i ≡ Some x
+get_take [] n i x at less = cc
+get_take (h ∷ xs) zero i x at less = absurd (omega (arith, less))
+get_take (h ∷ xs) (suc n) zero x at less = at
+get_take (h ∷ xs) (suc n) (suc i) x at less = get_take xs n i x at (omega (arith, less))
+
+pub get_taken : {A : Type 0} (xs : List A) (n i : ℕ) (x : A) → slice_get (take n xs) i ≡ Some x → (slice_get xs i ≡ Some x) × (i < n)
+get_taken [] zero i x at = cc
+get_taken [] (suc n) i x at = cc
+get_taken (h ∷ xs) zero i x at = cc
+get_taken (h ∷ xs) (suc n) zero x at = (at, omega arith)
+get_taken (h ∷ xs) (suc n) (suc i) x at = (let more = get_taken xs n i x at in (more.0, omega (arith, more.1)))
+
+pub some_at : {A : Type 0} (xs : List A) (i : ℕ) → i < length xs → (x : A) × (slice_get xs i ≡ Some x)
+some_at [] i within = absurd (omega (arith, within))
+some_at (h ∷ xs) zero within = (h, refl)
+some_at (h ∷ xs) (suc i) within = some_at xs i (omega (arith, within))
+
+pub set_same : {A : Type 0} (xs : List A) (i : ℕ) (x : A) → slice_get xs i ≡ Some x → slice_set xs i x ≡ xs
+set_same [] i x at = refl
+set_same (h ∷ xs) zero x at = (let is : h ≡ x = search rules in ap (λ y. y ∷ xs) (sym is))
+set_same (h ∷ xs) (suc i) x at = ap (λ ys. h ∷ ys) (set_same xs i x at)
+
+-- another item behind changes nothing
+pub take_set : {A : Type 0} (xs : List A) (i : ℕ) (y : A) → take i (slice_set xs i y) ≡ take i xs
+take_set [] i y = refl
+take_set (h ∷ xs) zero y = refl
+take_set (h ∷ xs) (suc i) y = ap (λ ys. h ∷ ys) (take_set xs i y)
+
+any_here : (b rest : Bool) → b || rest ≡ false → b ≡ false
+any_here true rest none = cc
+any_here false rest none = refl
+
+any_none : (b rest : Bool) → b ≡ false → rest ≡ false → b || rest ≡ false
+any_none true rest not none = cc
+any_none false rest not none = none
+
+-- where none passes, an item before does not
+pub any_at : {A : Type 0} (p : A → Bool) (xs : List A) (n i : ℕ) (x : A) → list_any p (take n xs) ≡ false → slice_get xs i ≡ Some x → i < n → p x ≡ false
+any_at p [] n i x none at less = cc
+any_at p (h ∷ xs) zero i x none at less = absurd (omega (arith, less))
+any_at p (h ∷ xs) (suc n) zero x none at less =
+    let same : h ≡ x = search rules in
+    subst (λ z. p z ≡ false) same (any_here (p h) (list_any p (take n xs)) none)
+any_at p (h ∷ xs) (suc n) (suc i) x none at less = any_at p xs n i x (any_rest (p h) (list_any p (take n xs)) none) at (omega (arith, less))
+
+-- where none of some passes, none of fewer does
+pub any_fewer : {A : Type 0} (p : A → Bool) (xs : List A) (n m : ℕ) → m ≤ n → list_any p (take n xs) ≡ false → list_any p (take m xs) ≡ false
+any_fewer p [] n m le none = let empty : list_any p (take m []) ≡ list_any p (take n []) = any_nil p m ∙ sym (any_nil p n) in empty ∙ none
+  where
+    any_nil : {A : Type 0} (p : A → Bool) (k : ℕ) → list_any p (take k []) ≡ false
+    any_nil p zero = refl
+    any_nil p (suc k) = refl
+any_fewer p (h ∷ xs) n zero le none = refl
+any_fewer p (h ∷ xs) zero (suc m) le none = absurd (omega (arith, le))
+any_fewer p (h ∷ xs) (suc n) (suc m) le none =
+    any_none (p h) (list_any p (take m xs)) (any_here (p h) (list_any p (take n xs)) none) (any_fewer p xs n m (omega (arith, le)) (any_rest (p h) (list_any p (take n xs)) none))
+
+-- what passes no less than another test
+pub any_weaker : {A : Type 0} (p q : A → Bool) (xs : List A) → ((x : A) → p x ≡ false → q x ≡ false) → list_any p xs ≡ false → list_any q xs ≡ false
+any_weaker p q [] less none = refl
+any_weaker p q (h ∷ xs) less none =
+    any_none (q h) (list_any q xs) (less h (any_here (p h) (list_any p xs) none)) (any_weaker p q xs less (any_rest (p h) (list_any p xs) none))
+
+-- none before an item, not the item, none of so many behind it
+pub any_around : {A : Type 0} (p : A → Bool) (xs : List A) (i k n : ℕ) (x : A) → n ≡ suc i + k → slice_get xs i ≡ Some x → list_any p (take i xs) ≡ false → p x ≡ false
+    → list_any p (take k (drop (suc i) xs)) ≡ false → list_any p (take n xs) ≡ false
+any_around p [] i k n x sum at fore not aft = cc
+any_around p (h ∷ xs) i k zero x sum at fore not aft = absurd (omega (arith, sum))
+any_around p (h ∷ xs) zero k (suc n) x sum at fore not aft =
+    let same : h ≡ x = search rules in
+    let len : k ≡ n = omega (arith, sum) in
+    any_none (p h) (list_any p (take n xs)) (subst (λ z. p z ≡ false) (sym same) not) (subst (λ m. list_any p (take m xs) ≡ false) len aft)
+any_around p (h ∷ xs) (suc i) k (suc n) x sum at fore not aft =
+    any_none (p h) (list_any p (take n xs)) (any_here (p h) (list_any p (take i xs)) fore) (any_around p xs i k n x (omega (arith, sum)) at (any_rest (p h) (list_any p (take i xs)) fore) not aft)
+
+-- where none of the items passes
+pub any_all : {A : Type 0} (p : A → Bool) (xs : List A) (n : ℕ) → ((j : ℕ) (x : A) → slice_get xs j ≡ Some x → j < n → p x ≡ false) → list_any p (take n xs) ≡ false
+any_all p [] zero none = refl
+any_all p [] (suc n) none = refl
+any_all p (h ∷ xs) zero none = refl
+any_all p (h ∷ xs) (suc n) none = any_none (p h) (list_any p (take n xs)) (none 0 h refl (omega arith)) (any_all p xs n (λ j x at less. none (suc j) x at (omega (arith, less))))

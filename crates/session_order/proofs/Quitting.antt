@@ -1,5 +1,5 @@
 -- No request is read behind one that ends the session.
-use Rattle.std.proofs.Common.{◌≡◌, ◌++◌, ◌∷◌, [], List, ℕ, length, refl, ap, sym, ◌∙◌, inl, inr, Option, Some, None, Result, Ok, Err, append_assoc, cond, true, false, Bool}
+use Rattle.std.proofs.Common.{◌≡◌, ◌++◌, ◌∷◌, [], List, ℕ, length, take, refl, ap, sym, ◌∙◌, inl, inr, Option, Some, None, Result, Ok, Err, append_assoc, cond, true, false, Bool}
 use Rattle.std.specs.Prelude.{nat_le}
 use Rattle.std.specs.List.{list_any, flat_map, FoldsTo}
 use Rattle.std.proofs.lemmas.List.{append-nil}
@@ -16,10 +16,10 @@ use Rattle.session_order.specs.declared.fault.SessionFault.{SessionFault}
 use Rattle.session_order.specs.declared.fault.SessionFault.TheVariants.{NoMemory, Wire, NotRequest}
 use Rattle.session_order.specs.PendingReply.{plan_for, ends_session}
 use Rattle.session_order.specs.SessionModel.{SessionModel}
-use Rattle.session_order.specs.Replies.{replied, said, drained}
-use Rattle.session_order.specs.Steps.{added, with_incoming, FeedOutcome, ReadOutcome, ReadyOutcome}
+use Rattle.session_order.specs.Replies.{parts_of, said, without}
+use Rattle.session_order.specs.Steps.{added, with_incoming, FeedOutcome, ReadOutcome, ReadyOutcome, FollowerOutcome}
 use Rattle.session_order.specs.Output.{until_quit}
-use Rattle.session_order.specs.Life.{SessionCall, Fed, Read, Handed, Told, Drained, SessionDoes, read_by, fresh}
+use Rattle.session_order.specs.Life.{SessionCall, Fed, Read, Handed, Followed, Told, Drained, SessionDoes, read_by, fresh}
 use Rattle.session_order.proofs.Told.{split_ok}
 
 abbrev quits : List (List ℕ) → Bool
@@ -86,6 +86,10 @@ handed_back : (old : SessionModel) (given : Option (Ticket × PartModel)) (new :
 handed_back old None new (none, is) = rw is refl
 handed_back old (Some given) new (i, next, numbered, is) = rw is refl
 
+followed_back : (old : SessionModel) (ticket : Ticket) (given : Option (Ticket × PartModel)) (new : SessionModel) → FollowerOutcome old ticket given new → new.closing ≡ old.closing
+followed_back old ticket None new (none, is) = rw is refl
+followed_back old ticket (Some given) new (j, follows, numbered, is) = rw is refl
+
 quit_step : (r : List (List (List ℕ))) (call : SessionCall) (old new : SessionModel) → SessionDoes old call new → Quits r old → Quits (r ++ read_by call) new
 quit_step r (Fed piece result) old new does q = quits_same r old new (λ o. sym (fed_back piece old result new does) ∙ o) q
 quit_step r (Read (Ok true) (Some words)) old new (may, rest, reads) (last, none) =
@@ -96,11 +100,12 @@ quit_step r (Read (Ok false) (Some words)) old new does q = absurd does
 quit_step r (Read (Err fault) None) old new does q = quits_same r old new (err_back old fault new does) q
 quit_step r (Read (Err fault) (Some words)) old new does q = absurd does
 quit_step r (Handed given) old new does q = quits_same r old new (λ o. sym (handed_back old given new does) ∙ o) q
+quit_step r (Followed ticket given) old new does q = quits_same r old new (λ o. sym (followed_back old ticket given new does) ∙ o) q
 quit_step r (Told ticket end) old new (out, is) q = let same : new.closing ≡ old.closing = rw is refl in quits_same r old new (λ o. sym same ∙ o) q
-quit_step r (Drained (Ok n) bytes) old new (is_bytes, count, is) q =
-    let same : new.closing ≡ (drained old).closing = rw is refl in
-    quits_same r old new (λ o. said_open (nat_le (length old.requests) (replied old.requests old.stages old.ends).0) old.closing (sym same ∙ o)) q
-quit_step r (Drained (Err refused) bytes) old new (is_bytes, is) q = let same : new.closing ≡ old.closing = rw is refl in quits_same r old new (λ o. sym same ∙ o) q
+quit_step r (Drained most (Ok n) bytes) old new (own, is_bytes, count, drains) q =
+    let same : new.closing ≡ (without old (drains.count, parts_of (take drains.count old.requests))).closing = rw drains.left refl in
+    quits_same r old new (λ o. said_open (nat_le (length old.requests) drains.count) old.closing (sym same ∙ o)) q
+quit_step r (Drained most (Err refused) bytes) old new (is_bytes, is) q = let same : new.closing ≡ old.closing = rw is refl in quits_same r old new (λ o. sym same ∙ o) q
 
 quit_steps : (calls : List SessionCall) (r : List (List (List ℕ))) (old new : SessionModel) → FoldsTo SessionDoes old calls new → Quits r old → Quits (r ++ flat_map read_by calls) new
 quit_steps [] r old new same q = quits_same r old new (λ o. (let is : old.closing ≡ new.closing = ap (λ held. held.closing) same in is ∙ o)) q

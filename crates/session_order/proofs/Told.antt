@@ -98,7 +98,7 @@ left_at false how m n k rs later told last ends front count all sum rest =
 
 -- the output is the replies that are next, and what the requests after them give, whatever is read and told later
 pub replies_left : (requests : List PendingReply) (stages : List PartStage) (ends : List Ended) (told more : List (Ticket × Ended)) (n k : ℕ) (later : List PendingReply) (last : List Value)
-    → Tables told n stages ends → parts_of requests ≡ length stages → k ≡ n + (replied requests stages ends).1
+    → Tables told n stages ends → parts_of requests ≤ length stages → k ≡ n + (replied requests stages ends).1
     → replies_told (told ++ more) n (requests ++ later) last
     ≡ replies requests stages ends [] ++ replies_told (told ++ more) k (drop (replied requests stages ends).0 requests ++ later) last
 replies_left [] stages ends told more n k later last tables counted sum =
@@ -107,7 +107,7 @@ replies_left (Reply value ∷ rs) stages ends told more n k later last tables co
     ap (λ vs. value ∷ vs) (replies_left rs stages ends told more n k later last tables counted (omega (arith, sum)))
 replies_left (Parts how m ∷ rs) stages ends told more n k later last tables counted sum =
     let fits : m ≤ length stages = omega (arith, counted) in
-    let left : parts_of rs ≡ length (drop m stages) = omega (arith, length-drop m stages, counted) in
+    let left : parts_of rs ≤ length (drop m stages) = omega (arith, length-drop m stages, counted) in
     left_at (list_all is_done (take m stages)) how m n k rs later (told ++ more) last (take m ends)
     (λ i. replies rs (drop i stages) (drop i ends) []) (λ i. replied rs (drop i stages) (drop i ends))
     (λ all. ends_more told more n m (take m ends) (ends_table told n m stages ends tables fits ∙ ap (λ (b : Bool). cond {A = Option (List Ended)} b (Some (take m ends)) None) all))

@@ -1,5 +1,5 @@
 -- The heap of the parts whose turn it is, and the room that it has.
-use Rattle.std.proofs.Common.{◌≡◌, ◌≤◌, ◌<◌, ◌+◌, ◌-◌, ◌++◌, ◌∷◌, [], ℕ, List, Bool, true, false, Option, Some, Result, Ok, Err, zero, suc, length, drop, sym, ap, subst, ◌∙◌, arith, rules, refl, cond, nat_eq, get_or}
+use Rattle.std.proofs.Common.{◌≡◌, ◌≢◌, ◌≤◌, ◌<◌, ◌+◌, ◌-◌, ◌++◌, ◌∷◌, [], ℕ, List, Bool, true, false, Option, Some, None, Result, Ok, Err, zero, suc, length, drop, sym, ap, subst, ◌∙◌, arith, rules, refl, cond, nat_eq, get_or}
 use Rattle.std.specs.Prelude.{slice_get, slice_set, IsOk, OnOk}
 use Rattle.std.specs.List.{sum_by}
 use Rattle.std.specs.List.Sorted.{IsPermutation}
@@ -12,8 +12,8 @@ use Rattle.key_split.specs.PartModel.{PartModel}
 use Rattle.session_order.specs.declared.queue.PartStage.{PartStage}
 use Rattle.session_order.specs.declared.queue.PartStage.TheVariants.{Waiting, Out, Done}
 use Rattle.session_order.specs.Turn.{IsWaiting, MayPost, IsNext, NextPlace}
-use Rattle.session_order.specs.Tables.{IsTabled, HasTurn, tally, outs, is_out, earliest_first}
-use Rattle.session_order.proofs.Lists.{eqb-yes}
+use Rattle.session_order.specs.Tables.{IsTabled, HasTurn, tally, waiting, is_waiting, earliest_first}
+use Rattle.session_order.proofs.Lists.{eqb-yes, get_set_other}
 
 tally_is : (m : ℕ) (items : List (Reverse ℕ)) → tally items m ≡ sum_by (λ turn. cond {A = ℕ} (nat_eq m turn.0) 1 0) items
 tally_is m items = is_sum_by (λ xs. tally xs m) (λ turn. cond {A = ℕ} (nat_eq m turn.0) 1 0) refl (λ x xs. refl) items
@@ -32,9 +32,9 @@ on_ok (Ok a) is p = p
 on_ok (Err e) is p = cc
 
 -- the number at the top has its turn
-pub top_turn : (first : ℕ) (stages : List PartStage) (later : List (Option ℕ)) (last : ℕ → Option ℕ) (items rest : List (Reverse ℕ)) (x : Reverse ℕ)
-    → IsTabled first stages later last (tally items) → IsPermutation items (x ∷ rest) → HasTurn first stages x.0
-top_turn first stages later last items rest x t moved =
+pub top_turn : (first : ℕ) (stages : List PartStage) (later earlier : List (Option ℕ)) (last : ℕ → Option ℕ) (items rest : List (Reverse ℕ)) (x : Reverse ℕ)
+    → IsTabled first stages later earlier last (tally items) → IsPermutation items (x ∷ rest) → HasTurn first stages x.0
+top_turn first stages later earlier last items rest x t moved =
     let here : tally items x.0 ≡ 1 + tally rest x.0 = tally_pop items rest x moved x.0 ∙ ap (λ (b : Bool). cond {A = ℕ} b 1 0 + tally rest x.0) (eqb-yes x.0 x.0 refl) in
     t.sound x.0 (omega (arith, here))
 
@@ -51,32 +51,82 @@ least [] x m bound pos = absurd (omega (arith, pos))
 least (y ∷ ys) x m bound pos = least_in (nat_eq m y.0) m x.0 y.0 (tally ys m) refl (not_less x.0 y.0 bound.0) (λ more. least ys x m bound.1 more) pos
 
 abbrev bit : PartStage → ℕ
-bit s = cond (is_out s) 1 0
+bit s = cond (is_waiting s) 1 0
 
--- how many are out, as one stage changes
-pub outs_set : (stages : List PartStage) (i : ℕ) (s s' : PartStage) → slice_get stages i ≡ Some s → outs (slice_set stages i s') + bit s ≡ outs stages + bit s'
-outs_set [] i s s' at = cc
-outs_set (h ∷ ss) zero s s' at = let is : h ≡ s = search rules in
+-- how many wait, as one stage changes
+pub waiting_set : (stages : List PartStage) (i : ℕ) (s s' : PartStage) → slice_get stages i ≡ Some s → waiting (slice_set stages i s') + bit s ≡ waiting stages + bit s'
+waiting_set [] i s s' at = cc
+waiting_set (h ∷ ss) zero s s' at = let is : h ≡ s = search rules in
     (let e : bit h ≡ bit s = ap bit is in omega (arith, e))
-outs_set (h ∷ ss) (suc i) s s' at = omega (arith, outs_set ss i s s' at)
+waiting_set (h ∷ ss) (suc i) s s' at = omega (arith, waiting_set ss i s s' at)
 
-outs_in : (s : PartStage) → bit s ≤ 1
-outs_in (Waiting part) = omega arith
-outs_in (Out slot) = omega arith
-outs_in Done = omega arith
+waiting_in : (s : PartStage) → bit s ≤ 1
+waiting_in (Waiting part) = omega arith
+waiting_in (Out slot) = omega arith
+waiting_in Done = omega arith
 
-pub outs_few : (stages : List PartStage) → outs stages ≤ length stages
-outs_few [] = omega arith
-outs_few (s ∷ ss) = omega (arith, outs_in s, outs_few ss)
+pub waiting_few : (stages : List PartStage) → waiting stages ≤ length stages
+waiting_few [] = omega arith
+waiting_few (s ∷ ss) = omega (arith, waiting_in s, waiting_few ss)
 
-pub outs_push : (stages : List PartStage) (part : PartModel) → outs (stages ++ Waiting part ∷ []) ≡ outs stages
-outs_push [] part = refl
-outs_push (s ∷ ss) part = ap (λ n. bit s + n) (outs_push ss part)
+pub waiting_push : (stages : List PartStage) (part : PartModel) → waiting (stages ++ Waiting part ∷ []) ≡ waiting stages + 1
+waiting_push [] part = refl
+waiting_push (s ∷ ss) part = omega (arith, waiting_push ss part)
 
-pub outs_drop : (count : ℕ) (stages : List PartStage) → outs (drop count stages) ≤ outs stages
-outs_drop zero stages = omega arith
-outs_drop (suc count) [] = omega arith
-outs_drop (suc count) (s ∷ ss) = omega (arith, outs_drop count ss)
+pub waiting_drop : (count : ℕ) (stages : List PartStage) → waiting (drop count stages) ≤ waiting stages
+waiting_drop zero stages = omega arith
+waiting_drop (suc count) [] = omega arith
+waiting_drop (suc count) (s ∷ ss) = omega (arith, waiting_drop count ss)
+
+pub waiting_none : (stages : List PartStage) → ((i : ℕ) → IsWaiting (slice_get stages i) → ⊥) → waiting stages ≡ 0
+waiting_none [] none = refl
+waiting_none (Waiting part ∷ ss) none = absurd (none 0 tt)
+waiting_none (Out slot ∷ ss) none = omega (arith, waiting_none ss (λ i. none (suc i)))
+waiting_none (Done ∷ ss) none = omega (arith, waiting_none ss (λ i. none (suc i)))
+
+-- ---- how long the heap is
+
+pub waiting_part : (o : Option PartStage) → IsWaiting o → (part : PartModel) × (o ≡ Some (Waiting part))
+waiting_part (Some (Waiting part)) waits = (part, refl)
+waiting_part (Some (Out slot)) waits = absurd waits
+waiting_part (Some Done) waits = absurd waits
+waiting_part None waits = absurd waits
+
+pub part_waits : (o : Option PartStage) (part : PartModel) → o ≡ Some (Waiting part) → IsWaiting o
+part_waits o part is = subst IsWaiting (sym is) tt
+
+-- what the test says
+pub waits_if : (o : Option PartStage) (s : PartStage) → o ≡ Some s → is_waiting s ≡ true → IsWaiting o
+waits_if o (Waiting part) at is = part_waits o part at
+waits_if o (Out slot) at is = absurd (cc)
+waits_if o Done at is = absurd (cc)
+
+pub stands_if : (o : Option PartStage) (s : PartStage) → o ≡ Some s → is_waiting s ≡ false → IsWaiting o → ⊥
+stands_if o (Waiting part) at is waits = cc
+stands_if o (Out slot) at is waits = subst IsWaiting at waits
+stands_if o Done at is waits = subst IsWaiting at waits
+
+-- no more numbers stand in it than parts wait
+few_waiting : (first : ℕ) (stages : List PartStage) (items : List (Reverse ℕ)) → ((m : ℕ) → tally items m ≤ 1)
+    → ((m : ℕ) → 0 < tally items m → (first ≤ m) × IsWaiting (slice_get stages (m - first))) → length items ≤ waiting stages
+few_waiting first stages [] once sound = omega arith
+few_waiting first stages (x ∷ xs) once sound =
+    let here : tally (x ∷ xs) x.0 ≡ 1 + tally xs x.0 = ap (λ (b : Bool). cond {A = ℕ} b 1 0 + tally xs x.0) (eqb-yes x.0 x.0 refl) in
+    let own = sound x.0 (omega (arith, here)) in
+    let i = x.0 - first in
+    let part = waiting_part (slice_get stages i) own.1 in
+    let fewer : waiting (slice_set stages i Done) + 1 ≡ waiting stages + 0 = waiting_set stages i (Waiting part.0) Done part.1 in
+    let rest = few_waiting first (slice_set stages i Done) xs (λ m. omega (arith, once m)) (λ m pos.
+    let its = sound m (omega (arith, pos)) in
+    let other : m - first ≢ i = λ same. (
+    let e : m ≡ x.0 = omega (arith, same, its.0, own.0) in
+    let pos' : 0 < tally xs x.0 = subst (λ n. 0 < tally xs n) e pos in
+    omega (arith, here, once x.0, pos')
+    ) in
+    let stands = waiting_part (slice_get stages (m - first)) its.1 in
+    (its.0, part_waits (slice_get (slice_set stages i Done) (m - first)) stands.0 (get_set_other stages i (m - first) Done (Waiting stands.0) other stands.1))
+    ) in
+    omega (arith, rest, fewer)
 
 -- the part of a turn waits at its place
 pub turn_place : (first number : ℕ) (stages : List PartStage) → HasTurn first stages number → (part : PartModel) × (slice_get stages (number - first) ≡ Some (Waiting part))
@@ -91,17 +141,21 @@ turn_may first number stages (i, sum, may) = (let place : i ≡ number - first =
 pub turn_above : (first number : ℕ) (stages : List PartStage) → HasTurn first stages number → first ≤ number
 turn_above first number stages turn = omega (arith, turn.1)
 
+pub heap_few : (first : ℕ) (stages : List PartStage) (later earlier : List (Option ℕ)) (last : ℕ → Option ℕ) (items : List (Reverse ℕ)) → IsTabled first stages later earlier last (tally items)
+    → length items ≤ waiting stages
+heap_few first stages later earlier last items t = few_waiting first stages items t.once (λ m pos. (turn_above first m stages (t.sound m pos), turn_waits first m stages (t.sound m pos)))
+
 -- the top is the earliest
-pub top_next : (first : ℕ) (stages : List PartStage) (later : List (Option ℕ)) (last : ℕ → Option ℕ) (items rest : List (Reverse ℕ)) (x : Reverse ℕ) (part : PartModel)
-    → IsTabled first stages later last (tally items) → IsPermutation items (x ∷ rest) → IsUpperBound earliest_first x items → slice_get stages (x.0 - first) ≡ Some (Waiting part)
+pub top_next : (first : ℕ) (stages : List PartStage) (later earlier : List (Option ℕ)) (last : ℕ → Option ℕ) (items rest : List (Reverse ℕ)) (x : Reverse ℕ) (part : PartModel)
+    → IsTabled first stages later earlier last (tally items) → IsPermutation items (x ∷ rest) → IsUpperBound earliest_first x items → slice_get stages (x.0 - first) ≡ Some (Waiting part)
     → IsNext stages (x.0 - first) part
-top_next first stages later last items rest x part t moved bound at =
-    let turn = top_turn first stages later last items rest x t moved in
+top_next first stages later earlier last items rest x part t moved bound at =
+    let turn = top_turn first stages later earlier last items rest x t moved in
     (turn_may first x.0 stages turn, λ j less may. (let le = least items x (first + j) bound (t.complete j may) in omega (arith, le, less, turn_above first x.0 stages turn)), at)
 
-pub none_next : (first : ℕ) (stages : List PartStage) (later : List (Option ℕ)) (last : ℕ → Option ℕ) (items : List (Reverse ℕ)) → IsTabled first stages later last (tally items) → items ≡ []
+pub none_next : (first : ℕ) (stages : List PartStage) (later earlier : List (Option ℕ)) (last : ℕ → Option ℕ) (items : List (Reverse ℕ)) → IsTabled first stages later earlier last (tally items) → items ≡ []
     → (i : ℕ) → MayPost stages i → ⊥
-none_next first stages later last items t none i may =
+none_next first stages later earlier last items t none i may =
     let pos : 0 < tally [] (first + i) = subst (λ xs. 0 < tally xs (first + i)) none (t.complete i may) in omega (arith, pos)
 
 -- what is read at an index stands there
@@ -120,10 +174,10 @@ top_counts (y ∷ ys) x some is =
     omega (arith, here)
 
 -- it is the number of the earliest part whose turn it is
-pub top_place : (first : ℕ) (stages : List PartStage) (later : List (Option ℕ)) (last : ℕ → Option ℕ) (items : List (Reverse ℕ)) (x : Reverse ℕ)
-    → IsTabled first stages later last (tally items) → 0 < tally items x.0 → IsUpperBound earliest_first x items
+pub top_place : (first : ℕ) (stages : List PartStage) (later earlier : List (Option ℕ)) (last : ℕ → Option ℕ) (items : List (Reverse ℕ)) (x : Reverse ℕ)
+    → IsTabled first stages later earlier last (tally items) → 0 < tally items x.0 → IsUpperBound earliest_first x items
     → (first ≤ x.0) × NextPlace stages (Some (x.0 - first))
-top_place first stages later last items x t counts bound =
+top_place first stages later earlier last items x t counts bound =
     let turn = t.sound x.0 counts in
     (turn_above first x.0 stages turn, (turn_may first x.0 stages turn, λ j less may. (let le = least items x (first + j) bound (t.complete j may) in omega (arith, le, less, turn_above first x.0 stages turn))))
 

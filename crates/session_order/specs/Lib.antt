@@ -13,3 +13,5 @@ pub mod Steps
 pub mod Output
 pub mod Life
 pub mod Front
+pub mod LettingGo
+pub mod HangingUp

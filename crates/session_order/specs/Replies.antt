@@ -1,6 +1,6 @@
 -- A session's output: the replies in the order of the requests, up to the first that has a part which has not ended.
--- A drain writes all replies that are next in order, or none for want of memory.
-use Rattle.std.specs.Prelude.{◌≡◌, ◌≤◌, ◌+◌, suc, List, [], ◌∷◌, ◌++◌, ℕ, Bool, true, false, Option, Some, None, Result, Ok, Err, if◌then◌else◌, take, drop, length, flat_map, nat_le}
+-- A drain writes replies that are next in order, until they have so many bytes, or none for want of memory.
+use Rattle.std.specs.Prelude.{◌≡◌, ◌<◌, ◌≤◌, ◌+◌, suc, List, [], ◌∷◌, ◌++◌, ℕ, Bool, true, false, Option, Some, None, Result, Ok, Err, if◌then◌else◌, take, drop, length, flat_map, nat_le}
 use Rattle.std.specs.List.{list_all}
 use Rattle.resp_wire.specs.declared.value.Value.{Value}
 use Rattle.resp_wire.specs.Seen.{data_of}
@@ -75,7 +75,7 @@ AreJoinable (Parts how n ∷ rs) = CanJoin how n × AreJoinable rs
 abbrev pub bytes_of : List Value → List ℕ
 bytes_of values = flat_map spelling values
 
--- what the next drain appends
+-- what is next: a drain that is not bounded appends it
 abbrev pub output : SessionModel → List ℕ
 output held = bytes_of (replies held.requests held.stages held.ends (last_line held.closing))
 
@@ -110,7 +110,26 @@ ReplyOutcome owed stages ends old (Ok (Some n)) new =
 ReplyOutcome owed stages ends old (Ok None) new = (reply_of owed stages ends ≡ None) × (new ≡ old)
 ReplyOutcome owed stages ends old (Err refused) new = new ≡ old
 
--- what draining does: all replies that are next in order, or nothing
-abbrev pub DrainOutcome : SessionModel → List ℕ → Result ℕ NoMemory → SessionModel → List ℕ → Type 0
-DrainOutcome old before (Ok n) new after = (after ≡ before ++ output old) × (n ≡ length (output old)) × (new ≡ drained old)
-DrainOutcome old before (Err refused) new after = (after ≡ before) × (new ≡ old)
+-- the replies to the first so many requests; where these are all, the last lines follow
+abbrev pub first_replies : ℕ → List PendingReply → List PartStage → List Ended → List Value → List Value
+first_replies count requests stages ends last = replies (take count requests) stages ends (if nat_le (length requests) count then last else [])
+
+-- Replies that are next in order, one after another until their bytes are at least so many, or no more are next: those of the
+-- first so many requests are spelled by the bytes.
+pub record AreWritten (most : ℕ) (requests : List PendingReply) (stages : List PartStage) (ends : List Ended) (last : List Value) (count : ℕ) (bytes : List ℕ) : Type 0 where
+  pub in_order : count ≤ (replied requests stages ends).0
+  pub spelled : bytes ≡ bytes_of (first_replies count requests stages ends last)
+  pub no_more : (fewer : ℕ) → fewer < count → length (bytes_of (first_replies fewer requests stages ends last)) < most
+  pub all : length bytes < most → count ≡ (replied requests stages ends).0
+
+-- these bytes were drained: some of the output, or all of it where they are fewer than so many
+pub record Drains (most : ℕ) (old : SessionModel) (bytes : List ℕ) (new : SessionModel) : Type 0 where
+  pub count : ℕ
+  pub written : AreWritten most old.requests old.stages old.ends (last_line old.closing) count bytes
+  pub left : new ≡ without old (count, parts_of (take count old.requests))
+  pub all : length bytes < most → (bytes ≡ output old) × (new ≡ drained old)
+
+-- what draining does: replies that are next in order are drained until their bytes are at least so many, or nothing is done
+abbrev pub DrainOutcome : ℕ → SessionModel → List ℕ → Result ℕ NoMemory → SessionModel → List ℕ → Type 0
+DrainOutcome most old before (Ok n) new after = (bytes : List ℕ) × (after ≡ before ++ bytes) × (n ≡ length bytes) × Drains most old bytes new
+DrainOutcome most old before (Err refused) new after = (after ≡ before) × (new ≡ old)

@@ -18,7 +18,7 @@ use Rattle.session_order.specs.declared.closing.Broken.TheVariants as broken
 use Rattle.session_order.specs.declared.fault.SessionFault.{SessionFault}
 use Rattle.session_order.specs.declared.fault.SessionFault.TheVariants.{NoMemory, Wire, NotRequest}
 use Rattle.session_order.specs.Requests.{Skipped, Refused}
-use Rattle.session_order.specs.Turn.{IsNext, handed_out, blocks, MayPost}
+use Rattle.session_order.specs.Turn.{IsNext, IsFollower, handed_out, blocks, waits_for, MayPost}
 use Rattle.session_order.specs.RequestReaderModel.{RequestReaderModel, NextWords, TakesValue, KeepsWords, IsDry, IsGarbled}
 use Rattle.session_order.specs.PendingReply.{owed_by, plan_for}
 use Rattle.session_order.specs.SessionModel.{SessionModel}
@@ -125,6 +125,14 @@ ReadyOutcome old (Some given) new =
     × (given.0 ≡ record { worker = old.worker; client = old.client; part = old.first + i })
     × (new ≡ record old { stages = handed_out old.stages i given.1 })
 
+-- The part that may go out behind the one with the ticket, if there is one, is handed out.
+abbrev pub FollowerOutcome : SessionModel → Ticket → Option (Ticket × PartModel) → SessionModel → Type 0
+FollowerOutcome old ticket None new = ((j : ℕ) (part : PartModel) → IsFollower old.stages (ticket.part - old.first) j part → ⊥) × (new ≡ old)
+FollowerOutcome old ticket (Some given) new =
+    (j : ℕ) × IsFollower old.stages (ticket.part - old.first) j given.1
+    × (given.0 ≡ record { worker = old.worker; client = old.client; part = old.first + j })
+    × (new ≡ record old { stages = handed_out old.stages j given.1 })
+
 -- the ticket is of a part that was handed out and has not ended
 abbrev pub IsHandedOut : SessionModel → Ticket → Type 0
 IsHandedOut held ticket =
@@ -141,6 +149,17 @@ IsOut held ticket =
 -- what was out stays out
 abbrev pub KeepsOut : SessionModel → SessionModel → Type 0
 KeepsOut old new = (ticket : Ticket) → IsOut old ticket → IsOut new ticket
+
+-- it is out in order: it was handed out and has not ended, and all earlier parts for its slot have ended or are out
+abbrev pub IsOutInOrder : SessionModel → Ticket → Type 0
+IsOutInOrder held ticket =
+    (slot : ℕ) × (held.first ≤ ticket.part) × (slice_get held.stages (ticket.part - held.first) ≡ Some (Out slot))
+    × (ticket.worker ≡ held.worker) × (ticket.client ≡ held.client)
+    × (list_any (waits_for slot) (take (ticket.part - held.first) held.stages) ≡ false)
+
+-- what was out in order stays so
+abbrev pub KeepsOrder : SessionModel → SessionModel → Type 0
+KeepsOrder old new = (ticket : Ticket) → IsOutInOrder old ticket → IsOutInOrder new ticket
 
 -- the part is done, and its end stands at its place
 abbrev pub EndOutcome : SessionModel → Ticket → Ended → SessionModel → Type 0

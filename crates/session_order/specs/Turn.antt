@@ -1,7 +1,8 @@
 -- How far the parts of a client's requests are, in the order of their numbers, and whose turn it is.
 -- One Redis server executes a connection's commands in their order. Over a cluster this is kept for each slot: parts
--- for different slots run side by side. A session numbers at most 2^48 parts.
-use Rattle.std.specs.Prelude.{◌≡◌, ◌<◌, ◌≤◌, ◌+◌, ◌-◌, ◌^◌, List, ℕ, Bool, true, false, Option, Some, None, nat_eq, take, length, slice_get, slice_set}
+-- for different slots run side by side, and parts for one slot that wait may go out together, one behind the other. A session
+-- numbers at most 2^48 parts.
+use Rattle.std.specs.Prelude.{◌≡◌, ◌<◌, ◌≤◌, ◌+◌, ◌-◌, ◌^◌, List, ℕ, suc, Bool, true, false, Option, Some, None, nat_eq, take, drop, length, slice_get, slice_set}
 use Rattle.std.specs.List.{list_any}
 use Rattle.slot_hash.specs.Slot.{slot_of}
 use Rattle.key_split.specs.PartModel.{PartModel}
@@ -24,6 +25,12 @@ abbrev pub blocks : ℕ → PartStage → Bool
 blocks slot (Waiting part) = nat_eq (slot_of part.key) slot
 blocks slot (Out own) = nat_eq own slot
 blocks slot Done = false
+
+-- it is for this slot and was not handed out, so that a later part for the slot may not be handed out before it
+abbrev pub waits_for : ℕ → PartStage → Bool
+waits_for slot (Waiting part) = nat_eq (slot_of part.key) slot
+waits_for slot (Out own) = false
+waits_for slot Done = false
 
 -- A part that was not handed out may be posted only when all earlier parts for its slot have ended.
 abbrev pub MayPost : List PartStage → ℕ → Type 0
@@ -59,3 +66,20 @@ abbrev pub HandOutcome : QueueModel → Option (ℕ × PartModel) → QueueModel
 HandOutcome old None new = ((i : ℕ) → MayPost old.stages i → ⊥) × (new ≡ old)
 HandOutcome old (Some given) new =
     (i : ℕ) × IsNext old.stages i given.1 × (given.0 ≡ old.first + i) × (new ≡ record old { stages = handed_out old.stages i given.1 })
+
+-- The part at j may go out behind the one at i.
+pub record IsFollower (stages : List PartStage) (i j : ℕ) (part : PartModel) : Type 0 where
+  pub waits : slice_get stages j ≡ Some (Waiting part)
+  -- the one at i is out, for the same slot
+  pub out : slice_get stages i ≡ Some (Out (slot_of part.key))
+  -- all parts for the slot between them have ended
+  pub behind : i < j
+  pub next : list_any (blocks (slot_of part.key)) (take (j - suc i) (drop (suc i) stages)) ≡ false
+  -- all earlier parts for the slot have ended or are out
+  pub in_order : list_any (waits_for (slot_of part.key)) (take j stages) ≡ false
+
+-- the part behind the one of this number is handed out
+abbrev pub FollowOutcome : QueueModel → ℕ → Option (ℕ × PartModel) → QueueModel → Type 0
+FollowOutcome old number None new = ((j : ℕ) (part : PartModel) → IsFollower old.stages (number - old.first) j part → ⊥) × (new ≡ old)
+FollowOutcome old number (Some given) new =
+    (j : ℕ) × IsFollower old.stages (number - old.first) j given.1 × (given.0 ≡ old.first + j) × (new ≡ record old { stages = handed_out old.stages j given.1 })

@@ -2,13 +2,13 @@
 //!
 //! ```text
 //! session.feed(bytes)?; while session.read()? {}
-//! while let Some((ticket, part)) = session.ready() { .. }   // post it
-//! session.ended(ticket, end); session.drain(&mut out)?;
+//! while let Some((ticket, part)) = session.ready() { .. }   // post it, and session.follower(ticket) behind it
+//! session.ended(ticket, end); session.drain(&mut out, 65_536)?;
 //! ```
 //!
 //! Whatever the calls, what was drained is a front of the output that `specs/Output.antt` gives for the requests read and
-//! the ends told, and all of it after a drain that answers Ok: `drains_output`. A part is handed out once, when all
-//! earlier parts for its slot have ended (`MayPost` of `specs/Turn.antt`).
+//! the ends told, and all of it after a drain of fewer bytes than it was asked for: `drains_output`. A part is handed out once: when all
+//! earlier parts for its slot have ended (`MayPost` of `specs/Turn.antt`), or behind the last of them that is out (`IsFollower`).
 #![tactic(auto)]
 
 mod closing;

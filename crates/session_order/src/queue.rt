@@ -1,11 +1,13 @@
 //! The parts of a client's requests, and whose turn it is.
 
-ghost use Rattle.std.specs.Prelude.{◌≡◌, ◌<◌, ◌≤◌, ◌+◌, ◌^◌, ◌↔◌, IsTrue, OnOk, OnErr, length, map, take, drop, true, Some, slice_get, slice_set, ℕ, MatchOption, IfSome, ◌++◌, ◌-◌, ◌≢◌, [], vec_len, ◌∷◌, suc};
+ghost use Rattle.std.specs.Prelude.{◌≡◌, ◌<◌, ◌≤◌, ◌+◌, ◌-◌, ◌^◌, ◌≢◌, ◌↔◌, IsTrue, OnOk, OnErr, IsSome, length, map, take, drop, true, Some, slice_get, slice_set, ℕ, nat_eq, if◌then◌else◌, ◌++◌, vec_len, ◌∷◌, [], suc, is_some};
 ghost use Rattle.std.specs.List.{list_all};
 ghost use Rattle.slot_hash.specs.Slot.{slot_of};
-ghost use Rattle.session_order.specs.Turn.{is_done, IsWaiting, IsOutAt, IsNumbered, HandOutcome, NextPlace};
-ghost use Rattle.session_order.specs.Tables.{AreSound, SameParts, HasRoom, parts_in};
+ghost use Rattle.session_order.specs.Turn.{is_done, IsWaiting, IsOutAt, IsNumbered, HandOutcome, FollowOutcome, NextPlace};
+ghost use Rattle.session_order.specs.Tables.{AreSound, SameParts, HasRoom, parts_in, is_waiting, LinksIn, IsOpenAt, Unlinks, with_link};
 ghost use Rattle.session_order.specs.Front.{done_at_front};
+ghost use Rattle.session_order.specs.LettingGo.{LetsGo, ForgetsAt};
+ghost use Rattle.std.specs.HashMap.{get};
 
 use key_split::Part;
 use resp_wire::NoMemory;
@@ -32,6 +34,12 @@ impl PartStage {
     {
         matches!(self, PartStage::Done)
     }
+
+    fn is_waiting(&self) -> bool
+        ensures { result ≡ is_waiting self.now }
+    {
+        matches!(self, PartStage::Waiting(_))
+    }
 }
 
 /// Parts, numbered on from the first, and the tables by which the next one is found.
@@ -39,8 +47,10 @@ impl PartStage {
 struct Tables {
     first: u64,
     stages: VecDeque<PartStage>,
-    /// For each part the number of the next one for its slot.
+    /// For each part that has not ended the number of the next one for its slot.
     later: VecDeque<Option<u64>>,
+    /// For each part that has not ended the number of the one before for its slot.
+    earlier: VecDeque<Option<u64>>,
     /// For each slot with a part that has not ended the number of the last one.
     last: HashMap<u16, u64>,
     /// The parts that were not handed out and whose turn it is.
@@ -71,7 +81,7 @@ impl Model for Queue {
 }
 
 impl Queue {
-    ghost use Rattle.session_order.specs.Turn.{QueueModel, HandOutcome, NextPlace};
+    ghost use Rattle.session_order.specs.Turn.{QueueModel, HandOutcome, FollowOutcome, NextPlace};
     ghost use Rattle.session_order.specs.declared.queue.PartStage.TheVariants.{Waiting, Done};
 
     pub fn new(alloc: Global) -> Queue
@@ -82,6 +92,7 @@ impl Queue {
                 first: 0,
                 stages: VecDeque::new(alloc),
                 later: VecDeque::new(alloc),
+                earlier: VecDeque::new(alloc),
                 last: HashMap::new(alloc),
                 turns: BinaryHeap::new(alloc),
             },
@@ -144,6 +155,14 @@ impl Queue {
         take_next(&mut self.tables)
     }
 
+    /// Hands out the part behind the one of this number, for the same slot, where it is the next and waits.
+    pub fn follower(&mut self, number: u64) -> Option<(u64, Part)>
+        requires out { IsOutAt self.old number }
+        ensures { FollowOutcome self.old number result self.new }
+    {
+        take_follower(&mut self.tables, number)
+    }
+
     /// The place of the earliest part whose turn it is.
     pub fn next_place(&self) -> Option<u64>
         ensures { NextPlace self.now.stages result }
@@ -158,6 +177,22 @@ impl Queue {
     {
         end(&mut self.tables, number);
         self.done = count_done(&self.tables.stages, self.done);
+    }
+
+    /// Lets go of the parts that were not handed out. Those that are out keep their numbers, and the last of them is the last
+    /// part.
+    pub fn let_go(&mut self)
+        ensures { LetsGo self.old self.new }
+    {
+        let_go(&mut self.tables);
+        self.done = count_done(&self.tables.stages, 0);
+    }
+
+    /// How many parts there are.
+    pub fn len(&self) -> usize
+        ensures { result ≡ length self.now.stages }
+    {
+        self.tables.stages.len()
     }
 
     /// Drops the first parts, which are done.
@@ -197,6 +232,7 @@ fn make_room(tables: &mut Tables, count: usize) -> Result<(), NoMemory>
 {
     tables.stages.reserve(count)?;
     tables.later.reserve(count)?;
+    tables.earlier.reserve(count)?;
     tables.last.reserve(count)?;
     let held = tables.stages.len();
     let Some(most) = held.checked_add(count) else {
@@ -235,8 +271,12 @@ fn push_part(tables: &mut Tables, part: Part)
     tables.stages.push_back_reserved(PartStage::Waiting(part));
     tables.later.push_back_reserved(None);
     match tables.last.insert(slot, number) {
-        Ok(Some(before)) => tables.later[(before - tables.first) as usize] = Some(number),
+        Ok(Some(before)) => {
+            tables.earlier.push_back_reserved(Some(before));
+            tables.later[(before - tables.first) as usize] = Some(number);
+        }
         Ok(None) => {
+            tables.earlier.push_back_reserved(None);
             let _ = tables.turns.push(Reverse(number));
         }
         Err(_) => {}
@@ -268,7 +308,25 @@ fn next_place(tables: &Tables) -> Option<u64>
     Some(*number - tables.first)
 }
 
-// Notes that a part has ended, so that it is the turn of the next one for its slot.
+// Hands out the part behind the one of this number, for the same slot, where it is the next and waits.
+fn take_follower(tables: &mut Tables, number: u64) -> Option<(u64, Part)>
+    requires sound { AreSound tables.old }
+    requires out { IsOutAt (parts_in tables.old) number }
+    ensures sound { AreSound tables.new }
+    ensures does { FollowOutcome (parts_in tables.old) number result (parts_in tables.new) }
+{
+    let Some(next) = tables.later[(number - tables.first) as usize] else {
+        return None;
+    };
+    let i = (next - tables.first) as usize;
+    if !tables.stages[i].is_waiting() {
+        return None;
+    }
+    let part = take_part(&mut tables.stages, i);
+    Some((next, part))
+}
+
+// Notes that a part has ended. Where it was the first of its slot it is the turn of the next one, if that one waits.
 fn end(tables: &mut Tables, number: u64)
     requires sound { AreSound tables.old }
     requires out { IsOutAt (parts_in tables.old) number }
@@ -277,15 +335,71 @@ fn end(tables: &mut Tables, number: u64)
     ensures stages { tables.new.stages.items ≡ slice_set tables.old.stages.items (number - tables.old.first) PartStage.Done }
 {
     let i = (number - tables.first) as usize;
-    let PartStage::Out(slot) = mem::replace(&mut tables.stages[i], PartStage::Done) else {
+    let slot = slot_out(&tables.stages, i);
+    let next = unlink(tables, i, slot.number());
+    tables.stages[i] = PartStage::Done;
+    let Some(next) = next else {
+        return;
+    };
+    if !tables.stages[(next - tables.first) as usize].is_waiting() {
+        return;
+    }
+    let _ = tables.turns.push(Reverse(next));
+}
+
+// The slot of the part at i, which is out.
+fn slot_out(stages: &VecDeque<PartStage>, i: usize) -> Slot
+    requires { (slot : ℕ) × (slice_get stages.now.items i ≡ Some (PartStage.Out slot)) }
+    ensures { slice_get stages.now.items i ≡ Some (PartStage.Out result) }
+{
+    let PartStage::Out(slot) = &stages[i] else {
         unreachable!()
     };
-    match tables.later[i] {
-        Some(next) => {
-            let _ = tables.turns.push(Reverse(next));
+    *slot
+}
+
+// Takes the part at i out of those of its slot that have not ended. Where it was the first of them the answer is the next one.
+fn unlink(tables: &mut Tables, i: usize, slot: u16) -> Option<u64>
+    requires links { LinksIn tables.old }
+    requires part { IsOpenAt tables.old i slot }
+    ensures { Unlinks tables.old i slot result tables.new }
+{
+    let before = tables.earlier[i];
+    let next = tables.later[i];
+    link(&mut tables.later, tables.first, before, next);
+    link(&mut tables.earlier, tables.first, next, before);
+    put_last(&mut tables.last, slot, before, next);
+    match before {
+        Some(_) => None,
+        None => next,
+    }
+}
+
+// Puts a link at the place of the part of this number, if there is one.
+fn link(table: &mut VecDeque<Option<u64>>, first: u64, number: Option<u64>, link: Option<u64>)
+    requires { (n : ℕ) → number ≡ Some n → (first ≤ n) × (n - first < length table.old.items) }
+    ensures { table.new.items ≡ with_link table.old.items first number link }
+{
+    if let Some(number) = number {
+        table[(number - first) as usize] = link;
+    }
+}
+
+// Puts the part before in the place of the last part of a slot, or none, where no other follows.
+fn put_last(last: &mut HashMap<u16, u64>, slot: u16, before: Option<u64>, next: Option<u64>)
+    requires { IsSome (get nat_eq last.old slot) }
+    ensures own { get nat_eq last.new slot ≡ (if is_some next then get nat_eq last.old slot else before) }
+    ensures others { (q : ℕ) → slot ≢ q → get nat_eq last.new q ≡ get nat_eq last.old q }
+{
+    if next.is_some() {
+        return;
+    }
+    match before {
+        Some(number) => {
+            let _ = last.insert(slot, number);
         }
         None => {
-            tables.last.remove(&slot.number());
+            last.remove(&slot);
         }
     }
 }
@@ -301,6 +415,7 @@ fn drop_front(tables: &mut Tables, count: usize)
 {
     drop(tables.stages.drain(..count));
     drop(tables.later.drain(..count));
+    drop(tables.earlier.drain(..count));
     tables.first += count as u64;
 }
 
@@ -318,4 +433,42 @@ fn take_part(stages: &mut VecDeque<PartStage>, i: usize) -> Part
         PartStage::Waiting(part) => part,
         _ => unreachable!(),
     }
+}
+
+// Lets go of the parts that were not handed out, and of all behind the last that is out.
+fn let_go(tables: &mut Tables)
+    requires sound { AreSound tables.old }
+    requires numbered { IsNumbered tables.old.first tables.old.stages.items }
+    ensures sound { AreSound tables.new }
+    ensures does { LetsGo (parts_in tables.old) (parts_in tables.new) }
+{
+    let mut kept = 0;
+    for i in 0..tables.stages.len() {
+        if forget_at(tables, i) {
+            kept = i + 1;
+        }
+    }
+    tables.stages.truncate(kept);
+    tables.later.truncate(kept);
+    tables.earlier.truncate(kept);
+    tables.turns.clear();
+    tables.stages.shrink_to_fit();
+    tables.later.shrink_to_fit();
+    tables.earlier.shrink_to_fit();
+}
+
+// Lets go of the part at i, unless it is out. Whether it is out.
+fn forget_at(tables: &mut Tables, i: usize) -> bool
+    requires links { LinksIn tables.old }
+    requires fits { i < length tables.old.stages.items }
+    ensures { ForgetsAt tables.old i result tables.new }
+{
+    let slot = match &tables.stages[i] {
+        PartStage::Done => return false,
+        PartStage::Out(_) => return true,
+        PartStage::Waiting(part) => part.slot(),
+    };
+    unlink(tables, i, slot.number());
+    tables.stages[i] = PartStage::Done;
+    false
 }

@@ -4,7 +4,7 @@ ghost use Rattle.std.specs.Prelude.{◌≡◌, ◌≤◌, ◌+◌, ◌-◌, ◌+
 ghost use Rattle.std.specs.List.{list_all};
 ghost use Rattle.session_order.specs.Turn.{is_done};
 ghost use Rattle.key_split.specs.Join.{CanJoin};
-ghost use Rattle.session_order.specs.Replies.{HasParts, joined, ReplyOutcome, parts_of, AreJoinable, bytes_of, replies, replied, lines_owed, spelling};
+ghost use Rattle.session_order.specs.Replies.{HasParts, joined, ReplyOutcome, parts_of, AreJoinable, AreWritten, bytes_of, lines_owed, spelling};
 
 use crate::queue::Queue;
 use crate::request_plan::protocol_error;
@@ -20,22 +20,22 @@ pub enum PendingReply {
     Parts(Joining, usize),
 }
 
-/// Writes the replies that are next in order, and behind the last of them the error line, where it is owed. Answers how
-/// many requests and parts these are of.
-#[tactic(auto, using(crate::proofs::Drained::replied_bounds, crate::proofs::Drained::replies_all, crate::proofs::Drained::replies_part, crate::proofs::Drained::parts_of_drop, crate::proofs::Drained::joinable_drop, crate::proofs::Drained::replied_done))]
+/// Writes replies that are next in order until these are so many bytes, and behind the last of all the error line, where it is
+/// owed. Answers how many requests and parts they are of.
 pub fn write_output(
     alloc: Global,
     requests: &VecDeque<PendingReply>,
     queue: &Queue,
     ends: &mut VecDeque<Ended>,
     line_owed: bool,
+    most: usize,
     out: &mut Vec<u8>,
 ) -> Result<(usize, usize), NoMemory>
     requires counted { parts_of requests.now.items ≡ length queue.now.stages }
     requires places { length ends.old.items ≡ length queue.now.stages }
     requires joinable { AreJoinable requests.now.items }
-    ensures written { OnOk result (out.new.items ≡ out.old.items ++ bytes_of (replies requests.now.items queue.now.stages ends.old.items (lines_owed line_owed))) }
-    ensures counts { IfOk result (λ n. n ≡ replied requests.now.items queue.now.stages ends.old.items) }
+    ensures written { IfOk result (λ n. (bytes : List ℕ) × (out.new.items ≡ out.old.items ++ bytes) × AreWritten most requests.now.items queue.now.stages ends.old.items (lines_owed line_owed) n.0 bytes) }
+    ensures parts { IfOk result (λ n. n.1 ≡ parts_of (take n.0 requests.now.items)) }
     ensures bound { IfOk result (λ n. (n.0 ≤ length requests.now.items) × (n.1 ≤ length queue.now.stages)) }
     ensures left { IfOk result (λ n. parts_of (drop n.0 requests.now.items) + n.1 ≡ length queue.now.stages) }
     ensures still_joinable { IfOk result (λ n. AreJoinable (drop n.0 requests.now.items)) }
@@ -43,31 +43,36 @@ pub fn write_output(
     ensures ends { ends.new.items ≡ ends.old.items }
     ensures grown { (more : List ℕ) × (out.new.items ≡ out.old.items ++ more) }
 {
-    let (count, parts) = write_replies(alloc, requests, queue, ends, out)?;
+    let (count, parts) = write_replies(alloc, requests, queue, ends, most, out)?;
     if line_owed && requests.len() <= count {
         write_line(alloc, out)?;
     }
     Ok((count, parts))
 }
 
-// Writes the replies that are next in order, and answers how many requests and parts these are of.
+// Writes replies that are next in order until these are so many bytes, and answers how many requests and parts they are of.
 fn write_replies(
     alloc: Global,
     requests: &VecDeque<PendingReply>,
     queue: &Queue,
     ends: &mut VecDeque<Ended>,
+    most: usize,
     out: &mut Vec<u8>,
 ) -> Result<(usize, usize), NoMemory>
     requires counted { parts_of requests.now.items ≡ length queue.now.stages }
     requires places { length ends.old.items ≡ length queue.now.stages }
     requires joinable { AreJoinable requests.now.items }
-    ensures written { OnOk result (out.new.items ≡ out.old.items ++ bytes_of (replies requests.now.items queue.now.stages ends.old.items [])) }
-    ensures counts { IfOk result (λ n. n ≡ replied requests.now.items queue.now.stages ends.old.items) }
+    ensures written { IfOk result (λ n. (bytes : List ℕ) × (out.new.items ≡ out.old.items ++ bytes) × AreWritten most requests.now.items queue.now.stages ends.old.items [] n.0 bytes) }
+    ensures parts { IfOk result (λ n. n.1 ≡ parts_of (take n.0 requests.now.items)) }
     ensures ends { ends.new.items ≡ ends.old.items }
     ensures grown { (more : List ℕ) × (out.new.items ≡ out.old.items ++ more) }
 {
+    let start = out.len();
     let mut parts = 0;
     for i in 0..requests.len() {
+        if out.len() - start >= most {
+            return Ok((i, parts));
+        }
         match write_reply(alloc, &requests[i], queue, ends, parts, out)? {
             Some(count) => parts += count,
             None => return Ok((i, parts)),

@@ -2,6 +2,7 @@
 
 ghost use Rattle.std.specs.Prelude.{◌≡◌, ◌≢◌, ◌<◌, ◌≤◌, ◌+◌, ◌++◌, ◌↔◌, [], ◌∷◌, None, IsTrue, IfSome, true, length, drop, take, replicate};
 ghost use Rattle.std.specs.VecDeque.{deque_len, deque_capacity};
+ghost use Rattle.session_order.specs.LettingGo.{one_for};
 
 use crate::closing::{Broken, Closing};
 use crate::fault::SessionFault;
@@ -9,7 +10,7 @@ use crate::queue::Queue;
 use crate::replies::{PendingReply, write_output};
 use crate::request_plan::{RequestPlan, plan_request};
 use crate::request_reader::{NextRequest, RequestReader};
-use key_split::{Ended, Part, Ticket};
+use key_split::{Ended, Joining, Part, Ticket};
 use resp_wire::{Limits, NoMemory, Words};
 use std::alloc::Global;
 use std::collections::VecDeque;
@@ -62,7 +63,8 @@ impl Session {
     ghost use Rattle.session_order.specs.Life.{fresh};
     ghost use Rattle.session_order.specs.Replies.{DrainOutcome, parts_of};
     ghost use Rattle.session_order.specs.Turn.{NextPlace};
-    ghost use Rattle.session_order.specs.Steps.{FeedOutcome, ReadOutcome, ReadyOutcome, IsHandedOut, EndOutcome, IsFinished, IsOut, KeepsOut};
+    ghost use Rattle.session_order.specs.Steps.{FeedOutcome, ReadOutcome, ReadyOutcome, FollowerOutcome, IsHandedOut, EndOutcome, IsFinished, IsOut, KeepsOut, IsOutInOrder, KeepsOrder};
+    ghost use Rattle.session_order.specs.HangingUp.{HangsUp};
 
     /// A session to which nothing was fed.
     pub fn new(alloc: Global, worker: u16, client: u32, limits: Limits) -> Session
@@ -84,6 +86,7 @@ impl Session {
     pub fn feed(&mut self, piece: &[u8]) -> Result<usize, SessionFault>
         ensures does { FeedOutcome self.old piece.now result self.new }
         ensures kept { KeepsOut self.old self.new }
+        ensures order { KeepsOrder self.old self.new }
     {
         self.take_piece(piece)
     }
@@ -92,6 +95,7 @@ impl Session {
     pub fn read(&mut self) -> Result<bool, SessionFault>
         ensures does { ReadOutcome self.old result self.new }
         ensures kept { KeepsOut self.old self.new }
+        ensures order { KeepsOrder self.old self.new }
     {
         self.read_next()
     }
@@ -101,8 +105,21 @@ impl Session {
         ensures does { ReadyOutcome self.old result self.new }
         ensures out { IfSome result (λ given. IsOut self.new given.0 × (IsOut self.old given.0 → ⊥)) }
         ensures kept { KeepsOut self.old self.new }
+        ensures order { KeepsOrder self.old self.new }
     {
         self.take_ready()
+    }
+
+    /// Hands out the next part for the slot of one that is out, to go behind it, where that one is the last that is out and the
+    /// next one waits.
+    pub fn follower(&mut self, ticket: Ticket) -> Option<(Ticket, Part)>
+        requires { IsHandedOut self.old ticket }
+        ensures does { FollowerOutcome self.old ticket result self.new }
+        ensures out { IfSome result (λ given. IsOutInOrder self.new given.0 × (IsHandedOut self.old given.0 → ⊥)) }
+        ensures kept { KeepsOut self.old self.new }
+        ensures order { KeepsOrder self.old self.new }
+    {
+        self.take_follower(ticket)
     }
 
     /// Where the part stands that `ready` would hand out, among those whose replies were not drained.
@@ -137,16 +154,28 @@ impl Session {
         ensures does { EndOutcome self.old ticket end self.new }
         ensures over { IsOut self.new ticket → ⊥ }
         ensures kept { (other : Ticket) → other ≢ ticket → IsOut self.old other → IsOut self.new other }
+        ensures order { (other : Ticket) → other ≢ ticket → IsOutInOrder self.old other → IsOutInOrder self.new other }
     {
         self.put_end(ticket, end);
     }
 
-    /// Appends all replies that are next in order, and answers how many bytes.
-    pub fn drain(&mut self, out: &mut Vec<u8>) -> Result<usize, NoMemory>
-        ensures does { DrainOutcome self.old out.old.items result self.new out.new.items }
+    /// Appends replies that are next in order until these are so many bytes, and answers how many. Where they are fewer,
+    /// none is left.
+    pub fn drain(&mut self, out: &mut Vec<u8>, most: usize) -> Result<usize, NoMemory>
+        ensures does { DrainOutcome most self.old out.old.items result self.new out.new.items }
         ensures kept { KeepsOut self.old self.new }
+        ensures order { KeepsOrder self.old self.new }
     {
-        self.write_next(out)
+        self.write_next(out, most)
+    }
+
+    /// Lets go of all but the places of the parts that are out, whose ends may still be told: the client is gone.
+    pub fn hang_up(&mut self)
+        ensures does { HangsUp self.old self.new }
+        ensures kept { KeepsOut self.old self.new }
+        ensures order { KeepsOrder self.old self.new }
+    {
+        self.let_go();
     }
 
     /// Whether the session is closed and nothing is left to drain.
@@ -163,7 +192,8 @@ impl Session {
 
 impl Session {
     ghost use Rattle.session_order.specs.Replies.{DrainOutcome};
-    ghost use Rattle.session_order.specs.Steps.{FeedOutcome, ReadOutcome, ReadyOutcome, EndOutcome, IsHandedOut, MayRead, AddOutcome};
+    ghost use Rattle.session_order.specs.Steps.{FeedOutcome, ReadOutcome, ReadyOutcome, FollowerOutcome, EndOutcome, IsHandedOut, MayRead, AddOutcome};
+    ghost use Rattle.session_order.specs.LettingGo.{LetsGoOf};
 
     fn take_piece(&mut self, piece: &[u8]) -> Result<usize, SessionFault>
         ensures { FeedOutcome self.old piece.now result self.new }
@@ -221,6 +251,21 @@ impl Session {
         Some((ticket, part))
     }
 
+    fn take_follower(&mut self, ticket: Ticket) -> Option<(Ticket, Part)>
+        requires { IsHandedOut self.old ticket }
+        ensures { FollowerOutcome self.old ticket result self.new }
+    {
+        let Some((number, part)) = self.queue.follower(ticket.part) else {
+            return None;
+        };
+        let ticket = Ticket {
+            worker: self.worker,
+            client: self.client,
+            part: number,
+        };
+        Some((ticket, part))
+    }
+
     fn put_end(&mut self, ticket: Ticket, end: Ended)
         requires { IsHandedOut self.old ticket }
         ensures { EndOutcome self.old ticket end self.new }
@@ -230,8 +275,8 @@ impl Session {
         self.ends[i] = end;
     }
 
-    fn write_next(&mut self, out: &mut Vec<u8>) -> Result<usize, NoMemory>
-        ensures { DrainOutcome self.old out.old.items result self.new out.new.items }
+    fn write_next(&mut self, out: &mut Vec<u8>, most: usize) -> Result<usize, NoMemory>
+        ensures { DrainOutcome most self.old out.old.items result self.new out.new.items }
     {
         let start = out.len();
         let line_owed = self.closing.owes_line();
@@ -241,6 +286,7 @@ impl Session {
             &self.queue,
             &mut self.ends,
             line_owed,
+            most,
             out,
         ) {
             Ok((requests, parts)) => {
@@ -255,6 +301,18 @@ impl Session {
                 Err(refused)
             }
         }
+    }
+
+    // Of the requests one stays for all parts that are out.
+    fn let_go(&mut self)
+        ensures { LetsGoOf self.old self.new }
+    {
+        self.reader = RequestReader::new(self.alloc, Limits::full());
+        self.closing = Closing::Quit;
+        self.queue.let_go();
+        let count = self.queue.len();
+        keep_one(&mut self.requests, count);
+        keep_lost(&mut self.ends, count);
     }
 
     #[tactic(auto, using(crate::proofs::Added::parts_of_push, crate::proofs::Added::joinable_push))]
@@ -330,4 +388,26 @@ fn push_lost(ends: &mut VecDeque<Ended>, count: usize)
     for _ in 0..count {
         ends.push_back_reserved(Ended::Lost);
     }
+}
+
+// In place of the requests there is one for so many parts, or none.
+fn keep_one(requests: &mut VecDeque<PendingReply>, parts: usize)
+    requires { 0 < parts → requests.old.items ≢ [] }
+    ensures { requests.new.items ≡ one_for parts }
+{
+    requests.clear();
+    if parts > 0 {
+        requests.push_back_reserved(PendingReply::Parts(Joining::AllOk, parts));
+    }
+    requests.shrink_to_fit();
+}
+
+// In place of the ends there are places for so many, no more than there were.
+fn keep_lost(ends: &mut VecDeque<Ended>, count: usize)
+    requires { count ≤ length ends.old.items }
+    ensures { ends.new.items ≡ replicate count Ended.Lost }
+{
+    ends.clear();
+    push_lost(ends, count);
+    ends.shrink_to_fit();
 }

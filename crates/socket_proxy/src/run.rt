@@ -174,7 +174,7 @@ where
     let (worker_ends, ends) = lanes::<Newcomer<SocketClient, J>, J, &R>(
         alloc, rt, opened, workers,
     )?;
-    let workers = worker_setups(alloc, worker_ends, pollers, workers, clients)?;
+    let workers = worker_setups(alloc, worker_ends, pollers, clients)?;
     run_workers(rt, alloc, workers, &shared, || -> Option<WireRunFault> {
         run_carrier(rt, alloc, ends, carrier, &shared)
     })
@@ -259,13 +259,13 @@ fn worker_setups<J: Naming>(
     alloc: Global,
     ends: Vec<WorkerEnds<Newcomer<SocketClient, J>, J>>,
     pollers: Vec<Poller>,
-    workers: u16,
     clients: Option<u32>,
 ) -> Result<Vec<SocketWorkerSetup<J>>, NoMemory> {
     let mut setups = Vec::new(alloc);
     for (ends, poller) in ends.into_iter().zip(pollers) {
         let WorkerEnds {
             worker,
+            workers,
             outlet,
             inlet,
             newcomers,
@@ -273,6 +273,7 @@ fn worker_setups<J: Naming>(
         } = ends;
         let setup = WorkerSetup {
             worker,
+            workers,
             clients: client_share(clients, worker, workers),
             newcomers,
             outlet,

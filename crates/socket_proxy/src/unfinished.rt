@@ -1,6 +1,7 @@
 //! Requests of which not all has come.
 
-ghost use Rattle.std.specs.Prelude.{◌<◌, ◌+◌, ◌↔◌, IsTrue};
+ghost use Rattle.std.specs.Prelude.{◌≢◌, ◌<◌, ◌+◌, ◌↔◌, ◌∷◌, ℕ, List, IsTrue};
+ghost use Rattle.socket_proxy.specs.Unfinished.{IsHeld, IsMost};
 
 use resp_wire::NoMemory;
 use std::alloc::Global;
@@ -10,35 +11,35 @@ use std::sync::{Arc, Mutex};
 
 /// So many bytes of unfinished requests are held for a worker's clients together at most, beside the largest one of them.
 const MAX_UNFINISHED: u64 = 512 * 1024 * 1024;
-/// An unfinished request of fewer bytes does not count.
-const SMALLEST_COUNTED: u64 = 64 * 1024;
 
-/// The large unfinished requests of a worker's clients. Its thread alone changes them.
+/// The unfinished requests of a worker's clients. Its thread alone changes them.
 #[derive(Drop)]
 pub(crate) struct Unfinished {
     alloc: Global,
     /// How many bytes are held of all of them together.
     together: AtomicU64,
-    requests: Mutex<Vec<Arc<LargeRequest, Global>>>,
+    /// So many bytes are held of one of them, which may not be the largest, or 0.
+    known: AtomicU64,
+    requests: Mutex<Vec<Arc<HeldRequest, Global>>>,
 }
 
-/// A large unfinished request, or none once it came whole.
+/// What is held of one client's request.
 #[derive(Drop)]
-struct LargeRequest {
-    /// How many bytes of it are held.
+struct HeldRequest {
+    /// How many bytes of it; 0 once it came whole.
     bytes: AtomicU64,
     /// It was the largest when too much was held.
     is_refused: AtomicBool,
-    /// Its client is gone.
-    is_left: AtomicBool,
+    /// Where it stands among those of its worker.
+    place: AtomicU64,
 }
 
-impl LargeRequest {
-    fn new() -> LargeRequest {
-        LargeRequest {
+impl HeldRequest {
+    fn new(place: u64) -> HeldRequest {
+        HeldRequest {
             bytes: AtomicU64::new(0),
             is_refused: AtomicBool::new(false),
-            is_left: AtomicBool::new(false),
+            place: AtomicU64::new(place),
         }
     }
 
@@ -49,10 +50,6 @@ impl LargeRequest {
     fn is_refused(&self) -> bool {
         self.is_refused.load(Ordering::Relaxed)
     }
-
-    fn is_left(&self) -> bool {
-        self.is_left.load(Ordering::Relaxed)
-    }
 }
 
 impl Unfinished {
@@ -61,29 +58,48 @@ impl Unfinished {
         let unfinished = Unfinished {
             alloc,
             together: AtomicU64::new(0),
+            known: AtomicU64::new(0),
             requests: Mutex::new(Vec::new(alloc)),
         };
         Ok(Arc::new(alloc, unfinished)?)
     }
 
-    /// One more large request, where nobody else is at the list. Those whose clients are gone are forgotten.
-    fn add(&self) -> Result<Option<Arc<LargeRequest, Global>>, NoMemory> {
+    /// One more client's request, where nobody else is at the list.
+    fn add(&self) -> Result<Option<Arc<HeldRequest, Global>>, NoMemory> {
         let Some(mut requests) = self.requests.try_lock() else {
             return Ok(None);
         };
-        requests.retain(|request| !request.is_left());
-        let request = Arc::new(self.alloc, LargeRequest::new())?;
+        let place = requests.len() as u64;
+        let request = Arc::new(self.alloc, HeldRequest::new(place))?;
         requests.push(Arc::try_clone(&request)?)?;
         Ok(Some(request))
     }
 
+    /// Forgets the request of a client that is gone. The last one of the list takes its place.
+    fn remove(&self, request: &HeldRequest) {
+        self.set(request, 0);
+        let Some(mut requests) = self.requests.try_lock() else {
+            return;
+        };
+        let place = request.place.load(Ordering::Relaxed) as usize;
+        if place < requests.len() {
+            requests.swap_remove(place);
+        }
+        if let Some(moved) = requests.get(place) {
+            moved.place.store(place as u64, Ordering::Relaxed);
+        }
+    }
+
     /// So many bytes of the request are held. Where that is too much for all together, the largest is refused.
-    fn set(&self, request: &LargeRequest, bytes: u64) {
-        let before = request.bytes.swap(bytes, Ordering::Relaxed);
+    fn set(&self, request: &HeldRequest, bytes: u64) {
+        let before = request.bytes();
         let others = self.together().saturating_sub(before);
         let together = others.saturating_add(bytes);
+        let known = known_after(self.known.load(Ordering::Relaxed), before, bytes);
+        request.bytes.store(bytes, Ordering::Relaxed);
         self.together.store(together, Ordering::Relaxed);
-        if together > MAX_UNFINISHED {
+        self.known.store(known, Ordering::Relaxed);
+        if is_too_much(together, known) {
             self.refuse_largest();
         }
     }
@@ -92,7 +108,7 @@ impl Unfinished {
         self.together.load(Ordering::Relaxed)
     }
 
-    /// Refuses the largest request, where too much is held beside it.
+    /// Looks for the largest request, and refuses it where too much is held beside it.
     fn refuse_largest(&self) {
         let Some(requests) = self.requests.try_lock() else {
             return;
@@ -101,12 +117,15 @@ impl Unfinished {
             return;
         };
         let (together, bytes) = (self.together(), largest.bytes());
-        if is_too_much(together, bytes) {
-            largest.is_refused.store(true, Ordering::Relaxed);
-            largest.bytes.store(0, Ordering::Relaxed);
-            self.together
-                .store(together.saturating_sub(bytes), Ordering::Relaxed);
+        if !is_too_much(together, bytes) {
+            self.known.store(bytes, Ordering::Relaxed);
+            return;
         }
+        largest.is_refused.store(true, Ordering::Relaxed);
+        largest.bytes.store(0, Ordering::Relaxed);
+        self.together
+            .store(together.saturating_sub(bytes), Ordering::Relaxed);
+        self.known.store(0, Ordering::Relaxed);
     }
 }
 
@@ -117,13 +136,25 @@ fn is_too_much(together: u64, largest: u64) -> bool
     together.saturating_sub(largest) > MAX_UNFINISHED
 }
 
+/// What is held of a request that is known, or 0, once another number of bytes is held of one of them. Where it was the largest,
+/// it still is, unless it was this one.
+fn known_after(known: u64, before: u64, bytes: u64) -> u64
+    ensures held { (others : List ℕ) → IsHeld known (before ∷ others) → IsHeld result (bytes ∷ others) }
+    ensures most { (others : List ℕ) → before ≢ known → IsMost known others → IsMost result (bytes ∷ others) }
+{
+    if bytes >= known {
+        return bytes;
+    }
+    if before == known { 0 } else { known }
+}
+
 /// What is held of a client's unfinished request, among those of its worker.
 #[derive(Drop)]
 pub(crate) struct UnfinishedRequest {
     all: Arc<Unfinished, Global>,
     bytes: Cell<u64>,
-    /// Its entry, once one was large.
-    large: Option<Arc<LargeRequest, Global>>,
+    /// Its entry, once bytes of the client came.
+    held: Option<Arc<HeldRequest, Global>>,
 }
 
 impl UnfinishedRequest {
@@ -132,14 +163,14 @@ impl UnfinishedRequest {
         UnfinishedRequest {
             all,
             bytes: Cell::new(0),
-            large: None,
+            held: None,
         }
     }
 
     /// How many bytes are held of it, and that it is refused, where it is.
     pub(crate) fn refused(&self) -> Option<u64> {
-        match &self.large {
-            Some(large) if large.is_refused() => Some(self.bytes.get()),
+        match &self.held {
+            Some(held) if held.is_refused() => Some(self.bytes.get()),
             _ => None,
         }
     }
@@ -148,14 +179,11 @@ impl UnfinishedRequest {
     pub(crate) fn grow(&mut self, count: usize) -> Result<(), NoMemory> {
         let bytes = self.bytes.get().saturating_add(count as u64);
         self.bytes.set(bytes);
-        if bytes < SMALLEST_COUNTED {
-            return Ok(());
+        if self.held.is_none() {
+            self.held = self.all.add()?;
         }
-        if self.large.is_none() {
-            self.large = self.all.add()?;
-        }
-        if let Some(large) = &self.large {
-            self.all.set(large, bytes);
+        if let Some(held) = &self.held {
+            self.all.set(held, bytes);
         }
         Ok(())
     }
@@ -163,17 +191,16 @@ impl UnfinishedRequest {
     /// It came whole.
     pub(crate) fn finish(&self) {
         self.bytes.set(0);
-        if let Some(large) = &self.large {
-            large.is_refused.store(false, Ordering::Relaxed);
-            self.all.set(large, 0);
+        if let Some(held) = &self.held {
+            held.is_refused.store(false, Ordering::Relaxed);
+            self.all.set(held, 0);
         }
     }
 
     /// Its client is gone.
-    pub(crate) fn leave(&self) {
-        self.finish();
-        if let Some(large) = &self.large {
-            large.is_left.store(true, Ordering::Relaxed);
+    pub(crate) fn leave(&mut self) {
+        if let Some(held) = self.held.take() {
+            self.all.remove(&held);
         }
     }
 }

@@ -18,6 +18,7 @@ use std::time::Clock;
 #[derive(Drop)]
 pub(crate) struct WorkerSetup<N, O, I, V, W> {
     pub(crate) worker: u16,
+    pub(crate) workers: u16,
     /// How many clients it is to take; `None` without end.
     pub(crate) clients: Option<u32>,
     pub(crate) newcomers: N,
@@ -59,6 +60,7 @@ fn serve_clients<J: Naming, R: Wait + Clock + RandomSource + AllocGlobal>(
 ) -> Option<WireRunFault> {
     let WorkerSetup {
         worker,
+        workers,
         clients,
         newcomers,
         outlet,
@@ -69,6 +71,7 @@ fn serve_clients<J: Naming, R: Wait + Clock + RandomSource + AllocGlobal>(
     let handle = shared.workers.get(usize::from(worker))?;
     let ends = WorkerEnds {
         worker,
+        workers,
         outlet,
         inlet,
         newcomers,

@@ -11,7 +11,7 @@ use Rattle.key_split.specs.declared.travel.Ended.{Ended}
 use Rattle.key_split.specs.declared.travel.Ended.TheVariants.{Answered, GaveUp}
 use Rattle.command_future.specs.declared.stage.Stage.{Stage}
 use Rattle.command_future.specs.declared.stage.Stage.TheVariants.{Wants, WantsAsking, Awaits, Over}
-use Rattle.world_laws.specs.State.{WorldModel, Arrival, Posted, Link, LinkRequest, LinkReply, after_told, replied, all_replied, tickets_told, parts_told, tolds_of}
+use Rattle.world_laws.specs.State.{slot_for, WorldModel, Arrival, Posted, Link, LinkRequest, LinkReply, after_told, replied, all_replied, tickets_told, parts_told, tolds_of}
 use Rattle.key_split.specs.PartModel.{PartModel}
 use Rattle.node_model.specs.Store.{StoreModel, store_after, reply_to}
 use Rattle.node_model.specs.Nodes.{ClusterModel, store_at, with_store}
@@ -25,12 +25,14 @@ use Rattle.world_laws.specs.Places.Item.{Stands, Lies, Sent, Comes}
 use Rattle.world_laws.specs.World.{IsFirst, IsOf, AreOf, entries_of}
 use Rattle.world_laws.specs.declared.event.Event.TheVariants.{Serve}
 use Rattle.world_laws.specs.Headline.{At}
-use Rattle.world_laws.specs.Allowed.{IsAllowed, TakeIsAllowed, Fits, ServeIsAllowed}
+use Rattle.world_laws.specs.Allowed.{IsAllowed, TakeIsAllowed, Fits, RunsHaveOneSlot, ServeIsAllowed}
 use Rattle.world_laws.proofs.Tally.{total-one, total-found, tally-le}
 use Rattle.world_laws.proofs.Counted.{if_awaits, here, awaits, stray, ran, owned}
 use Rattle.world_laws.proofs.Placed.{Placed}
 use Rattle.world_laws.proofs.Kept.{is-refl, unique}
-use Rattle.world_laws.proofs.Lives.{ticket-is, sent_only, sent-le}
+use Rattle.world_laws.proofs.Flow.{all_at, of-ticket}
+use Rattle.world_laws.proofs.Turns.{AreRuns}
+use Rattle.world_laws.proofs.Lives.{ticket-is, same_command, sent_only, sent-le}
 use Rattle.world_laws.proofs.Nodes.{reply-for}
 use Rattle.world_laws.proofs.Runs.{reached-sound}
 
@@ -102,14 +104,14 @@ is-so t u lt = go (same_ticket t u) lt
     go false lt = absurd (omega arith)
 
 module _ (w : WorldModel) (h : Placed w) where
-  awaited : (t : Ticket) → 0 < tally (awaits t) w → (i : ℕ) × (c : Arrival) × At w.commands i c × (c.command.stage ≡ Awaits) × (same_ticket t c.command.ticket ≡ true)
+  pub awaited : (t : Ticket) → 0 < tally (awaits t) w → (i : ℕ) × (c : Arrival) × At w.commands i c × (c.command.stage ≡ Awaits) × (same_ticket t c.command.ticket ≡ true)
   awaited t lt =
       let f = total-found (λ c. awaits t (Stands c)) w.commands (omega (arith, commands-alone (awaits t) (λ _ _ _. refl) (λ _ _ _ _. refl) (λ _ _. refl) w)) in
       let a = awaiting-one (f.1).command.stage (is t (f.1).command.ticket) f.3 in
       (f.0, f.1, f.2, a.0, is-so t (f.1).command.ticket a.1)
 
   -- its command, by the first place of its ticket
-  found : (t : Ticket) (i : ℕ) (c : Arrival) → At w.commands i c → same_ticket t c.command.ticket ≡ true → (j : ℕ) × IsOf t w.commands j c
+  pub found : (t : Ticket) (i : ℕ) (c : Arrival) → At w.commands i c → same_ticket t c.command.ticket ≡ true → (j : ℕ) × IsOf t w.commands j c
   found t i c p e =
       let f = first-of (λ (x : Arrival). same_ticket t x.command.ticket) w.commands i c p e in
       let one : (f.1).command.ticket ≡ c.command.ticket = ticket-is t (f.1).command.ticket f.3 ∙ sym (ticket-is t c.command.ticket e) in
@@ -163,7 +165,7 @@ nothing w = omega (arith, commands-alone (λ _. 0) (λ _ _ _. refl) (λ _ _ _ _.
 
 module _ (w : WorldModel) (h : Placed w) where
   -- who stands somewhere has a command
-  owner : (t : Ticket) → 1 ≤ tally (here t) w + tally (stray t) w → (i : ℕ) × (c : Arrival) × At w.commands i c × (same_ticket t c.command.ticket ≡ true)
+  pub owner : (t : Ticket) → 1 ≤ tally (here t) w + tally (stray t) w → (i : ℕ) × (c : Arrival) × At w.commands i c × (same_ticket t c.command.ticket ≡ true)
   owner t lt =
       let some : 0 < total (λ c. owned (same_ticket t) (Stands c)) w.commands = omega (
         arith,
@@ -180,10 +182,10 @@ module _ (w : WorldModel) (h : Placed w) where
 
 -- an item of a lane, and of a link, counts
 
-down-here : (w : WorldModel) (i : ℕ) (t : Ticket) (told : Told) → slice_get w.downs i ≡ Some (t, told) → 1 ≤ tally (here t) w
+pub down-here : (w : WorldModel) (i : ℕ) (t : Ticket) (told : Told) → slice_get w.downs i ≡ Some (t, told) → 1 ≤ tally (here t) w
 down-here w i t told e = omega (arith, total-one (λ (p : Ticket × Told). here t (Comes p.0 p.1)) w.downs i (t, told) e, is-refl t)
 
-request-here : (w : WorldModel) (link : ℕ) (l : Link) (ts : List Ticket) (rest : List LinkRequest) → slice_get w.links link ≡ Some l → l.requests ≡ Runs ts ∷ rest → (k : ℕ) (t : Ticket) → slice_get ts k ≡ Some t → 1 ≤ tally (here t) w + tally (stray t) w
+pub request-here : (w : WorldModel) (link : ℕ) (l : Link) (ts : List Ticket) (rest : List LinkRequest) → slice_get w.links link ≡ Some l → l.requests ≡ Runs ts ∷ rest → (k : ℕ) (t : Ticket) → slice_get ts k ≡ Some t → 1 ≤ tally (here t) w + tally (stray t) w
 request-here w link l ts rest e r k t at_t =
     let one : 1 ≤ total (λ u. sent_only t (Sent l.is_open l.node l.asking u)) ts = omega (arith, total-one (λ (u : Ticket). sent_only t (Sent l.is_open l.node l.asking u)) ts k t at_t, is-refl t) in
     let inside : 1 ≤ in_link (sent_only t) l = omega (arith, ap (in_requests (sent_only t) l.is_open l.node l.asking) r, one) in
@@ -243,7 +245,7 @@ module _ (w : WorldModel) (h : Placed w) where
 
 -- the laws
 
-ticked : (w : WorldModel) → Placed w → Placed (record w { moment = w.moment + 1 })
+pub ticked : (w : WorldModel) → Placed w → Placed (record w { moment = w.moment + 1 })
 ticked w x = record { single = x.single; below = x.below; place = x.place; once = x.once; replied = x.replied; tidy = x.tidy }
 
 pub take-is-allowed : TakeIsAllowed
@@ -290,3 +292,16 @@ serve-is-allowed w link v l first rest reached lt at_l r fits = go first r fits
           record w1 { cluster = s.4; links = slice_set w1.links link (all_replied (record l { requests = rest; asking = false }) s.0); history = w1.history ++ entries_of w1.moment s.0 },
           (lt, (l, at_l, inr (rest, s.0, s.4, r ∙ ap (λ u. Runs u ∷ rest) same, s.3, fits, did, refl))),
         )
+
+-- the commands of a run have one slot
+pub one-slot : RunsHaveOneSlot
+one-slot w link l tickets rest reached at_l first =
+    let s = reached-sound w reached in
+    let here : AreRuns w.commands l.requests = all_at (λ (x : Link). AreRuns w.commands x.requests) w.links link l at_l (s.turned).links in
+    let both : AreRuns w.commands (Runs tickets ∷ rest) = subst (AreRuns w.commands) first here in (
+      (both.0).0,
+      λ ticket i c among of.
+          let g = (both.0).1 among.0 ticket among.1 in
+          let same : g.1 ≡ c = same_command w s.placed g.0 i g.1 c g.2 of.1 (g.3 ∙ sym (of-ticket ticket w.commands i c of)) in
+          ap (λ (z : Arrival). slot_for z.command.part) (sym same) ∙ g.4,
+    )

@@ -14,6 +14,7 @@ pub mod Serves
 pub mod Moves
 pub mod Recorded
 pub mod Turns
+pub mod Apart
 pub mod Same
 pub mod Lives
 pub mod Runs

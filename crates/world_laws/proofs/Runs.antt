@@ -13,7 +13,7 @@ use Rattle.command_future.specs.declared.stage.Stage.TheVariants.{Over}
 use Rattle.world_laws.specs.State.{WorldModel, Arrival, start}
 use Rattle.node_model.specs.History.{EntryModel}
 use Rattle.node_model.specs.Nodes.{ClusterModel, standing_at, at}
-use Rattle.world_laws.specs.World.{WorldStep, WorldRun, SameTurn}
+use Rattle.world_laws.specs.World.{WorldDoes, WorldStep, WorldRun, SameTurn}
 use Rattle.world_laws.specs.declared.event.Event.{Event}
 use Rattle.world_laws.specs.declared.history.Answer.{Answer}
 use Rattle.world_laws.proofs.Counted.{if_ran, if_awaits}
@@ -27,6 +27,7 @@ use Rattle.world_laws.proofs.Recorded.{one_at}
 use Rattle.world_laws.specs.Headline.{At, HasOne, IsNew, IsReached, Headline, EverySchedule}
 use Rattle.world_laws.proofs.There.{There, does-there}
 use Rattle.world_laws.proofs.Turns.{Turned, does-turned}
+use Rattle.world_laws.proofs.Apart.{Short, does-short}
 
 pub record Sound (w : WorldModel) : Type 0 where
   pub placed : Placed w
@@ -34,28 +35,34 @@ pub record Sound (w : WorldModel) : Type 0 where
   pub turned : Turned w
   pub kept : Kept w
   pub lists : Lists w.moment w
+  pub short : Short w
 
-step-sound : (e : Event) (w w' : WorldModel) → Sound w → WorldStep w e w' → Sound w'
-step-sound e w w' s d =
+pub does-sound : (e : Event) (w w' : WorldModel) → Sound w → WorldDoes (record w { moment = w.moment + 1 }) e w' → Sound w'
+does-sound e w w' s d =
     let w1 : WorldModel = record w { moment = w.moment + 1 } in
     let p1 : Placed w1 = record { single = (s.placed).single; below = (s.placed).below; place = (s.placed).place; once = (s.placed).once; replied = (s.placed).replied; tidy = (s.placed).tidy } in
     let t1 : There w1 = record { ups = (s.there).ups; links = (s.there).links; targets = (s.there).targets } in
+    let h1 : Short w1 = record { ups = (s.short).ups; links = (s.short).links; apart = (s.short).apart } in
     let u1 : Turned w1 = record { ups = (s.turned).ups; links = (s.turned).links } in
-    let p' : Placed w' = does-keeps e w1 w' p1 d.1 in
+    let p' : Placed w' = does-keeps e w1 w' p1 d in
     let k1 : Kept w1 = record { apart = (s.kept).apart; data' = (s.kept).data'; legal = (s.kept).legal; asked = (s.kept).asked } in
     record {
       placed = p';
-      there = does-there e w1 w' t1 d.1;
-      turned = does-turned e w1 w' u1 d.1;
-      kept = does-kept e w1 w' p1 t1 u1 k1 d.1;
-      lists = subst (λ n. Lists n w') (sym (does-moment e w1 w' d.1)) (does-lists e w1 w' p1 p' u1 w.moment (omega arith) s.lists d.1);
+      there = does-there e w1 w' t1 d;
+      turned = does-turned e w1 w' u1 d;
+      kept = does-kept e w1 w' p1 t1 u1 k1 d;
+      lists = subst (λ n. Lists n w') (sym (does-moment e w1 w' d)) (does-lists e w1 w' p1 p' u1 w.moment (omega arith) s.lists d);
+      short = does-short e w1 w' h1 (λ k x p. let past = (s.lists).past k x p in omega (arith, past)) d;
     }
+
+step-sound : (e : Event) (w w' : WorldModel) → Sound w → WorldStep w e w' → Sound w'
+step-sound e w w' s d = does-sound e w w' s d.1
 
 run-sound : (es : List Event) (w w' : WorldModel) → Sound w → WorldRun w es w' → Sound w'
 run-sound [] w w' s r = subst Sound (sym r) s
 run-sound (e ∷ es) w w' s r = run-sound es r.0 w' (step-sound e w r.0 s r.1) r.2
 
-start-sound : (workers run_limit : ℕ) (k : ClusterModel) → IsNew k → Sound (start workers run_limit k)
+pub start-sound : (workers run_limit : ℕ) (k : ClusterModel) → IsNew k → Sound (start workers run_limit k)
 start-sound workers run_limit k new = record {
   placed = start-placed workers run_limit k;
   there = record { ups = λ j d lt. absurd (omega arith); links = λ j d lt. absurd (omega arith); targets = λ slot ne. absurd (ne (new.settled slot)) };
@@ -79,6 +86,7 @@ start-sound workers run_limit k new = record {
     followed = λ i j c d lt p q. absurd (cc);
     ordered = λ i j c d lt p q. absurd (cc);
   };
+  short = record { ups = λ j d lt. absurd (omega arith); links = λ j d lt. absurd (omega arith); apart = λ small k l e f p. absurd (cc) };
 }
 
 -- which comes first
@@ -88,11 +96,12 @@ order i j = grind arith
 one_end : (x y : Ended) → Over x ≡ Over y → x ≡ y
 one_end x y e = cc
 
-headline : (w : WorldModel) → Sound w → Headline w
+pub headline : (w : WorldModel) → Sound w → Headline w
 headline w s = record {
   legal = (s.kept).legal;
   timed = (s.lists).timed;
   together = (s.lists).together;
+  apart = (s.short).apart;
   one_node = λ key n m a b p q. at_home key n a p ∙ sym (at_home key m b q);
   union = λ key v. (
     (λ p. (home_in (standing_at w.cluster (slot_of key)) (λ x. at w.cluster x key), sym ((s.kept).data' key).holds ∙ p)),

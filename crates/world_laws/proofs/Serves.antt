@@ -43,23 +43,10 @@ use Rattle.resp_wire.specs.declared.value.Value.{Value}
 use Rattle.key_split.specs.declared.travel.Ticket.{Ticket}
 use Rattle.world_laws.specs.declared.state.LinkRequest.TheVariants.{Runs}
 use Rattle.node_model.proofs.Keys.{among}
+use Rattle.node_model.proofs.AllDone.{after-all-other, among-either, among-left, among-right}
 use Rattle.world_laws.proofs.Stores.{all-among, after-other, answer-alike, all-held, none-held}
 
 -- the keys of a run
-
-among-left : (q : List ℕ) (xs ys : List (List ℕ)) → Among q xs → Among q (xs ++ ys)
-among-left q [] ys h = absurd h
-among-left q (x ∷ xs) ys (inl h) = inl h
-among-left q (x ∷ xs) ys (inr h) = inr (among-left q xs ys h)
-
-among-right : (q : List ℕ) (xs ys : List (List ℕ)) → Among q ys → Among q (xs ++ ys)
-among-right q [] ys h = h
-among-right q (x ∷ xs) ys h = inr (among-right q xs ys h)
-
-among-either : (q : List ℕ) (xs ys : List (List ℕ)) → Among q (xs ++ ys) → Among q xs ⊎ Among q ys
-among-either q [] ys h = inr h
-among-either q (x ∷ xs) ys (inl h) = inl (inl h)
-among-either q (x ∷ xs) ys (inr h) = ⊎_elim (λ (y : Among q xs). inl (inr y)) (λ (y : Among q ys). inr y) (among-either q xs ys h)
 
 -- a key of a command of the run is one of the run, and the other way round
 among-in : (q : List ℕ) (run : List (Arrival × Told)) (k : ℕ) (p : Arrival × Told) → slice_get run k ≡ Some p → Among q (keys_of p.0.command.part) → Among q (keys_in (parts_told run))
@@ -72,10 +59,6 @@ among-of q [] h = absurd h
 among-of q (x ∷ xs) h = ⊎_elim (λ (y : Among q (keys_of x.0.command.part)). (0, x, refl, y))
     (λ (y : Among q (keys_in (parts_told xs))). let r = among-of q xs y in (suc r.0, r.1, r.2, r.3))
     (among-either q (keys_of x.0.command.part) (keys_in (parts_told xs)) h)
-
-after-all-other : (st : StoreModel) (cs : List PartModel) (q : List ℕ) → (Among q (keys_in cs) → ⊥) → get (store_after_all st cs) q ≡ get st q
-after-all-other st [] q h = refl
-after-all-other st (c ∷ cs) q h = after-all-other (store_after st c) cs q (λ x. h (among-right q (keys_of c) (keys_in cs) x)) ∙ after-other st c q (λ x. h (among-left q (keys_of c) (keys_in cs) x))
 
 agree-after : (K : List (List ℕ)) (s t : StoreModel) (c : PartModel) → ((q : List ℕ) → Among q (keys_of c) → Among q K) → Agree K s t → Agree K (store_after s c) (store_after t c)
 agree-after K s t c sub h q x = ⊎_elim

@@ -154,11 +154,11 @@ out-client way node before (u ∷ ts) cs cs' d (suc p) t e = out-client way node
 
 -- the events
 
-one : {X : Type 0} (P : X → Type 0) (x : X) → P x → All P (x ∷ [])
+pub one : {X : Type 0} (P : X → Type 0) (x : X) → P x → All P (x ∷ [])
 one P x h zero d lt = h
 one P x h (suc k) d lt = absurd (omega arith)
 
-All-remove : {X : Type 0} (P : X → Type 0) (xs : List X) (i : ℕ) → All P xs → All P (remove xs i)
+pub All-remove : {X : Type 0} (P : X → Type 0) (xs : List X) (i : ℕ) → All P xs → All P (remove xs i)
 All-remove P [] zero h k d lt = absurd (omega arith)
 All-remove P [] (suc i) h k d lt = absurd (omega arith)
 All-remove P (x ∷ xs) zero h k d lt = h (suc k) d (omega arith)

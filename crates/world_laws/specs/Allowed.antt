@@ -6,9 +6,9 @@ use Rattle.key_split.specs.declared.travel.Ticket.{Ticket}
 use Rattle.key_split.specs.declared.travel.Told.{Told}
 use Rattle.node_model.specs.declared.role.Verdict.{Verdict}
 use Rattle.node_model.specs.declared.role.Verdict.TheVariants.{Plain}
-use Rattle.world_laws.specs.State.{WorldModel, Link, LinkRequest}
+use Rattle.world_laws.specs.State.{WorldModel, Arrival, Link, LinkRequest, slot_for}
 use Rattle.world_laws.specs.declared.state.LinkRequest.TheVariants.{Asking, Runs}
-use Rattle.world_laws.specs.World.{WorldStep, IsFirst, IsNode, NamesNode, last_moment}
+use Rattle.world_laws.specs.World.{WorldStep, IsAmong, IsFirst, IsNode, IsOf, NamesNode, last_moment}
 use Rattle.world_laws.specs.Headline.{IsReached}
 use Rattle.world_laws.specs.declared.event.Event.{Event}
 use Rattle.world_laws.specs.declared.event.Event.TheVariants.{Serve, Take}
@@ -39,3 +39,12 @@ LinksLeadToNodes = (w : WorldModel) → IsReached w → All (λ l. IsNode w.clus
 -- workers and nodes stay as many as they were
 abbrev pub SizesStay : Type 0
 SizesStay = (w w' : WorldModel) (event : Event) → WorldStep w event w' → (w'.workers ≡ w.workers) × (length w'.cluster.stores ≡ length w.cluster.stores)
+
+-- the commands of these tickets have this slot
+abbrev pub HaveSlot : WorldModel → List Ticket → ℕ → Type 0
+HaveSlot w tickets slot = (ticket : Ticket) (i : ℕ) (c : Arrival) → IsAmong tickets ticket → IsOf ticket w.commands i c → slot_for c.command.part ≡ slot
+
+-- the commands of the first run of a link, open or closed, have one slot
+abbrev pub RunsHaveOneSlot : Type 0
+RunsHaveOneSlot = (w : WorldModel) (link : ℕ) (l : Link) (tickets : List Ticket) (rest : List LinkRequest) → IsReached w
+    → slice_get w.links link ≡ Some l → l.requests ≡ Runs tickets ∷ rest → (slot : ℕ) × HaveSlot w tickets slot

@@ -55,6 +55,8 @@ pub record Headline (w : WorldModel) : Type 0 where
   -- where only those of one run, one client's for one slot, share a moment,
   pub together : (k l : ℕ) (e f : EntryModel) → At w.history k e → At w.history l f → e.moment ≡ f.moment
       → (e.ticket.client ≡ f.ticket.client) × (slot_for e.part ≡ slot_for f.part)
+  -- and where no run has more than one command, none share one,
+  pub apart : w.run_limit ≤ 1 → (k l : ℕ) (e f : EntryModel) → At w.history k e → At w.history l f → k < l → e.moment < f.moment
   -- which is what the nodes hold together, each key at one node
   pub one_node : (key : List ℕ) (n m : ℕ) (a b : List ℕ) → at w.cluster n key ≡ Some a → at w.cluster m key ≡ Some b → n ≡ m
   pub union : (key value : List ℕ) → (get (store_of w) key ≡ Some value) ↔ ((n : ℕ) × (at w.cluster n key ≡ Some value))

@@ -2,7 +2,7 @@
 
 ghost use Rattle.std.specs.Prelude.{◌≡◌, List};
 ghost use Rattle.world_laws.specs.Alone.{DoesAlone, PostsAlone, ServesAlone};
-ghost use Rattle.world_laws.specs.Allowed.{LinksLeadToNodes, ServeIsAllowed, SizesStay, TakeIsAllowed};
+ghost use Rattle.world_laws.specs.Allowed.{LinksLeadToNodes, RunsHaveOneSlot, ServeIsAllowed, SizesStay, TakeIsAllowed};
 ghost use Rattle.world_laws.specs.Bare.{NoKeyAtTwoNodes};
 ghost use Rattle.world_laws.specs.Headline.{EverySchedule, Headline, IsReached};
 ghost use Rattle.world_laws.specs.RunOfTwo.{RunOfTwo};
@@ -36,6 +36,11 @@ pub fn nothing_is_stuck()
 /// In a world that events reach, links lead to nodes that exist.
 pub fn links_lead_to_nodes()
     ensures { LinksLeadToNodes }
+{}
+
+/// In a world that events reach, the commands of a run have one slot.
+pub fn runs_have_one_slot()
+    ensures { RunsHaveOneSlot }
 {}
 
 /// No event changes how many workers and nodes there are.

@@ -3,7 +3,7 @@
 ghost use Rattle.std.specs.Prelude.{◌≡◌, ◌↔◌, [], false, true, IsTrue};
 
 use super::ClientParts;
-use crate::client_limits::MAX_UNPUSHED;
+use crate::client_limits::{MAX_DRAINED, MAX_UNPUSHED};
 use crate::port::ClientPort;
 use node_link::Flow;
 use resp_wire::NoMemory;
@@ -24,7 +24,8 @@ impl<C: ClientPort + Drop> ClientParts<C> {
 
     // Whether the client is there, and takes its bytes. A client that does not read is asked for no more.
     fn may_drain(&self) -> bool
-        ensures { self.now.gone ≡ false → self.now.unpushed ≡ [] → result ≡ true }
+        ensures there { result ≡ true → self.now.gone ≡ false }
+        ensures may { self.now.gone ≡ false → self.now.unpushed ≡ [] → result ≡ true }
     {
         !self.gone && self.unpushed.len() < MAX_UNPUSHED
     }
@@ -36,7 +37,8 @@ impl<C: ClientPort + Drop> ClientParts<C> {
         if !self.may_drain() {
             return Ok(false);
         }
-        let count = self.unpushed.drain(&mut self.session)?;
+        let count = self.unpushed.drain(&mut self.session, MAX_DRAINED)?;
+        self.replies.drain(count);
         Ok(count > 0)
     }
 

@@ -25,6 +25,7 @@ use std::thread::Threads;
 #[derive(Drop)]
 struct WorkerSetup<N, O, I, V> {
     worker: u16,
+    workers: u16,
     outlet: O,
     inlet: I,
     newcomers: N,
@@ -161,6 +162,7 @@ where
 {
     let WorkerSetup {
         worker,
+        workers,
         outlet,
         inlet,
         newcomers,
@@ -169,6 +171,7 @@ where
     } = setup;
     let ends = WorkerEnds {
         worker,
+        workers,
         outlet,
         inlet,
         newcomers,
@@ -223,6 +226,7 @@ fn worker_setup<J: Naming>(
 ) -> ScriptWorkerSetup<J> {
     let WorkerEnds {
         worker,
+        workers,
         outlet,
         inlet,
         newcomers,
@@ -230,6 +234,7 @@ fn worker_setup<J: Naming>(
     } = ends;
     WorkerSetup {
         worker,
+        workers,
         outlet,
         inlet,
         newcomers,

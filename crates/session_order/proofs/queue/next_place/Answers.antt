@@ -7,18 +7,18 @@ use Rattle.session_order.proofs.queue.next_place.Goals as goal
 pub returns-in_default : goal.returns-in_default
 returns-in_default c =
     let turns = c.args.tables.now.turns in
-    none_next _ _ _ _ _ c.requires.tabled (nil_from_length (heap_items turns) (sym turns.data.ok.0 ∙ none_at _ (λ some. c.in_default.ensures.variant.1 some)))
+    none_next _ _ _ _ _ _ c.requires.tabled (nil_from_length (heap_items turns) (sym turns.data.ok.0 ∙ none_at _ (λ some. c.in_default.ensures.variant.1 some)))
 
 pub overflow_sub-result : goal.overflow_sub-result
 overflow_sub-result c =
     let turns = c.args.tables.now.turns in
     let seen = c.in-Some.ensures in
     let counts = top_counts (heap_items turns) c.in-Some.field-0.now (omega (arith, seen.variant.0 refl, turns.data.ok.0)) seen.lookup in
-    (top_place _ _ _ _ (heap_items turns) _ c.requires.tabled counts (seen.greatest c.requires.ordered)).0
+    (top_place _ _ _ _ _ (heap_items turns) _ c.requires.tabled counts (seen.greatest c.requires.ordered)).0
 
 pub returns : goal.returns
 returns c =
     let turns = c.args.tables.now.turns in
     let seen = c.in-Some.ensures in
     let counts = top_counts (heap_items turns) c.in-Some.field-0.now (omega (arith, seen.variant.0 refl, turns.data.ok.0)) seen.lookup in
-    (top_place _ _ _ _ (heap_items turns) _ c.requires.tabled counts (seen.greatest c.requires.ordered)).1
+    (top_place _ _ _ _ _ (heap_items turns) _ c.requires.tabled counts (seen.greatest c.requires.ordered)).1

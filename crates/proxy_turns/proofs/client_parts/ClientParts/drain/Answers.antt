@@ -9,10 +9,12 @@ pub invariant_of-self-2 : goal.invariant_of-self-2
 invariant_of-self-2 g c = sound_kept c.self.inside.session c.drain.new.session c.self.inside.commands c.drain.ensures.kept c.self.invariant
 
 pub returns-clause-drains : goal.returns-clause-drains
-returns-clause-drains g c = λ outlet view. rw (← c.self.view_is) (drained g.C.ClientPort.moves is_drain _ outlet view (λ n. refl) _ c.in_ok-count.count _ _ c.in_ok-count.ensures.does refl)
+returns-clause-drains g c = λ outlet view.
+    let there = rw (← c.self.view_is) at (c.may_drain.ensures.there c.if-not-may_drain.false) in
+    rw (← c.self.view_is) (drained g.C.ClientPort.moves is_drain _ outlet view (λ n. refl) _ c.in_ok-count.count _ _ there c.in_ok-count.ensures.does refl)
 
 pub returns-clause-none : goal.returns-clause-none
 returns-clause-none g c = rw (← c.self.view_is) (drain_none _ _ _ c.in_ok-count.count c.in_ok-count.ensures.does)
 
 pub returns-then-not-may_drain-clause-none : goal.returns-then-not-may_drain-clause-none
-returns-then-not-may_drain-clause-none g c = undrained _ c.may_drain.result c.may_drain.ensures c.if-not-may_drain.true
+returns-then-not-may_drain-clause-none g c = undrained _ c.may_drain.result c.may_drain.ensures.may c.if-not-may_drain.true

@@ -13,4 +13,4 @@ pub returns-clause-posts : goal.returns-clause-posts
 returns-clause-posts g c = rw (← c.self.view_is) (turns_posts_fresh g.C.ClientPort.moves is_post (λ slot. refl) (λ batch. refl) (λ batch. refl) _ c.args.outlet.now c.post_fresh.new.outlet c.args.view.now c.post_fresh.new.view _ c.post_fresh.result c.self.invariant (rw (← c.self.view_is) at c.requires) c.post_fresh.ensures.posts)
 
 pub returns-clause-none : goal.returns-clause-none
-returns-clause-none g c = rw (← c.self.view_is) (posts_nothing _ _ c.args.outlet.now c.post_fresh.new.outlet c.args.view.now c.post_fresh.new.view c.post_fresh.result (rw (← c.self.view_is) at c.requires) c.post_fresh.ensures.posts c.post_fresh.ensures.full)
+returns-clause-none g c = rw (← c.self.view_is) (posts_nothing _ _ c.args.outlet.now c.post_fresh.new.outlet c.args.view.now c.post_fresh.new.view c.post_fresh.result (rw (← c.self.view_is) at c.requires) c.self.invariant.wants c.post_fresh.ensures.posts c.post_fresh.ensures.full)

@@ -1,6 +1,6 @@
 use Rattle.std.proofs.Common.{◌≡◌, rules, Err}
 use Rattle.proxy_turns.specs.ClientTurn.{is_read}
-use Rattle.proxy_turns.proofs.Going.{goes_then, turns_err}
+use Rattle.proxy_turns.proofs.Going.{goes_seen, goes_then, turns_err}
 use Rattle.proxy_turns.proofs.client_parts.ClientParts.read_all.Goals as goal
 
 pub returns-then-not-first-clause-reads : goal.returns-then-not-first-clause-reads
@@ -15,7 +15,10 @@ returns-in_err-read-clause-reads g c = λ outlet view.
     turns_err g.C.ClientPort.moves is_read _ _ _ _ _ _ _ (c.loop-count.invariant outlet view) (c.in_err-read.ensures.reads outlet view) is
 
 pub returns-then-not-read-clause-reads : goal.returns-then-not-read-clause-reads
-returns-then-not-read-clause-reads g c = λ outlet view. goes_then g.C.ClientPort.moves is_read _ _ _ _ _ (c.loop-count.invariant outlet view) (c.in_ok-read.ensures.reads outlet view)
+returns-then-not-read-clause-reads g c = λ outlet view. goes_seen g.C.ClientPort.moves is_read _ _ c.read-in-loop-count.new.self _ outlet view c.self.view_is (goes_then g.C.ClientPort.moves is_read _ _ _ _ _ (c.loop-count.invariant outlet view) (c.in_ok-read.ensures.reads outlet view))
+
+pub returns-clause-reads : goal.returns-clause-reads
+returns-clause-reads g c = λ outlet view. goes_seen g.C.ClientPort.moves is_read _ _ c.loop-count.self _ outlet view c.self-2.view_is (c.loop-count.invariant outlet view)
 
 pub loop-count-init : goal.loop-count-init
 loop-count-init g c = λ outlet view. rw c.if-not-first.false at (c.in_ok-first.ensures.reads outlet view)

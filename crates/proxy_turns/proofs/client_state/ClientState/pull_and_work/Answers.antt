@@ -1,7 +1,7 @@
 use Rattle.std.proofs.Common.{◌≡◌, ◌||◌, true, rules, Err, Ok}
 use Rattle.proxy_turns.specs.ClientRest.{IfStill, IsClientAtRest}
 use Rattle.proxy_turns.specs.ClientTurn.{is_pull, is_work}
-use Rattle.proxy_turns.proofs.ClientResting.{idle_of, idle_on, idle_rests, if_turned, three_still, worked_rests}
+use Rattle.proxy_turns.proofs.ClientResting.{idle_of, idle_on, idle_rests, if_turned, three_still, with_still, worked_rests}
 use Rattle.proxy_turns.proofs.Going.{goes_of, goes_seen, goes_then, goes_wider, turns_err_wider, turns_of}
 use Rattle.proxy_turns.proofs.EventKinds.{in_clients_turn, whatever}
 use Rattle.proxy_turns.proofs.client_state.ClientState.pull_and_work.Goals as goal
@@ -56,13 +56,13 @@ pub invariant_of-self-2 : goal.invariant_of-self-2
 invariant_of-self-2 g c = λ becomes.
     let quiet = c.becomes_idle-self-inside.ensures becomes in
     let rests : IfStill (Ok ((c.in_ok-pulled.pulled || c.in_ok-worked.worked) || c.in_ok-more.more)) (IsClientAtRest g.C.ClientPort.gives_none g.C.ClientPort.takes_none c.pull-2.new.self c.work.new.outlet) =
-    three_still c.in_ok-pulled.pulled c.in_ok-worked.worked c.in_ok-more.more c.in_ok-pulled.ensures.none c.in_ok-worked.ensures.none c.in_ok-more.ensures.none
-    (worked_rests g.C.ClientPort.takes_none g.C.ClientPort.gives_none _ c.forget_asked-is_asked_again.result _ _ _ _ _ _ c.forget_asked-is_asked_again.ensures.same c.forget_asked-is_asked_again.ensures.again
-    c.forget_asked-is_asked_again.ensures.is_again) in
+    three_still c.in_ok-pulled.pulled c.in_ok-worked.worked c.in_ok-more.more c.in_ok-pulled.ensures.none (with_still _ c.in_ok-worked.worked c.in_ok-worked.ensures.none) c.in_ok-more.ensures.none
+    (λ pulls works more. worked_rests g.C.ClientPort.takes_none g.C.ClientPort.gives_none _ c.forget_asked-is_asked_again.result _ _ _ _ _ _ c.forget_asked-is_asked_again.ensures.same c.forget_asked-is_asked_again.ensures.again
+    (λ held. c.forget_asked-is_asked_again.ensures.is_again held works.1) pulls works.0 more) in
     idle_of g.C.ClientPort.takes_none g.C.ClientPort.gives_none _ c.work.new.outlet (if_turned _ rests quiet.0) (c.is_quiet.ensures quiet.1)
 
 pub returns-clause-rests : goal.returns-clause-rests
 returns-clause-rests g c =
-    three_still c.in_ok-pulled.pulled c.in_ok-worked.worked c.in_ok-more.more c.in_ok-pulled.ensures.none c.in_ok-worked.ensures.none c.in_ok-more.ensures.none
-    (worked_rests g.C.ClientPort.takes_none g.C.ClientPort.gives_none _ c.forget_asked-is_asked_again.result _ _ _ _ _ _ c.forget_asked-is_asked_again.ensures.same c.forget_asked-is_asked_again.ensures.again
-    c.forget_asked-is_asked_again.ensures.is_again)
+    three_still c.in_ok-pulled.pulled c.in_ok-worked.worked c.in_ok-more.more c.in_ok-pulled.ensures.none (with_still _ c.in_ok-worked.worked c.in_ok-worked.ensures.none) c.in_ok-more.ensures.none
+    (λ pulls works more. worked_rests g.C.ClientPort.takes_none g.C.ClientPort.gives_none _ c.forget_asked-is_asked_again.result _ _ _ _ _ _ c.forget_asked-is_asked_again.ensures.same c.forget_asked-is_asked_again.ensures.again
+    (λ held. c.forget_asked-is_asked_again.ensures.is_again held works.1) pulls works.0 more)

@@ -49,6 +49,6 @@ pub invariant_of-self-2 : goal.invariant_of-self-2
 invariant_of-self-2 g c = record {
   ports_fit = c.put_new.ensures.ports_fit;
   due_known = still_noted (clients_in c.args.self.now.clients.entries) (clients_in c.put_new.new.clients.entries) c.args.self.now.due
-      (came_new g.C.ClientPort.moves (clients_in c.args.self.now.clients.entries) (clients_in c.make_room.new.clients.entries) (clients_in c.put_new.new.clients.entries) c.make_room.new.ports.items c.put_new.new.ports.items _ _ _ _ c.new-client.result
+      (came_new g.C.ClientPort.moves c.args.self.now.workers c.args.self.now.worker (clients_in c.args.self.now.clients.entries) (clients_in c.make_room.new.clients.entries) (clients_in c.put_new.new.clients.entries) c.make_room.new.ports.items c.put_new.new.ports.items _ _ _ _ c.new-client.result
       c.make_room.ensures.clients (ap (λ (x : ClientModel _). x.commands.posted) c.new-client.ensures) c.put_new.ensures.puts) c.args.self.now.due_known;
 }

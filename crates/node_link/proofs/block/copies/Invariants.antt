@@ -1,0 +1,11 @@
+use Rattle.std.proofs.Common.{◌≡◌, ◌≤◌, ◌-◌, length, replicate}
+use Rattle.node_link.proofs.block.copies.Given as goal
+
+abbrev pub invariant-loop-alloc : goal.invariant-loop-alloc
+invariant-loop-alloc l = record {
+  same : l.copies.items ≡ replicate (length l.copies.items) l.value;
+  few : length l.copies.items ≤ l.count;
+}
+
+abbrev pub decreases-loop-alloc : goal.decreases-loop-alloc
+decreases-loop-alloc l = l.count - length l.copies.items

@@ -1,0 +1,43 @@
+-- What it means that a port over bytes gives no value: its stream was read and is not gone, and nothing whole waits in what
+-- came.
+use Rattle.std.specs.Prelude.{◌≡◌, ◌⊎◌, ⊤, ◌∷◌, Bool, true, false, Option, Some, None, Result, Ok, Err}
+use Rattle.resp_wire.specs.Front.{front, Partial}
+use Rattle.resp_wire.specs.ReaderModel.{ReaderModel}
+use Rattle.resp_wire.specs.declared.value.Value.{Value}
+use Rattle.node_link.specs.declared.link.Due.TheVariants as due
+use Rattle.node_link.specs.declared.link.Got.{Got}
+use Rattle.node_link.specs.declared.link.LinkFault.{LinkFault}
+use Rattle.node_link.specs.declared.port.PortFault.{PortFault}
+use Rattle.node_link.specs.declared.stream.Flow.{Flow}
+use Rattle.node_link.specs.declared.stream.Flow.TheVariants as flow
+use Rattle.node_link.specs.Bytes.{BytePortModel}
+use Rattle.node_link.specs.LinkModel.{LinkModel}
+
+-- the port was asked for a value and gave none
+abbrev pub GaveNone : Result (Option Value) PortFault → Type 0
+GaveNone (Ok None) = ⊤
+GaveNone (Ok (Some value)) = ⊥
+GaveNone (Err fault) = ⊥
+
+-- what was read begins with less than a value
+abbrev pub IsWaiting : ReaderModel → Type 0
+IsWaiting input = front input.bounds input.unread ≡ Partial
+
+abbrev pub is_gone : Flow → Bool
+is_gone (flow.Bytes count) = false
+is_gone flow.Nothing = false
+is_gone flow.Gone = true
+
+-- the last call on the stream was a read, and it did not say that the stream failed or ended
+abbrev pub WasRead : {S : Type 0} → (S → Flow → S → Type 0) → S → Type 0
+WasRead {S} asked stream = (before : S) × (given : Flow) × asked before given stream × (is_gone given ≡ false)
+
+-- what a port that gave none is left with
+abbrev pub GivesNone : {S : Type 0} → (S → Flow → S → Type 0) → BytePortModel S → Type 0
+GivesNone asked port = IsWaiting port.input × WasRead asked port.stream
+
+-- where nothing was received, the reply to ASKING came, or the port gave none
+abbrev pub ReceivesNone : {P : Type 0} → (P → Type 0) → LinkModel P → Result (Option Got) LinkFault → LinkModel P → Type 0
+ReceivesNone gives_none old (Ok None) new = (old.due ≡ due.Asking ∷ new.due) ⊎ gives_none new.port
+ReceivesNone gives_none old (Ok (Some got)) new = ⊤
+ReceivesNone gives_none old (Err fault) new = ⊤

@@ -1,0 +1,39 @@
+//! What the clients of a worker share: a buffer, and how much is held for all of them together.
+
+use crate::client_limits::MAX_TOGETHER;
+use std::alloc::Global;
+
+/// A buffer that goes from client to client, and the sum of what is held for them.
+#[derive(Drop)]
+pub(crate) struct SharedRoom {
+    pub(crate) piece: Vec<u8>,
+    // For the clients that had their turn in this round, and for all in the one before.
+    bytes: usize,
+    bytes_before: usize,
+}
+
+impl SharedRoom {
+    pub(crate) fn new(alloc: Global) -> SharedRoom {
+        SharedRoom {
+            piece: Vec::new(alloc),
+            bytes: 0,
+            bytes_before: 0,
+        }
+    }
+
+    /// Each client has one more turn.
+    pub(crate) fn begin_round(&mut self) {
+        self.bytes_before = self.bytes;
+        self.bytes = 0;
+    }
+
+    /// So many bytes are held for the client that has its turn.
+    pub(crate) fn count(&mut self, bytes: usize) {
+        self.bytes = self.bytes.saturating_add(bytes);
+    }
+
+    /// Whether so much is held that no client has more than its oldest request under way.
+    pub(crate) fn is_crowded(&self) -> bool {
+        self.bytes.max(self.bytes_before) > MAX_TOGETHER
+    }
+}

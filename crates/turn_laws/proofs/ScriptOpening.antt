@@ -1,0 +1,206 @@
+-- The start of the script, how the carrier reaches the first node, and a move that is called back.
+use Rattle.std.proofs.Common.{◌≡◌, inl, inr, ℕ, zero, suc, Bool, true, false, List, [], ◌∷◌, Some, None, Ok, refl, sym, ap, ◌∙◌, subst, arith, length}
+use Rattle.std.specs.Prelude.{slice_get, All, map, Option, IsSome, unwrap_or}
+use Rattle.std.specs.List.{FoldsTo}
+use Rattle.std.specs.FinMap.{empty, get-empty}
+use Rattle.std.specs.Ordering.{nat_cmp}
+use Rattle.std.specs.Cmp.Lexicographic.{slice_cmp}
+use Rattle.resp_wire.specs.declared.value.Value.TheVariants.{Array}
+use Rattle.key_split.specs.Requests.{Slots}
+use Rattle.slot_map.specs.Table.{Endpoint}
+use Rattle.node_model.specs.Nodes.{ClusterModel}
+use Rattle.world_laws.specs.Headline.{IsNew}
+use Rattle.node_link.specs.declared.link.Due.TheVariants as due
+use Rattle.proxy_lanes.specs.declared.ends.lane_ends.LaneEnds.{LaneEnds}
+use Rattle.proxy_turns.specs.declared.newcomer.Newcomer.{Newcomer}
+use Rattle.proxy_turns.specs.declared.backend.Backend.{Backend}
+use Rattle.proxy_turns.specs.Backend.{new_backend}
+use Rattle.proxy_turns.specs.PendingBatch.{no_pending_batch}
+use Rattle.proxy_turns.specs.WorkerModel.{WorkerModel}
+use Rattle.proxy_turns.specs.CarrierModel.{CarrierModel}
+use Rattle.world_laws.specs.State.{WorldModel, slot_for}
+use Rattle.world_laws.specs.Places.{tally, asks}
+use Rattle.world_laws.specs.World.{NoneAsks}
+use Rattle.world_laws.specs.declared.state.Arrival.{Arrival}
+use Rattle.turn_laws.specs.Wire.{Wire, new_wire, Nothing}
+use Rattle.turn_laws.specs.System.{System, IsInStep, between}
+use Rattle.turn_laws.specs.Shadow.{IsShadow, AreApart, DownInStep, arrived_in, down_in}
+use Rattle.turn_laws.specs.Steps.{SystemStep}
+use Rattle.turn_laws.specs.Refines.{IsStart}
+use Rattle.turn_laws.specs.Scripts as script
+use Rattle.turn_laws.proofs.AtLanes.{nothing-there}
+use Rattle.turn_laws.proofs.Rings.{takes-none}
+use Rattle.turn_laws.proofs.Scenes.{scene, at-worker, at-carrier, down-in}
+use Rattle.turn_laws.proofs.ScriptFacts.{table, new, k0, k1, k2, k3, k4, k5}
+use Rattle.turn_laws.proofs.ScriptStates.{lane, carrier, worker, wire, link}
+
+-- the one item of a list
+pub only-one : {X : Type 0} (P : ℕ → X → Type 0) (x : X) → P 0 x → (k : ℕ) (y : X) → slice_get (x ∷ []) k ≡ Some y → P k y
+only-one P x h zero y e = subst (P 0) (ap (λ o. unwrap_or o x) e) h
+only-one P x h (suc k) y e = absurd (nothing-there k y e)
+
+pub apart : AreApart table
+apart zero zero at e f = refl
+apart zero (suc zero) at e f = absurd (omega (arith, ap (λ (o : Option Endpoint). (unwrap_or o at).port) (e ∙ sym f)))
+apart (suc zero) zero at e f = absurd (omega (arith, ap (λ (o : Option Endpoint). (unwrap_or o at).port) (e ∙ sym f)))
+apart (suc zero) (suc zero) at e f = refl
+apart zero (suc (suc j)) at e f = absurd (nothing-there j at f)
+apart (suc zero) (suc (suc j)) at e f = absurd (nothing-there j at f)
+apart (suc (suc i)) j at e f = absurd (nothing-there i at e)
+
+-- where nothing was seen, no command arrived
+no-commands : (xs : List Arrival) {Y : Type 0} (f : Arrival → Y) → [] ≡ map f xs → xs ≡ []
+no-commands [] f e = refl
+no-commands (x ∷ xs) f e = absurd (omega (arith, ap length e))
+
+none-asks : {C J : Type 0} (s : System C J) (slot target : ℕ) → s.log ≡ [] → (w : WorldModel) → IsShadow s w → NoneAsks w slot target
+none-asks s slot target e w h =
+    let arrived = ap (λ l. arrived_in h.log.clock 0 l) (sym e) ∙ h.log.arrived in
+    subst (All (λ (c : Arrival). slot_for c.command.part ≡ slot → tally (asks target c.command.ticket) w ≡ 0)) (sym (no-commands w.commands _ arrived)) (λ i x lt. absurd (omega arith))
+
+-- the backend of the first node, while it is asked for CLUSTER SLOTS
+abbrev b1 : Backend Wire
+b1 = record new_backend { link = Some (link 0 (new_wire 0 0) []); asked = false }
+
+abbrev b2 : Backend Wire
+b2 = record b1 { to_ask = true }
+
+abbrev b3 : Backend Wire
+b3 = record b1 { link = Some (link 0 (wire 0 (Slots ∷ []) [] false) (due.Slots ∷ [])); asked = true }
+
+abbrev b4 : Backend Wire
+b4 = record b1 { link = Some (link 0 (wire 0 [] (Array [] ∷ []) false) (due.Slots ∷ [])); asked = true }
+
+abbrev b5 : Backend Wire
+b5 = record b1 { answer = Some (Array []) }
+
+abbrev b6 : Backend Wire
+b6 = record b1 { changes = Some [] }
+
+module _ {C J : Type 0} (port : C) where
+  abbrev pub w0 : WorkerModel C J
+  w0 = worker empty None [] [] [] 0
+
+  abbrev pub l0 : LaneEnds (Newcomer C J)
+  l0 = lane port [] []
+
+  abbrev c0 : List (Backend Wire) → Bool → CarrierModel (Newcomer C J) Wire
+  c0 backends seed = carrier l0 (no_pending_batch ∷ []) backends seed
+
+  abbrev pub s0 : System C J
+  s0 = scene w0 (carrier l0 [] [] true) [] 0 k0 []
+
+  pub starts-in : (k : ClusterModel) → IsNew k → IsStart (scene w0 (carrier l0 [] [] true) [] 0 k [])
+  starts-in k is-new = record {
+    idle = only-one (λ k model. ((model.worker, model.workers) ≡ (k, 1)) × (model.clients ≡ empty)) w0 (refl, refl);
+    ups = λ k model l p q.
+        only-one (λ k model. (between model.outlet l.up ≡ []) × (down_in l.down model.inlet ≡ [])) w0
+        (only-one (λ k l. (between w0.outlet l.up ≡ []) × (down_in l.down w0.inlet ≡ [])) l0 (refl, refl) k l q) k model p;
+    sides = refl;
+    up_steps = λ k model l p q.
+        only-one (λ k model. IsInStep model.outlet l.up) w0
+        (only-one (λ k l. IsInStep w0.outlet l.up) l0 ([], refl) k l q) k model p;
+    down_steps = λ k model l p q.
+        only-one (λ k model. DownInStep l model) w0
+        (only-one (λ k l. DownInStep l w0) l0 (down-in l0 w0 _ refl ([], refl)) k l q) k model p;
+    unfinished = only-one (λ k l. IsSome l.down) l0 refl;
+    pending_batches = refl;
+    backends = refl;
+    apart = apart;
+    closed = refl;
+    log = refl;
+    new = is-new;
+  }
+
+  pub starts : IsStart s0
+  starts = starts-in k0 new
+
+  -- after the opening
+  abbrev pub s1 : System C J
+  s1 = scene w0 (c0 (b1 ∷ new_backend ∷ []) false) [] 1 k0 []
+
+  pub opens : FoldsTo SystemStep s0 script.opening s1
+  opens = (
+    s0,
+    at-worker l0 [] refl (takes-none [], refl) refl (down-in l0 w0 _ refl ([], refl)) tt,
+    (
+      s0,
+      at-worker l0 [] refl (takes-none [], refl) refl (down-in l0 w0 _ refl ([], refl)) tt,
+      (
+        scene w0 (c0 [] true) [] 0 k0 [],
+        at-carrier l0 refl tt refl ([], refl) refl,
+        (
+          scene w0 (c0 (new_backend ∷ []) true) [] 0 k0 [],
+          at-carrier l0 refl (refl, tt) refl ([], refl) refl,
+          (
+            scene w0 (c0 (new_backend ∷ new_backend ∷ []) true) [] 0 k0 [],
+            at-carrier l0 refl (refl, (refl, tt)) refl ([], refl) refl,
+            (
+              scene w0 (c0 (b1 ∷ new_backend ∷ []) true) [] 1 k0 [],
+              at-carrier l0 (0, new_backend, _, new_wire 0 0, refl, refl, refl, (0, refl, refl), refl) (refl, (refl, tt)) refl ([], refl) refl,
+              (
+                scene w0 (c0 (b2 ∷ new_backend ∷ []) false) [] 1 k0 [],
+                at-carrier l0 (b1, refl, refl, refl) (refl, (refl, tt)) refl ([], refl) refl,
+                (
+                  scene w0 (c0 (b3 ∷ new_backend ∷ []) false) [] 1 k0 [],
+                  at-carrier l0 (0, b2, b3, refl, (link 0 (new_wire 0 0) [], link 0 (wire 0 (Slots ∷ []) [] false) (due.Slots ∷ []), refl, refl, refl, (Ok tt, refl, (λ e. absurd (cc)), (refl, (refl, refl), refl)), refl), refl) (refl, (refl, tt)) refl ([], refl) refl,
+                  (
+                    scene w0 (c0 (b4 ∷ new_backend ∷ []) false) [] 1 k0 [],
+                    (b3, link 0 (wire 0 (Slots ∷ []) [] false) (due.Slots ∷ []), wire 0 [] (Array [] ∷ []) false, Array [], Nothing, refl, refl, refl, inr (inr ([], refl, refl, refl, refl)), refl, refl),
+                    (
+                      scene w0 (c0 (b5 ∷ new_backend ∷ []) false) [] 1 k0 [],
+                      at-carrier l0 (0, b4, b5, refl, (link 0 (wire 0 [] (Array [] ∷ []) false) (due.Slots ∷ []), link 0 (new_wire 0 0) [], Array [], refl, (refl, (refl, inr (refl, (refl, refl)), refl, refl, refl)), refl), refl) (refl, (refl, tt)) refl ([], refl) refl,
+                      (
+                        scene w0 (c0 (b6 ∷ new_backend ∷ []) false) [] 1 k0 [],
+                        at-carrier l0 (0, b5, b6, refl, (link 0 (new_wire 0 0) [], Array [], record { ops = []; table = table }, refl, refl, refl, refl, refl), refl) (refl, (refl, tt)) refl ([], refl) refl,
+                        (
+                          s1,
+                          at-carrier l0 (0, b6, b1, refl, ([], refl, refl), refl) (refl, (refl, tt)) refl ([], refl) refl,
+                          (
+                            s1,
+                            at-carrier l0 (0, b1, b1, refl, refl, refl) (refl, (refl, tt)) refl ([], refl) refl,
+                            (
+                              s1,
+                              at-carrier l0 (refl, inl (0, b1, refl, (refl, refl))) (refl, (refl, tt)) refl ([], refl) refl,
+                              refl,
+                            ),
+                          ),
+                        ),
+                      ),
+                    ),
+                  ),
+                ),
+              ),
+            ),
+          ),
+        ),
+      ),
+    ),
+  )
+
+  -- after the moves
+  abbrev pub s2 : System C J
+  s2 = scene w0 (c0 (b1 ∷ new_backend ∷ []) false) [] 1 k5 []
+
+  pub moves : FoldsTo SystemStep s1 script.moving s2
+  moves = (
+    scene w0 s1.carrier [] 1 k1 [],
+    ((none-asks s1 1 1 refl, (refl, omega arith, λ e. absurd (omega (arith, e))), refl), refl),
+    (
+      scene w0 s1.carrier [] 1 k2 [],
+      ((refl, refl), refl),
+      (
+        scene w0 s1.carrier [] 1 k3 [],
+        (((refl, λ q e. get-empty (slice_cmp nat_cmp) q), refl), refl),
+        (
+          scene w0 s1.carrier [] 1 k4 [],
+          ((refl, refl), refl),
+          (
+            s2,
+            ((none-asks (scene w0 s1.carrier [] 1 k4 []) 1 1 refl, (refl, omega arith, λ e. absurd (omega (arith, e))), refl), refl),
+            refl,
+          ),
+        ),
+      ),
+    ),
+  )

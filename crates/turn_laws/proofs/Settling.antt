@@ -1,0 +1,79 @@
+-- Takings empty what came down, whatever came.
+use Rattle.std.proofs.Common.{◌≡◌, ℕ, ◌==◌, Bool, true, false, List, [], ◌∷◌, ◌++◌, Some, refl, sym, ap, ◌∙◌, subst, arith}
+use Rattle.std.specs.Prelude.{slice_get, slice_set, remove, if◌then◌else◌}
+use Rattle.std.specs.List.{position_from}
+use Rattle.std.proofs.lemmas.Iterator.Adapters.{position_from-zero}
+use Rattle.std.proofs.lemmas.Bool.Decides.{nat_tests}
+use Rattle.key_split.specs.declared.travel.Ticket.{Ticket}
+use Rattle.key_split.specs.declared.travel.Told.{Told}
+use Rattle.world_laws.specs.State.{WorldModel, after_told, start}
+use Rattle.world_laws.specs.declared.state.Arrival.{Arrival}
+use Rattle.world_laws.specs.World.{WorldDoes, IsFirst, IsOf}
+use Rattle.world_laws.specs.declared.event.Event.{Event}
+use Rattle.world_laws.specs.declared.event.Event.TheVariants.{Take}
+use Rattle.world_laws.proofs.Placed.{Placed}
+use Rattle.world_laws.proofs.Lives.{ticket-is}
+use Rattle.world_laws.proofs.Allowed.{awaited, found, down-here, ticked as placed-ticked}
+use Rattle.world_laws.proofs.Runs.{Sound, does-sound}
+use Rattle.turn_laws.specs.Walks.{ticked, Walk}
+use Rattle.turn_laws.specs.Settling.{Tells, TellsAll, Settles, Settling, SettlingAfter}
+use Rattle.turn_laws.proofs.Walks.{walked-sound, walks_join}
+
+-- the first passes
+at-front : {X : Type 0} (p : X → Bool) (x : X) (xs : List X) → p x ≡ true → IsFirst p (x ∷ xs) 0 x
+at-front {X} p x xs e = (position_from-zero p (x ∷ xs) ∙ go (p x) e, refl)
+  where
+    go : (b : Bool) → b ≡ true → (if b then Some 0 else position_from p 1 xs) ≡ Some 0
+    go true e = refl
+    go false e = absurd (cc)
+
+pub same_number : (n : ℕ) → (n == n) ≡ true
+same_number n = grind (arith, nat_tests)
+
+-- the first of what came down is taken
+taken : (w : WorldModel) → Sound w → (p : Ticket × Told) (ps : List (Ticket × Told)) → w.downs ≡ p ∷ ps
+    → (commands : List Arrival) × Tells w.commands p commands
+    × WorldDoes (ticked w) (Take p.0.worker) (record (ticked w) { downs = ps; commands = commands })
+taken w s p ps e =
+    let h : Placed (ticked w) = placed-ticked w s.placed in
+    let at : slice_get w.downs 0 ≡ Some p = ap (λ (xs : List (Ticket × Told)). slice_get xs 0) e in
+    let a = awaited (ticked w) h p.0 (omega (arith, h.place p.0, down-here (ticked w) 0 p.0 p.1 at)) in
+    let o = found (ticked w) h p.0 a.0 a.1 a.2 a.4 in
+    let same : (a.1).command.ticket ≡ p.0 = ticket-is p.0 (a.1).command.ticket a.4 in
+    let front : IsFirst (λ (x : Ticket × Told). x.0.worker == p.0.worker) w.downs 0 p =
+    subst (λ xs. IsFirst (λ (x : Ticket × Told). x.0.worker == p.0.worker) xs 0 p) (sym e) (at-front (λ (x : Ticket × Told). x.0.worker == p.0.worker) p ps (same_number p.0.worker)) in
+    let gone : remove w.downs 0 ≡ ps = ap (λ (xs : List (Ticket × Told)). remove xs 0) e ∙ refl in (
+      slice_set w.commands o.0 (after_told a.1 p.1),
+      (o.0, a.1, o.1, same, a.3, refl),
+      (
+        0,
+        o.0,
+        a.1,
+        p.1,
+        subst (λ (u : Ticket). IsFirst (λ (x : Ticket × Told). x.0.worker == p.0.worker) w.downs 0 (u, p.1)) (sym same) front,
+        subst (λ (u : Ticket). IsOf u w.commands o.0 a.1) (sym same) o.1,
+        a.3,
+        λ i. record (ticked w) { downs = sym gone i; commands = slice_set w.commands o.0 (after_told a.1 p.1) },
+      ),
+    )
+
+settled : (ps : List (Ticket × Told)) (w : WorldModel) → Sound w → w.downs ≡ ps
+    → (events : List Event) × (w' : WorldModel) × Walk w events w'
+    × ((commands : List Arrival) × (moment : ℕ) × TellsAll w.commands ps commands × (w' ≡ record w { commands = commands; downs = []; moment = moment }))
+settled [] w s e = ([], w, refl, (w.commands, w.moment, refl, λ i. record w { downs = e i }))
+settled (p ∷ ps) w s e =
+    let t = taken w s p ps e in
+    let mid : WorldModel = record (ticked w) { downs = ps; commands = t.0 } in
+    let r = settled ps mid (does-sound (Take p.0.worker) w mid s t.2) refl in
+    (Take p.0.worker ∷ r.0, r.1, (mid, t.2, r.2), (r.3.0, r.3.1, (t.0, t.1, r.3.2), r.3.3))
+
+pub settles : (w : WorldModel) → Sound w → (events : List Event) × (w' : WorldModel) × Walk w events w' × Settles w w'
+settles w s = settled w.downs w s refl
+
+pub settling : Settling
+settling w h = settles w (walked-sound w h)
+
+pub settling-after : SettlingAfter
+settling-after w mid event h d =
+    let r = settles mid (does-sound event w mid (walked-sound w h) d) in
+    (r.0, r.1, (mid, d, r.2), r.3, (h.0, h.1, h.2, h.3 ++ event ∷ r.0, h.4, walks_join h.3 (event ∷ r.0) (start h.0 h.1 h.2) w r.1 h.5 (mid, d, r.2)))

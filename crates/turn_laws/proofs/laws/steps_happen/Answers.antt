@@ -1,0 +1,13 @@
+use Rattle.turn_laws.proofs.FullLane.{given-back}
+use Rattle.turn_laws.proofs.LossParting as loss
+use Rattle.turn_laws.proofs.ScriptGetting as move
+use Rattle.turn_laws.proofs.laws.steps_happen.Goals as goal
+
+pub returns-clause-moves : goal.returns-clause-moves
+returns-clause-moves g c = λ port. move.happens port c.front_is_whole.ensures
+
+pub returns-clause-loses : goal.returns-clause-loses
+returns-clause-loses g c = λ port. loss.happens port c.front_is_whole.ensures
+
+pub returns-clause-gives_back : goal.returns-clause-gives_back
+returns-clause-gives_back g c = λ port. given-back port

@@ -1,0 +1,68 @@
+-- Each run of the system is a run of the machine: the headline holds of what the code does.
+use Rattle.std.specs.Prelude.{◌≡◌, ℕ, List, [], length, slice_get, Some, IsSome}
+use Rattle.std.specs.List.{FoldsTo}
+use Rattle.std.specs.FinMap.{empty}
+use Rattle.node_model.specs.declared.role.Verdict.{Verdict}
+use Rattle.proxy_lanes.specs.declared.ends.lane_ends.LaneEnds.{LaneEnds}
+use Rattle.proxy_turns.specs.declared.newcomer.Newcomer.{Newcomer}
+use Rattle.proxy_turns.specs.WorkerModel.{WorkerModel, WorkerEvent}
+use Rattle.world_laws.specs.State.{WorldModel}
+use Rattle.world_laws.specs.Headline.{Headline, IsNew}
+use Rattle.world_laws.specs.declared.event.Event.{Event}
+use Rattle.turn_laws.specs.Walks.{Walk, IsWalked}
+use Rattle.turn_laws.specs.System.{System, between, IsInStep}
+use Rattle.turn_laws.specs.Shadow.{IsShadow, AreApart, down_in, DownInStep, seat_of}
+use Rattle.proxy_turns.specs.CarrierModel.{CarrierEvent}
+use Rattle.turn_laws.specs.Steps.{SystemEvent, AtWorker, AtCarrier, AtNode, AtBroken, Thrown, Moved, SystemStep}
+
+-- nothing has happened: no clients, empty lanes, no backends, settled slots and no keys
+pub record IsStart {C J : Type 0} (s : System C J) : Type 0 where
+  pub idle : (k : ℕ) (model : WorkerModel C J) → slice_get s.workers k ≡ Some model → (seat_of model ≡ (k, length s.workers)) × (model.clients ≡ empty)
+  pub ups : (k : ℕ) (model : WorkerModel C J) (lane : LaneEnds (Newcomer C J)) → slice_get s.workers k ≡ Some model → slice_get s.carrier.lanes k ≡ Some lane
+      → (between model.outlet lane.up ≡ []) × (down_in lane.down model.inlet ≡ [])
+  pub sides : length s.workers ≡ length s.carrier.lanes
+  pub up_steps : (k : ℕ) (model : WorkerModel C J) (lane : LaneEnds (Newcomer C J)) → slice_get s.workers k ≡ Some model → slice_get s.carrier.lanes k ≡ Some lane → IsInStep model.outlet lane.up
+  pub down_steps : (k : ℕ) (model : WorkerModel C J) (lane : LaneEnds (Newcomer C J)) → slice_get s.workers k ≡ Some model → slice_get s.carrier.lanes k ≡ Some lane → DownInStep lane model
+  -- no lane to a worker is finished
+  pub unfinished : (k : ℕ) (lane : LaneEnds (Newcomer C J)) → slice_get s.carrier.lanes k ≡ Some lane → IsSome lane.down
+  pub pending_batches : s.carrier.pending_batches ≡ []
+  pub backends : s.carrier.backends ≡ []
+  -- the table has no endpoint twice
+  pub apart : AreApart s.carrier.nodes
+  pub closed : s.closed ≡ []
+  pub log : s.log ≡ []
+  pub new : IsNew s.cluster
+
+module _ (C J : Type 0) where
+  -- one step of the system is some events of the machine
+  abbrev pub Simulates : SystemEvent → Type 0
+  Simulates event = (s s' : System C J) (w : WorldModel) → IsShadow s w → IsWalked w → SystemStep s event s'
+      → (events : List Event) × (w' : WorldModel) × Walk w events w' × IsShadow s' w'
+
+  -- what the carrier does
+  abbrev pub CarrierRefines : Type 0
+  CarrierRefines = (event : CarrierEvent) → Simulates (AtCarrier event)
+
+  -- what a worker does
+  abbrev pub WorkersRefine : Type 0
+  WorkersRefine = (k : ℕ) (event : WorkerEvent) → Simulates (AtWorker k event)
+
+  -- the steps of a move, and requests of a broken connection that are thrown away
+  abbrev pub MovesRefine : Type 0
+  MovesRefine = (event : Event) → Simulates (Moved event)
+
+  abbrev pub ThrownRefine : Type 0
+  ThrownRefine = (j : ℕ) → Simulates (Thrown j)
+
+  -- a node serves the next request of a connection that works, or of one that broke
+  abbrev pub NodesRefine : Type 0
+  NodesRefine = ((k : ℕ) (verdict : Verdict) → Simulates (AtNode k verdict)) × ((j : ℕ) (verdict : Verdict) → Simulates (AtBroken j verdict))
+
+  -- a system that has done nothing stands for a world of the machine
+  abbrev pub StartsRefine : Type 0
+  StartsRefine = (s : System C J) → IsStart s → (w : WorldModel) × IsWalked w × IsShadow s w
+
+  -- whatever the system does from its start, the machine may do, and the headline holds of it
+  abbrev pub Refines : Type 0
+  Refines = (s s' : System C J) (events : List SystemEvent) → IsStart s → FoldsTo SystemStep s events s'
+      → (w : WorldModel) × IsWalked w × IsShadow s' w × Headline w

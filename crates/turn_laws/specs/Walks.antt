@@ -1,0 +1,24 @@
+-- Schedules of the machine without a bound on their number of events: one event of the code may be several of the machine.
+use Rattle.std.specs.Prelude.{◌≡◌, ℕ, ◌+◌, List, [], ◌∷◌}
+use Rattle.node_model.specs.Nodes.{ClusterModel}
+use Rattle.world_laws.specs.State.{WorldModel, start}
+use Rattle.world_laws.specs.World.{WorldDoes}
+use Rattle.world_laws.specs.Headline.{Headline, IsNew}
+use Rattle.world_laws.specs.declared.event.Event.{Event}
+
+-- the moment counts one event more
+abbrev pub ticked : WorldModel → WorldModel
+ticked w = record w { moment = w.moment + 1 }
+
+-- these events, one after another
+abbrev pub Walk : WorldModel → List Event → WorldModel → Type 0
+Walk w [] w' = w' ≡ w
+Walk w (e ∷ es) w' = (mid : WorldModel) × WorldDoes (ticked w) e mid × Walk mid es w'
+
+-- a world to which events lead, from settled slots and no keys
+abbrev pub IsWalked : WorldModel → Type 0
+IsWalked w = (workers : ℕ) × (run_limit : ℕ) × (cluster : ClusterModel) × (events : List Event) × IsNew cluster × Walk (start workers run_limit cluster) events w
+
+-- the headline holds after all of them
+abbrev pub EveryWalk : Type 0
+EveryWalk = (w : WorldModel) → IsWalked w → Headline w

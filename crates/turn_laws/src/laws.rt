@@ -1,0 +1,85 @@
+//! Laws that join the turns of workers and carrier to the machine's events. Each is the contract of a function that does nothing.
+
+ghost use Rattle.turn_laws.specs.Walks.{EveryWalk};
+ghost use Rattle.turn_laws.specs.Settling.{Settling, SettlingAfter};
+ghost use Rattle.turn_laws.specs.AnyPort.{AnyClients, AnyClientTurns, AnyPorts, WiresStand};
+ghost use Rattle.turn_laws.specs.Scripts.{GivesBack, LosesCommands, MovesUnderUse};
+ghost use Rattle.turn_laws.specs.Refines.{CarrierRefines, MovesRefine, NodesRefine, Refines, StartsRefine, ThrownRefine, WorkersRefine};
+
+use crate::wired_port::WiredPort;
+use key_split::laws::parts_of_plans_are_plain;
+use proxy_lanes::Naming;
+use proxy_turns::{ClientPort, Dial};
+use resp_wire::laws::front_is_whole;
+
+/// The headline holds after every schedule, however many events it has.
+pub fn every_walk()
+    ensures { EveryWalk }
+{}
+
+/// What came down to the workers can be told to its commands at once.
+pub fn settles_at_once()
+    ensures at_once { Settling }
+    ensures after { SettlingAfter }
+{}
+
+/// A system that has done nothing stands for a world of the machine.
+pub fn starts_refine<C: Drop, J: Naming>()
+    ensures { StartsRefine C J }
+{}
+
+/// Each event of the carrier is some events of the machine: what comes down is told at once.
+pub fn carrier_refines<C: Drop, J: Naming>()
+    ensures { CarrierRefines C J }
+{}
+
+/// Each event of a worker is some events of the machine: a request that is read is an arrival for each of its parts, a command that is
+/// posted is a run of one, and replies that are drained are an answer for each of their parts. It does not see the other events.
+pub fn workers_refine<C: Drop, J: Naming>()
+    ensures { WorkersRefine C J }
+{
+    parts_of_plans_are_plain();
+}
+
+/// Each step of a move is the machine's, and throwing away a broken connection's requests is none.
+pub fn moves_refine<C: Drop, J: Naming>()
+    ensures moves { MovesRefine C J }
+    ensures thrown { ThrownRefine C J }
+{}
+
+/// What a node serves of a connection, or of a broken one, is the machine's, but for CLUSTER SLOTS, which it does not see.
+pub fn nodes_refine<C: Drop, J: Naming>()
+    ensures { NodesRefine C J }
+{}
+
+/// What a worker does over clients of any kind is what a worker of the system may do.
+pub fn any_client<C: ClientPort + Drop, J: Naming>()
+    ensures events { AnyClients C J C.moves }
+    ensures turns { AnyClientTurns C J C.moves }
+{}
+
+/// What a carrier does over ports that stand for wires is, over these wires, what the carrier of the system may do.
+pub fn any_port<H: Drop, P: WiredPort, D: Dial<Port = P>>()
+    ensures { AnyPorts P.wired H P.failures P.is_garbled P.exchange P.gives_none D.opens }
+{}
+
+/// What `any_port` asks of ports can be had.
+pub fn wires_stand()
+    ensures { WiresStand }
+{}
+
+/// Each run of the system is a run of the machine, and the headline holds of it.
+pub fn refines<C: Drop, J: Naming>()
+    ensures { Refines C J }
+{
+    parts_of_plans_are_plain();
+}
+
+/// The law speaks of something: under all its premises a system can make these steps from a start.
+pub fn steps_happen<C: Drop, J: Naming>()
+    ensures moves { MovesUnderUse C J }
+    ensures loses { LosesCommands C J }
+    ensures gives_back { GivesBack C J }
+{
+    front_is_whole();
+}

@@ -1,0 +1,15 @@
+//! What the turns of workers and carrier do is what the machine of `world_laws` does: laws alone.
+//!
+//! ```text
+//! laws::carrier_refines::<C, J>();
+//! ```
+//!
+//! A system is the workers, the carrier, the lanes between them, the connections and the nodes (`specs/System.antt`); its events
+//! are those of the turns (`specs/Steps.antt`). Which world of the machine it stands for is said in `specs/Shadow.antt`. Steps that
+//! a system can make stand in `specs/Scripts.antt`.
+#![tactic(auto)]
+
+pub mod laws;
+mod wired_port;
+
+pub use wired_port::WiredPort;
