@@ -15,8 +15,9 @@ from harness import case, check, check_same, check_time
 VALUE, KEYS, TIMES = 65536, 64, 1600
 # Mebibytes that may be held for one such client and for fifty, and once they left.
 MOST_FOR_ONE, MOST_FOR_FIFTY, MOST_KEPT = 16, 128, 48
-# Milliseconds that 99 of 100 requests of another client may take at most, beside what they take directly just then.
-MOST_WAITED = 20
+# Milliseconds that 99 of 100 requests of another client may take at most, beside so many times what they take just then directly
+# and over a proxy with no such clients: a busy machine keeps those waiting too.
+MOST_WAITED, MOST_TIMES = 20, 3
 
 
 class Beside:
@@ -25,27 +26,28 @@ class Beside:
     def __init__(self, world, count, data):
         self.proxy = Proxy(world.room, world.program, world.cluster.nodes[0].port, name="unread")
         before = resident_mebibytes(self.proxy.process)
-        self.held, taken, directly = before, [], []
+        self.held, taken = before, ([], [], [])
         with ExitStack() as stack:
             for _ in range(count):
                 stack.enter_context(self.proxy.client(receive_buffer=4096)).send(data)
-            asking = [stack.enter_context(it.client()) for it in (self.proxy, world.plain)]
+            asking = [stack.enter_context(it.client()) for it in (self.proxy, world.proxy, world.plain)]
             time.sleep(0.5)
             for _ in range(8):
-                through, direct = seconds_of_asking(asking, ("GET", "other"), 0.25)
-                taken, directly = taken + through, directly + direct
+                for all_taken, now in zip(taken, seconds_of_asking(asking, ("GET", "other"), 0.25)):
+                    all_taken.extend(now)
                 self.held = max(self.held, resident_mebibytes(self.proxy.process))
         is_within(2, lambda: resident_mebibytes(self.proxy.process) < MOST_KEPT)
-        self.kept, self.late, self.direct = resident_mebibytes(self.proxy.process), percentile(taken), percentile(directly)
+        self.kept = resident_mebibytes(self.proxy.process)
+        self.late, self.usual, self.direct = map(percentile, taken)
         self.note = f"resident {before:.0f} MiB before, {self.held:.0f} at most, {self.kept:.0f} after; "
-        self.note += f"99 of 100 requests within {self.late:.1f} ms, directly {self.direct:.1f}"
+        self.note += f"99 of 100 requests within {self.late:.1f} ms, over another proxy {self.usual:.1f}, directly {self.direct:.1f}"
         self.proxy.process.terminate()
         self.proxy.process.wait(10)
 
     def check(self, most_held):
         check(self.held < most_held, self.note)
         check_time(self.kept < MOST_KEPT, self.note)
-        check_time(self.late < MOST_WAITED + self.direct, self.note)
+        check_time(self.late < MOST_WAITED + MOST_TIMES * max(self.usual, self.direct), self.note)
         return self.note
 
 

@@ -31,7 +31,7 @@ from harness import CASES, Failed, Slow
 # Seconds that one case may take, as a last resort: each socket has a limit of its own.
 CASE_LIMIT = 60
 # How often a case is run before what it took counts as a fault.
-TRIES = 3
+TRIES = 5
 
 
 class World:

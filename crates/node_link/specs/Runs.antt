@@ -2,8 +2,9 @@
 -- Redis documentation, "Transactions"; Redis Cluster specification, "MOVED Redirection", "ASK redirection".
 -- MULTI is answered +OK, a command +QUEUED or an error, EXEC an array with a reply for each command: they were executed in order
 -- and at once. Or EXEC is answered an error: none was executed. Any other answer is none that a node gives.
-use Rattle.std.specs.Prelude.{◌≡◌, ◌<◌, ◌++◌, ◌&&◌, Result, Ok, Err, Vec, reverse, List, [], ◌∷◌, ℕ, Bool, true, false, Option, Some, None, codes, length, map, take, replicate, nat_eq, nat_lt, slice_get, if◌then◌else◌, IsTrue}
+use Rattle.std.specs.Prelude.{◌≡◌, ◌<◌, ◌+◌, ◌++◌, ◌&&◌, Result, Ok, Err, Vec, reverse, List, [], ◌∷◌, ℕ, Bool, true, false, Option, Some, None, codes, length, map, take, replicate, nat_eq, nat_lt, slice_get, if◌then◌else◌, IsTrue}
 use Rattle.std.specs.List.{find, list_all}
+use Rattle.std.specs.Option.{ForSome}
 use Rattle.std.specs.declared.alloc.Global.{Global}
 use Rattle.std.specs.Str.{bytes_eq}
 use Rattle.resp_wire.specs.Seen.{data_of}
@@ -95,10 +96,14 @@ IsToldByBlock count replies told =
     (begun : Value) × (queued : List Value) × (exec : Value) × (replies ≡ begun ∷ (queued ++ exec ∷ [])) × (length queued ≡ count)
     × IsTrue (is_text (codes "OK") begun) × IsTrue (list_all is_queued queued) × IsToldByExec queued exec told
 
--- taking what the replies to a block of so many commands give them, the last first: they stay where memory is wanting, and where they
--- are no replies to such a block
+-- behind so many commands EXEC was answered an error: none of them was executed
+abbrev pub IsRefusedBlock : ℕ → List Value → Type 0
+IsRefusedBlock count replies = (is_answer count replies ≡ true) × ForSome (slice_get replies (count + 1)) (λ exec. is_error exec ≡ true)
+
+-- taking what the replies to a block of so many commands give them, the last first: they stay where memory is wanting, which it can be
+-- only where none was executed, and where they are no replies to such a block
 abbrev pub BlockOutcome : ℕ → List Value → Result (Vec Value Global) PortFault → List Value → Type 0
 BlockOutcome count old (Ok told) new = IsToldByBlock count old (reverse told.items) × (new ≡ []) × (0 < length (reverse told.items))
-BlockOutcome count old (Err NoMemory) new = new ≡ old
+BlockOutcome count old (Err NoMemory) new = (new ≡ old) × IsRefusedBlock count old
 BlockOutcome count old (Err BadWire) new = (new ≡ old) × (is_answer count old ≡ false)
 BlockOutcome count old (Err Failed) new = ⊥
