@@ -17,7 +17,7 @@ def check_log(log, answered, lost=()):
         place = 0
         for token, length in mine:
             check_same(counts.pop(token, 0), 1, f"how often {token!r} stands in the log")
-            check(log[:length].endswith(token), f"{token!r} does not end at {length}, as its reply said")
+            check(log.endswith(token, 0, length), f"{token!r} does not end at {length}, as its reply said")
             check(length > place, f"{token!r} stands before a token of its client that was answered earlier")
             place = length
     for token in lost:

@@ -13,6 +13,7 @@ import cases_pipelines
 import cases_crowd
 import cases_clients
 import cases_turns
+import cases_runs
 import cases_moves
 import cases_faults
 import cases_scripted

@@ -1,0 +1,103 @@
+"""Long pipelines on keys of one slot: each client's commands are executed in its order, whatever happens to the slot meanwhile."""
+
+import time
+
+from client import request
+from cluster import slot_of, tag_of_slot
+from cases_faults import kill_connections
+from cases_moves import key
+from harness import case, check, check_each_same, check_same
+from logs import check_log
+from writers import Ends, Writers, log_of
+
+# How many clients there are, how many commands each has under way at once, and for how many seconds the slot moves.
+CLIENTS, AT_ONCE, SECONDS = 20, 1000, 4
+
+
+def increments(counters, ends):
+    """A turn that counts each of some counters up in one pipeline of so many commands."""
+
+    def turn(client, number, count):
+        asked = counters * (AT_ONCE // len(counters))
+        client.send(b"".join(request("INCR", counter) for counter in asked))
+        for counter in asked:
+            ends.add(number, counter, client.reply())
+
+    return turn
+
+
+def move_to_and_fro(world, writers, tag):
+    """Moves the tag's slot on from node to node; before the next move each client ends what it had under way."""
+    moves, until = 0, time.monotonic() + SECONDS
+    while moves < 3 or time.monotonic() < until:
+        moves += 1
+        world.cluster.move(slot_of(tag), moves % 3, pause=0.01)
+        writers.wait_for_turns(limit=30)
+    return moves
+
+
+def check_counts(world, counters, ends):
+    """Each counter ends at the number of its answered INCRs, no number is given twice, and no client's go back."""
+    with world.client() as client:
+        for counter in counters:
+            given = [[value for what, value in mine if what == counter] for mine in ends.answered]
+            check(all(mine == sorted(mine) for mine in given), f"{counter}: a client's numbers went back")
+            check_same(sorted(value for mine in given for value in mine), list(range(1, sum(map(len, given)) + 1)), f"numbers of {counter}")
+            check_same(int(client.value("GET", counter)), sum(map(len, given)), counter)
+    ends.check_all_answered()
+
+
+def counted_in_moves(world, names):
+    tag = tag_of_slot(range(*world.cluster.ranges()[0]))
+    counters, ends = [key(tag, name) for name in names], Ends(CLIENTS)
+    with Writers(world.proxy, CLIENTS, increments(counters, ends)) as writers:
+        moves = move_to_and_fro(world, writers, tag)
+    check_counts(world, counters, ends)
+    return f"{moves} moves, {ends.counts()}"
+
+
+@case
+def pipelines_on_one_key_in_moves(world):
+    """A thousand INCRs of one key at once by each client, while its slot moves."""
+    return counted_in_moves(world, [b"n"])
+
+
+@case
+def pipelines_on_one_slot_in_moves(world):
+    """The same over ten keys of one slot, some of which are at its target already."""
+    return counted_in_moves(world, [b"n%d" % number for number in range(10)])
+
+
+@case
+def pipelines_on_one_key_and_killed_connections(world):
+    """A thousand APPENDs to one key at once by each client: an answered one stands once and in its place, a lost one at most once."""
+    tag = tag_of_slot(range(*world.cluster.ranges()[0]))
+    log, ends, killed = key(tag, b"log"), Ends(CLIENTS), 0
+
+    def turn(client, number, count):
+        tokens = [b"%d.%d.%d;" % (number, count, place) for place in range(AT_ONCE)]
+        client.send(b"".join(request("APPEND", log, token) for token in tokens))
+        for token in tokens:
+            ends.add(number, (log, token), client.reply())
+
+    with Writers(world.proxy, CLIENTS, turn) as writers:
+        for _ in range(10):
+            time.sleep(0.1)
+            killed += kill_connections(world.cluster.nodes[0])
+            writers.wait_for_turns(1, limit=30)
+    with world.client() as client:
+        check_log(client.value("GET", log), *log_of(ends, log))
+    return f"{killed} connections killed, {ends.counts()}"
+
+
+@case
+def errors_in_a_pipeline_on_one_slot(world):
+    """A command that goes wrong leaves the others executed: the replies are those of one server."""
+    requests = [("SET", "{t}text", "word"), ("SET", "{t}number", "1")]
+    for number in range(200):
+        requests += [("INCR", "{t}number"), ("INCR", "{t}text"), ("APPEND", "{t}text", "s"), ("INCRBY", "{t}number", "many")]
+        requests += [("STRLEN", "{t}text"), ("DEL", "{t}gone"), ("INCR", "{t}gone"), ("MGET", "{t}number", "{t}gone")]
+    with world.plain.client() as plain, world.client() as client:
+        for it in (plain, client):
+            it.send(b"".join(request(*words) for words in requests))
+        check_each_same(client.replies(len(requests)), plain.replies(len(requests)), requests)
