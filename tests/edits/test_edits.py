@@ -160,6 +160,24 @@ class Controls(unittest.TestCase):
             self.assertEqual(it.in_place, not counts, said)
 
 
+class Lemmas(unittest.TestCase):
+    """A refused lemma counts also where the list of what rests on it is cut short, but no lost name."""
+
+    def test_lemmas_that_rest_on_a_refused_one(self):
+        cut = "proofs/B.antt:1:1: error: 4 declarations that depend on `a`, which was rejected, were not checked: b, c (via b), d (via c) and 1 more"
+        own = "proofs/f/Answers.antt:1:1: error: 1 declaration that depends on `e`, which was not admitted, was not checked: returns"
+        refused = "proofs/A.antt:1:1: error: `a`: the two types differ"
+        missing = "proofs/C.antt:1:1: error: `g`: `once` is not in scope"
+        for said, counts in {
+            (refused, cut, own): True,
+            (refused, cut, own, missing): False,
+            (refused, cut.replace(" and 1 more", ", e (via d)"), own, missing): True,
+            (refused, own): False,
+        }.items():
+            answer = verdicts.read("sample", "\n".join([*said, "fn sample::f: not proved", "only=1 proved=0", ""]))
+            self.assertEqual(verdicts.verdict_of(answer, "f")[0] is verdicts.Verdict.REFUSED, counts, said)
+
+
 class Functions(unittest.TestCase):
     """The function that an edit changes, by the place of its text."""
 

@@ -28,6 +28,7 @@ class Fault:
 MISSING = re.compile(r"has no field|is not in scope|has no `|is no name|no constructor|is not exported|cannot be imported")
 # What is said of what rests on something that was refused.
 RESTS = re.compile(r"depends? on `([^`]+)`, which was (?:rejected|not admitted)[^:]*: (.*)", re.S)
+LEFT_OUT = re.compile(r" and \d+ more\b")
 OPEN = re.compile(r"`search` did not prove ((?:`[^`]+`(?:, )?)+)")
 CALLS = re.compile(r"it calls (.*?), which (?:is|are) not proved")
 
@@ -76,19 +77,30 @@ def is_own(function, name):
     return any(name.startswith(it) for it in inside)
 
 
+def is_left_out(answer):
+    """Whether a lemma that the check did not name may rest on what was refused: it cuts long lists short."""
+    causes = [it for it in answer.faults if not RESTS.search(it.text)]
+    cut = any(RESTS.search(it.text) and LEFT_OUT.search(it.text) for it in answer.faults)
+    return cut and bool(causes) and not any(MISSING.search(it.text) for it in causes)
+
+
 def lemma_refused(answer, name, seen):
     """Whether a lemma was refused by itself, or what it rests on was."""
     if name in seen:
         return False
     seen.add(name)
+    is_named = False
     for fault in answer.faults:
         rests = RESTS.search(fault.text)
         if rests and name in re.findall(r"[^\s,]+", rests[2]):
+            is_named = True
             if lemma_refused(answer, rests[1], seen):
                 return True
-        elif fault.text.startswith(f"`{name}`:") and not MISSING.search(fault.text):
-            return True
-    return False
+        elif fault.text.startswith(f"`{name}`:"):
+            is_named = True
+            if not MISSING.search(fault.text):
+                return True
+    return not is_named and is_left_out(answer)
 
 
 def verdict_of(answer, function):

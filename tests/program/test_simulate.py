@@ -79,6 +79,21 @@ class Simulate(Runs):
                 if end != "lost":
                     self.assertEqual(entries.get(ticket), end, line)
 
+    def test_the_longest_run(self):
+        """64 commands go as one run, each in its turn; 65 do not."""
+        for commands, posted in [(64, True), (65, False)]:
+            with self.subTest(commands=commands):
+                run_of = "+".join(str(part) for part in range(commands))
+                events = ["arrive 0 INCR a"] * commands + [f"post 0.{run_of} 2"]
+                if posted:
+                    events += ["carry 0 0", "serve 0"] + ["fetch 0"] * commands + ["take 0"] * commands + ["answer 0"] * commands
+                    lines = [f"answer 0.{part} integer {part + 1}" for part in range(commands)]
+                    lines += [f"entry 0.{part} INCR a = integer {part + 1}" for part in range(commands)]
+                else:
+                    lines = [f"refused {commands + 1} NotNow"]
+                given = HEADER + "".join(f"{event}\n" for event in events).encode()
+                self.check(["simulate"], given, 0 if posted else 1, "".join(f"{line}\n" for line in lines).encode())
+
     def test_a_long_history_is_that_of_one_store(self):
         """20,000 events: commands, groups, dropped links, moves and recalls of slots."""
         status, written, _ = run(["simulate"], HEADER + long_script(20_000).encode())

@@ -1,17 +1,20 @@
 """Long pipelines on keys of one slot: each client's commands are executed in its order, whatever happens to the slot meanwhile."""
 
+import shutil
 import time
 
 from client import request
-from cluster import slot_of, tag_of_slot
+from cluster import slot_of, tag_of_slot, wait_until
 from cases_faults import kill_connections
 from cases_moves import key
 from harness import case, check, check_each_same, check_same
-from logs import check_log
+from logs import check_log, check_lost_together
 from writers import Ends, Writers, log_of
 
 # How many clients there are, how many commands each has under way at once, and for how many seconds the slot moves.
 CLIENTS, AT_ONCE, SECONDS = 20, 1000, 4
+# So many commands of a client go to a node together at most.
+TOGETHER = 64
 
 
 def increments(counters, ends):
@@ -68,11 +71,8 @@ def pipelines_on_one_slot_in_moves(world):
     return counted_in_moves(world, [b"n%d" % number for number in range(10)])
 
 
-@case
-def pipelines_on_one_key_and_killed_connections(world):
-    """A thousand APPENDs to one key at once by each client: an answered one stands once and in its place, a lost one at most once."""
-    tag = tag_of_slot(range(*world.cluster.ranges()[0]))
-    log, ends, killed = key(tag, b"log"), Ends(CLIENTS), 0
+def append_all(log, ends):
+    """A turn that appends so many tokens to a log in one pipeline."""
 
     def turn(client, number, count):
         tokens = [b"%d.%d.%d;" % (number, count, place) for place in range(AT_ONCE)]
@@ -80,14 +80,53 @@ def pipelines_on_one_key_and_killed_connections(world):
         for token in tokens:
             ends.add(number, (log, token), client.reply())
 
-    with Writers(world.proxy, CLIENTS, turn) as writers:
+    return turn
+
+
+def check_appended(world, log, ends):
+    """An answered token stands once and in its place, a lost one at most once, and those that went together all or none."""
+    with world.client() as client:
+        stored, (answered, lost) = client.value("GET", log), log_of(ends, log)
+    check_log(stored, answered, lost)
+    return f"{ends.counts()}, in {check_lost_together(stored, lost, TOGETHER)} runs"
+
+
+@case
+def pipelines_on_one_key_and_killed_connections(world):
+    """A thousand APPENDs to one key at once by each client, while connections are killed."""
+    log, ends, killed = key(tag_of_slot(range(*world.cluster.ranges()[0])), b"log"), Ends(CLIENTS), 0
+    with Writers(world.proxy, CLIENTS, append_all(log, ends)) as writers:
         for _ in range(10):
             time.sleep(0.1)
             killed += kill_connections(world.cluster.nodes[0])
             writers.wait_for_turns(1, limit=30)
-    with world.client() as client:
-        check_log(client.value("GET", log), *log_of(ends, log))
-    return f"{killed} connections killed, {ends.counts()}"
+    return f"{killed} connections killed, {check_appended(world, log, ends)}"
+
+
+@case
+def pipelines_on_one_key_and_a_killed_node(world):
+    """The same while the key's node, which keeps what it executed, is killed and comes back."""
+    node, log, ends = world.cluster.nodes[0], key(tag_of_slot(range(*world.cluster.ranges()[0])), b"log"), Ends(CLIENTS)
+
+    def kill_and_start(keeps="yes"):
+        node.kill()
+        node.start(keeps)
+        wait_until(world.cluster.is_whole, "the cluster to be whole again")
+
+    kill_and_start()
+    try:
+        with Writers(world.proxy, CLIENTS, append_all(log, ends)) as writers:
+            for _ in range(3):
+                writers.wait_for_turns(1, limit=30)
+                time.sleep(0.1)
+                kill_and_start()
+            writers.wait_for_turns(1, limit=30)
+        note = check_appended(world, log, ends)
+    finally:
+        shutil.rmtree(f"{node.folder}/appendonlydir")
+        kill_and_start(keeps="no")
+    check(ends.lost, "the node was killed while it had nothing to do")
+    return note
 
 
 @case

@@ -1,7 +1,5 @@
 """Nodes that answer by a script: what the proxy sends them is seen, and every refusal of a node is played exactly."""
 
-import itertools
-import threading
 import time
 from contextlib import ExitStack
 
@@ -77,7 +75,7 @@ def ask_is_followed_once(world):
 def asking_stands_before_its_command(world):
     """Of many commands at once, each that ASK sent has its own ASKING just before it."""
     new = ScriptedNode(lambda words: b"+OK\r\n")
-    old = ScriptedNode(lambda words: moved(b"a", new.port, kind=b"ASK"))
+    old = ScriptedNode(None, refusal=lambda words: moved(b"a", new.port, kind=b"ASK"))
     with Scene(world, old, new) as proxy:
         clients = [proxy.client() for _ in range(10)]
         for client in clients:
@@ -135,46 +133,6 @@ def a_new_connection_after_a_lost_one(world):
     node = ScriptedNode(in_turn([b":1\r\n", None], b":9\r\n"))
     with Scene(world, node) as proxy, proxy.client() as client:
         check_same([client.ask("INCR", "a") for _ in range(3)], [b":1\r\n", LOST, b":9\r\n"], "three INCRs, the second lost")
-
-
-@case
-def the_second_of_a_slot_waits_for_the_first(world):
-    """A client's commands of one slot are sent one after another, those of other slots at once; its replies keep their order."""
-    go_on = threading.Event()
-
-    def answer(words):
-        return bulk(words[1])
-
-    node = ScriptedNode(answer)
-    slow = ScriptedNode(lambda words: go_on.wait(10) and bulk(words[1]))
-    here, there = slot_of(b"a"), slot_of(b"b")
-    node.slots = lambda: slots_reply([(here, here, slow.port), (there, there, node.port)])
-    with Scene(world, node, slow) as proxy, proxy.client() as client:
-        time.sleep(0.2)
-        client.send(request("GET", "a") + request("GET", "{a}2") + request("GET", "b") + request("GET", "{b}2"))
-        time.sleep(0.4)
-        check_same(slow.words_seen(), [[b"GET", b"a"]], "requests of the slow node before its first reply")
-        check_same(node.words_seen(), [[b"GET", b"b"], [b"GET", b"{b}2"]], "requests of the other node")
-        go_on.set()
-        check_same(client.replies(4), [bulk(it) for it in (b"a", b"{a}2", b"b", b"{b}2")], "replies in order")
-
-
-@case
-def refused_commands_keep_their_turn(world):
-    """A node refuses every other request: a client's commands of one slot are still executed in the order in which it sent them."""
-    executed, refuse = [], itertools.cycle([True, False])
-
-    def answer(words):
-        if next(refuse):
-            return TRYAGAIN
-        executed.append(int(words[2]))
-        return b":%d\r\n" % len(executed)
-
-    node = ScriptedNode(answer)
-    with Scene(world, node) as proxy, proxy.client() as client:
-        client.send(b"".join(request("APPEND", f"{{a}}{number % 3}", number) for number in range(300)))
-        check_same(client.replies(300), [b":%d\r\n" % number for number in range(1, 301)], "replies in order")
-        check_same(executed, list(range(300)), "the order of execution")
 
 
 @case

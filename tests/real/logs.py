@@ -23,3 +23,17 @@ def check_log(log, answered, lost=()):
     for token in lost:
         check(counts.pop(token, 0) <= 1, f"{token!r}, whose connection was lost, stands twice")
     check(not counts, f"tokens that nobody sent, or that were refused: {list(counts)[:5]}")
+
+
+def check_lost_together(log, lost, most):
+    """Tokens that ended lost and that one client sent one behind another, no more than go together, stand in the log all or none."""
+    there, runs = set((log or b"").split(b";")), []
+    for it in sorted(tuple(map(int, token[:-1].split(b"."))) for token in lost):
+        if runs and it[:-1] == runs[-1][-1][:-1] and it[-1] == runs[-1][-1][-1] + 1:
+            runs[-1].append(it)
+        else:
+            runs.append([it])
+    for run in filter(lambda run: len(run) <= most, runs):
+        stand = [b".".join(b"%d" % number for number in it) in there for it in run]
+        check(all(stand) or not any(stand), f"of {len(run)} tokens that were lost together from {run[0]} on {sum(stand)} stand in the log")
+    return len(runs)

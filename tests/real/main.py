@@ -17,6 +17,7 @@ import cases_runs
 import cases_moves
 import cases_faults
 import cases_scripted
+import cases_blocks
 import cases_idle
 import cases_program
 import cases_log

@@ -20,13 +20,19 @@ def slots_reply(ranges):
 
 
 class ScriptedNode:
-    """Listens on loopback. `answer(words)` gives the bytes of a reply, or None to close the connection.
+    """Listens on loopback. `answer(words)` gives the bytes of a reply, or None to close the connection; `refusal(words)` those of
+    an error in its place, or None.
+
+    The commands between MULTI and EXEC are answered once EXEC has come: +QUEUED or their refusal, and then EXEC's array of their
+    replies, or EXECABORT. Where `block(commands)` is given, it gives all these replies, and that to MULTI. One that is `plain` has no
+    MULTI.
 
     `seen` has the words of every request but CLUSTER SLOTS, each with its connection's number, in order.
     """
 
-    def __init__(self, answer, slots=None, listener=None):
+    def __init__(self, answer, slots=None, listener=None, refusal=None, block=None, plain=False):
         self.answer, self.slots, self.seen, self.asked_slots = answer, slots, [], 0
+        self.refusal, self.block, self.plain = refusal or (lambda words: None), block or self.played, plain
         self.listener = listener or socket.create_server(("127.0.0.1", 0))
         self.port = self.listener.getsockname()[1]
         self.connections, self.open, self.lock = 0, [], threading.Lock()
@@ -63,21 +69,39 @@ class ScriptedNode:
         coming.put(None)
 
     def answer_all(self, connection, coming):
+        commands = None
         try:
             while words := coming.get():
-                reply = self.reply(words)
-                if reply is None:
-                    connection.shutdown(socket.SHUT_RDWR)
-                    break
-                connection.sendall(reply)
+                if words == [b"MULTI"] and not self.plain:
+                    commands = []
+                elif commands is not None and words != [b"EXEC"]:
+                    commands.append(words)
+                else:
+                    reply = self.reply(words) if commands is None else self.block(commands)
+                    commands = None
+                    if reply is None:
+                        connection.shutdown(socket.SHUT_RDWR)
+                        break
+                    connection.sendall(reply)
         except OSError:
             pass
         connection.close()
 
     def reply(self, words):
-        if words != SLOTS_REQUEST:
-            return self.answer(words)
-        return self.slots() if self.slots else b"-ERR no slots here\r\n"
+        if words == SLOTS_REQUEST:
+            return self.slots() if self.slots else b"-ERR no slots here\r\n"
+        if words in ([b"MULTI"], [b"EXEC"]):
+            return b"-ERR unknown command '%s'\r\n" % words[0]
+        return self.refusal(words) or self.answer(words)
+
+    def played(self, commands):
+        """The replies to MULTI, these commands and EXEC; None where one of them closes the connection."""
+        refusals = [self.refusal(words) for words in commands]
+        queued = [it or b"+QUEUED\r\n" for it in refusals]
+        if any(refusals):
+            return b"".join([b"+OK\r\n", *queued, b"-EXECABORT Transaction discarded because of previous errors.\r\n"])
+        replies = [self.answer(words) for words in commands]
+        return None if None in replies else b"".join([b"+OK\r\n", *queued, b"*%d\r\n" % len(replies), *replies])
 
     def words_seen(self):
         with self.lock:

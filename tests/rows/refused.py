@@ -14,6 +14,8 @@ MOST_CALLS = 80
 LEFT_OUT = {
     # their nodes in memory, which are the driver's, execute a command for whose reply they find no memory
     "a_reply_is_given",
+    "a_run_is_sent",
+    "a_run_that_is_too_long_is_refused_whole",
     "an_ask_is_given",
     "the_first_post_is_moved",
     "a_client_that_is_gone_drops_what_was_not_posted",
@@ -32,11 +34,11 @@ QUIET = {
     "copy": "node slot",
     "courier": "later new node posts",
     "jump": "",
-    "lane": "node take",
+    "lane": "node run take",
     "lanes": "finish hand learn newcomer node take told",
     "link": "failed lose new patience written",
     "map": "node range slot",
-    "nodes": "fail leave own served",
+    "nodes": "fail leave longest own served",
     "plan": "name",
     "port": "new written",
     "reader": "new",

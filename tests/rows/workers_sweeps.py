@@ -20,8 +20,11 @@ COUNTERS, COUNTS = 2, 50
 # So many workers are turned, of so many that have lanes. Clients are dealt to all of them by their numbers.
 WORKERS, LANES = 3, 4
 
-# So many slots move while the clients are served, with so many turns between two steps.
-MOVES, TURNS = 24, 4
+# So many slots move while the clients are served, with so many turns of all between two steps.
+MOVES, TURNS = 24, 1
+
+# So many parts of a client are begun at first.
+AT_FIRST = 16
 
 # Nanoseconds that a turn may take that moves nothing, on a machine that does much else.
 MOST = 1_000_000
@@ -180,6 +183,21 @@ def each_client_is_served_as_by_one_store():
     return row
 
 
+def a_client_that_is_gone_drops_what_was_not_posted():
+    """The client is gone while as many GETs are posted as are begun at first, and SET waits behind them: they run to their ends, the
+    first at the seed and at the node that it named, and SET is dropped."""
+    row = Row("a_client_that_is_gone_drops_what_was_not_posted")
+    asked = AT_FIRST * request(b"GET", b"a") + request(b"SET", b"a", b"1")
+    replies = AT_FIRST * b"$-1\r\n" + b"+OK\r\n"
+    row.call(f"turns client 0 0 {quoted(asked)}")
+    row.call("turns all 1", "moved")
+    row.call(f"turns hears 0 {quoted(replies)}")
+    row.call("turns all 2000", "moved")
+    row.call("nodes served", f"{AT_FIRST + 1}")
+    row.call("turns held 0", f"{quoted(replies)} {AT_FIRST}")
+    return row
+
+
 def a_turn_that_moves_nothing_is_cheap():
     """The links are open and the map is there; then 100,000 turns of a worker move nothing, and as many of the carrier."""
     row = Row("a_turn_that_moves_nothing_is_cheap")
@@ -190,4 +208,4 @@ def a_turn_that_moves_nothing_is_cheap():
 
 
 def rows():
-    return [each_client_is_served_as_by_one_store(), a_turn_that_moves_nothing_is_cheap()]
+    return [each_client_is_served_as_by_one_store(), a_client_that_is_gone_drops_what_was_not_posted(), a_turn_that_moves_nothing_is_cheap()]

@@ -4,15 +4,14 @@ use Rattle.std.specs.Prelude.{if◌then◌else◌, slice_get, slice_set, count_b
 use Rattle.std.proofs.lemmas.Bool.{cases_lt}
 use Rattle.std.proofs.lemmas.Bool.Decides.{nat_tests}
 use Rattle.std.proofs.lemmas.Option.{slice_get_within}
-use Rattle.command_future.specs.CommandModel.{WantsPost}
 use Rattle.world_laws.specs.State.{HasEnded, slot_for}
 use Rattle.world_laws.specs.World.{SameTurn}
 use Rattle.world_laws.specs.declared.state.Arrival.{Arrival}
 use Rattle.cluster_world.specs.declared.rows.Row.{Row}
-use Rattle.cluster_world.specs.Rows.{rank, no_row, one_more, one_over, IsRow}
-use Rattle.cluster_world.specs.Commands.{of_client, of_turn, turn_rank, IsAnswered, StandsAt, HasTurn, AreFound}
+use Rattle.cluster_world.specs.Rows.{rank, no_row, one_more, one_over, IsRow, IsRowSoFar}
+use Rattle.cluster_world.specs.Commands.{of_client, of_turn, turn_rank, IsAnswered, StandsAt, AreFound}
 use Rattle.cluster_world.proofs.Lookups.{all-before, before-all}
-use Rattle.cluster_world.proofs.Ranking.{at-set, at-end, front-stays, end-is, others-stay, set-is, set-length, end-length, which, rank-less, rank-front, rank-set, rank-all, rank-nth, row-start, row-end, row-set, row-over, come}
+use Rattle.cluster_world.proofs.Ranking.{at-set, at-end, front-stays, end-is, others-stay, set-is, set-length, end-length, which, rank-less, rank-front, rank-set, rank-all, rank-nth, row-start, row-end, row-set, row-over, come, so-far-start, so-far-end, so-far-set, so-far-over}
 
 -- tests of numbers
 
@@ -34,14 +33,6 @@ row-more : (b : Bool) (r s : Row) → (b ≡ true → r ≡ s) → cond b (one_m
 row-more true r s e = ap one_more (e refl)
 row-more false r s e = refl
 
-over-stays : (b : Bool) (r s : Row) → (b ≡ true → r ≡ s) → (cond b (one_more r) s).over ≡ s.over
-over-stays true r s e = ap (λ (x : Row). x.over) (e refl)
-over-stays false r s e = refl
-
-pub over-grows : (b : Bool) (r s : Row) → (b ≡ true → r ≡ s) → s.over ≤ (cond b (one_over r) s).over
-over-grows true r s e = omega (arith, ap (λ (x : Row). x.over) (e refl))
-over-grows false r s e = omega arith
-
 module _ (p : Arrival → Bool) (Over : Arrival → Type 0) where
   pub row-passes : (xs : List Arrival) (i : ℕ) (x y : Arrival) → slice_get xs i ≡ Some x → p y ≡ p x → (r s : Row) → (p x ≡ true → r ≡ s) → (p x ≡ true → rank p xs i ≡ s.over) → Over y
       → IsRow p Over xs s → IsRow p Over (slice_set xs i y) (cond (p x) (one_over r) s)
@@ -51,33 +42,40 @@ module _ (p : Arrival → Bool) (Over : Arrival → Type 0) where
       go true is = subst (λ (t : Row). IsRow p Over (slice_set xs i y) (one_over t)) (sym (e is)) (row-over p Over xs i x y at same s is (next is) now row)
       go false is = row-set p Over xs i x y at same s (λ mine. (let no : false ≡ true = sym is ∙ mine in absurd (cc))) row
 
+  -- the same of a row of which the first are over
+  pub so-far-passes : (xs : List Arrival) (i : ℕ) (x y : Arrival) → slice_get xs i ≡ Some x → p y ≡ p x → (r s : Row) → (p x ≡ true → r ≡ s) → (p x ≡ true → rank p xs i ≡ s.over) → Over y
+      → IsRowSoFar p Over xs s → IsRowSoFar p Over (slice_set xs i y) (cond (p x) (one_over r) s)
+  so-far-passes xs i x y at same r s e next now row = go (p x) refl
+    where
+      go : (b : Bool) → p x ≡ b → IsRowSoFar p Over (slice_set xs i y) (cond b (one_over r) s)
+      go true is = subst (λ (t : Row). IsRowSoFar p Over (slice_set xs i y) (one_over t)) (sym (e is)) (so-far-over p Over xs i x y at same s is (next is) now row)
+      go false is = so-far-set p Over xs i x y at same s (λ mine. (let no : false ≡ true = sym is ∙ mine in absurd (cc))) row
+
 pub found-start : AreFound [] [] (λ n part. None) (λ n. no_row) (λ n slot. no_row)
 found-start = record {
   numbered = λ i c at. absurd (cc);
   placed = λ n part i. (λ e. absurd (cc), λ s. absurd (let at : None ≡ Some s.0 = s.1 in cc));
   clients = λ n. row-start (of_client n) IsAnswered;
-  turns = λ n slot. row-start (of_turn n slot) HasEnded;
+  turns = λ n slot. so-far-start (of_turn n slot) HasEnded;
   lengths = refl;
   ranked = λ i c at. absurd (cc);
-  waiting = λ i c at. absurd (cc);
 }
 
 module _ (xs : List Arrival) (ranks : List ℕ) (place : ℕ → ℕ → Option ℕ) (client : ℕ → Row) (turn : ℕ → ℕ → Row) (f : AreFound xs ranks place client turn) where
   -- one more comes
   pub found-end : (c : Arrival) (place' : ℕ → ℕ → Option ℕ) (client' : ℕ → Row) (turn' : ℕ → ℕ → Row)
-      → c.command.ticket.part ≡ count_by (of_client c.command.ticket.client) xs → (HasEnded c → ⊥) → c.answered ≡ false → WantsPost c.command.stage
+      → c.command.ticket.part ≡ count_by (of_client c.command.ticket.client) xs → c.answered ≡ false
       → ((n part : ℕ) → place' n part ≡ cond ((c.command.ticket.client == n) && (c.command.ticket.part == part)) (Some (length xs)) (place n part))
       → ((n : ℕ) → client' n ≡ cond (c.command.ticket.client == n) (one_more (client c.command.ticket.client)) (client n))
       → ((n slot : ℕ) → turn' n slot ≡ cond ((c.command.ticket.client == n) && (slot_for c.command.part == slot)) (one_more (turn c.command.ticket.client (slot_for c.command.part))) (turn n slot))
       → AreFound (xs ++ c ∷ []) (ranks ++ (turn c.command.ticket.client (slot_for c.command.part)).count ∷ []) place' client' turn'
-  found-end c place' client' turn' number open-still not-answered wants puts-place puts-client puts-turn = record {
+  found-end c place' client' turn' number not-answered puts-place puts-client puts-turn = record {
     numbered = numbered';
     placed = placed';
     clients = λ n. subst (IsRow (of_client n) IsAnswered (xs ++ c ∷ [])) (sym (puts-client n ∙ row-more (c.command.ticket.client == n) (client c.command.ticket.client) (client n) (λ b. ap client (one-so c.command.ticket.client n b)))) (row-end (of_client n) IsAnswered xs c (client n) (λ a. absurd (let e : false ≡ true = sym not-answered ∙ a in cc)) (f.clients n));
-    turns = λ n s. subst (IsRow (of_turn n s) HasEnded (xs ++ c ∷ [])) (sym (puts-turn n s ∙ row-more ((c.command.ticket.client == n) && (slot_for c.command.part == s)) (turn c.command.ticket.client (slot_for c.command.part)) (turn n s) (same-turn n s))) (row-end (of_turn n s) HasEnded xs c (turn n s) open-still (f.turns n s));
+    turns = λ n s. subst (IsRowSoFar (of_turn n s) HasEnded (xs ++ c ∷ [])) (sym (puts-turn n s ∙ row-more ((c.command.ticket.client == n) && (slot_for c.command.part == s)) (turn c.command.ticket.client (slot_for c.command.part)) (turn n s) (same-turn n s))) (so-far-end (of_turn n s) HasEnded xs c (turn n s) (f.turns n s));
     lengths = end-length ranks (turn c.command.ticket.client (slot_for c.command.part)).count ∙ ap suc f.lengths ∙ sym (end-length xs c);
     ranked = ranked';
-    waiting = waiting';
   }
     where
       same-turn : (n s : ℕ) → ((c.command.ticket.client == n) && (slot_for c.command.part == s)) ≡ true → turn c.command.ticket.client (slot_for c.command.part) ≡ turn n s
@@ -132,16 +130,6 @@ module _ (xs : List Arrival) (ranks : List ℕ) (place : ℕ → ℕ → Option 
             ∙ ap Some (sym (rank-front (of_turn d.command.ticket.client (slot_for d.command.part)) xs i c (omega (arith, there.0))))
       ]
 
-      waiting' : (i : ℕ) (d : Arrival) → slice_get (xs ++ c ∷ []) i ≡ Some d → (turn' d.command.ticket.client (slot_for d.command.part)).over < turn_rank (xs ++ c ∷ []) i d → WantsPost d.command.stage
-      waiting' i d at lt = elim (at-end xs i c d at) [
-        | inl here ↦ subst (λ (x : Arrival). WantsPost x.command.stage) (sym here.1) wants
-        | inr there ↦
-            let n : ℕ = d.command.ticket.client in
-            let s : ℕ = slot_for d.command.part in
-            let same : (turn' n s).over ≡ (turn n s).over = ap (λ (r : Row). r.over) (puts-turn n s) ∙ over-stays ((c.command.ticket.client == n) && (slot_for c.command.part == s)) (turn c.command.ticket.client (slot_for c.command.part)) (turn n s) (same-turn n s) in
-            f.waiting i d there.1 (omega (arith, lt, same, rank-front (of_turn n s) xs i c (omega (arith, there.0))))
-      ]
-
   -- one changes, with the ticket and part that it had
   module _ (i : ℕ) (x y : Arrival) (at : slice_get xs i ≡ Some x) (same-ticket : y.command.ticket ≡ x.command.ticket) (same-part : y.command.part ≡ x.command.part) where
     pub its-client : (n : ℕ) → of_client n y ≡ of_client n x
@@ -150,10 +138,9 @@ module _ (xs : List Arrival) (ranks : List ℕ) (place : ℕ → ℕ → Option 
     pub its-turn : (n s : ℕ) → of_turn n s y ≡ of_turn n s x
     its-turn n s = λ j. ((same-ticket j).client == n) && (slot_for (same-part j) == s)
 
-    pub found-set : (client' : ℕ → Row) (turn' : ℕ → ℕ → Row) → ((n : ℕ) → IsRow (of_client n) IsAnswered (slice_set xs i y) (client' n)) → ((n s : ℕ) → IsRow (of_turn n s) HasEnded (slice_set xs i y) (turn' n s))
-        → ((n s : ℕ) → (turn n s).over ≤ (turn' n s).over) → ((turn' y.command.ticket.client (slot_for y.command.part)).over < turn_rank xs i x → WantsPost y.command.stage)
+    pub found-set : (client' : ℕ → Row) (turn' : ℕ → ℕ → Row) → ((n : ℕ) → IsRow (of_client n) IsAnswered (slice_set xs i y) (client' n)) → ((n s : ℕ) → IsRowSoFar (of_turn n s) HasEnded (slice_set xs i y) (turn' n s))
         → AreFound (slice_set xs i y) ranks place client' turn'
-    found-set client' turn' clients' turns' grows waits = record {
+    found-set client' turn' clients' turns' = record {
       numbered = λ j d there. elim (at-set xs i j y d there) [
         | inl here ↦
             (λ k. (here.1 k).command.ticket.part) ∙ ap (λ t. t.part) same-ticket ∙ f.numbered i x at ∙ sym (rank-set (of_client x.command.ticket.client) xs i i x y at (its-client x.command.ticket.client))
@@ -179,18 +166,6 @@ module _ (xs : List Arrival) (ranks : List ℕ) (place : ℕ → ℕ → Option 
       ranked = λ j d there. elim (at-set xs i j y d there) [
         | inl here ↦ ap (slice_get ranks) here.0 ∙ f.ranked i x at ∙ ap Some (sym (turn-here j d here.0 here.1))
         | inr other ↦ f.ranked j d other.1 ∙ ap Some (sym (rank-set (of_turn d.command.ticket.client (slot_for d.command.part)) xs i j x y at (its-turn d.command.ticket.client (slot_for d.command.part))))
-      ];
-      waiting = λ j d there lt. elim (at-set xs i j y d there) [
-        | inl here ↦
-            let same-over : (turn' d.command.ticket.client (slot_for d.command.part)).over ≡ (turn' y.command.ticket.client (slot_for y.command.part)).over =
-            ap (λ (z : Arrival). (turn' z.command.ticket.client (slot_for z.command.part)).over) here.1 in
-            subst (λ (z : Arrival). WantsPost z.command.stage) (sym here.1) (waits (omega (arith, lt, same-over, turn-here j d here.0 here.1)))
-        | inr other ↦ f.waiting j d other.1 (omega (
-          arith,
-          lt,
-          grows d.command.ticket.client (slot_for d.command.part),
-          rank-set (of_turn d.command.ticket.client (slot_for d.command.part)) xs i j x y at (its-turn d.command.ticket.client (slot_for d.command.part)),
-        ))
       ];
     }
       where

@@ -1,5 +1,5 @@
 -- What is found by the tables of commands, and that they go on to find.
-use Rattle.std.proofs.Common.{◌≡◌, ◌≢◌, ◌⊎◌, ◌↔◌, inl, inr, ℕ, ◌+◌, ◌<◌, ◌≤◌, ◌==◌, ◌&&◌, not, Bool, true, false, cond, List, [], ◌∷◌, ◌++◌, length, take, All, Option, Some, None, refl, sym, ap, ◌∙◌, subst, arith, get_or}
+use Rattle.std.proofs.Common.{◌≡◌, ◌≢◌, ◌⊎◌, ◌↔◌, inl, inr, ℕ, ◌+◌, ◌^◌, ◌<◌, ◌≤◌, ◌==◌, ◌&&◌, not, Bool, true, false, cond, List, [], ◌∷◌, ◌++◌, length, take, All, Option, Some, None, refl, sym, ap, ◌∙◌, subst, arith, get_or}
 use Rattle.std.specs.Prelude.{slice_get, slice_set, position, nat_lt}
 use Rattle.std.specs.List.{position_or_len}
 use Rattle.std.proofs.lemmas.Bool.{cases_lt}
@@ -11,20 +11,20 @@ use Rattle.key_split.specs.declared.travel.Told.{Told}
 use Rattle.key_split.specs.declared.travel.Ended.{Ended}
 use Rattle.key_split.specs.PartModel.{PartModel}
 use Rattle.key_split.specs.Same.{same_ticket, same_ticket-Decides}
-use Rattle.command_future.specs.CommandModel.{fresh, IsOver, MayPostTo, WantsPost}
+use Rattle.command_future.specs.CommandModel.{fresh, IsOver, MayPostTo}
 use Rattle.command_future.specs.declared.stage.Stage.{Stage}
 use Rattle.command_future.specs.declared.stage.Stage.TheVariants.{Wants, WantsAsking, Awaits, Over}
 use Rattle.world_laws.specs.State.{HasEnded, slot_for, awaiting, after_told}
-use Rattle.world_laws.specs.World.{SameTurn}
 use Rattle.world_laws.specs.declared.state.Arrival.{Arrival}
 use Rattle.cluster_world.specs.declared.rows.Row.{Row}
 use Rattle.cluster_world.specs.declared.tables.Tables.{Tables}
-use Rattle.cluster_world.specs.Rows.{rank, no_row, one_over, IsRow}
+use Rattle.cluster_world.specs.Rows.{rank, no_row, one_over, IsRow, IsRowSoFar}
 use Rattle.cluster_world.specs.Tables.{place_in, client_in, turn_in, turn_key_of, SayNothing, SaySame, Noted, NotedTold, NotedAnswered}
-use Rattle.cluster_world.specs.Commands.{of_client, of_turn, turn_rank, count_for, place_for, unanswered_for, once_answered, IsAnswered, StandsAt, StandsSo, HasTurn, Becomes, AreFound, Find}
-use Rattle.cluster_world.proofs.Lookups.{all-before, before-all, first-is, place-within, none-before, first-passes, so-open, so-closed, open-so}
-use Rattle.cluster_world.proofs.Ranking.{rank-less, rank-all, rank-fits, rank-nth, row-set, come}
-use Rattle.cluster_world.proofs.Finding.{both-so, so-both, one-so, so-one, row-passes, over-grows, found-start, found-end, its-client, its-turn, found-set}
+use Rattle.cluster_world.specs.Commands.{of_client, of_turn, turn_rank, count_for, place_for, unanswered_for, once_answered, IsAnswered, StandsAt, StandsSo, AreApart, Becomes, AreFound, Find}
+use Rattle.cluster_world.specs.Posting.{way_for, ArePast}
+use Rattle.cluster_world.proofs.Lookups.{past-none, first-is, place-within, none-before, first-passes, so-open, so-closed, open-so}
+use Rattle.cluster_world.proofs.Ranking.{rank-less, rank-all, rank-fits, rank-nth, row-set, so-far-set, come}
+use Rattle.cluster_world.proofs.Finding.{both-so, so-both, one-so, so-one, row-passes, so-far-passes, found-start, found-end, its-client, its-turn, found-set}
 
 pub none-passes : {X : Type 0} (p : X → Bool) (xs : List X) → ((k : ℕ) (x : X) → slice_get xs k ≡ Some x → p x ≡ false) → position p xs ≡ None
 none-passes p [] h = refl
@@ -38,12 +38,6 @@ pub becomes-false : (b : Bool) → (b ≡ true → ⊥) → b ≡ false
 becomes-false true never = absurd (never refl)
 becomes-false false never = refl
 
-pub le-so : (a b : ℕ) → lib.Dec.leb a b ≡ true → a ≤ b
-le-so a b e = grind (arith, nat_tests)
-
-pub so-le : (a b : ℕ) → a ≤ b → lib.Dec.leb a b ≡ true
-so-le a b e = grind (arith, nat_tests)
-
 is-over : (s : Stage) → IsOver s → (e : Ended) × (s ≡ Over e)
 is-over (Wants named) h = absurd h
 is-over (WantsAsking node) h = absurd h
@@ -55,9 +49,6 @@ over-is s h = subst IsOver (sym h.1) tt
 
 awaits-not : (s : Stage) → s ≡ Awaits → (e : Ended) × (s ≡ Over e) → ⊥
 awaits-not s a h = subst IsOver (sym h.1 ∙ a) tt
-
-awaits-no-post : (s : Stage) → s ≡ Awaits → WantsPost s → ⊥
-awaits-no-post s a h = subst WantsPost a h
 
 may-not : (s : Stage) (node : ℕ) → MayPostTo s node → (e : Ended) × (s ≡ Over e) → ⊥
 may-not s node m h = subst (λ (t : Stage). MayPostTo t node) h.1 m
@@ -90,7 +81,7 @@ module _ (xs : List Arrival) (t : Tables) (f : Find xs t) where
   find-noted u ticket part moment number noted =
       let c : Arrival = record { command = fresh ticket part; arrived = moment; answered = false } in
       subst (λ (ranks : List ℕ). AreFound (xs ++ c ∷ []) ranks (place_in u) (client_in u) (turn_in u)) (sym noted.ranks)
-      (found-end xs t.ranks.items (place_in t) (client_in t) (turn_in t) f c (place_in u) (client_in u) (turn_in u) number (λ h. subst IsOver (sym h.1) tt) refl tt noted.place noted.client noted.turn)
+      (found-end xs t.ranks.items (place_in t) (client_in t) (turn_in t) f c (place_in u) (client_in u) (turn_in u) number refl noted.place noted.client noted.turn)
 
   pub client-fits : (client : ℕ) → (client_in t client).count ≤ length xs
   client-fits client = omega (arith, (f.clients client).counted, rank-fits (of_client client) xs (length xs))
@@ -113,6 +104,24 @@ module _ (xs : List Arrival) (t : Tables) (f : Find xs t) where
   ticket-stands ticket i c at same =
       let is : ticket ≡ c.command.ticket = (same_ticket-Decides ticket c.command.ticket).0 same in
       (c, at, ap (λ (u : Ticket). u.client) (sym is), ap (λ (u : Ticket). u.part) (sym is))
+
+  pub stand-apart : AreApart xs
+  stand-apart i j c d at there same =
+      one-place c.command.ticket.client c.command.ticket.part i j (c, at, refl, refl) (d, there, ap (λ (u : Ticket). u.client) (sym same), ap (λ (u : Ticket). u.part) (sym same))
+
+  pub small-rank : (i r : ℕ) → i < length xs → length xs < 2 ^ 63 → slice_get t.ranks.items i ≡ Some r → r < 2 ^ 63
+  small-rank i r lt small read = go (slice_get xs i) refl
+    where
+      go : (o : Option Arrival) → slice_get xs i ≡ o → r < 2 ^ 63
+      go (Some d) at =
+          let is : Some (turn_rank xs i d) ≡ Some r = sym (f.ranked i d at) ∙ read in
+          let same : turn_rank xs i d ≡ r = cc in
+          omega (arith, small, same, rank-fits (of_turn d.command.ticket.client (slot_for d.command.part)) xs i)
+      go None none = absurd (omega (arith, lt, past-none xs i none))
+
+  -- so many of a turn have ended
+  pub past-so : (c : Arrival) → ArePast (way_for c) [] (turn_in t c.command.ticket.client (slot_for c.command.part)).over xs
+  past-so c i d there is lt = inl ((f.turns c.command.ticket.client (slot_for c.command.part)).over i d there is lt)
 
   pub place-none : (ticket : Ticket) → StandsSo xs ticket.client ticket.part None → place_for xs ticket ≡ None
   place-none ticket none = none-passes (λ (c : Arrival). same_ticket ticket c.command.ticket) xs (λ k c at. becomes-false (same_ticket ticket c.command.ticket) (λ same. none k (ticket-stands ticket k c at same)))
@@ -159,92 +168,51 @@ module _ (xs : List Arrival) (t : Tables) (f : Find xs t) where
       (row.over k d at (so-one d.command.ticket.client client mine)).1 (omega (arith, rank-is, rank-less (of_client client) xs k i d at (so-one d.command.ticket.client client mine) lt)))))
 
   module _ (i : ℕ) (c : Arrival) (at : slice_get xs i ≡ Some c) where
-    pub come-turn : (turn_rank xs i c ≤ (turn_in t c.command.ticket.client (slot_for c.command.part)).over) ↔ HasTurn xs i c
-    come-turn =
-        let client : ℕ = c.command.ticket.client in
-        let number : ℕ = slot_for c.command.part in
-        let w = come (of_turn client number) HasEnded xs i (turn_in t client number) (f.turns client number) in (
-          λ le. all-before (λ d. SameTurn c d → HasEnded d) xs i (λ k d lt there same. w.1 le k d lt there (so-both d.command.ticket.client (slot_for d.command.part) client number same.0 same.1)),
-          λ all. w.0 (λ k d lt there is. before-all (λ d. SameTurn c d → HasEnded d) xs i k d all lt there (both-so d.command.ticket.client (slot_for d.command.part) client number is)),
-        )
-
     yes-turn : of_turn c.command.ticket.client (slot_for c.command.part) c ≡ true
     yes-turn = so-both c.command.ticket.client (slot_for c.command.part) c.command.ticket.client (slot_for c.command.part) refl refl
 
-    not-ended-rank : (HasEnded c → ⊥) → (turn_in t c.command.ticket.client (slot_for c.command.part)).over ≤ turn_rank xs i c
-    not-ended-rank open' = elim (cases_lt (turn_rank xs i c) (turn_in t c.command.ticket.client (slot_for c.command.part)).over) [
-      | inl lt ↦ absurd (open' (((f.turns c.command.ticket.client (slot_for c.command.part)).over i c at yes-turn).1 lt))
-      | inr le ↦ le
-    ]
-
     -- it is posted
-    pub find-posted : (y : Arrival) (node : ℕ) → y ≡ awaiting c → MayPostTo c.command.stage node → HasTurn xs i c → Find (slice_set xs i y) t
-    find-posted y node is may turn =
-        let come' = come-turn.1 turn in
+    pub find-posted : (y : Arrival) (node : ℕ) → y ≡ awaiting c → MayPostTo c.command.stage node → Find (slice_set xs i y) t
+    find-posted y node is may =
         subst (λ (z : Arrival). Find (slice_set xs i z) t) (sym is)
         (found-set xs t.ranks.items (place_in t) (client_in t) (turn_in t) f i c (awaiting c) at refl refl (client_in t) (turn_in t)
         (λ n. row-set (of_client n) IsAnswered xs i c (awaiting c) at refl (client_in t n) (λ m. (λ a. a, λ a. a)) (f.clients n))
-        (λ n s. row-set (of_turn n s) HasEnded xs i c (awaiting c) at refl (turn_in t n s) (λ m. (λ h. absurd (awaits-not Awaits refl h), λ h. absurd (may-not c.command.stage node may h))) (f.turns n s))
-        (λ n s. omega arith)
-        (λ lt. absurd (omega (arith, lt, come'))))
+        (λ n s. so-far-set (of_turn n s) HasEnded xs i c (awaiting c) at refl (turn_in t n s) (λ m h. absurd (may-not c.command.stage node may h)) (f.turns n s)))
 
-    -- it was on its way
-    told-rank : c.command.stage ≡ Awaits → turn_rank xs i c ≡ (turn_in t c.command.ticket.client (slot_for c.command.part)).over
-    told-rank stage =
-        let above = not-ended-rank (awaits-not c.command.stage stage) in
-        elim (cases_lt (turn_in t c.command.ticket.client (slot_for c.command.part)).over (turn_rank xs i c)) [
-          | inl lt ↦ absurd (awaits-no-post c.command.stage stage (f.waiting i c at lt))
-          | inr le ↦ omega (arith, above, le)
-        ]
+    -- it was told what it awaited
+    pub told-within : turn_rank xs i c ≡ (turn_in t c.command.ticket.client (slot_for c.command.part)).over
+        → (turn_in t c.command.ticket.client (slot_for c.command.part)).over < (turn_in t c.command.ticket.client (slot_for c.command.part)).count
+    told-within next =
+        omega (arith, next, (f.turns c.command.ticket.client (slot_for c.command.part)).counted, rank-less (of_turn c.command.ticket.client (slot_for c.command.part)) xs i (length xs) c at yes-turn (slice_get_within xs i c at))
 
-    pub told-within : c.command.stage ≡ Awaits → (turn_in t c.command.ticket.client (slot_for c.command.part)).over < (turn_in t c.command.ticket.client (slot_for c.command.part)).count
-    told-within stage =
-        omega (arith, told-rank stage, (f.turns c.command.ticket.client (slot_for c.command.part)).counted, rank-less (of_turn c.command.ticket.client (slot_for c.command.part)) xs i (length xs) c at yes-turn (slice_get_within xs i c at))
-
-    pub find-told : (u : Tables) (y : Arrival) (told : Told) (ended : Bool) → y ≡ after_told c told → c.command.stage ≡ Awaits → (ended ≡ true) ↔ IsOver y.command.stage → NotedTold (turn_key_of c.command) ended t u → Find (slice_set xs i y) u
-    find-told u y told ended is stage so noted =
-        let ticket : y.command.ticket ≡ c.command.ticket = ap (λ (z : Arrival). z.command.ticket) is in
-        let part : y.command.part ≡ c.command.part = ap (λ (z : Arrival). z.command.part) is in
+    pub find-told : (u : Tables) (y : Arrival) (told : Told) (passes : Bool) → y ≡ after_told c told → c.command.stage ≡ Awaits
+        → (passes ≡ true → IsOver y.command.stage × (turn_rank xs i c ≡ (turn_in t c.command.ticket.client (slot_for c.command.part)).over)) → NotedTold (turn_key_of c.command) passes t u → Find (slice_set xs i y) u
+    find-told u y told passes is stage so noted =
         let same-answered : y.answered ≡ c.answered = ap (λ (z : Arrival). z.answered) is in
         subst (λ (ranks : List ℕ). AreFound (slice_set xs i y) ranks (place_in u) (client_in u) (turn_in u)) (sym noted.ranks)
         (subst (λ (q : (ℕ → ℕ → Option ℕ) × (ℕ → Row)). AreFound (slice_set xs i y) t.ranks.items q.0 q.1 (turn_in u)) (λ k. ((λ n part. sym (noted.place n part) k), λ n. sym (noted.client n) k))
         (found-set xs t.ranks.items (place_in t) (client_in t) (turn_in t) f i c y at ticket part (client_in t) (turn_in u)
         (λ n. row-set (of_client n) IsAnswered xs i c y at (its-client xs t.ranks.items (place_in t) (client_in t) (turn_in t) f i c y at ticket part n) (client_in t n) (λ m. (λ a. sym same-answered ∙ a, λ a. same-answered ∙ a)) (f.clients n))
-        (λ n s. turns ended refl n s)
-        (λ n s. grows ended refl n s)
-        (λ lt. absurd (
-        let same : (turn_in u y.command.ticket.client (slot_for y.command.part)).over ≡ (turn_in u c.command.ticket.client (slot_for c.command.part)).over = λ k. (turn_in u (ticket k).client (slot_for (part k))).over in
-        omega (arith, lt, same, told-rank stage, grows ended refl c.command.ticket.client (slot_for c.command.part))))))
+        (λ n s. turns passes refl n s)))
       where
-        turns : (b : Bool) → ended ≡ b → (n s : ℕ) → IsRow (of_turn n s) HasEnded (slice_set xs i y) (turn_in u n s)
+        ticket : y.command.ticket ≡ c.command.ticket
+        ticket = ap (λ (z : Arrival). z.command.ticket) is
+
+        part : y.command.part ≡ c.command.part
+        part = ap (λ (z : Arrival). z.command.part) is
+
+        turns : (b : Bool) → passes ≡ b → (n s : ℕ) → IsRowSoFar (of_turn n s) HasEnded (slice_set xs i y) (turn_in u n s)
         turns true e n s =
-            let ticket : y.command.ticket ≡ c.command.ticket = ap (λ (z : Arrival). z.command.ticket) is in
-            let part : y.command.part ≡ c.command.part = ap (λ (z : Arrival). z.command.part) is in
-            let now : HasEnded y = is-over y.command.stage (so.0 e) in
+            let now : HasEnded y = is-over y.command.stage (so e).0 in
             let same-row : of_turn n s c ≡ true → turn_in t c.command.ticket.client (slot_for c.command.part) ≡ turn_in t n s =
             λ b. (let w = both-so c.command.ticket.client (slot_for c.command.part) n s b in λ k. turn_in t (w.0 k) (w.1 k)) in
             let same-rank : of_turn n s c ≡ true → rank (of_turn n s) xs i ≡ (turn_in t n s).over =
-            λ b. (let w = both-so c.command.ticket.client (slot_for c.command.part) n s b in (λ k. rank (of_turn (sym w.0 k) (sym w.1 k)) xs i) ∙ told-rank stage ∙ ap (λ (r : Row). r.over) (same-row b)) in
-            subst (IsRow (of_turn n s) HasEnded (slice_set xs i y)) (sym (noted.turn n s ∙ ap (λ b. cond b (cond (of_turn n s c) (one_over (turn_in t c.command.ticket.client (slot_for c.command.part))) (turn_in t n s)) (turn_in t n s)) e))
-            (row-passes (of_turn n s) HasEnded xs i c y at (its-turn xs t.ranks.items (place_in t) (client_in t) (turn_in t) f i c y at ticket part n s) (turn_in t c.command.ticket.client (slot_for c.command.part)) (turn_in t n s) same-row same-rank now (f.turns n s))
+            λ b. (let w = both-so c.command.ticket.client (slot_for c.command.part) n s b in (λ k. rank (of_turn (sym w.0 k) (sym w.1 k)) xs i) ∙ (so e).1 ∙ ap (λ (r : Row). r.over) (same-row b)) in
+            subst (IsRowSoFar (of_turn n s) HasEnded (slice_set xs i y)) (sym (noted.turn n s ∙ ap (λ b. cond b (cond (of_turn n s c) (one_over (turn_in t c.command.ticket.client (slot_for c.command.part))) (turn_in t n s)) (turn_in t n s)) e))
+            (so-far-passes (of_turn n s) HasEnded xs i c y at (its-turn xs t.ranks.items (place_in t) (client_in t) (turn_in t) f i c y at ticket part n s) (turn_in t c.command.ticket.client (slot_for c.command.part)) (turn_in t n s) same-row same-rank now (f.turns n s))
         turns false e n s =
-            let ticket : y.command.ticket ≡ c.command.ticket = ap (λ (z : Arrival). z.command.ticket) is in
-            let part : y.command.part ≡ c.command.part = ap (λ (z : Arrival). z.command.part) is in
-            let still : HasEnded y → ⊥ = λ h. (let yes : ended ≡ true = so.1 (over-is y.command.stage h) in let no : true ≡ false = sym yes ∙ e in cc) in
-            subst (IsRow (of_turn n s) HasEnded (slice_set xs i y)) (sym (noted.turn n s ∙ ap (λ b. cond b (cond (of_turn n s c) (one_over (turn_in t c.command.ticket.client (slot_for c.command.part))) (turn_in t n s)) (turn_in t n s)) e))
-            (row-set (of_turn n s) HasEnded xs i c y at (its-turn xs t.ranks.items (place_in t) (client_in t) (turn_in t) f i c y at ticket part n s) (turn_in t n s) (λ m. (λ h. absurd (still h), λ h. absurd (awaits-not c.command.stage stage h))) (f.turns n s))
-
-        grows : (b : Bool) → ended ≡ b → (n s : ℕ) → (turn_in t n s).over ≤ (turn_in u n s).over
-        grows true e n s =
-            let same-row : of_turn n s c ≡ true → turn_in t c.command.ticket.client (slot_for c.command.part) ≡ turn_in t n s =
-            λ b. (let w = both-so c.command.ticket.client (slot_for c.command.part) n s b in λ k. turn_in t (w.0 k) (w.1 k)) in
-            omega (
-              arith,
-              over-grows (of_turn n s c) (turn_in t c.command.ticket.client (slot_for c.command.part)) (turn_in t n s) same-row,
-              ap (λ (r : Row). r.over) (noted.turn n s ∙ ap (λ b. cond b (cond (of_turn n s c) (one_over (turn_in t c.command.ticket.client (slot_for c.command.part))) (turn_in t n s)) (turn_in t n s)) e),
-            )
-        grows false e n s =
-            omega (arith, ap (λ (r : Row). r.over) (noted.turn n s ∙ ap (λ b. cond b (cond (of_turn n s c) (one_over (turn_in t c.command.ticket.client (slot_for c.command.part))) (turn_in t n s)) (turn_in t n s)) e))
+            subst (IsRowSoFar (of_turn n s) HasEnded (slice_set xs i y)) (sym (noted.turn n s ∙ ap (λ b. cond b (cond (of_turn n s c) (one_over (turn_in t c.command.ticket.client (slot_for c.command.part))) (turn_in t n s)) (turn_in t n s)) e))
+            (so-far-set (of_turn n s) HasEnded xs i c y at (its-turn xs t.ranks.items (place_in t) (client_in t) (turn_in t) f i c y at ticket part n s) (turn_in t n s) (λ m h. absurd (awaits-not c.command.stage stage h)) (f.turns n s))
 
     -- it is the oldest unanswered one of its client
     pub its-own : (client : ℕ) → unanswered_for xs client ≡ Some i → (c.command.ticket.client ≡ client) × (rank (of_client client) xs i ≡ (client_in t client).over)
@@ -283,6 +251,4 @@ module _ (xs : List Arrival) (t : Tables) (f : Find xs t) where
         (λ b. ap (client_in t) (sym own.0 ∙ one-so c.command.ticket.client n b))
         (λ b. (let same : client ≡ n = sym own.0 ∙ one-so c.command.ticket.client n b in ap (λ m. rank (of_client m) xs i) (sym same) ∙ own.1 ∙ ap (λ m. (client_in t m).over) same))
         refl (f.clients n)))
-        (λ n s. row-set (of_turn n s) HasEnded xs i c (once_answered c) at refl (turn_in t n s) (λ m. (λ h. h, λ h. h)) (f.turns n s))
-        (λ n s. omega arith)
-        (λ lt. f.waiting i c at lt))))
+        (λ n s. so-far-set (of_turn n s) HasEnded xs i c (once_answered c) at refl (turn_in t n s) (λ m h. h) (f.turns n s)))))

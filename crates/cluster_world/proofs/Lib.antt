@@ -1,8 +1,9 @@
-pub mod AsRuns
+mod Among
 pub mod Asked
 pub mod Linking
 pub mod Lookups
 pub mod Served
+pub mod Noting
 pub mod Shown
 pub mod Stepping
 pub mod Sums
@@ -22,4 +23,5 @@ pub mod Lists
 mod Ranking
 mod Finding
 mod Found
+mod Going
 mod Allowing

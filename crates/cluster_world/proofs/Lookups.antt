@@ -45,7 +45,7 @@ place-within p xs i e = go (nat_lt (position_or_len p xs) (length xs)) refl e
 pub first-at : {X : Type 0} (p : X → Bool) (xs : List X) (i : ℕ) (x : X) → position p xs ≡ Some i → x ≡ slice_index_or xs i x → IsFirst p xs i x
 first-at p xs i x e is = (e, at-place xs i x (place-within p xs i e).1 is)
 
-past-none : {X : Type 0} (xs : List X) (i : ℕ) → slice_get xs i ≡ None → length xs ≤ i
+pub past-none : {X : Type 0} (xs : List X) (i : ℕ) → slice_get xs i ≡ None → length xs ≤ i
 past-none [] i e = omega arith
 past-none (x ∷ xs) zero e = absurd (cc)
 past-none (x ∷ xs) (suc i) e = omega (arith, past-none xs i e)

@@ -5,7 +5,7 @@ use Rattle.std.specs.Prelude.{if◌then◌else◌, slice_get, slice_set, count_b
 use Rattle.std.proofs.lemmas.List.Sums.{sum_by-cons}
 use Rattle.std.proofs.lemmas.Option.{slice_get_within}
 use Rattle.cluster_world.specs.declared.rows.Row.{Row}
-use Rattle.cluster_world.specs.Rows.{rank, no_row, one_more, one_over, IsRow}
+use Rattle.cluster_world.specs.Rows.{rank, no_row, one_more, one_over, IsRow, IsRowSoFar}
 
 -- what stands in a list after one was set, or put behind the others
 
@@ -227,3 +227,59 @@ module _ {X : Type 0} (p : X → Bool) where
       ],
       λ le j y lt at is. (row.over j y at is).1 (omega (arith, le, rank-less xs j i y at is lt)),
     )
+
+    -- rows of which the first are over, and others may be
+
+    pub so-far-start : IsRowSoFar p Over [] no_row
+    so-far-start = record { counted = refl; within = omega arith; over = λ i x at is lt. absurd (cc) }
+
+    pub so-far-end : (xs : List X) (y : X) (r : Row) → IsRowSoFar p Over xs r → IsRowSoFar p Over (xs ++ y ∷ []) (if p y then one_more r else r)
+    so-far-end xs y r row = go (p y) refl
+      where
+        still : (i : ℕ) (x : X) → slice_get (xs ++ y ∷ []) i ≡ Some x → p x ≡ true → rank p (xs ++ y ∷ []) i < r.over → Over x
+        still i x at is lt = elim (at-end xs i y x at) [
+          | inl here ↦ absurd (omega (arith, lt, row.within, row.counted, ap (rank p (xs ++ y ∷ [])) here.0, rank-front xs (length xs) y (omega arith)))
+          | inr there ↦ row.over i x there.1 is (omega (arith, lt, rank-front xs i y (omega (arith, there.0))))
+        ]
+
+        go : (b : Bool) → p y ≡ b → IsRowSoFar p Over (xs ++ y ∷ []) (if b then one_more r else r)
+        go true is =
+            let counted : r.count + 1 ≡ rank p (xs ++ y ∷ []) (length (xs ++ y ∷ [])) =
+            omega (arith, row.counted, ap (rank p (xs ++ y ∷ [])) (end-length xs y), rank-end xs y, ap {B = ℕ} (λ b. if b then 1 else 0) is) in
+            record { counted = counted; within = omega (arith, row.within); over = still }
+        go false is =
+            let counted : r.count ≡ rank p (xs ++ y ∷ []) (length (xs ++ y ∷ [])) =
+            omega (arith, row.counted, ap (rank p (xs ++ y ∷ [])) (end-length xs y), rank-end xs y, ap {B = ℕ} (λ b. if b then 1 else 0) is) in
+            record { counted = counted; within = row.within; over = still }
+
+    module _ (xs : List X) (i : ℕ) (x y : X) (at : slice_get xs i ≡ Some x) (same : p y ≡ p x) where
+      so-far-counted : (r : Row) → IsRowSoFar p Over xs r → r.count ≡ rank p (slice_set xs i y) (length (slice_set xs i y))
+      so-far-counted r row = row.counted ∙ sym (rank-set xs i (length xs) x y at same) ∙ ap (rank p (slice_set xs i y)) (sym (set-length xs i y))
+
+      -- one changes, and is over where it was
+      pub so-far-set : (r : Row) → (p x ≡ true → Over x → Over y) → IsRowSoFar p Over xs r → IsRowSoFar p Over (slice_set xs i y) r
+      so-far-set r so row = record {
+        counted = so-far-counted r row;
+        within = row.within;
+        over = λ j z there is lt. elim (at-set xs i j y z there) [
+          | inl here ↦
+              let mine : p x ≡ true = sym same ∙ ap p (sym here.1) ∙ is in
+              let lt' : rank p xs i < r.over = omega (arith, lt, rank-set xs i j x y at same, ap (rank p xs) here.0) in
+              subst Over (sym here.1) (so mine (row.over i x at mine lt'))
+          | inr other ↦ row.over j z other.1 is (omega (arith, lt, rank-set xs i j x y at same))
+        ];
+      }
+
+      -- the next is over
+      pub so-far-over : (r : Row) → p x ≡ true → rank p xs i ≡ r.over → Over y → IsRowSoFar p Over xs r → IsRowSoFar p Over (slice_set xs i y) (one_over r)
+      so-far-over r mine next now row = record {
+        counted = so-far-counted r row;
+        within = omega (arith, next, row.counted, rank-less xs i (length xs) x at mine (slice_get_within xs i x at));
+        over = λ j z there is lt. elim (at-set xs i j y z there) [
+          | inl here ↦ subst Over (sym here.1) now
+          | inr other ↦ elim (cases_lt (rank p xs j) r.over) [
+            | inl less ↦ row.over j z other.1 is less
+            | inr le ↦ absurd (other.0 (rank-one xs j i z x other.1 at is mine (omega (arith, le, lt, next, rank-set xs i j x y at same))))
+          ]
+        ];
+      }

@@ -1,6 +1,8 @@
 -- What links show of what they keep, and of the history.
 use Rattle.std.proofs.Common.{◌≡◌, ◌≢◌, ℕ, zero, suc, ◌+◌, ◌<◌, List, [], ◌∷◌, ◌++◌, length, Some, None, Option, Bool, true, false, refl, sym, ap, ◌∙◌, subst, arith}
 use Rattle.std.specs.Prelude.{slice_get, slice_set, slice_index_or, map, All, MatchOption, Ok}
+use Rattle.std.specs.Borrow.{Bor}
+use Rattle.std.specs.Option.{option_map}
 use Rattle.std.proofs.lemmas.List.{length_push, map_push}
 use Rattle.std.proofs.lemmas.List.Elements.{All-map, All-push}
 use Rattle.std.proofs.lemmas.Option.{slice_get_within, get_or_from_slice_get}
@@ -14,9 +16,6 @@ use Rattle.key_split.specs.declared.travel.Told.TheVariants.{Reply}
 use Rattle.node_model.specs.History.{EntryModel}
 use Rattle.world_laws.specs.State.{Link, answered_of, replied}
 use Rattle.world_laws.specs.declared.state.LinkRequest.{LinkRequest}
-use Rattle.cluster_world.specs.Alone.{as_request}
-use Rattle.cluster_world.specs.declared.alone.RequestAlone.{RequestAlone}
-use Rattle.cluster_world.proofs.AsRuns.{in-alone}
 use Rattle.world_laws.specs.declared.state.LinkReply.{LinkReply}
 use Rattle.world_laws.specs.declared.state.LinkReply.TheVariants.{To}
 use Rattle.world_laws.specs.declared.state.LinkReply.TheVariants as back
@@ -128,9 +127,9 @@ module _ (ls : List LinkModel) (h : List EntryModel) (k : LinksModel) (is : link
     fetched-other (Refusal ticket told) first never = fetched (Refusal ticket told) (To ticket told) refl first
     fetched-other (Entry ticket place) first never = absurd (never ticket place new.backs first)
 
-  pub first-request : (r : Option RequestAlone) → MatchOption r (l.requests ≡ []) (λ request. (rest : List RequestAlone) × (l.requests ≡ request ∷ rest)) → FirstIs k at r
-  first-request None m = none-there (λ (x : Link). x.requests ≢ []) (λ p. p (ap (map as_request) m))
-  first-request (Some request) m = there (λ x. Begins request) (map as_request m.0, ap (map as_request) m.1)
+  pub first-request : (r : Option (Bor LinkRequest)) → MatchOption r (l.requests ≡ []) (λ request. (rest : List LinkRequest) × (l.requests ≡ request.now ∷ rest)) → FirstIs k at (option_map (λ (x : Bor LinkRequest). x.now) r)
+  first-request None m = none-there (λ (x : Link). x.requests ≢ []) (λ p. p m)
+  first-request (Some request) m = there (λ x. Begins request.now) m
 
 -- where a link is there
 pub there-within : (ls : List LinkModel) (h : List EntryModel) (k : LinksModel) (at : ℕ) (P : Link → Type 0) → linked ls h ≡ k → There k at P → at < length ls
@@ -154,11 +153,11 @@ asks-shown h node ticket (Entry t place ∷ ks) = omega (arith, asks-shown h nod
 
 rests-shown : (h : List EntryModel) (l : LinkModel) (node : ℕ) (ticket : Ticket) → LineRests l node ticket → LinkRests (shown h l) node ticket
 unfolding LineRests LinkRests
-rests-shown h l node ticket r = (in-alone (asks node ticket) l.is_open l.node l.asking l.requests ∙ r.0, asks-shown h node ticket l.backs ∙ r.1)
+rests-shown h l node ticket r = (r.0, asks-shown h node ticket l.backs ∙ r.1)
 
 shown-rests : (h : List EntryModel) (l : LinkModel) (node : ℕ) (ticket : Ticket) → LinkRests (shown h l) node ticket → LineRests l node ticket
 unfolding LineRests LinkRests
-shown-rests h l node ticket r = (sym (in-alone (asks node ticket) l.is_open l.node l.asking l.requests) ∙ r.0, sym (asks-shown h node ticket l.backs) ∙ r.1)
+shown-rests h l node ticket r = (r.0, sym (asks-shown h node ticket l.backs) ∙ r.1)
 
 pub all-rest : (ls : List LinkModel) (h : List EntryModel) (node : ℕ) (ticket : Ticket) → All (λ l. LineRests l node ticket) ls → All (λ l. LinkRests l node ticket) (map (shown h) ls)
 all-rest ls h node ticket all = All-map (λ l. LinkRests l node ticket) (shown h) ls (λ k d lt. rests-shown h _ node ticket (all k d lt))
@@ -181,7 +180,7 @@ module _ (h h' : List EntryModel) (same : (place : ℕ) → place < length h →
   backs-same (b ∷ bs) p = λ i. back-same b (p 0 b (omega arith)) i ∷ backs-same bs (λ k d lt. p (suc k) d (omega (arith, lt))) i
 
   pub line-same : (l : LinkModel) → KeepsBelow (length h) l → shown h' l ≡ shown h l
-  line-same l p = ap (λ bs. record { node = l.node; is_open = l.is_open; requests = map as_request l.requests; backs = bs; asking = l.asking }) (backs-same l.backs p)
+  line-same l p = ap (λ bs. record { node = l.node; is_open = l.is_open; requests = l.requests; backs = bs; asking = l.asking }) (backs-same l.backs p)
 
   pub lines-same : (ls : List LinkModel) → All (KeepsBelow (length h)) ls → map (shown h') ls ≡ map (shown h) ls
   lines-same [] p = refl
@@ -192,7 +191,7 @@ pub keeps-shown : (h : List EntryModel) (l : LinkModel) (b : Kept) → shown h (
 keeps-shown h l b = go l.is_open
   where
     go : (o : Bool) → shown h (keeps (record l { is_open = o }) b) ≡ replied (shown h (record l { is_open = o })) (shown_back h b)
-    go true = ap (λ bs. record { node = l.node; is_open = true; requests = map as_request l.requests; backs = bs; asking = l.asking }) (map_push (shown_back h) l.backs b)
+    go true = ap (λ bs. record { node = l.node; is_open = true; requests = l.requests; backs = bs; asking = l.asking }) (map_push (shown_back h) l.backs b)
     go false = refl
 
 -- the lines of a list, one of which is written
@@ -207,7 +206,7 @@ rest-below n b bs rest e all k d lt =
 pub first-below : (n : ℕ) (b : Kept) (bs rest : List Kept) → bs ≡ b ∷ rest → All (IsBelow n) bs → IsBelow n b
 first-below n b bs rest e all = let more : All (IsBelow n) (b ∷ rest) = subst (All (IsBelow n)) e all in more 0 b (omega arith)
 
-keeps-below : (n : ℕ) (l : LinkModel) (b : Kept) → KeepsBelow n l → IsBelow n b → KeepsBelow n (keeps l b)
+pub keeps-below : (n : ℕ) (l : LinkModel) (b : Kept) → KeepsBelow n l → IsBelow n b → KeepsBelow n (keeps l b)
 keeps-below n l b all p = go l.is_open
   where
     go : (o : Bool) → KeepsBelow n (keeps (record l { is_open = o }) b)
@@ -234,21 +233,17 @@ head-of (y ∷ ys) x e = let same : y ≡ x = cc in (ys, ap (λ z. z ∷ ys) sam
 pub tails : {X : Type 0} (xs rest more : List X) (x y : X) → xs ≡ x ∷ rest → xs ≡ y ∷ more → xs ≡ x ∷ more
 tails xs rest more x y e f = cc
 
--- the requests behind the first
-pub behind : (rs more : List RequestAlone) (rest : List LinkRequest) (x : LinkRequest) (y : RequestAlone) → map as_request rs ≡ x ∷ rest → rs ≡ y ∷ more → map as_request rs ≡ x ∷ map as_request more
-behind rs more rest x y e f = tails (map as_request rs) rest (map as_request more) x (as_request y) e (ap (map as_request) f)
+pub some-request : (xs ys rest : List LinkRequest) (x : LinkRequest) → ys ≡ xs → xs ≡ x ∷ rest → ys ≢ []
+some-request xs ys rest x e f g = let none : xs ≡ [] = sym e ∙ g in cc
 
-pub some-request : (xs ys : List RequestAlone) (rest : List LinkRequest) (x : LinkRequest) → ys ≡ xs → map as_request xs ≡ x ∷ rest → ys ≢ []
-some-request xs ys rest x e f g = let none : map as_request xs ≡ [] = ap (map as_request) (sym e ∙ g) in cc
-
-module _ (l l1 l2 l3 : LinkModel) (flag : Bool) (b : Kept) (e1 : l1 ≡ record l { room = l1.room }) (e2 : l2 ≡ record l1 { requests = l2.requests; asking = flag }) (e3 : l3 ≡ keeps (record l2 { room = l3.room }) b) where
-  pub done-shown : (h : List EntryModel) → shown h l3 ≡ replied (record (shown h l) { requests = map as_request l2.requests; asking = flag }) (shown_back h b)
+module _ (l l1 l2 l3 : LinkModel) (flag : Bool) (b : Kept) (e1 : l1 ≡ record l { room = l1.room }) (e2 : l2 ≡ record l1 { requests = l2.requests; asking = flag }) (e3 : l3 ≡ keeps l2 b) where
+  pub done-shown : (h : List EntryModel) → shown h l3 ≡ replied (record (shown h l) { requests = l2.requests; asking = flag }) (shown_back h b)
   done-shown h =
-      let two : shown h l2 ≡ record (shown h l) { requests = map as_request l2.requests; asking = flag } =
-      ap (shown h) e2 ∙ ap (λ (x : LinkModel). record (shown h x) { requests = map as_request l2.requests; asking = flag }) e1 in
-      ap (shown h) e3 ∙ keeps-shown h (record l2 { room = l3.room }) b ∙ ap (λ (x : Link). replied x (shown_back h b)) two
+      let two : shown h l2 ≡ record (shown h l) { requests = l2.requests; asking = flag } =
+      ap (shown h) e2 ∙ ap (λ (x : LinkModel). record (shown h x) { requests = l2.requests; asking = flag }) e1 in
+      ap (shown h) e3 ∙ keeps-shown h l2 b ∙ ap (λ (x : Link). replied x (shown_back h b)) two
 
   pub done-below : (n : ℕ) → KeepsBelow n l → IsBelow n b → KeepsBelow n l3
   done-below n all p =
       let same : l2.backs ≡ l.backs = ap (λ (x : LinkModel). x.backs) e2 ∙ ap (λ (x : LinkModel). x.backs) e1 in
-      subst (KeepsBelow n) (sym e3) (keeps-below n (record l2 { room = l3.room }) b (subst (All (IsBelow n)) (sym same) all) p)
+      subst (KeepsBelow n) (sym e3) (keeps-below n l2 b (subst (All (IsBelow n)) (sym same) all) p)

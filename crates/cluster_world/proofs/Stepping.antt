@@ -2,12 +2,23 @@
 use Rattle.std.proofs.Common.{◌≡◌, ℕ, zero, suc, ◌+◌, ◌-◌, ◌<◌, ◌≤◌, get_or, List, [], ◌∷◌, ◌++◌, length, Some, Err, refl, sym, ap, ◌∙◌, subst, arith}
 use Rattle.std.specs.Prelude.{take, drop, slice_get}
 use Rattle.world_laws.specs.State.{WorldModel}
-use Rattle.world_laws.specs.World.{WorldStep, WorldRun, last_moment}
+use Rattle.node_model.specs.Nodes.{ClusterModel}
+use Rattle.node_model.specs.declared.role.Verdict.{Verdict}
+use Rattle.world_laws.specs.Allowed.{Fits}
+use Rattle.world_laws.specs.declared.state.LinkRequest.{LinkRequest}
+use Rattle.world_laws.specs.declared.state.LinkRequest.TheVariants as request
+use Rattle.world_laws.specs.World.{NamesNode, WorldStep, WorldRun, last_moment}
 use Rattle.world_laws.specs.declared.event.Event.{Event}
 use Rattle.cluster_world.specs.Machine.{MachineAnswers}
 use Rattle.cluster_world.specs.Steps.{RefusedFor, Steps, Runs}
 use Rattle.cluster_world.specs.declared.fault.WorldFault.{WorldFault}
 use Rattle.cluster_world.specs.declared.fault.WorldFault.TheVariants.{NoMemory, NotNow}
+
+-- a verdict fits as it did
+
+pub fits-so : (w w' : WorldModel) (verdict : Verdict) (first : LinkRequest) → w'.cluster ≡ w.cluster → Fits w verdict first → Fits w' verdict first
+fits-so w w' verdict request.Asking same fits = fits
+fits-so w w' verdict (request.Runs tickets) same fits = subst (λ (k : ClusterModel). NamesNode k verdict) (sym same) fits
 
 -- a refused event changes nothing
 
@@ -61,12 +72,16 @@ stops U w mid w' es done rest e number why is count r s =
     )
 
 -- a list by its first event
-pub by-first : (xs : List Event) (x : Event) → 1 ≤ length xs → x ≡ get_or xs 0 x → xs ≡ x ∷ take (length xs - 1) (drop 1 xs)
+pub by-first : {X : Type 0} (xs : List X) (x : X) → 1 ≤ length xs → x ≡ get_or xs 0 x → xs ≡ x ∷ take (length xs - 1) (drop 1 xs)
 by-first [] x lt is = absurd (omega (arith, lt))
 by-first (y ∷ ys) x lt is = λ i. sym is i ∷ whole ys (suc (length ys) - 1) (omega arith) i
   where
-    whole : (ys : List Event) (n : ℕ) → n ≡ length ys → ys ≡ take n ys
+    whole : {X : Type 0} (ys : List X) (n : ℕ) → n ≡ length ys → ys ≡ take n ys
     whole [] zero e = refl
     whole [] (suc n) e = refl
     whole (y ∷ ys) zero e = absurd (omega (arith, e))
     whole (y ∷ ys) (suc n) e = ap (λ zs. y ∷ zs) (whole ys n (omega (arith, e)))
+
+pub none-left : {X : Type 0} (xs : List X) → length xs < 1 → xs ≡ []
+none-left [] lt = refl
+none-left (x ∷ xs) lt = absurd (omega (arith, lt))

@@ -5,7 +5,8 @@ use Rattle.key_split.specs.declared.travel.Ticket.{Ticket}
 use Rattle.world_laws.specs.State.{WorldModel, Link}
 use Rattle.world_laws.specs.Places.{asks, in_lane, in_link, tally, total}
 use Rattle.world_laws.specs.Places.Item.{Stands, Comes}
-use Rattle.cluster_world.specs.Rests.{LinkRests, Rests}
+use Rattle.world_laws.specs.declared.state.Posted.{Posted}
+use Rattle.cluster_world.specs.Rests.{LinkRests, Rests, RunRests}
 
 total-zero : {X : Type 0} (f : X → ℕ) (xs : List X) → All (λ x. f x ≡ 0) xs → total f xs ≡ 0
 total-zero f [] h = refl
@@ -17,6 +18,14 @@ zero-total : {X : Type 0} (f : X → ℕ) (xs : List X) → total f xs ≡ 0 →
 zero-total f [] e k d lt = absurd (omega arith)
 zero-total f (x ∷ xs) e zero d lt = omega (arith, e)
 zero-total f (x ∷ xs) e (suc k) d lt = zero-total f xs (omega (arith, e)) k d (omega arith)
+
+run-zero : (b : Posted) (node : ℕ) (ticket : Ticket) → RunRests b node ticket → in_lane (asks node ticket) b ≡ 0
+unfolding RunRests
+run-zero b node ticket h = h
+
+zero-run : (b : Posted) (node : ℕ) (ticket : Ticket) → in_lane (asks node ticket) b ≡ 0 → RunRests b node ticket
+unfolding RunRests
+zero-run b node ticket h = h
 
 link-zero : (l : Link) (node : ℕ) (ticket : Ticket) → LinkRests l node ticket → in_link (asks node ticket) l ≡ 0
 unfolding LinkRests
@@ -30,7 +39,7 @@ pub rests-none : (w : WorldModel) (node : ℕ) (ticket : Ticket) → Rests w nod
 unfolding Rests
 rests-none w node ticket h =
     let a : total (λ c. asks node ticket (Stands c)) w.commands ≡ 0 = total-zero (λ c. asks node ticket (Stands c)) w.commands h.commands in
-    let b : total (in_lane (asks node ticket)) w.ups ≡ 0 = total-zero (in_lane (asks node ticket)) w.ups h.ups in
+    let b : total (in_lane (asks node ticket)) w.ups ≡ 0 = total-zero (in_lane (asks node ticket)) w.ups (λ k x lt. run-zero _ node ticket (h.ups k x lt)) in
     let d : total (in_link (asks node ticket)) w.links ≡ 0 = total-zero (in_link (asks node ticket)) w.links (λ k x lt. link-zero _ node ticket (h.links k x lt)) in
     let e : total (λ p. asks node ticket (Comes p.0 p.1)) w.downs ≡ 0 = total-zero (λ p. asks node ticket (Comes p.0 p.1)) w.downs h.downs in omega (arith, a, b, d, e)
 
@@ -38,7 +47,7 @@ pub none-rests : (w : WorldModel) (node : ℕ) (ticket : Ticket) → tally (asks
 unfolding Rests
 none-rests w node ticket e = record {
   commands = zero-total (λ c. asks node ticket (Stands c)) w.commands (omega (arith, e));
-  ups = zero-total (in_lane (asks node ticket)) w.ups (omega (arith, e));
+  ups = λ k x lt. zero-run _ node ticket (zero-total (in_lane (asks node ticket)) w.ups (omega (arith, e)) k x lt);
   links = λ k x lt. zero-link _ node ticket (zero-total (in_link (asks node ticket)) w.links (omega (arith, e)) k x lt);
   downs = zero-total (λ p. asks node ticket (Comes p.0 p.1)) w.downs (omega (arith, e));
 }

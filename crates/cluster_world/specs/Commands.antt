@@ -1,17 +1,17 @@
 -- The commands in order of arrival, and what the tables by which they are found say of them.
 -- Only private functions cite it.
-use Rattle.std.specs.Prelude.{◌≡◌, ◌≢◌, ◌↔◌, ◌<◌, ◌==◌, ◌&&◌, not, ℕ, Bool, true, List, length, take, Option, Some, None, All, count_by, position, slice_get, slice_set}
+use Rattle.std.specs.Prelude.{◌≡◌, ◌≢◌, ◌⊎◌, ◌↔◌, ◌==◌, ◌&&◌, not, ℕ, Bool, true, List, length, take, Option, Some, None, All, count_by, position, slice_get, slice_set}
 use Rattle.key_split.specs.declared.travel.Ticket.{Ticket}
 use Rattle.key_split.specs.declared.travel.Told.{Told}
 use Rattle.key_split.specs.Same.{same_ticket}
-use Rattle.command_future.specs.CommandModel.{MayPostTo, WantsPost}
+use Rattle.command_future.specs.CommandModel.{MayPostTo}
 use Rattle.command_future.specs.declared.stage.Stage.TheVariants.{Awaits}
 use Rattle.world_laws.specs.State.{HasEnded, slot_for}
-use Rattle.world_laws.specs.World.{SameTurn}
+use Rattle.world_laws.specs.World.{IsAmong, SameTurn}
 use Rattle.world_laws.specs.declared.state.Arrival.{Arrival}
 use Rattle.cluster_world.specs.declared.rows.Row.{Row}
 use Rattle.cluster_world.specs.declared.tables.Tables.{Tables}
-use Rattle.cluster_world.specs.Rows.{rank, IsRow}
+use Rattle.cluster_world.specs.Rows.{rank, IsRow, IsRowSoFar}
 use Rattle.cluster_world.specs.Tables.{place_in, client_in, turn_in}
 
 -- the place of the ticket's command
@@ -26,13 +26,17 @@ count_for commands client = count_by (λ (c : Arrival). c.command.ticket.client 
 abbrev pub unanswered_for : List Arrival → ℕ → Option ℕ
 unanswered_for commands client = position (λ (c : Arrival). (c.command.ticket.client == client) && not c.answered) commands
 
--- all commands of its turn before it have ended
-abbrev pub HasTurn : List Arrival → ℕ → Arrival → Type 0
-HasTurn commands place c = All (λ d. SameTurn c d → HasEnded d) (take place commands)
+-- all commands of its turn before it have ended, or are among these
+abbrev pub HasTurn : List Ticket → List Arrival → ℕ → Arrival → Type 0
+HasTurn before commands place c = All (λ d. SameTurn c d → HasEnded d ⊎ IsAmong before d.command.ticket) (take place commands)
+
+-- no two commands have one ticket
+abbrev pub AreApart : List Arrival → Type 0
+AreApart commands = (i j : ℕ) (c d : Arrival) → slice_get commands i ≡ Some c → slice_get commands j ≡ Some d → c.command.ticket ≡ d.command.ticket → i ≡ j
 
 -- the command at the place may be posted at the node
 abbrev pub MayPostAt : List Arrival → ℕ → ℕ → Type 0
-MayPostAt commands place node = (c : Arrival) × (slice_get commands place ≡ Some c) × MayPostTo c.command.stage node × HasTurn commands place c
+MayPostAt commands place node = (c : Arrival) × (slice_get commands place ≡ Some c) × MayPostTo c.command.stage node
 
 -- the command at the place awaits what it is told
 abbrev pub AwaitsAt : List Arrival → ℕ → Type 0
@@ -73,16 +77,15 @@ abbrev pub StandsSo : List Arrival → ℕ → ℕ → Option ℕ → Type 0
 StandsSo commands client part None = (place : ℕ) → StandsAt commands client part place → ⊥
 StandsSo commands client part (Some place) = StandsAt commands client part place
 
--- The parts of a client are numbered as they came; each is found by its number, each client and each turn has its row, and only
--- the first open command of a turn may be on its way.
+-- The parts of a client are numbered as they came; each is found by its number, and each client and each turn has its row. The
+-- row of a turn may lag behind where a later command ended first, which events bring about nowhere.
 pub record AreFound (commands : List Arrival) (ranks : List ℕ) (place : ℕ → ℕ → Option ℕ) (client : ℕ → Row) (turn : ℕ → ℕ → Row) : Type 0 where
   pub numbered : (i : ℕ) (c : Arrival) → slice_get commands i ≡ Some c → c.command.ticket.part ≡ rank (of_client c.command.ticket.client) commands i
   pub placed : (n part i : ℕ) → (place n part ≡ Some i) ↔ StandsAt commands n part i
   pub clients : (n : ℕ) → IsRow (of_client n) IsAnswered commands (client n)
-  pub turns : (n slot : ℕ) → IsRow (of_turn n slot) HasEnded commands (turn n slot)
+  pub turns : (n slot : ℕ) → IsRowSoFar (of_turn n slot) HasEnded commands (turn n slot)
   pub lengths : length ranks ≡ length commands
   pub ranked : (i : ℕ) (c : Arrival) → slice_get commands i ≡ Some c → slice_get ranks i ≡ Some (turn_rank commands i c)
-  pub waiting : (i : ℕ) (c : Arrival) → slice_get commands i ≡ Some c → (turn c.command.ticket.client (slot_for c.command.part)).over < turn_rank commands i c → WantsPost c.command.stage
 
 -- the same of the tables
 abbrev pub Find : List Arrival → Tables → Type 0

@@ -11,14 +11,13 @@ use Rattle.key_split.specs.declared.travel.Ticket.{Ticket}
 use Rattle.key_split.specs.declared.travel.Told.{Told}
 use Rattle.key_split.specs.declared.travel.Told.TheVariants.{Reply, Moved, Ask, TryAgain, ClusterDown, Unclear, Unsent}
 use Rattle.node_model.specs.History.{EntryModel}
-use Rattle.world_laws.specs.State.{Link}
+use Rattle.world_laws.specs.State.{Link, replied}
+use Rattle.world_laws.specs.declared.state.LinkRequest.{LinkRequest}
 use Rattle.world_laws.specs.declared.state.LinkReply.{LinkReply}
 use Rattle.world_laws.specs.declared.state.LinkReply.TheVariants.{To}
 use Rattle.world_laws.specs.declared.state.LinkReply.TheVariants as back
 use Rattle.world_laws.specs.Places.{Item}
 use Rattle.world_laws.specs.Places.Item.{Comes}
-use Rattle.cluster_world.specs.Alone.{as_request}
-use Rattle.cluster_world.specs.declared.alone.RequestAlone.{RequestAlone}
 use Rattle.cluster_world.specs.declared.link.Kept.{Kept}
 use Rattle.cluster_world.specs.declared.link.Kept.TheVariants.{Welcome, Refusal, Entry}
 
@@ -26,7 +25,7 @@ use Rattle.cluster_world.specs.declared.link.Kept.TheVariants.{Welcome, Refusal,
 pub record LinkModel : Type 0 where
   pub node : ℕ
   pub is_open : Bool
-  pub requests : List RequestAlone
+  pub requests : List LinkRequest
   pub backs : List Kept
   pub asking : Bool
   pub room : ℕ
@@ -56,7 +55,7 @@ shown_back history (Refusal ticket told) = To ticket told
 shown_back history (Entry ticket place) = To ticket (Reply (value_of (reply_at history place)))
 
 abbrev pub shown : List EntryModel → LinkModel → Link
-shown history l = record { node = l.node; is_open = l.is_open; requests = map as_request l.requests; backs = map (shown_back history) l.backs; asking = l.asking }
+shown history l = record { node = l.node; is_open = l.is_open; requests = l.requests; backs = map (shown_back history) l.backs; asking = l.asking }
 
 -- its entry is one of the first so many
 abbrev pub IsBelow : ℕ → Kept → Type 0
@@ -113,5 +112,38 @@ pub record Notes (old : List EntryModel) (ticket : Ticket) (part : PartModel) (m
   pub history : new ≡ noted old ticket part moment told
   pub shows : shown_back new kept ≡ To ticket told
   pub below : IsBelow (length new) kept
+  pub longer : (count : ℕ) → count < length old → count < length new
+  pub same : (place : ℕ) → place < length old → reply_at new place ≡ reply_at old place
+
+-- Runs.
+
+-- a command of a run that was served
+pub record Served : Type 0 where
+  pub ticket : Ticket
+  pub part : PartModel
+  pub told : Told
+
+-- those of a run, one for each of its tickets
+abbrev pub served_in : List Ticket → List PartModel → List Told → List Served
+served_in [] parts tolds = []
+served_in (t ∷ ts) [] tolds = []
+served_in (t ∷ ts) (p ∷ ps) [] = []
+served_in (t ∷ ts) (p ∷ ps) (d ∷ ds) = record { ticket = t; part = p; told = d } ∷ served_in ts ps ds
+
+-- the history after them
+abbrev pub all_noted : List EntryModel → ℕ → List Served → List EntryModel
+all_noted history moment [] = history
+all_noted history moment (s ∷ ss) = all_noted (noted history s.ticket s.part moment s.told) moment ss
+
+-- a link after their replies
+abbrev pub told_all : Link → List Served → Link
+told_all l [] = l
+told_all l (s ∷ ss) = told_all (replied l (To s.ticket s.told)) ss
+
+-- the link shows their replies, and what was kept before shows the same
+pub record NotesAll (old : List EntryModel) (line : LinkModel) (ss : List Served) (moment : ℕ) (new : List EntryModel) (line' : LinkModel) : Type 0 where
+  pub history : new ≡ all_noted old moment ss
+  pub shows : shown new line' ≡ told_all (shown old line) ss
+  pub below : KeepsBelow (length new) line'
   pub longer : (count : ℕ) → count < length old → count < length new
   pub same : (place : ℕ) → place < length old → reply_at new place ≡ reply_at old place

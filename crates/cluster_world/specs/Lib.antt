@@ -1,4 +1,3 @@
-pub mod Alone
 pub mod Fault
 pub mod Kept
 pub mod Links
@@ -19,3 +18,5 @@ pub mod Index
 pub mod Rows
 pub mod Commands
 pub mod Tables
+pub mod Posting
+pub mod Serving

@@ -6,7 +6,7 @@ use Rattle.key_split.specs.declared.travel.Ticket.{Ticket}
 use Rattle.key_split.specs.declared.travel.Told.{Told}
 use Rattle.node_model.specs.History.{EntryModel}
 use Rattle.node_model.specs.Nodes.{ClusterModel}
-use Rattle.node_model.specs.Serving.{deed_at, NodeDoes}
+use Rattle.node_model.specs.Runs.{deed_for, DoesRun}
 use Rattle.node_model.specs.declared.role.Verdict.{Verdict}
 use Rattle.world_laws.specs.State.{Link, new_link, sent, replied, waiting}
 use Rattle.world_laws.specs.declared.state.Posted.{Posted}
@@ -15,9 +15,7 @@ use Rattle.world_laws.specs.declared.state.LinkReply.{LinkReply}
 use Rattle.world_laws.specs.declared.state.LinkRequest.TheVariants.{Asking, Runs}
 use Rattle.world_laws.specs.declared.state.LinkReply.TheVariants.{Welcome, To}
 use Rattle.world_laws.specs.World.{NamesNode}
-use Rattle.cluster_world.specs.Alone.{as_request}
-use Rattle.cluster_world.specs.declared.alone.RequestAlone.{RequestAlone}
-use Rattle.cluster_world.specs.Kept.{LinkModel, shown, noted}
+use Rattle.cluster_world.specs.Kept.{LinkModel, shown, served_in, all_noted, told_all}
 use Rattle.cluster_world.specs.Lost.{each_lost}
 use Rattle.cluster_world.specs.declared.fault.WorldFault.{WorldFault}
 use Rattle.cluster_world.specs.declared.fault.WorldFault.TheVariants.{NoMemory, NotNow}
@@ -41,7 +39,7 @@ There k at P = (l : Link) × (slice_get k.links at ≡ Some l) × P l
 abbrev pub NoneThere : LinksModel → ℕ → (Link → Type 0) → Type 0
 NoneThere k at P = (l : Link) → slice_get k.links at ≡ Some l → P l → ⊥
 
--- the links after a batch was put on one; or none takes it, or one does and there is no memory, and they stay
+-- the links after a run was put on one; or none takes it, or one does and there is no memory, and they stay
 abbrev pub GoesOver : List Link → ℕ → Posted → List Link → Type 0
 GoesOver links at b new =
     ((l : Link) × (slice_get links at ≡ Some l) × (l.is_open ≡ true) × (l.node ≡ b.node) × (new ≡ slice_set links at (sent l b)))
@@ -81,10 +79,14 @@ Fetches k at (Err NotNow) k' = NoneThere k at HasReply × (k' ≡ k)
 Fetches k at (Err NoMemory) k' = k' ≡ k
 
 -- the first request of a link, open or closed
-abbrev pub Begins : RequestAlone → Link → Type 0
-Begins request l = (rest : List LinkRequest) × (l.requests ≡ as_request request ∷ rest)
+abbrev pub Begins : LinkRequest → Link → Type 0
+Begins request l = (rest : List LinkRequest) × (l.requests ≡ request ∷ rest)
 
-abbrev pub FirstIs : LinksModel → ℕ → Option RequestAlone → Type 0
+-- that is a run
+abbrev pub BeginsRun : Link → Type 0
+BeginsRun l = (tickets : List Ticket) × Begins (Runs tickets) l
+
+abbrev pub FirstIs : LinksModel → ℕ → Option LinkRequest → Type 0
 FirstIs k at (Some request) = There k at (Begins request)
 FirstIs k at None = NoneThere k at (λ l. l.requests ≢ [])
 
@@ -94,12 +96,12 @@ Welcomes k at (Ok u) k' = There k at (λ l. (rest : List LinkRequest) × (l.requ
 Welcomes k at (Err NotNow) k' = ⊥
 Welcomes k at (Err NoMemory) k' = k' ≡ k
 
--- a command is served by its link's node
-abbrev pub LinkExecutes : {U : Type 0} → LinksModel → ClusterModel → ℕ → Ticket → PartModel → Verdict → ℕ → Result U WorldFault → LinksModel → ClusterModel → Type 0
-LinkExecutes k nodes at ticket part verdict moment (Ok u) k' nodes' =
+-- a run of these parts is served by its link's node
+abbrev pub LinkExecutes : {U : Type 0} → LinksModel → ClusterModel → ℕ → List PartModel → Verdict → ℕ → Result U WorldFault → LinksModel → ClusterModel → Type 0
+LinkExecutes k nodes at parts verdict moment (Ok u) k' nodes' =
     There k at (λ l.
-    (rest : List LinkRequest) × (told : Told) × (l.requests ≡ Runs (ticket ∷ []) ∷ rest) × NamesNode nodes verdict
-    × NodeDoes (deed_at nodes l.node l.asking part verdict) nodes l.node part told nodes'
-    × (k' ≡ record { links = slice_set k.links at (replied (record l { requests = rest; asking = false }) (To ticket told)); history = noted k.history ticket part moment told }))
-LinkExecutes k nodes at ticket part verdict moment (Err NotNow) k' nodes' = (NamesNode nodes verdict → ⊥) × (k' ≡ k) × (nodes' ≡ nodes)
-LinkExecutes k nodes at ticket part verdict moment (Err NoMemory) k' nodes' = (k' ≡ k) × (nodes' ≡ nodes)
+    (tickets : List Ticket) × (rest : List LinkRequest) × (tolds : List Told) × (l.requests ≡ Runs tickets ∷ rest) × NamesNode nodes verdict
+    × DoesRun (deed_for nodes l.node l.asking parts verdict) nodes l.node parts tolds nodes'
+    × (k' ≡ record { links = slice_set k.links at (told_all (record l { requests = rest; asking = false }) (served_in tickets parts tolds)); history = all_noted k.history moment (served_in tickets parts tolds) }))
+LinkExecutes k nodes at parts verdict moment (Err NotNow) k' nodes' = (NamesNode nodes verdict → ⊥) × (k' ≡ k) × (nodes' ≡ nodes)
+LinkExecutes k nodes at parts verdict moment (Err NoMemory) k' nodes' = (k' ≡ k) × (nodes' ≡ nodes)

@@ -1,15 +1,22 @@
 -- What the world's code keeps, as the machine's state, and what its events answer.
 -- The model of `World` is `state_of` of its machine. Only private functions cite the rest.
-use Rattle.std.specs.Prelude.{◌≡◌, ℕ, map, Result, Ok, Err}
+use Rattle.std.specs.Prelude.{◌≡◌, ◌∷◌, ℕ, List, Some, Result, Ok, Err, slice_get}
 use Rattle.key_split.specs.declared.travel.Ticket.{Ticket}
-use Rattle.world_laws.specs.Alone.{PostsOne}
-use Rattle.world_laws.specs.State.{WorldModel}
+use Rattle.node_model.specs.declared.role.Verdict.{Verdict}
+use Rattle.world_laws.specs.Allowed.{Fits, HaveSlot}
+use Rattle.world_laws.specs.State.{WorldModel, Link}
+use Rattle.world_laws.specs.declared.state.LinkRequest.{LinkRequest}
+use Rattle.world_laws.specs.declared.state.LinkRequest.TheVariants.{Runs}
 use Rattle.world_laws.specs.World.{WorldDoes}
 use Rattle.world_laws.specs.declared.event.Event.{Event}
-use Rattle.cluster_world.specs.Alone.{as_run, run_limit}
+use Rattle.world_laws.specs.declared.event.Event.TheVariants.{Serve}
 use Rattle.cluster_world.specs.declared.machine.Machine.{Machine}
 use Rattle.cluster_world.specs.declared.fault.WorldFault.{WorldFault}
 use Rattle.cluster_world.specs.declared.fault.WorldFault.TheVariants.{NoMemory, NotNow}
+
+-- how many commands a run has at most
+abbrev pub run_limit : ℕ
+run_limit = 64
 
 abbrev pub state_of : Machine → WorldModel
 state_of c = record {
@@ -17,7 +24,7 @@ state_of c = record {
   run_limit = run_limit;
   cluster = c.cluster;
   commands = c.commands;
-  ups = map as_run c.ups.items;
+  ups = c.ups.items;
   links = c.links.links;
   downs = c.downs.items;
   history = c.links.history;
@@ -35,8 +42,12 @@ MachineAnswers w e (Ok u) w' = WorldDoes w e w'
 MachineAnswers w e (Err NotNow) w' = ((v : WorldModel) → WorldDoes w e v → ⊥) × (w' ≡ w)
 MachineAnswers w e (Err NoMemory) w' = Can w e × (w' ≡ w)
 
--- the same of a command that is posted alone
-abbrev pub PostAnswers : {U : Type 0} → WorldModel → Ticket → ℕ → Result U WorldFault → WorldModel → Type 0
-PostAnswers w ticket node (Ok u) w' = PostsOne w ticket node w'
-PostAnswers w ticket node (Err NotNow) w' = ((v : WorldModel) → PostsOne w ticket node v → ⊥) × (w' ≡ w)
-PostAnswers w ticket node (Err NoMemory) w' = ((v : WorldModel) × PostsOne w ticket node v) × (w' ≡ w)
+-- the commands of each link's first run have one slot
+abbrev pub HaveSlots : WorldModel → Type 0
+HaveSlots w = (link : ℕ) (l : Link) (tickets : List Ticket) (rest : List LinkRequest) → slice_get w.links link ≡ Some l → l.requests ≡ Runs tickets ∷ rest
+    → (slot : ℕ) × HaveSlot w tickets slot
+
+-- what stands first in a link can be served, where the verdict fits it
+abbrev pub MayServe : WorldModel → Type 0
+MayServe w = (link : ℕ) (verdict : Verdict) (l : Link) (first : LinkRequest) (rest : List LinkRequest) → slice_get w.links link ≡ Some l
+    → l.requests ≡ first ∷ rest → Fits w verdict first → Can w (Serve link verdict)

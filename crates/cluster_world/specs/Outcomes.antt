@@ -5,7 +5,7 @@ use Rattle.slot_map.specs.declared.ops.MapOp.{MapOp}
 use Rattle.slot_map.specs.Map.{MapShows, node_after}
 use Rattle.node_model.specs.Nodes.{ClusterModel, HasOwners, IsOpening}
 use Rattle.world_laws.specs.State.{WorldModel, start}
-use Rattle.cluster_world.specs.Alone.{run_limit}
+use Rattle.cluster_world.specs.Machine.{run_limit}
 use Rattle.cluster_world.specs.declared.script_fault.ScriptFault.{ScriptFault}
 use Rattle.cluster_world.specs.declared.script_fault.ScriptFault.TheVariants.{NoMemory, BadLine}
 use Rattle.cluster_world.specs.declared.header.Header.{Header}

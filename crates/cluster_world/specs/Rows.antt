@@ -28,3 +28,9 @@ pub record IsRow {X : Type 0} (p : X → Bool) (Over : X → Type 0) (xs : List 
   pub counted : row.count ≡ rank p xs (length xs)
   pub within : row.over ≤ row.count
   pub over : (i : ℕ) (x : X) → slice_get xs i ≡ Some x → p x ≡ true → Over x ↔ (rank p xs i < row.over)
+
+-- so many things are of the kind, and the first of them are over; so may others be
+pub record IsRowSoFar {X : Type 0} (p : X → Bool) (Over : X → Type 0) (xs : List X) (row : Row) : Type 0 where
+  pub counted : row.count ≡ rank p xs (length xs)
+  pub within : row.over ≤ row.count
+  pub over : (i : ℕ) (x : X) → slice_get xs i ≡ Some x → p x ≡ true → rank p xs i < row.over → Over x

@@ -7,7 +7,7 @@ use Rattle.node_model.specs.Nodes.{ClusterModel, IsOpening}
 use Rattle.world_laws.specs.State.{WorldModel, start}
 use Rattle.world_laws.specs.World.{WorldRun}
 use Rattle.world_laws.specs.declared.event.Event.{Event}
-use Rattle.cluster_world.specs.Alone.{run_limit}
+use Rattle.cluster_world.specs.Machine.{run_limit}
 use Rattle.cluster_world.specs.declared.fault.WorldFault.{WorldFault}
 use Rattle.cluster_world.specs.Steps.{RefusedFor}
 use Rattle.cluster_world.specs.Script.{lines_of}

@@ -11,8 +11,7 @@ use Rattle.world_laws.specs.World.{WorldStep, WorldRun}
 use Rattle.world_laws.specs.Allowed.{IsAllowed}
 use Rattle.world_laws.specs.Headline.{IsReached}
 use Rattle.world_laws.specs.declared.event.Event.{Event}
-use Rattle.cluster_world.specs.Alone.{run_limit}
-use Rattle.cluster_world.specs.Machine.{state_of}
+use Rattle.cluster_world.specs.Machine.{run_limit, state_of}
 use Rattle.cluster_world.specs.declared.machine.Machine.{Machine}
 use Rattle.cluster_world.specs.declared.fault.WorldFault.{WorldFault}
 use Rattle.cluster_world.specs.declared.fault.WorldFault.TheVariants.{NoMemory, NotNow}

@@ -1,19 +1,18 @@
 //! Whether a command that ASK sent to a node is on its way there, place by place.
 
-ghost use Rattle.std.specs.Prelude.{◌≡◌, ◌↔◌, All, IsTrue, map};
-ghost use Rattle.world_laws.specs.Places.{asks_in_stage, asks_in_told, in_lane, is};
+ghost use Rattle.std.specs.Prelude.{◌≡◌, ◌↔◌, ◌==◌, ◌&&◌, All, IsTrue};
+ghost use Rattle.world_laws.specs.Places.{asks_in_stage, asks_in_told, is};
 ghost use Rattle.world_laws.specs.Places.{asks as asks_by};
-ghost use Rattle.cluster_world.specs.Alone.{as_run, lying};
 ghost use Rattle.cluster_world.specs.Kept.{in_kept};
-ghost use Rattle.cluster_world.specs.Rests.{asked};
+ghost use Rattle.cluster_world.specs.Rests.{asked, RunAsksNot, RunRests, TicketsAskNot, TicketsRest};
 ghost use Rattle.world_laws.specs.Places.Item.{Stands, Comes};
 
-use crate::alone::PostedAlone;
 use crate::link::Kept;
+use crate::posting::is_among;
 use command_future::{Command, Want};
 use key_split::{Ticket, Told};
 use slot_map::NodeId;
-use world_laws::Arrival;
+use world_laws::{Arrival, Posted};
 
 /// Whether the ticket's command does not want to be posted there, after ASKING.
 pub(crate) fn command_rests(command: &Command, node: NodeId, ticket: Ticket) -> bool
@@ -25,11 +24,37 @@ pub(crate) fn command_rests(command: &Command, node: NodeId, ticket: Ticket) -> 
     }
 }
 
-/// Whether the batch is not the ticket's, for the node and behind ASKING.
-pub(crate) fn batch_rests(posted: PostedAlone, node: NodeId, ticket: Ticket) -> bool
-    ensures { IsTrue result ↔ (lying (asks_by node ticket) posted ≡ 0) }
+/// Whether what goes to one node, behind ASKING or not, asks at another.
+pub(crate) fn goes_asking(asking: bool, to: NodeId, node: NodeId) -> bool
+    ensures { result ≡ (asking && (to == node)) }
 {
-    !(posted.asking && posted.node == node && ticket == posted.ticket)
+    asking && to == node
+}
+
+/// Whether the ticket is none of these, where they go to ask.
+pub(crate) fn tickets_rest(tickets: &[Ticket], goes: bool, ticket: Ticket) -> bool
+    ensures { IsTrue result ↔ TicketsRest tickets.now goes ticket }
+{
+    if goes {
+        !is_among(tickets, ticket)
+    } else {
+        true
+    }
+}
+
+/// Whether there are none, where they go to ask.
+pub(crate) fn tickets_ask_not(tickets: &[Ticket], goes: bool) -> bool
+    ensures { IsTrue result ↔ TicketsAskNot tickets.now goes }
+{
+    if goes { tickets.is_empty() } else { true }
+}
+
+/// Whether the run does not have the ticket's command, for the node and behind ASKING.
+pub(crate) fn run_rests(posted: &Posted, node: NodeId, ticket: Ticket) -> bool
+    ensures { IsTrue result ↔ RunRests posted.now node ticket }
+{
+    let goes = goes_asking(posted.asking, posted.node, node);
+    tickets_rest(posted.tickets.as_slice(), goes, ticket)
 }
 
 /// Whether the pair does not tell the ticket's command to ask at the node.
@@ -52,11 +77,12 @@ pub(crate) fn command_asks_not(command: &Command, node: NodeId) -> bool
     }
 }
 
-/// Whether the batch is not for the node and behind ASKING.
-pub(crate) fn batch_asks_not(posted: PostedAlone, node: NodeId) -> bool
-    ensures { IsTrue result ↔ (lying (asked node) posted ≡ 0) }
+/// Whether the run has no command for the node and behind ASKING.
+pub(crate) fn run_asks_not(posted: &Posted, node: NodeId) -> bool
+    ensures { IsTrue result ↔ RunAsksNot posted.now node }
 {
-    !(posted.asking && posted.node == node)
+    let goes = goes_asking(posted.asking, posted.node, node);
+    tickets_ask_not(posted.tickets.as_slice(), goes)
 }
 
 /// Whether it does not tell a command to ask at the node.
@@ -94,18 +120,11 @@ pub(crate) fn commands_ask_not(commands: &[Arrival], node: NodeId) -> bool
         .all(|arrival| command_asks_not(&arrival.command, node))
 }
 
-/// Whether none of the batches is for the node and behind ASKING.
-pub(crate) fn batches_ask_not(ups: &[PostedAlone], node: NodeId) -> bool
-    ensures { IsTrue result → (ticket : Ticket) → All (λ b. in_lane (asks_by node ticket) b ≡ 0) (map as_run ups.now) }
+/// Whether none of the runs has a command for the node and behind ASKING.
+pub(crate) fn runs_ask_not(ups: &[Posted], node: NodeId) -> bool
+    ensures { IsTrue result ↔ All (λ b. RunAsksNot b node) ups.now }
 {
-    each_asks_not(ups, node)
-}
-
-// The same of each by itself.
-fn each_asks_not(ups: &[PostedAlone], node: NodeId) -> bool
-    ensures { IsTrue result ↔ All (λ b. lying (asked node) b ≡ 0) ups.now }
-{
-    ups.iter().all(|posted| batch_asks_not(*posted, node))
+    ups.iter().all(|posted| run_asks_not(posted, node))
 }
 
 /// Whether none of the pairs tells its command to ask at the node.
@@ -140,18 +159,11 @@ pub(crate) fn commands_rest(commands: &[Arrival], node: NodeId, ticket: Ticket) 
         .all(|arrival| command_rests(&arrival.command, node, ticket))
 }
 
-/// Whether none of the batches is the ticket's, for the node and behind ASKING.
-pub(crate) fn batches_rest(ups: &[PostedAlone], node: NodeId, ticket: Ticket) -> bool
-    ensures { IsTrue result ↔ All (λ b. in_lane (asks_by node ticket) b ≡ 0) (map as_run ups.now) }
+/// Whether none of the runs has the ticket's command, for the node and behind ASKING.
+pub(crate) fn runs_rest(ups: &[Posted], node: NodeId, ticket: Ticket) -> bool
+    ensures { IsTrue result ↔ All (λ b. RunRests b node ticket) ups.now }
 {
-    each_rests(ups, node, ticket)
-}
-
-// The same of each by itself.
-fn each_rests(ups: &[PostedAlone], node: NodeId, ticket: Ticket) -> bool
-    ensures { IsTrue result ↔ All (λ b. lying (asks_by node ticket) b ≡ 0) ups.now }
-{
-    ups.iter().all(|posted| batch_rests(*posted, node, ticket))
+    ups.iter().all(|posted| run_rests(posted, node, ticket))
 }
 
 /// Whether none of the pairs tells the ticket's command to ask at the node.

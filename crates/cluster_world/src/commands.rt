@@ -1,11 +1,12 @@
 //! The commands of a world, and the tables by which they are found.
 
-ghost use Rattle.std.specs.Prelude.{◌≡◌, ◌↔◌, ◌<◌, [], ◌∷◌, ◌++◌, false, length, slice_get, Some, IsTrue, OnOk, OnErr};
+ghost use Rattle.std.specs.Prelude.{◌≡◌, ◌↔◌, ◌<◌, ◌^◌, [], ◌∷◌, ◌++◌, false, length, slice_get, Some, IsTrue, OnOk, OnErr};
 ghost use Rattle.command_future.specs.CommandModel.{fresh};
 ghost use Rattle.command_future.specs.declared.command.Step.TheVariants.{Done};
 ghost use Rattle.world_laws.specs.State.{awaiting, after_told};
 ghost use Rattle.world_laws.specs.declared.state.Arrival.{Arrival};
-ghost use Rattle.cluster_world.specs.Commands.{count_for, once_answered, place_for, unanswered_for, AwaitsAt, Becomes, HasTurn, MayPostAt};
+ghost use Rattle.cluster_world.specs.Commands.{count_for, once_answered, place_for, turn_rank, unanswered_for, AreApart, AwaitsAt, Becomes, MayPostAt};
+ghost use Rattle.cluster_world.specs.Posting.{way_for, ArePast};
 
 use crate::rows::row_of;
 use crate::tables::{Tables, TurnKey};
@@ -92,16 +93,27 @@ impl Commands {
         self.tables.place_at(client, row.over as u64)
     }
 
-    /// Whether all commands of its turn before the one at this place have ended.
-    pub(crate) fn turn_has_come(&self, place: usize) -> bool
+    /// How many commands of its turn stand before the one at this place.
+    pub(crate) fn rank_of(&self, place: usize) -> usize
         requires { place < length self.now }
-        ensures { (c : Arrival) → slice_get self.now place ≡ Some c → (IsTrue result ↔ HasTurn self.now place c) }
+        ensures rank { (c : Arrival) → slice_get self.now place ≡ Some c → result ≡ turn_rank self.now place c }
+        ensures fits { result < 2 ^ 63 }
     {
-        let row = row_of(
-            &self.tables.turns,
-            &TurnKey::of(&self.arrivals[place].command),
-        );
-        self.tables.ranks[place] <= row.over
+        self.tables.ranks[place]
+    }
+
+    /// How many of the first commands of its turn have ended, as far as the tables know.
+    pub(crate) fn past_of(&self, arrival: &Arrival) -> usize
+        ensures { ArePast (way_for arrival.now) [] result self.now }
+    {
+        row_of(&self.tables.turns, &TurnKey::of(&arrival.command)).over
+    }
+
+    /// Brings in that no two commands have one ticket; it does nothing.
+    pub(crate) fn are_apart(&self)
+        ensures { AreApart self.now }
+    {
+        let _ = &self.arrivals;
     }
 
     /// Puts the client's next command behind the others.
@@ -139,7 +151,8 @@ impl Commands {
         let command = &mut self.arrivals[place].command;
         let turn = TurnKey::of(command);
         let ended = is_done(command.told(told));
-        self.tables.note_told(turn, ended);
+        let passes = self.tables.passes(turn, place, ended);
+        self.tables.note_told(turn, passes);
     }
 
     /// The client's oldest unanswered command, which stands at this place, was answered.

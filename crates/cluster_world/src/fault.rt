@@ -46,6 +46,17 @@ impl From<AllocError> for WorldFault {
     }
 }
 
+impl<T: Drop> From<AllocFailed<T>> for WorldFault {
+    ghost use Rattle.std.specs.Prelude.{◌≡◌};
+    ghost use Rattle.cluster_world.specs.declared.fault.WorldFault.TheVariants as fault;
+
+    ghost from_gives = { λ _ given. given ≡ fault.NoMemory };
+
+    fn from(_: AllocFailed<T>) -> Self {
+        WorldFault::NoMemory
+    }
+}
+
 impl From<MoveFault> for WorldFault {
     ghost use Rattle.std.specs.Prelude.{◌≡◌};
     ghost use Rattle.cluster_world.specs.Fault.{of_move};

@@ -12,7 +12,6 @@
 //! history of one store, and each command that ended with a reply stands in it once (the clauses `headline`).
 #![tactic(auto)]
 
-mod alone;
 mod asks;
 mod commands;
 mod event_line;
@@ -28,12 +27,14 @@ mod moves;
 mod outcome;
 mod owners;
 mod places;
+mod posting;
 mod report;
 mod rows;
 mod run_report;
 mod schedule;
 mod script;
 mod script_fault;
+mod serving;
 mod simulate;
 mod tables;
 mod verb;

@@ -1,18 +1,19 @@
 //! A link to a node.
 
-ghost use Rattle.std.specs.Prelude.{◌≡◌, ◌<◌, [], ◌∷◌, ◌++◌, true, false, List, OnOk, OnErr, ◌≢◌, IsTrue, ◌↔◌, IfOk, MatchOption, length};
-ghost use Rattle.world_laws.specs.Places.{asks};
-ghost use Rattle.cluster_world.specs.Alone.{in_sent, requests_for, sent_for};
+ghost use Rattle.std.specs.Prelude.{◌≡◌, ◌<◌, ◌≤◌, ◌+◌, [], ◌∷◌, ◌++◌, true, false, List, OnOk, OnErr, ◌≢◌, IsTrue, ◌↔◌, IfOk, MatchOption, length};
+ghost use Rattle.world_laws.specs.Places.{asks, in_requests};
+ghost use Rattle.world_laws.specs.State.{requests_of, sent_of};
+ghost use Rattle.world_laws.specs.declared.state.LinkRequest.{LinkRequest as Request};
 ghost use Rattle.cluster_world.specs.Kept.{FirstEntry, keeps, kept_for, new_link_model, refusal_in};
-ghost use Rattle.cluster_world.specs.Rests.{asked, LineAsksNot, LineRests};
+ghost use Rattle.cluster_world.specs.Rests.{asked, sets_flag, LineAsksNot, LineRests, RequestAsksNot, RequestRests};
 ghost use Rattle.cluster_world.specs.Lost.{each_lost};
 
-use crate::alone::{PostedAlone, RequestAlone};
-use crate::asks::{kept_ask_not, kept_rest};
+use crate::asks::{goes_asking, kept_ask_not, kept_rest, tickets_ask_not, tickets_rest};
 use key_split::{Ticket, Told};
 use slot_map::NodeId;
 use std::alloc::{AllocError, Global};
 use std::marker::Model;
+use world_laws::{LinkRequest, Posted, Tickets};
 
 /// What a link keeps of a reply that is not yet fetched.
 #[derive(Drop)]
@@ -42,7 +43,7 @@ impl Kept {
 pub(crate) struct Link {
     node: NodeId,
     is_open: bool,
-    requests: Vec<RequestAlone>,
+    requests: Vec<LinkRequest>,
     backs: Vec<Kept>,
     asking: bool,
 }
@@ -131,14 +132,14 @@ impl Link {
     }
 
     /// The first request.
-    pub(crate) fn first_request(&self) -> Option<RequestAlone>
-        ensures { MatchOption result (self.now.requests ≡ []) (λ request. (rest : List RequestAlone) × (self.now.requests ≡ request ∷ rest)) }
+    pub(crate) fn first_request(&self) -> Option<&LinkRequest>
+        ensures { MatchOption result (self.now.requests ≡ []) (λ request. (rest : List Request) × (self.now.requests ≡ request.now ∷ rest)) }
     {
-        self.requests.first().copied()
+        self.requests.first()
     }
 
     /// Takes the first request. What comes after it meets the flag so.
-    pub(crate) fn take_request(&mut self, asking: bool) -> RequestAlone
+    pub(crate) fn take_request(&mut self, asking: bool) -> LinkRequest
         requires { self.old.requests ≢ [] }
         ensures first { self.old.requests ≡ result ∷ self.new.requests }
         ensures rest { self.new ≡ record self.old { requests = self.new.requests; asking = asking } }
@@ -147,18 +148,18 @@ impl Link {
         self.requests.remove(0)
     }
 
-    /// Makes room for one reply.
-    pub(crate) fn reserve(&mut self) -> Result<(), AllocError>
+    /// Makes room for so many replies.
+    pub(crate) fn reserve(&mut self, count: usize) -> Result<(), AllocError>
         ensures same { self.new ≡ record self.old { room = self.new.room } }
-        ensures room { OnOk result (length self.new.backs < self.new.room) }
+        ensures room { OnOk result (length self.new.backs + count ≤ self.new.room) }
     {
-        self.backs.reserve(1)
+        self.backs.reserve(count)
     }
 
     /// Keeps a reply, for which there is room; a closed link throws it away.
     pub(crate) fn keep(&mut self, kept: Kept)
         requires { length self.old.backs < self.old.room }
-        ensures { self.new ≡ keeps (record self.old { room = self.new.room }) kept }
+        ensures { self.new ≡ keeps self.old kept }
     {
         if self.is_open {
             self.backs.push_reserved(kept);
@@ -172,23 +173,24 @@ impl Link {
         self.is_open && self.node == node
     }
 
-    /// Puts a batch's requests at the end: all of them, or none for want of memory.
-    pub(crate) fn send(&mut self, posted: PostedAlone) -> Result<(), AllocError>
-        ensures ok { OnOk result (self.new ≡ record self.old { requests = self.old.requests ++ requests_for posted }) }
+    /// Puts a run's requests at the end: all of them, or none for want of memory.
+    pub(crate) fn send(&mut self, alloc: Global, posted: &Posted) -> Result<(), AllocError>
+        ensures ok { OnOk result (self.new ≡ record self.old { requests = self.old.requests ++ requests_of posted.now }) }
         ensures err { OnErr result (self.new ≡ self.old) }
     {
+        let tickets = Vec::from_slice(alloc, posted.tickets.as_slice())?;
         self.requests.reserve(2)?;
         if posted.asking {
-            self.requests.push_reserved(RequestAlone::Asking);
+            self.requests.push_reserved(LinkRequest::Asking);
         }
         self.requests
-            .push_reserved(RequestAlone::Command(posted.ticket));
+            .push_reserved(LinkRequest::Runs(Tickets::new(tickets)));
         Ok(())
     }
 
     /// Who waits on it, in order of sending: each is told that it is lost.
     pub(crate) fn lost(&self, alloc: Global) -> Result<Vec<(Ticket, Told)>, AllocError>
-        ensures { IfOk result (λ lost. lost.items ≡ each_lost (kept_for self.now.backs ++ sent_for self.now.requests)) }
+        ensures { IfOk result (λ lost. lost.items ≡ each_lost (kept_for self.now.backs ++ sent_of self.now.requests)) }
     {
         let mut lost = Vec::new(alloc);
         push_answered(&mut lost, &self.backs)?;
@@ -205,23 +207,37 @@ impl Link {
 
     // Whether none of its requests is the ticket's command, for the node and behind ASKING.
     fn requests_rest(&self, node: NodeId, ticket: Ticket) -> bool
-        ensures { IsTrue result ↔ (in_sent (asks node ticket) self.now.is_open self.now.node self.now.asking self.now.requests ≡ 0) }
+        ensures { IsTrue result ↔ (in_requests (asks node ticket) self.now.is_open self.now.node self.now.asking self.now.requests ≡ 0) }
     {
         let mut asking = self.asking;
         let mut rest = self.requests.as_slice();
         while let [request, further @ ..] = rest {
-            match request {
-                RequestAlone::Asking => asking = true,
-                RequestAlone::Command(sent) => {
-                    if asking && self.node == node && ticket == *sent {
-                        return false;
-                    }
-                    asking = false;
-                }
+            if !self.request_rests(asking, request, node, ticket) {
+                return false;
             }
+            asking = sets_flag(request);
             rest = further;
         }
         true
+    }
+
+    // Whether the request, which meets this flag, is not the ticket's command, for the node and behind ASKING.
+    fn request_rests(
+        &self,
+        asking: bool,
+        request: &LinkRequest,
+        node: NodeId,
+        ticket: Ticket,
+    ) -> bool
+        ensures { IsTrue result ↔ RequestRests self.now asking request.now node ticket }
+    {
+        match request {
+            LinkRequest::Asking => true,
+            LinkRequest::Runs(tickets) => {
+                let goes = goes_asking(asking, self.node, node);
+                tickets_rest(tickets.as_slice(), goes, ticket)
+            }
+        }
     }
 
     /// Whether it carries no command to the node behind ASKING, nor a reply that tells one to ask there.
@@ -233,23 +249,31 @@ impl Link {
 
     // Whether none of its requests is for the node and behind ASKING.
     fn requests_ask_not(&self, node: NodeId) -> bool
-        ensures { IsTrue result ↔ (in_sent (asked node) self.now.is_open self.now.node self.now.asking self.now.requests ≡ 0) }
+        ensures { IsTrue result ↔ (in_requests (asked node) self.now.is_open self.now.node self.now.asking self.now.requests ≡ 0) }
     {
         let mut asking = self.asking;
         let mut rest = self.requests.as_slice();
         while let [request, further @ ..] = rest {
-            match request {
-                RequestAlone::Asking => asking = true,
-                RequestAlone::Command(_) => {
-                    if asking && self.node == node {
-                        return false;
-                    }
-                    asking = false;
-                }
+            if !self.request_asks_not(asking, request, node) {
+                return false;
             }
+            asking = sets_flag(request);
             rest = further;
         }
         true
+    }
+
+    // Whether the request, which meets this flag, is not for the node and behind ASKING.
+    fn request_asks_not(&self, asking: bool, request: &LinkRequest, node: NodeId) -> bool
+        ensures { IsTrue result ↔ RequestAsksNot self.now asking request.now node }
+    {
+        match request {
+            LinkRequest::Asking => true,
+            LinkRequest::Runs(tickets) => {
+                let goes = goes_asking(asking, self.node, node);
+                tickets_ask_not(tickets.as_slice(), goes)
+            }
+        }
     }
 
     /// Closes it; its replies are thrown away.
@@ -259,6 +283,13 @@ impl Link {
         self.is_open = false;
         self.backs.clear();
     }
+}
+
+// Whether what comes behind the request meets the flag of ASKING.
+fn sets_flag(request: &LinkRequest) -> bool
+    ensures { result ≡ sets_flag request.now }
+{
+    matches!(request, LinkRequest::Asking)
 }
 
 // Adds those whose replies these are.
@@ -278,14 +309,26 @@ fn push_answered(lost: &mut Vec<(Ticket, Told)>, backs: &[Kept]) -> Result<(), A
 }
 
 // Adds those whose requests these are.
-fn push_sent(lost: &mut Vec<(Ticket, Told)>, requests: &[RequestAlone]) -> Result<(), AllocError>
-    ensures { OnOk result (lost.new.items ≡ lost.old.items ++ each_lost (sent_for requests.now)) }
+fn push_sent(lost: &mut Vec<(Ticket, Told)>, requests: &[LinkRequest]) -> Result<(), AllocError>
+    ensures { OnOk result (lost.new.items ≡ lost.old.items ++ each_lost (sent_of requests.now)) }
 {
     let mut rest = requests;
     while let [request, further @ ..] = rest {
-        if let RequestAlone::Command(ticket) = request {
-            lost.push((*ticket, Told::Lost))?;
+        if let LinkRequest::Runs(tickets) = request {
+            push_run(lost, tickets.as_slice())?;
         }
+        rest = further;
+    }
+    Ok(())
+}
+
+// Adds those of a run.
+fn push_run(lost: &mut Vec<(Ticket, Told)>, tickets: &[Ticket]) -> Result<(), AllocError>
+    ensures { OnOk result (lost.new.items ≡ lost.old.items ++ each_lost tickets.now) }
+{
+    let mut rest = tickets;
+    while let [ticket, further @ ..] = rest {
+        lost.push((*ticket, Told::Lost))?;
         rest = further;
     }
     Ok(())

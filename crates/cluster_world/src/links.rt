@@ -1,23 +1,26 @@
 //! The links, with the history of what their nodes executed.
 
-ghost use Rattle.std.specs.Prelude.{◌≡◌, ◌<◌, ◌↔◌, [], ◌∷◌, List, All, IsTrue, length};
+ghost use Rattle.std.specs.Prelude.{◌≡◌, ◌<◌, ◌≤◌, ◌+◌, ◌↔◌, [], ◌∷◌, List, All, IsTrue, length};
+ghost use Rattle.std.specs.Borrow.{Bor};
+ghost use Rattle.std.specs.Option.{option_map};
 ghost use Rattle.std.specs.Vec.{vec_len, vec_capacity};
-ghost use Rattle.cluster_world.specs.Alone.{as_run};
-ghost use Rattle.cluster_world.specs.Kept.{Notes};
-ghost use Rattle.cluster_world.specs.Links.{There, Begins, Carries, Closes, Discards, Fetches, FirstIs, HasReply, Welcomes, LinkExecutes};
+ghost use Rattle.node_model.specs.Runs.{HaveOneSlot};
+ghost use Rattle.cluster_world.specs.Kept.{served_in, shown, KeepsBelow, Notes, NotesAll};
+ghost use Rattle.cluster_world.specs.Links.{There, Begins, BeginsRun, Carries, Closes, Discards, Fetches, FirstIs, HasReply, Welcomes, LinkExecutes};
 ghost use Rattle.cluster_world.specs.Rests.{LineAsksNot, LineRests, LinkRests};
 ghost use Rattle.world_laws.specs.World.{IsNode};
-ghost use Rattle.cluster_world.specs.declared.alone.RequestAlone.TheVariants.{Asking, Command};
+ghost use Rattle.world_laws.specs.declared.state.LinkRequest.{LinkRequest as Request};
+ghost use Rattle.world_laws.specs.declared.state.LinkRequest.TheVariants.{Asking};
 
-use crate::alone::{PostedAlone, RequestAlone};
 use crate::fault::WorldFault;
 use crate::link::{Kept, Link};
 use key_split::{Part, Ticket, Told};
 use node_model::{Cluster, Verdict};
 use slot_map::NodeId;
 use std::alloc::Global;
+use std::collections::VecDeque;
 use std::marker::Model;
-use world_laws::Entry;
+use world_laws::{Entry, LinkRequest, Posted};
 
 /// The links by their numbers, and what was executed. Of an executed command a link keeps the place of its entry, so that the
 /// reply stands in memory once.
@@ -63,16 +66,16 @@ impl Links {
         &self.history
     }
 
-    /// Puts a batch on an open link to its node, or on a new one.
-    pub(crate) fn carry(&mut self, at: usize, posted: PostedAlone) -> Result<(), WorldFault>
-        ensures { Carries self.old at (as_run posted) result self.new }
+    /// Puts a run on an open link to its node, or on a new one.
+    pub(crate) fn carry(&mut self, at: usize, posted: &Posted) -> Result<(), WorldFault>
+        ensures { Carries self.old at posted.now result self.new }
     {
         if at > self.links.len() {
             return Err(WorldFault::NotNow);
         }
         if at == self.links.len() {
             let mut link = Link::new(self.alloc, posted.node);
-            link.send(posted)?;
+            link.send(self.alloc, posted)?;
             self.links.reserve(1)?;
             self.links.push_reserved(link);
             return Ok(());
@@ -81,7 +84,7 @@ impl Links {
         if !link.leads_to(posted.node) {
             return Err(WorldFault::NotNow);
         }
-        link.send(posted)?;
+        link.send(self.alloc, posted)?;
         Ok(())
     }
 
@@ -148,8 +151,8 @@ impl Links {
     }
 
     /// The first request of a link.
-    pub(crate) fn first_request(&self, at: usize) -> Option<RequestAlone>
-        ensures { FirstIs self.now at result }
+    pub(crate) fn first_request(&self, at: usize) -> Option<&LinkRequest>
+        ensures { FirstIs self.now at (option_map (λ (r : Bor Request). r.now) result) }
     {
         let Some(link) = self.links.get(at) else {
             return None;
@@ -163,34 +166,38 @@ impl Links {
         ensures { Welcomes self.old at result self.new }
     {
         let link = &mut self.links[at];
-        link.reserve()?;
+        link.reserve(1)?;
         link.take_request(true);
         link.keep(Kept::Welcome);
         Ok(())
     }
 
-    /// A link's node takes a command.
+    /// A link's node takes a run of these parts.
     pub(crate) fn execute(
         &mut self,
         cluster: &mut Cluster,
         at: usize,
-        ticket: Ticket,
-        part: Part,
+        parts: Vec<Part>,
         verdict: Verdict,
         moment: u64,
     ) -> Result<(), WorldFault>
-        requires first { There self.old at (Begins (Command ticket)) }
+        requires first { There self.old at BeginsRun }
+        requires slot { HaveOneSlot parts.items }
         requires nodes { All (λ l. IsNode cluster.old l.node) self.old.links }
-        ensures { LinkExecutes self.old cluster.old at ticket part verdict moment result self.new cluster.new }
+        ensures { LinkExecutes self.old cluster.old at parts.items verdict moment result self.new cluster.new }
     {
         let link = &mut self.links[at];
-        link.reserve()?;
-        self.history.reserve(1)?;
-        let told = cluster.serve(link.node(), link.asking(), &part, verdict)?;
-        let kept = note(&mut self.history, ticket, part, moment, told);
-        link.take_request(false);
-        link.keep(kept);
-        Ok(())
+        link.reserve(parts.len())?;
+        self.history.reserve(parts.len())?;
+        let tolds = cluster.serve_run(link.node(), link.asking(), &parts, verdict)?;
+        match link.take_request(false) {
+            LinkRequest::Asking => Ok(()),
+            LinkRequest::Runs(tickets) => {
+                let tickets = tickets.as_slice();
+                note_all(&mut self.history, link, tickets, parts, tolds, moment);
+                Ok(())
+            }
+        }
     }
 
     /// Whether none of the links carries the ticket's command to the node behind ASKING, or such a reply to it.
@@ -222,10 +229,41 @@ fn lines_rest(links: &[Link], node: NodeId, ticket: Ticket) -> bool
     links.iter().all(|link| link.rests(node, ticket))
 }
 
+// Notes what the commands of a run were told: the link keeps a reply to each.
+fn note_all(
+    history: &mut Vec<Entry>,
+    link: &mut Link,
+    tickets: &[Ticket],
+    parts: Vec<Part>,
+    tolds: Vec<Told>,
+    moment: u64,
+)
+    requires entries { vec_len history.old + length tolds.items ≤ vec_capacity history.old }
+    requires replies { length link.old.backs + length tolds.items ≤ link.old.room }
+    requires below { KeepsBelow (length history.old.items) link.old }
+    ensures { NotesAll history.old.items link.old (served_in tickets.now parts.items tolds.items) moment history.new.items link.new }
+{
+    let mut parts = VecDeque::from(parts);
+    let mut tolds = VecDeque::from(tolds);
+    let mut rest = tickets;
+    while let [ticket, later @ ..] = rest {
+        let Some(part) = parts.pop_front() else {
+            return;
+        };
+        let Some(told) = tolds.pop_front() else {
+            return;
+        };
+        let kept = note(history, *ticket, part, moment, told);
+        link.keep(kept);
+        rest = later;
+    }
+}
+
 // Notes in the history what a node replied to, and gives what its link keeps of it.
 fn note(history: &mut Vec<Entry>, ticket: Ticket, part: Part, moment: u64, told: Told) -> Kept
     requires { vec_len history.old < vec_capacity history.old }
-    ensures { Notes history.old.items ticket part moment told history.new.items result }
+    ensures notes { Notes history.old.items ticket part moment told history.new.items result }
+    ensures room { (vec_len history.new ≤ vec_len history.old + 1) × (vec_capacity history.new ≡ vec_capacity history.old) }
 {
     match told {
         Told::Reply(reply) => {

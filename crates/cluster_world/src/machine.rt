@@ -1,28 +1,21 @@
 //! What a world holds, and its events on lanes and links.
 
-ghost use Rattle.std.specs.Prelude.{◌≡◌, ◌≢◌, ◌==◌, ◌↔◌, ◌<◌, [], ◌∷◌, All, IsTrue, MatchOption, position, length};
-ghost use Rattle.cluster_world.specs.Alone.{run_limit};
-ghost use Rattle.cluster_world.specs.Machine.{state_of, MachineAnswers, PostAnswers};
-ghost use Rattle.cluster_world.specs.Links.{There, Begins};
-ghost use Rattle.command_future.specs.CommandModel.{asks_at, MayPostTo};
+ghost use Rattle.std.specs.Prelude.{◌≡◌, ◌==◌, ◌↔◌, ◌<◌, All, IfOk, IsTrue, map, position, length};
+ghost use Rattle.key_split.specs.declared.travel.Told.TheVariants as told_of;
+ghost use Rattle.cluster_world.specs.Machine.{run_limit, state_of, HaveSlots, MachineAnswers, MayServe};
 ghost use Rattle.world_laws.specs.State.{start};
-ghost use Rattle.world_laws.specs.World.{IsNode};
-ghost use Rattle.cluster_world.specs.declared.alone.RequestAlone.TheVariants as request;
-ghost use Rattle.node_model.specs.Serving.{names_node as named_among};
-ghost use Rattle.node_model.specs.declared.role.Verdict.TheVariants as verdict_of;
+ghost use Rattle.world_laws.specs.World.{IsNode, lies_in as lies_in_lane};
 ghost use Rattle.command_future.specs.declared.stage.Stage.TheVariants.{Awaits};
 ghost use Rattle.world_laws.specs.declared.event.Event.TheVariants as event;
 
-use crate::alone::{PostedAlone, RequestAlone};
 use crate::commands::Commands;
 use crate::fault::WorldFault;
 use crate::links::Links;
 use command_future::{Command, Want};
 use key_split::{Part, Ticket, Told};
-use node_model::{Cluster, Verdict};
-use slot_map::NodeId;
-use std::alloc::Global;
-use world_laws::{Answer, Event, Tickets};
+use node_model::Cluster;
+use std::alloc::{AllocError, Global};
+use world_laws::{Answer, Event, Posted};
 
 /// The commands, lanes, links and nodes, with what was executed and answered.
 #[derive(Drop)]
@@ -31,18 +24,41 @@ pub(crate) struct Machine {
     pub(crate) workers: u16,
     pub(crate) cluster: Cluster,
     pub(crate) commands: Commands,
-    pub(crate) ups: Vec<PostedAlone>,
+    pub(crate) ups: Vec<Posted>,
     pub(crate) links: Links,
     pub(crate) downs: Vec<(Ticket, Told)>,
     pub(crate) answers: Vec<Answer>,
     pub(crate) moment: u64,
 }
 
-// The place of a lane's first batch.
-fn first_posted(ups: &[PostedAlone], lane: u16) -> Option<usize>
-    ensures { result ≡ position (λ (b : PostedAlone). b.ticket.worker == lane) ups.now }
+// Whether the run lies in the lane: that of its tickets' worker.
+fn lies_in(posted: &Posted, lane: u16) -> bool
+    ensures { result ≡ lies_in_lane lane posted.now }
 {
-    ups.iter().position(|posted| posted.ticket.worker == lane)
+    match posted.tickets.as_slice() {
+        [] => false,
+        [ticket, ..] => ticket.worker == lane,
+    }
+}
+
+// The place of a lane's first run.
+fn first_posted(ups: &[Posted], lane: u16) -> Option<usize>
+    ensures { result ≡ position (lies_in_lane lane) ups.now }
+{
+    ups.iter().position(|posted| lies_in(posted, lane))
+}
+
+// Each of a run's commands is told that it was not sent.
+fn unsent(alloc: Global, tickets: &[Ticket]) -> Result<Vec<(Ticket, Told)>, AllocError>
+    ensures { IfOk result (λ pairs. pairs.items ≡ map (λ t. (t, told_of.Unsent)) tickets.now) }
+{
+    let mut pairs = Vec::new(alloc);
+    let mut rest = tickets;
+    while let [ticket, later @ ..] = rest {
+        pairs.push((*ticket, Told::Unsent))?;
+        rest = later;
+    }
+    Ok(pairs)
 }
 
 // The place of a lane's first pair.
@@ -52,56 +68,11 @@ fn first_down(downs: &[(Ticket, Told)], lane: u16) -> Option<usize>
     downs.iter().position(|down| down.0.worker == lane)
 }
 
-// The ticket of a run of one.
-fn only_of(tickets: &Tickets) -> Option<Ticket>
-    ensures { MatchOption result (length tickets.now ≢ 1) (λ ticket. tickets.now ≡ ticket ∷ []) }
-{
-    match tickets.as_slice() {
-        [ticket] => Some(*ticket),
-        _ => None,
-    }
-}
-
-// Whether the command wants to be posted, and may be at this node.
-fn may_post(command: &Command, node: NodeId) -> bool
-    ensures { IsTrue result ↔ MayPostTo command.now.stage node }
-{
-    match command.want() {
-        Want::Post(_, None) => true,
-        Want::Post(_, Some(named)) => node == named,
-        Want::Await | Want::Finished => false,
-    }
-}
-
-// Whether it wants to be posted after ASKING.
-fn asks(command: &Command) -> bool
-    ensures { result ≡ asks_at command.now.stage }
-{
-    matches!(command.want(), Want::Post(true, _))
-}
-
 // Whether the command awaits what it is told.
 fn awaits(command: &Command) -> bool
     ensures { IsTrue result ↔ (command.now.stage ≡ Awaits) }
 {
     matches!(command.want(), Want::Await)
-}
-
-// Whether it is the verdict that a node serves ASKING with.
-fn is_plain(verdict: Verdict) -> bool
-    ensures { IsTrue result ↔ (verdict ≡ verdict_of.Plain) }
-{
-    matches!(verdict, Verdict::Plain)
-}
-
-// Whether a node that the verdict names is one of so many.
-fn names_node(verdict: &Verdict, nodes: u8) -> bool
-    ensures { result ≡ named_among verdict.now nodes }
-{
-    match verdict {
-        Verdict::Moved(node) => node.number() < nodes,
-        Verdict::Plain | Verdict::TryAgain | Verdict::ClusterDown => true,
-    }
 }
 
 impl Machine {
@@ -127,6 +98,8 @@ impl Machine {
         requires workers { 0 < self.old.workers }
         requires nodes { nodes ≡ length self.old.cluster.stores }
         requires links { All (λ l. IsNode self.old.cluster l.node) self.old.links.links }
+        requires slots { HaveSlots (state_of self.old) }
+        requires serves { MayServe (state_of self.old) }
         ensures { MachineAnswers (state_of self.old) event.now result (state_of self.new) }
     {
         match event {
@@ -150,16 +123,16 @@ impl Machine {
         }
     }
 
-    /// Hands the first batch of a lane back, unsent.
+    /// Hands the first run of a lane back, unsent.
     pub(crate) fn refuse(&mut self, lane: u16) -> Result<(), WorldFault>
         ensures { MachineAnswers (state_of self.old) (event.Refuse lane) result (state_of self.new) }
     {
         let Some(first) = first_posted(&self.ups, lane) else {
             return Err(WorldFault::NotNow);
         };
-        self.downs.reserve(1)?;
-        let posted = self.ups.remove(first);
-        self.downs.push_reserved((posted.ticket, Told::Unsent));
+        let mut pairs = unsent(self.alloc, self.ups[first].tickets.as_slice())?;
+        self.downs.append(&mut pairs)?;
+        self.ups.remove(first);
         Ok(())
     }
 
@@ -175,60 +148,6 @@ impl Machine {
         ensures { MachineAnswers (state_of self.old) (event.Discard link) result (state_of self.new) }
     {
         self.links.discard(link as usize)
-    }
-
-    /// A link's node takes its first request, where there are so many nodes.
-    pub(crate) fn serve(&mut self, link: u64, verdict: Verdict, nodes: u8) -> Result<(), WorldFault>
-        requires nodes { nodes ≡ length self.old.cluster.stores }
-        requires links { All (λ l. IsNode self.old.cluster l.node) self.old.links.links }
-        ensures { MachineAnswers (state_of self.old) (event.Serve link verdict) result (state_of self.new) }
-    {
-        match self.links.first_request(link as usize) {
-            None => Err(WorldFault::NotNow),
-            Some(RequestAlone::Asking) => self.serve_asking(link, verdict),
-            Some(RequestAlone::Command(ticket)) => self.serve_command(link, ticket, verdict, nodes),
-        }
-    }
-
-    // The first request is ASKING.
-    fn serve_asking(&mut self, link: u64, verdict: Verdict) -> Result<(), WorldFault>
-        requires { There self.old.links link (Begins request.Asking) }
-        ensures { MachineAnswers (state_of self.old) (event.Serve link verdict) result (state_of self.new) }
-    {
-        if !is_plain(verdict) {
-            return Err(WorldFault::NotNow);
-        }
-        self.links.welcome(link as usize)
-    }
-
-    // The first request is the ticket's command.
-    fn serve_command(
-        &mut self,
-        link: u64,
-        ticket: Ticket,
-        verdict: Verdict,
-        nodes: u8,
-    ) -> Result<(), WorldFault>
-        requires first { There self.old.links link (Begins (request.Command ticket)) }
-        requires nodes { nodes ≡ length self.old.cluster.stores }
-        requires links { All (λ l. IsNode self.old.cluster l.node) self.old.links.links }
-        ensures { MachineAnswers (state_of self.old) (event.Serve link verdict) result (state_of self.new) }
-    {
-        let Some(place) = self.commands.place_of(ticket) else {
-            return Err(WorldFault::NotNow);
-        };
-        if !names_node(&verdict, nodes) {
-            return Err(WorldFault::NotNow);
-        }
-        let part = self.commands.at(place).command.part().copy(self.alloc)?;
-        self.links.execute(
-            &mut self.cluster,
-            link as usize,
-            ticket,
-            part,
-            verdict,
-            self.moment,
-        )
     }
 
     /// Takes the first reply of a link down to its worker; that of ASKING is dropped.
@@ -284,51 +203,6 @@ impl Machine {
         Ok(())
     }
 
-    /// Posts a run to one of so many nodes; it has one command.
-    pub(crate) fn post(
-        &mut self,
-        tickets: &Tickets,
-        node: NodeId,
-        nodes: u8,
-    ) -> Result<(), WorldFault>
-        requires { nodes ≡ length self.old.cluster.stores }
-        ensures { MachineAnswers (state_of self.old) (event.Post tickets.now node) result (state_of self.new) }
-    {
-        match only_of(tickets) {
-            Some(ticket) => self.post_alone(ticket, node, nodes),
-            None => Err(WorldFault::NotNow),
-        }
-    }
-
-    // Posts a command alone to one of so many nodes.
-    fn post_alone(&mut self, ticket: Ticket, node: NodeId, nodes: u8) -> Result<(), WorldFault>
-        requires { nodes ≡ length self.old.cluster.stores }
-        ensures { PostAnswers (state_of self.old) ticket node result (state_of self.new) }
-    {
-        if node.number() >= nodes {
-            return Err(WorldFault::NotNow);
-        }
-        let Some(place) = self.commands.place_of(ticket) else {
-            return Err(WorldFault::NotNow);
-        };
-        let command = &self.commands.at(place).command;
-        if !may_post(command, node) {
-            return Err(WorldFault::NotNow);
-        }
-        if !self.commands.turn_has_come(place) {
-            return Err(WorldFault::NotNow);
-        }
-        let posted = PostedAlone {
-            ticket,
-            node,
-            asking: asks(command),
-        };
-        self.ups.reserve(1)?;
-        self.commands.posted(place, node);
-        self.ups.push_reserved(posted);
-        Ok(())
-    }
-
     /// Answers a client's oldest unanswered command, which has ended.
     pub(crate) fn answer(&mut self, client: u32) -> Result<(), WorldFault>
         ensures { MachineAnswers (state_of self.old) (event.Answer client) result (state_of self.new) }
@@ -352,15 +226,14 @@ impl Machine {
         Ok(())
     }
 
-    /// Puts the first batch of a lane on a link, which it opens where the number is the next unused one.
+    /// Puts the first run of a lane on a link, which it opens where the number is the next unused one.
     pub(crate) fn carry(&mut self, lane: u16, link: u64) -> Result<(), WorldFault>
         ensures { MachineAnswers (state_of self.old) (event.Carry lane link) result (state_of self.new) }
     {
         let Some(first) = first_posted(&self.ups, lane) else {
             return Err(WorldFault::NotNow);
         };
-        let posted = self.ups[first];
-        if let Err(fault) = self.links.carry(link as usize, posted) {
+        if let Err(fault) = self.links.carry(link as usize, &self.ups[first]) {
             return Err(fault);
         }
         self.ups.remove(first);

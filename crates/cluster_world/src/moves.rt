@@ -7,7 +7,7 @@ ghost use Rattle.cluster_world.specs.Rests.{Rests};
 ghost use Rattle.world_laws.specs.declared.event.Event.TheVariants as event;
 
 use crate::asks::{
-    batches_ask_not, batches_rest, commands_ask_not, commands_rest, downs_ask_not, downs_rest,
+    commands_ask_not, commands_rest, downs_ask_not, downs_rest, runs_ask_not, runs_rest,
 };
 use crate::fault::WorldFault;
 use crate::machine::Machine;
@@ -40,7 +40,7 @@ impl Machine {
         ensures { IsTrue result → (ticket : Ticket) → Rests (state_of self.now) node ticket }
     {
         commands_ask_not(self.commands.as_slice(), node)
-            && batches_ask_not(&self.ups, node)
+            && runs_ask_not(&self.ups, node)
             && self.links.ask_not(node)
             && downs_ask_not(&self.downs, node)
     }
@@ -60,7 +60,7 @@ impl Machine {
         ensures { IsTrue result ↔ Rests (state_of self.now) node ticket }
     {
         commands_rest(self.commands.as_slice(), node, ticket)
-            && batches_rest(&self.ups, node, ticket)
+            && runs_rest(&self.ups, node, ticket)
             && self.links.rest(node, ticket)
             && downs_rest(&self.downs, node, ticket)
     }

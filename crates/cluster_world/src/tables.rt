@@ -1,10 +1,10 @@
 //! The tables by which commands are found.
 
-ghost use Rattle.std.specs.Prelude.{◌≡◌, ◌<◌, ◌^◌, ◌+◌, ◌==◌, ◌&&◌, cond, ℕ, Some, IsTrue, OnOk};
+ghost use Rattle.std.specs.Prelude.{◌≡◌, ◌↔◌, ◌<◌, ◌^◌, ◌+◌, ◌==◌, ◌&&◌, cond, ℕ, length, slice_get, Some, IsTrue, OnOk};
 ghost use Rattle.std.specs.HashMap.{spare};
 ghost use Rattle.cluster_world.specs.Tables.{client_in, place_in, placed_in, turn_in, turn_key_of, HasRoom, Noted, NotedAnswered, NotedTold, SayNothing, SaySame};
 
-use crate::rows::{Row, lengthen, pass};
+use crate::rows::{Row, lengthen, pass, row_of};
 use command_future::Command;
 use key_split::Ticket;
 use std::alloc::{AllocError, AllocFailed, Global};
@@ -93,7 +93,15 @@ impl Tables {
         self.ranks.push_reserved(rank);
     }
 
-    /// The oldest open command of a turn was told what it awaited, and may have ended by it.
+    /// Whether a command that stands at the place passes its turn on: it has ended, and is the first that was open.
+    pub(crate) fn passes(&self, turn: TurnKey, place: usize, ended: bool) -> bool
+        requires { place < length self.now.ranks.items }
+        ensures { (rank : ℕ) → slice_get self.now.ranks.items place ≡ Some rank → (IsTrue result ↔ (IsTrue ended × (rank ≡ (turn_in self.now turn.client turn.slot).over))) }
+    {
+        ended && self.ranks[place] == row_of(&self.turns, &turn).over
+    }
+
+    /// The first open command of a turn was told what it awaited, and may have ended by it.
     pub(crate) fn note_told(&mut self, turn: TurnKey, ended: bool)
         requires { IsTrue ended → (turn_in self.old turn.client turn.slot).over < (turn_in self.old turn.client turn.slot).count }
         ensures { NotedTold turn ended self.old self.new }

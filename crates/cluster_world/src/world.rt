@@ -118,6 +118,8 @@ impl World {
     {
         world_laws::laws::reached_worlds();
         world_laws::laws::links_lead_to_nodes();
+        world_laws::laws::runs_have_one_slot();
+        world_laws::laws::nothing_is_stuck();
         world_laws::laws::sizes_stay();
         if self.machine.moment == u64::MAX {
             return Err(WorldFault::NotNow);

@@ -1,7 +1,7 @@
 //! One lane: between two threads, and when it is finished.
 
-use crate::batches::batch;
-use key_split::Batch;
+use crate::runs::run;
+use key_split::Run;
 use proxy_lanes::{Inlet, Outlet, lane};
 use std::alloc::Global;
 use std::test::Fail;
@@ -10,28 +10,28 @@ use std::thread;
 #[test]
 fn what_is_left_is_settled(rt: HostRuntime) -> Result<(), Fail> {
     let alloc = rt.alloc();
-    let (mut outlet, mut inlet) = lane::<Batch>(alloc)?;
-    assert!(rt; outlet.post(batch(alloc, 0)).is_ok());
-    assert!(rt; outlet.post(batch(alloc, 1)).is_ok());
-    assert!(rt; outlet.post(batch(alloc, 2)).is_ok());
+    let (mut outlet, mut inlet) = lane::<Run>(alloc)?;
+    assert!(rt; outlet.post(run(alloc, 0)).is_ok());
+    assert!(rt; outlet.post(run(alloc, 1)).is_ok());
+    assert!(rt; outlet.post(run(alloc, 2)).is_ok());
     assert!(rt; inlet.take().is_some());
     assert!(rt; inlet.take().is_some());
     let note = outlet.finish().ok_or("a note")?;
     assert_eq!(rt; inlet.settle(note), 1);
-    assert_eq!(rt; inlet.take().ok_or("a batch")?.ticket.part, 2);
+    assert_eq!(rt; inlet.take().ok_or("a run")?.first().ticket.part, 2);
     Ok(())
 }
 
 const MILLION: u64 = 1_000_000;
 
-// Posts batches of the numbers below the count, in order, each again until there is a place.
-fn post_all(alloc: Global, mut outlet: Outlet<Batch>, count: u64) -> u64 {
+// Posts runs of the numbers below the count, in order, each again until there is a place.
+fn post_all(alloc: Global, mut outlet: Outlet<Run>, count: u64) -> u64 {
     let mut posted = 0u64;
     for _ in 0..u64::MAX {
         if posted >= count {
             break;
         }
-        match outlet.post(batch(alloc, posted)) {
+        match outlet.post(run(alloc, posted)) {
             Ok(()) => posted += 1,
             Err(_) => thread::yield_now(),
         }
@@ -39,16 +39,16 @@ fn post_all(alloc: Global, mut outlet: Outlet<Batch>, count: u64) -> u64 {
     posted
 }
 
-// How many batches come, each with the number of those before it.
-fn take_all(mut inlet: Inlet<Batch>, count: u64) -> u64 {
+// How many runs come, each with the number of those before it.
+fn take_all(mut inlet: Inlet<Run>, count: u64) -> u64 {
     let mut taken = 0u64;
     for _ in 0..u64::MAX {
         if taken >= count {
             break;
         }
         match inlet.take() {
-            Some(batch) => {
-                if batch.ticket.part != taken {
+            Some(run) => {
+                if run.first().ticket.part != taken {
                     break;
                 }
                 taken += 1;
@@ -60,9 +60,9 @@ fn take_all(mut inlet: Inlet<Batch>, count: u64) -> u64 {
 }
 
 #[test]
-fn a_million_batches_pass_in_order(rt: HostRuntime) -> Result<(), Fail> {
+fn a_million_runs_pass_in_order(rt: HostRuntime) -> Result<(), Fail> {
     let alloc = rt.alloc();
-    let (outlet, inlet) = lane::<Batch>(alloc)?;
+    let (outlet, inlet) = lane::<Run>(alloc)?;
     let Ok(child) = thread::spawn(&rt, move || post_all(alloc, outlet, MILLION)) else {
         return Err(Fail::new("a thread"));
     };

@@ -2,8 +2,8 @@
 #![tactic(auto)]
 
 #[cfg(test)]
-mod batches;
-#[cfg(test)]
 mod lanes;
 #[cfg(test)]
 mod maps;
+#[cfg(test)]
+mod runs;

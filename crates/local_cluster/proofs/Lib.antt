@@ -9,3 +9,5 @@ pub mod Noted
 pub mod Opened
 pub mod Addressed
 pub mod Told
+mod RunKept
+pub mod RunServed

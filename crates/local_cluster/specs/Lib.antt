@@ -1,4 +1,5 @@
 pub mod Local
+pub mod LocalRuns
 pub mod Kept
 pub mod Laws
 pub mod Foresight

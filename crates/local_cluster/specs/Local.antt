@@ -2,11 +2,11 @@
 -- Redis Cluster specification, "Redirection and resharding" and "Cluster live reconfiguration", as node_model has them.
 -- One rule is this project's: a node may not begin to import a slot while an ASK for it to that node may still be
 -- followed.
-use Rattle.std.specs.Prelude.{◌≡◌, ◌≢◌, ◌↔◌, ℕ, ◌+◌, ◌==◌, ◌&&◌, not, Bool, List, [], ◌∷◌, ◌++◌, length, filter, fold, All, None, Some, unwrap_or, Result, Ok, Err}
+use Rattle.std.specs.Prelude.{◌≡◌, ◌≢◌, ◌↔◌, ℕ, ◌+◌, ◌==◌, ◌&&◌, not, Bool, List, [], ◌∷◌, ◌++◌, length, filter, All, None, Some, unwrap_or, Result, Ok, Err}
 use Rattle.std.specs.List.{list_any}
 use Rattle.std.specs.FinMap.{empty, get}
 use Rattle.resp_wire.specs.Seen.{data_of}
-use Rattle.key_split.specs.PartModel.{keys_of}
+use Rattle.key_split.specs.PartModel.{PartModel, keys_of}
 use Rattle.key_split.specs.Same.{same_part, same_ticket}
 use Rattle.key_split.specs.declared.travel.Batch.{Batch}
 use Rattle.key_split.specs.declared.travel.Ticket.{Ticket}
@@ -47,15 +47,18 @@ abbrev pub asks_of_others : Ticket → List Asked → List Asked
 asks_of_others ticket asks = filter (λ a. not (same_ticket a.ticket ticket)) asks
 
 -- an entry's moment is its place in the history, from 1
+abbrev pub noted : List EntryModel → Ticket → PartModel → Told → List EntryModel
+noted history ticket part (Reply value) = history ++ record { ticket = ticket; part = part; reply = data_of value; moment = length history + 1 } ∷ []
+noted history ticket part (Moved slot node) = history
+noted history ticket part (Ask slot node) = history
+noted history ticket part TryAgain = history
+noted history ticket part ClusterDown = history
+noted history ticket part Unclear = history
+noted history ticket part Lost = history
+noted history ticket part Unsent = history
+
 abbrev pub history_after : List EntryModel → Batch → Told → List EntryModel
-history_after history b (Reply value) = history ++ record { ticket = b.ticket; part = b.part; reply = data_of value; moment = length history + 1 } ∷ []
-history_after history b (Moved slot node) = history
-history_after history b (Ask slot node) = history
-history_after history b TryAgain = history
-history_after history b ClusterDown = history
-history_after history b Unclear = history
-history_after history b Lost = history
-history_after history b Unsent = history
+history_after history b told = noted history b.ticket b.part told
 
 abbrev pub asks_after : List Asked → Batch → Told → List Asked
 asks_after asks b (Reply value) = asks_of_others b.ticket asks
@@ -70,10 +73,6 @@ asks_after asks b Unsent = asks_of_others b.ticket asks
 -- why a request is not served: there is no such node, or else there is no memory
 abbrev pub unserved : ClusterModel → ℕ → ServeFault
 unserved k node = unwrap_or (refusal_of k node Plain) serve.NoMemory
-
--- what the nodes executed, by all that requests were told
-abbrev pub history_of : List (Batch × Told) → List EntryModel
-history_of told = fold (λ history each. history_after history each.0 each.1) [] told
 
 -- the node does with the request what its role says, and the entry is added; a refused request changes nothing
 abbrev pub ServesNoted : ClusterModel → List EntryModel → Batch → Bool → Result Told ServeFault → ClusterModel → List EntryModel → Type 0

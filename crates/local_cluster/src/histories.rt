@@ -1,14 +1,15 @@
 //! What the nodes executed, kept by the code or by proofs alone.
 
-ghost use Rattle.std.specs.Prelude.{◌≡◌, ◌<◌, List, [], length, vec_capacity, vec_len};
+ghost use Rattle.std.specs.Prelude.{◌≡◌, ◌<◌, List, [], length, vec_capacity, vec_len, zip};
 ghost use Rattle.node_model.specs.History.{EntryModel};
 ghost use Rattle.local_cluster.specs.Foresight.{IsCopy};
 ghost use Rattle.local_cluster.specs.Local.{history_after, ServesNoted};
+ghost use Rattle.local_cluster.specs.LocalRuns.{history_after_run};
 
 use crate::foresight::serve_twice;
 use crate::room::make_room;
 use http_server::Log;
-use key_split::{Batch, Part, Told};
+use key_split::{Batch, Part, Ticket, Told};
 use node_model::{Cluster, ServeFault, Verdict};
 use resp_wire::Value;
 use std::alloc::Global;
@@ -60,13 +61,15 @@ impl History for Vec<Entry> {
 /// A history that proofs alone read: it takes no memory.
 #[derive(Drop)]
 pub struct GhostHistory {
-    told: Log<Batch, Told>,
+    /// The commands that were served for a ticket, with what each was told.
+    told: Log<Ticket, Log<Part, Told>>,
 }
 
 impl History for GhostHistory {
-    ghost use Rattle.local_cluster.specs.Local.{history_of};
+    ghost use Rattle.std.specs.Prelude.{fold};
+    ghost use Rattle.local_cluster.specs.LocalRuns.{history_after_run};
 
-    ghost entries = { λ history. history_of history.told.items };
+    ghost entries = { λ history. fold (λ so_far each. history_after_run so_far each.0 (each.1).items) [] history.told.items };
 
     fn new(_: Global) -> GhostHistory {
         GhostHistory { told: Log::new() }
@@ -80,9 +83,38 @@ impl History for GhostHistory {
         asking: bool,
     ) -> Result<Told, ServeFault> {
         let told = cluster.serve(batch.node, asking, &batch.part, Verdict::Plain)?;
-        self.told = self.told.and(batch, &told);
+        let command = Log::new().and(&batch.part, &told);
+        self.told = self.told.and(&batch.ticket, &command);
         Ok(told)
     }
+}
+
+impl GhostHistory {
+    /// Notes what the commands of a run were told.
+    pub(crate) fn note_run(&mut self, ticket: Ticket, parts: &[Part], tolds: &[Told])
+        ensures { ⟦<GhostHistory as History>⟧.entries self.new ≡ history_after_run (⟦<GhostHistory as History>⟧.entries self.old) ticket (zip parts.now tolds.now) }
+    {
+        let run = told_each(parts, tolds);
+        self.told = self.told.and(&ticket, &run);
+    }
+}
+
+/// The commands, in order, with what each was told.
+fn told_each(parts: &[Part], tolds: &[Told]) -> Log<Part, Told>
+    ensures { result.items ≡ zip parts.now tolds.now }
+{
+    let mut log = Log::new();
+    let mut commands = parts;
+    let mut said = tolds;
+    while let [part, further @ ..] = commands {
+        let [told, later @ ..] = said else {
+            return log;
+        };
+        log = log.and(part, told);
+        commands = further;
+        said = later;
+    }
+    log
 }
 
 /// Adds the entry of a request that was told a reply. There is room for it; `part` and `copy` are those to keep.

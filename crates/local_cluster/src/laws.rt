@@ -1,10 +1,15 @@
 //! Laws of the cluster behind a lock. Each is the contract of a function that does nothing.
 
-ghost use Rattle.local_cluster.specs.Laws.{MovingKeeps, OpenedIsNew, ServingKeeps, StartsSound};
+ghost use Rattle.local_cluster.specs.Laws.{MovingKeeps, OpenedIsNew, RunsKeep, ServingKeeps, StartsSound};
 
 /// Serving keeps what the state keeps.
 pub fn serving_keeps()
     ensures { ServingKeeps }
+{}
+
+/// Serving commands together keeps it.
+pub fn runs_keep()
+    ensures { RunsKeep }
 {}
 
 /// Each step of a move keeps it.

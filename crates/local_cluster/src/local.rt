@@ -1,16 +1,18 @@
 //! The state behind the lock of a cluster in one process.
 
-ghost use Rattle.std.specs.Prelude.{◌≡◌, ◌↔◌, IsTrue, []};
+ghost use Rattle.std.specs.Prelude.{◌≡◌, ◌↔◌, IfOk, IsTrue, [], length};
+ghost use Rattle.node_model.specs.Runs.{HaveOneSlot};
 ghost use Rattle.world_laws.specs.Headline.{IsNew};
 ghost use Rattle.local_cluster.specs.Local.{AsksAllow, IsSound, NoneAsked, ServesLocally, Steps};
+ghost use Rattle.local_cluster.specs.LocalRuns.{ServesRunLocally};
 
 use crate::asked::Asked;
-use crate::histories::History;
+use crate::histories::{GhostHistory, History};
 use crate::moves::make_step;
 use crate::notes::{counts_as_asking, note};
 use crate::room::make_room;
 use crate::step::MoveStep;
-use key_split::{Batch, Told};
+use key_split::{Batch, Part, Ticket, Told};
 use node_model::{Cluster, MoveFault, ServeFault, Verdict};
 use slot_hash::Slot;
 use slot_map::NodeId;
@@ -100,6 +102,25 @@ impl LocalState {
         ensures sound { IsSound self.now }
     {
         self.history.as_slice()
+    }
+}
+
+impl LocalState<GhostHistory> {
+    /// Serves commands of one slot at a node: it executes all of them, in order and at once, or none, and each is told
+    /// something. What was executed is noted as the ticket's.
+    pub fn serve_run(
+        &mut self,
+        ticket: Ticket,
+        node: NodeId,
+        parts: &[Part],
+    ) -> Result<Vec<Told>, ServeFault>
+        requires { HaveOneSlot parts.now }
+        ensures served { ServesRunLocally self.old ticket node parts.now result self.new }
+        ensures count { IfOk result (λ tolds. length tolds.items ≡ length parts.now) }
+    {
+        let tolds = self.cluster.serve_run(node, false, parts, Verdict::Plain)?;
+        self.history.note_run(ticket, parts, tolds.as_slice());
+        Ok(tolds)
     }
 }
 

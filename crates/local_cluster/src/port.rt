@@ -2,8 +2,8 @@
 
 use crate::answer::{LocalRequest, answer, keep};
 use crate::cluster::LocalCluster;
-use key_split::{Batch, Told};
-use node_link::{NodePort, PortFault};
+use key_split::{Batch, Run, Told};
+use node_link::{NodePort, PortFault, RunPort};
 use resp_wire::{NoMemory, Value};
 use slot_map::NodeId;
 use std::alloc::Global;
@@ -139,5 +139,18 @@ impl<'c, R: Wait> NodePort for LocalPort<'c, R> {
             Ok(value) => Ok(value),
             Err(NoMemory) => Err(PortFault::NoMemory),
         }
+    }
+}
+
+/// Runs of one command: what is sent is served request by request.
+impl<'c, R: Wait> RunPort for LocalPort<'c, R> {
+    ghost longest = { λ _. 1 };
+
+    fn longest_run(&self) -> usize {
+        1
+    }
+
+    fn send_run(&mut self, run: &Run) -> Result<(), PortFault> {
+        self.send(run.first())
     }
 }

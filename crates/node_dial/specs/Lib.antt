@@ -1,2 +1,4 @@
 pub mod AskSchedule
 pub mod DialPause
+pub mod PlainNodes
+pub mod NewPort

@@ -1,7 +1,7 @@
 //! How the proxy dials the nodes.
 
-ghost use Rattle.std.specs.Prelude.{◌≡◌, [], None, IfOk};
-ghost use Rattle.resp_wire.specs.LimitsModel.{full};
+ghost use Rattle.std.specs.Prelude.{◌≡◌, IfOk};
+ghost use Rattle.node_dial.specs.NewPort.{IsUnused};
 
 use crate::connector::Connector;
 use crate::known_node::{DialOutcome, KnownNode};
@@ -11,8 +11,9 @@ use crate::lost_nodes::{
 };
 use crate::node_port::CountedPort;
 use crate::node_stream::NodeStream;
+use crate::plain_nodes::{SharedPlainNodes, no_plain_nodes, share_plain, takes_blocks};
 use crate::slot_owners::{SharedSlotOwners, SlotOwners, SlotTeller};
-use node_link::BytePort;
+use node_link::BlockPort;
 use polled_sockets::PolledSocket;
 use proxy_report::{Event, Figure, NodeName};
 use proxy_turns::{Dial, DialFault};
@@ -26,7 +27,7 @@ use std::sync::Arc;
 use std::time::Clock;
 
 /// A port to a node over a socket.
-pub type NodeSocket = CountedPort<BytePort<NodeStream>>;
+pub type NodeSocket = CountedPort<BlockPort<NodeStream>>;
 
 /// Dials nodes. A port is given for a connection that stands, and whose node has accepted AUTH.
 pub struct SocketDial<'b, R> {
@@ -36,6 +37,8 @@ pub struct SocketDial<'b, R> {
     nodes: Vec<KnownNode>,
     lost: SharedLostNodes,
     owners: SharedSlotOwners,
+    /// The nodes to which no run goes as a block.
+    plain: SharedPlainNodes,
     /// How often no port was given.
     failures: u64,
 }
@@ -48,12 +51,14 @@ impl<R> Drop for SocketDial<'_, R> {
             nodes,
             lost,
             owners,
+            plain,
             failures: _,
         } = self;
         drop(connector);
         drop(nodes);
         drop(lost);
         drop(owners);
+        drop(plain);
     }
 }
 
@@ -70,6 +75,7 @@ impl<'b, R: Clock + Net<Listener = TcpListener, Stream = TcpStream>> SocketDial<
             nodes,
             lost: LostNodes::new(alloc)?,
             owners: SlotOwners::new(alloc)?,
+            plain: no_plain_nodes(alloc)?,
             failures: 0,
         })
     }
@@ -82,7 +88,7 @@ impl<'b, R: Clock + Net<Listener = TcpListener, Stream = TcpStream>> SocketDial<
         host: &[u8],
         port: u16,
     ) -> Result<NodeSocket, NoMemory>
-        ensures unused { IfOk result (λ counted. (counted.port.unsent ≡ []) × (counted.port.input ≡ record { bounds = full; unread = []; fault = None })) }
+        ensures unused { IfOk result (λ counted. IsUnused counted.port) }
     {
         let name = NodeName::new(self.alloc, node, host, port)?;
         let report = Arc::try_clone(self.connector.report())?;
@@ -93,9 +99,11 @@ impl<'b, R: Clock + Net<Listener = TcpListener, Stream = TcpStream>> SocketDial<
         };
         let teller = SlotTeller::new(self.alloc, &self.owners, host, port)?;
         let stream = NodeStream::new(socket, name.again()?, share(&self.lost)?, watch);
-        let port = BytePort::new(self.alloc, stream, Limits::full());
+        let blocks = takes_blocks(&self.plain, node);
+        let port = BlockPort::new(self.alloc, stream, Limits::full(), blocks);
         let lost = share(&self.lost)?;
-        Ok(CountedPort::new(port, name, report, lost, teller, watched))
+        let plain = share_plain(&self.plain)?;
+        Ok(CountedPort::new(port, name, report, lost, teller, watched, node, plain))
     }
 
     /// The node at this endpoint has no connection, so another is asked where its slots are.
@@ -129,7 +137,7 @@ impl<'b, R: Clock + Net<Listener = TcpListener, Stream = TcpStream>> Dial for So
     ghost failures = { λ dial. dial.failures };
 
     // Nothing went over the socket. To which machine it leads no contract says.
-    ghost opens = { λ _ counted. (counted.port.unsent ≡ []) × (counted.port.input ≡ record { bounds = full; unread = []; fault = None }) };
+    ghost opens = { λ _ counted. IsUnused counted.port };
 
     fn seeks(&mut self) -> bool {
         is_ask_due(&self.lost, self.connector.last_time())

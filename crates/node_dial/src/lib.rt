@@ -9,10 +9,12 @@
 //!
 //! A port is given for a connection that stands, and whose node has accepted AUTH. A node that can't be reached is left alone
 //! for a while, and another is asked where its slots are. A host's name is looked up in a thread of its own, which
-//! `advance_look_ups` starts; meanwhile no port is given.
+//! `advance_look_ups` starts; meanwhile no port is given. Runs go as blocks, except to a node whose connection was garbled while a
+//! block was under way: it may refuse MULTI.
 //!
 //! Promise: `SocketDial` keeps the contract of `Dial`. `Credentials` is AUTH, byte by byte; that each connection begins with it
-//! is not proved. The pauses of dials and of requests after a loss are exact. Of the sockets nothing more is proved.
+//! is not proved. The pauses of dials and of requests after a loss are exact, and so is the set of nodes that take no blocks; that
+//! a node is noted there is not proved. Of the sockets nothing more is proved.
 #![tactic(auto)]
 
 mod addresses;
@@ -30,6 +32,7 @@ mod look_ups;
 mod lost_nodes;
 mod node_port;
 mod node_stream;
+mod plain_nodes;
 mod slot_owners;
 
 pub use connector::Connector;

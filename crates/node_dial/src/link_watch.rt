@@ -15,6 +15,8 @@ pub(crate) struct LinkWatch {
     owed: Cell<u64>,
     /// When the last reply came, or the first of the requests was sent that are owed one.
     since: Cell<u64>,
+    /// How many of the replies that are owed come up to the last of a block.
+    block: Cell<u64>,
 }
 
 impl LinkWatch {
@@ -24,6 +26,7 @@ impl LinkWatch {
             ready,
             owed: Cell::new(0),
             since: Cell::new(0),
+            block: Cell::new(0),
         }
     }
 
@@ -36,9 +39,16 @@ impl LinkWatch {
         self.owed.set(owed.saturating_add(requests));
     }
 
+    /// A block of so many commands was sent.
+    pub(crate) fn note_block(&self, commands: u64) {
+        self.note_sent(commands);
+        self.block.set(self.owed.get());
+    }
+
     /// A reply came.
     pub(crate) fn note_reply(&self) {
         self.owed.set(self.owed.get().saturating_sub(1));
+        self.block.set(self.block.get().saturating_sub(1));
         self.since.set(self.ready.time());
     }
 
@@ -46,5 +56,10 @@ impl LinkWatch {
     pub(crate) fn is_overdue(&self) -> bool {
         self.owed.get() > 0
             && self.ready.time().saturating_sub(self.since.get()) >= REPLY_LIMIT_MILLIS
+    }
+
+    /// Whether replies to a block are owed.
+    pub(crate) fn awaits_block(&self) -> bool {
+        self.block.get() > 0
     }
 }

@@ -4,11 +4,13 @@ ghost use Rattle.std.specs.Prelude.{◌≡◌};
 
 use crate::link_watch::LinkWatch;
 use crate::lost_nodes::{SharedLostNodes, note_slots};
+use crate::plain_nodes::{SharedPlainNodes, note_plain};
 use crate::slot_owners::SlotTeller;
-use key_split::Batch;
-use node_link::{NodePort, PortFault};
+use key_split::{Batch, Run};
+use node_link::{NodePort, PortFault, RunPort};
 use proxy_report::{Event, Figure, NodeName, SlotsTold, ThreadReport};
 use resp_wire::Value;
+use slot_map::NodeId;
 use std::alloc::Global;
 use std::rc::Rc;
 use std::sync::Arc;
@@ -22,6 +24,8 @@ pub struct CountedPort<P> {
     lost: SharedLostNodes,
     teller: SlotTeller,
     watch: Rc<LinkWatch>,
+    node: NodeId,
+    plain: SharedPlainNodes,
 }
 
 impl<P> CountedPort<P> {
@@ -32,6 +36,8 @@ impl<P> CountedPort<P> {
         lost: SharedLostNodes,
         teller: SlotTeller,
         watch: Rc<LinkWatch>,
+        node: NodeId,
+        plain: SharedPlainNodes,
     ) -> CountedPort<P>
         ensures { result.port ≡ port }
     {
@@ -42,6 +48,8 @@ impl<P> CountedPort<P> {
             lost,
             teller,
             watch,
+            node,
+            plain,
         }
     }
 
@@ -49,6 +57,13 @@ impl<P> CountedPort<P> {
     fn note_sent(&self, requests: u64, sent: &Result<(), PortFault>) {
         if sent.is_ok() {
             self.watch.note_sent(requests);
+        }
+    }
+
+    /// Notes a node whose connection was garbled while a block was under way.
+    fn note_fault(&self, fault: PortFault) {
+        if fault == PortFault::BadWire && self.watch.awaits_block() {
+            note_plain(&self.plain, self.node);
         }
     }
 
@@ -107,12 +122,37 @@ impl<P: NodePort> NodePort for CountedPort<P> {
     }
 
     fn next(&mut self) -> Result<Option<Value>, PortFault> {
-        let next = self.port.next()?;
-        if let Some(value) = &next {
-            self.watch.note_reply();
-            self.note_value(value);
+        let next = self.port.next();
+        match &next {
+            Ok(Some(value)) => {
+                self.watch.note_reply();
+                self.note_value(value);
+            }
+            Ok(None) => {}
+            Err(fault) => self.note_fault(*fault),
         }
-        Ok(next)
+        next
+    }
+}
+
+impl<P: RunPort> RunPort for CountedPort<P> {
+    ghost longest = { λ counted. P.longest counted.port };
+
+    fn longest_run(&self) -> usize {
+        self.port.longest_run()
+    }
+
+    fn send_run(&mut self, run: &Run) -> Result<(), PortFault> {
+        if run.later().is_empty() {
+            return self.send(run.first());
+        }
+        let commands = run.len() as u64;
+        self.report.count(Figure::Sent, commands);
+        let sent = self.port.send_run(run);
+        if sent.is_ok() {
+            self.watch.note_block(commands);
+        }
+        sent
     }
 }
 

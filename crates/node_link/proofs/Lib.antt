@@ -7,3 +7,5 @@ pub mod Moves
 pub mod Ranges
 pub mod Words
 pub mod Answering
+pub mod Replying
+pub mod Blocking

@@ -3,7 +3,7 @@ use Rattle.std.proofs.Common.{◌≡◌, ◌<◌, ◌++◌, ◌∷◌, [], ◌+�
 use Rattle.std.proofs.lemmas.Grind.{flat_map-append}
 use Rattle.std.proofs.lemmas.Fmt.{decimal_digit}
 use Rattle.std.specs.Prelude.{Result, Ok, Err, OnOk}
-use Rattle.std.specs.Prelude.{decimal}
+use Rattle.std.specs.Prelude.{codes, decimal}
 use Rattle.std.specs.List.{flat_map}
 use Rattle.resp_wire.specs.Canonical.{canonical_all}
 use Rattle.resp_wire.specs.Data.{bulk, items_of}
@@ -12,7 +12,11 @@ use Rattle.key_split.specs.declared.part.Op.{Op}
 use Rattle.key_split.specs.PartModel.{PartModel, Pair}
 use Rattle.key_split.specs.Names.{text_of}
 use Rattle.key_split.specs.Words.{op_name, behind_key, pair_words, words_of}
-use Rattle.node_link.specs.Bytes.{spelled_words}
+use Rattle.key_split.specs.declared.travel.Batch.{Batch}
+use Rattle.key_split.specs.Requests.{Request, requests_of}
+use Rattle.key_split.specs.Runs.{RunModel, requests_of_run}
+use Rattle.node_link.specs.Blocks.{spelled_block}
+use Rattle.node_link.specs.Bytes.{spelled, spelled_words, words_in}
 use Rattle.node_link.specs.Spelling.{head, spelled_bulk, spelled_bulks}
 
 count_is : (words : List (List ℕ)) → count_of (items_of (map bulk words)) ≡ length words
@@ -78,3 +82,29 @@ on_ok (Err e) f a = tt
 -- the line of a number of one digit
 pub short_head : (kind number : ℕ) → number < 10 → head kind number ≡ kind ∷ (48 + number) ∷ 13 ∷ 10 ∷ []
 short_head kind number small = ap (λ xs. kind ∷ (xs ++ 13 ∷ 10 ∷ [])) (decimal_digit number small)
+
+block_regrouped : (a b c d e : List ℕ) → (((a ++ b) ++ c) ++ d) ++ e ≡ a ++ (b ++ ((c ++ d) ++ e))
+block_regrouped a b c d e = simp append_assoc refl
+
+pub spelled-append : (a b : List Request) → spelled (a ++ b) ≡ spelled a ++ spelled b
+spelled-append a b = flat_map-append (λ request. spelled_words (words_in request)) a b
+
+-- the pieces of a block, one after another
+pub block_pieces : (run : RunModel) (d0 d1 d2 d3 d4 : List ℕ) → d1 ≡ d0 ++ spelled_words (codes "MULTI" ∷ []) → d2 ≡ d1 ++ spelled (requests_of run.first)
+    → d3 ≡ d2 ++ spelled (flat_map requests_of run.later) → d4 ≡ d3 ++ spelled_words (codes "EXEC" ∷ []) → d4 ≡ d0 ++ spelled_block (requests_of_run run)
+block_pieces run d0 d1 d2 d3 d4 e1 e2 e3 e4 =
+    let multi = spelled_words (codes "MULTI" ∷ []) in
+    let exec = spelled_words (codes "EXEC" ∷ []) in
+    let first = spelled (requests_of run.first) in
+    let later = spelled (flat_map requests_of run.later) in
+    let pieces : d4 ≡ (((d0 ++ multi) ++ first) ++ later) ++ exec =
+    e4 ∙ ap (λ (d : List ℕ). d ++ exec) (e3 ∙ ap (λ (d : List ℕ). d ++ later) (e2 ∙ ap (λ (d : List ℕ). d ++ first) e1)) in
+    pieces ∙ block_regrouped d0 multi first later exec
+    ∙ ap (λ (d : List ℕ). d0 ++ (multi ++ (d ++ exec))) (sym (spelled-append (requests_of run.first) (flat_map requests_of run.later)))
+
+-- a batch behind those that are spelled
+pub batch_behind : (d0 d1 : List ℕ) (batch : Batch) (further : List Batch) → d1 ≡ d0 ++ spelled (requests_of batch)
+    → d1 ++ spelled (flat_map requests_of further) ≡ d0 ++ spelled (flat_map requests_of (batch ∷ further))
+batch_behind d0 d1 batch further is =
+    ap (λ (d : List ℕ). d ++ spelled (flat_map requests_of further)) is ∙ append_assoc d0 (spelled (requests_of batch)) (spelled (flat_map requests_of further))
+    ∙ ap (λ (d : List ℕ). d0 ++ d) (sym (spelled-append (requests_of batch) (flat_map requests_of further)))

@@ -48,14 +48,18 @@ pub record BytePortModel (S : Type 0) : Type 0 where
   pub input : ReaderModel
 
 module _ {S : Type 0} (moved : S → List ℕ → List ℕ → S → Type 0) where
-  -- what was written and what is still to be written are the spellings of the requests; what was read is the
-  -- spellings of the values and a rest
-  abbrev pub Exchanges : BytePortModel S → List Request → List Value → BytePortModel S → Type 0
-  Exchanges old requests values new =
+  -- what was written and what is still to be written are these bytes, behind those that waited; what was read is the spellings of the
+  -- values and a rest
+  abbrev pub Carries : BytePortModel S → List ℕ → List Value → BytePortModel S → Type 0
+  Carries old bytes values new =
       (written : List ℕ) × (read : List ℕ) × moved old.stream written read new.stream
-      × (old.unsent ++ spelled requests ≡ written ++ new.unsent)
+      × (old.unsent ++ bytes ≡ written ++ new.unsent)
       × Splits old.input.bounds (old.input.unread ++ read) values new.input.unread
       × (new.input.bounds ≡ old.input.bounds)
+
+  -- what goes out is the spellings of the requests
+  abbrev pub Exchanges : BytePortModel S → List Request → List Value → BytePortModel S → Type 0
+  Exchanges old requests values new = Carries old (spelled requests) values new
 
 -- the bytes that came and were given no value begin with a fault
 abbrev pub IsGarbled : {S : Type 0} → BytePortModel S → Type 0

@@ -11,3 +11,5 @@ pub mod Bytes
 pub mod Runs
 pub mod Items
 pub mod Waiting
+pub mod Blocks
+pub mod Collecting

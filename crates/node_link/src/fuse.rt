@@ -2,11 +2,13 @@
 
 ghost use Rattle.std.specs.Prelude.{◌≡◌, ◌≤◌, ◌+◌, List, [], ◌∷◌};
 ghost use Rattle.key_split.specs.Requests.{Request, Slots, requests_of};
+ghost use Rattle.key_split.specs.Runs.{count_in, requests_of_run};
 ghost use Rattle.node_link.specs.Port.{SendOutcome, NextOutcome};
 ghost use Rattle.node_link.specs.Waiting.{GaveNone};
 
 use crate::port::{NodePort, PortFault};
-use key_split::Batch;
+use crate::run_port::RunPort;
+use key_split::{Batch, Run};
 use resp_wire::Value;
 use std::marker::Model;
 
@@ -99,5 +101,27 @@ impl<P: NodePort> NodePort for Fuse<P> {
             return Err(PortFault::Failed);
         }
         self.port.next()
+    }
+}
+
+impl<P: RunPort> RunPort for Fuse<P> {
+    ghost use Rattle.node_link.specs.FuseModel.{FuseOutcome, failures_with, Inside, ExchangesInside};
+
+    ghost longest = { λ f. P.longest f.port };
+
+    fn longest_run(&self) -> usize {
+        self.port.longest_run()
+    }
+
+    fn send_run(&mut self, run: &Run) -> Result<(), PortFault>
+        requires { count_in run.now ≤ P.longest self.old.port }
+        ensures does { SendOutcome (failures_with P.failures) (Inside P.is_garbled) (ExchangesInside P.exchange) self.old (requests_of_run run.now) result self.new }
+        ensures count { failures_with P.failures self.old ≤ failures_with P.failures self.new }
+        ensures fuse { FuseOutcome (λ old given new. SendOutcome P.failures P.is_garbled P.exchange old (requests_of_run run.now) given new) self.old result self.new }
+    {
+        if !self.passes() {
+            return Err(PortFault::Failed);
+        }
+        self.port.send_run(run)
     }
 }

@@ -8,10 +8,12 @@
 //! ```
 //!
 //! Exact links: `Sends` and `Receives` of specs/LinkCalls.antt, and `replies_match`. Exact byte port: `Exchanges` and
-//! `OffersFirst` of specs/Bytes.antt. What a line of a node says is `told_by` of specs/Telling.antt.
+//! `OffersFirst` of specs/Bytes.antt; with runs as blocks: `BlockExchanges` and `GoesAs` of specs/Blocks.antt. What a line of a
+//! node says is `told_by` of specs/Telling.antt, what the replies to a block tell is `IsToldByBlock` of specs/Runs.antt.
 #![tactic(auto)]
 
 mod block;
+mod block_port;
 mod byte_port;
 mod byte_queue;
 mod fuse;
@@ -21,12 +23,14 @@ mod link;
 mod outbox;
 mod port;
 mod redirect;
+mod replies;
 mod run_port;
 mod spelling;
 mod stream;
 mod told;
 
 pub use block::take_told;
+pub use block_port::BlockPort;
 pub use byte_port::BytePort;
 pub use byte_queue::{drop_front, free_large};
 pub use fuse::Fuse;

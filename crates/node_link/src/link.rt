@@ -258,7 +258,8 @@ impl<P: NodePort> Link<P> {
 impl<P: RunPort> Link<P> {
     /// How many commands a run may have.
     pub fn longest_run(&self) -> usize
-        ensures { result ≡ P.longest self.now.port }
+        ensures exact { result ≡ P.longest self.now.port }
+        ensures some { 1 ≤ result }
     {
         self.port.longest_run()
     }

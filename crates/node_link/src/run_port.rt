@@ -16,7 +16,8 @@ pub trait RunPort: NodePort {
     ghost longest: { Self → ℕ };
 
     fn longest_run(&self) -> usize
-        ensures { result ≡ longest self.now };
+        ensures exact { result ≡ longest self.now }
+        ensures some { 1 ≤ result };
 
     /// Sends the commands of a run, with nothing between them.
     fn send_run(&mut self, run: &Run) -> Result<(), PortFault>

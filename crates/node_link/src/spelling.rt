@@ -5,12 +5,14 @@ ghost use Rattle.std.specs.List.{flat_map};
 ghost use Rattle.key_split.specs.PartModel.{Pair};
 ghost use Rattle.key_split.specs.Requests.{Slots, requests_of};
 ghost use Rattle.key_split.specs.Words.{behind_key, pair_words, words_of};
+ghost use Rattle.key_split.specs.Runs.{requests_of_run};
+ghost use Rattle.node_link.specs.Blocks.{spelled_block};
 ghost use Rattle.node_link.specs.Bytes.{spelled, spelled_words};
 ghost use Rattle.node_link.specs.Spelling.{head, spelled_bulk, spelled_bulks};
 
 use crate::outbox::Outbox;
 use itoa::Buffer;
-use key_split::{Batch, Mode, Op, Pair, Part, op_name};
+use key_split::{Batch, Mode, Op, Pair, Part, Run, op_name};
 use resp_wire::NoMemory;
 
 /// Adds a batch's requests to what waits to be written, or nothing.
@@ -49,31 +51,57 @@ pub fn append_slots(out: &mut Outbox) -> Result<(), NoMemory>
     }
 }
 
-fn push_batch(out: &mut Outbox, batch: &Batch) -> Result<(), NoMemory>
+/// Spells a batch's requests behind what is spelled already.
+pub fn push_batch(out: &mut Outbox, batch: &Batch) -> Result<(), NoMemory>
     ensures ok { OnOk result (out.new.draft ≡ out.old.draft ++ spelled (requests_of batch.now)) }
     ensures kept { out.new.unsent ≡ out.old.unsent }
 {
     if batch.asking {
-        push_asking(out)?;
+        push_word(out, b"ASKING")?;
     }
     push_part(out, &batch.part)
 }
 
-fn push_asking(out: &mut Outbox) -> Result<(), NoMemory>
-    ensures ok { OnOk result (out.new.draft ≡ out.old.draft ++ spelled_words (codes "ASKING" ∷ [])) }
-    ensures kept { out.new.unsent ≡ out.old.unsent }
-{
-    push_head(out, b'*', 1)?;
-    push_bulk(out, b"ASKING")
-}
-
-fn push_slots(out: &mut Outbox) -> Result<(), NoMemory>
+/// Spells the question for the slots of all nodes behind what is spelled already.
+pub fn push_slots(out: &mut Outbox) -> Result<(), NoMemory>
     ensures ok { OnOk result (out.new.draft ≡ out.old.draft ++ spelled_words (codes "CLUSTER" ∷ codes "SLOTS" ∷ [])) }
     ensures kept { out.new.unsent ≡ out.old.unsent }
 {
     push_head(out, b'*', 2)?;
     push_bulk(out, b"CLUSTER")?;
     push_bulk(out, b"SLOTS")
+}
+
+/// Spells a run's commands as a block behind what is spelled already.
+pub fn push_block(out: &mut Outbox, run: &Run) -> Result<(), NoMemory>
+    ensures ok { OnOk result (out.new.draft ≡ out.old.draft ++ spelled_block (requests_of_run run.now)) }
+    ensures kept { out.new.unsent ≡ out.old.unsent }
+{
+    push_word(out, b"MULTI")?;
+    push_batch(out, run.first())?;
+    push_batches(out, run.later())?;
+    push_word(out, b"EXEC")
+}
+
+fn push_batches(out: &mut Outbox, batches: &[Batch]) -> Result<(), NoMemory>
+    ensures ok { OnOk result (out.new.draft ≡ out.old.draft ++ spelled (flat_map requests_of batches.now)) }
+    ensures kept { out.new.unsent ≡ out.old.unsent }
+{
+    let mut rest = batches;
+    while let [batch, further @ ..] = rest {
+        push_batch(out, batch)?;
+        rest = further;
+    }
+    Ok(())
+}
+
+// A request of one word.
+fn push_word(out: &mut Outbox, word: &[u8]) -> Result<(), NoMemory>
+    ensures ok { OnOk result (out.new.draft ≡ out.old.draft ++ spelled_words (word.now ∷ [])) }
+    ensures kept { out.new.unsent ≡ out.old.unsent }
+{
+    push_head(out, b'*', 1)?;
+    push_bulk(out, word)
 }
 
 fn push_part(out: &mut Outbox, part: &Part) -> Result<(), NoMemory>

@@ -1,3 +1,4 @@
+pub mod Blocks
 pub mod NodeAnswers
 pub mod NodeSaying
 pub mod NodeConnections

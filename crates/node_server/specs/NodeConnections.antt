@@ -20,12 +20,15 @@ use Rattle.local_cluster.specs.Local.{LocalStateModel}
 use Rattle.node_server.specs.NodeAnswers.{Answers, KeepsData}
 use Rattle.node_server.specs.declared.answer.Answer.{Answer}
 use Rattle.node_server.specs.declared.answer.Answer.TheVariants.{Says, Closes}
+use Rattle.node_server.specs.declared.block.Block.{Block}
+use Rattle.node_server.specs.declared.block.Block.TheVariants.{Closed}
 use Rattle.node_server.specs.declared.caller.Caller.{Caller}
 use Rattle.node_server.specs.declared.next_value.NextValue.{NextValue}
 use Rattle.node_server.specs.declared.next_value.NextValue.TheVariants as next
 
 pub record ConnectionModel : Type 0 where
   pub caller : Caller
+  pub block : Block  -- what came since MULTI
   pub input : ReaderModel  -- the bytes that came and were not read
   pub unsent : List ℕ  -- the bytes to be sent
   pub reads_on : Bool  -- further requests are read
@@ -34,6 +37,7 @@ pub record ConnectionModel : Type 0 where
 abbrev pub connected : ℕ → ℕ → ConnectionModel
 connected node client = record {
   caller = record { node = node; client = client; requests = 0; asking = false };
+  block = Closed;
   input = record { bounds = full; unread = []; fault = None };
   unsent = [];
   reads_on = true;
@@ -65,7 +69,8 @@ replied c (Closes value) = record c { unsent = c.unsent ++ canonical (data_of va
 -- a request is answered, an empty array is skipped, and any other value is an error that closes
 abbrev pub AnswersAsked : List Endpoint → ConnectionModel → LocalStateModel → RequestKindModel → ConnectionModel → LocalStateModel → Type 0
 AnswersAsked table c s (Words words) c' s' =
-    (answer : Answer) × (caller : Caller) × Answers table c.caller s words (Ok answer) caller s' × (c' ≡ replied (record c { caller = caller }) answer)
+    (answer : Answer) × (caller : Caller) × (block : Block) × Answers table c.caller c.block s words (Ok answer) caller block s'
+    × (c' ≡ replied (record c { caller = caller; block = block }) answer)
 AnswersAsked table c s Skipped c' s' = (c' ≡ c) × (s' ≡ s)
 AnswersAsked table c s Refused c' s' = (c' ≡ replied c (Closes protocol_error)) × (s' ≡ s)
 
@@ -82,7 +87,8 @@ HasNoneNext c = (c.reads_on ≡ false) ⊎ ReaderTakes c.input (Ok None) c.input
 -- where memory ran out nothing more is to be sent, and nothing was executed but a request whose reply found none
 abbrev pub Unanswered : List Endpoint → ConnectionModel → LocalStateModel → ConnectionModel → LocalStateModel → Type 0
 Unanswered table c s c' s' =
-    (c'.unsent ≡ c.unsent) × (KeepsData s s' ⊎ ((words : List (List ℕ)) × (answer : Answer) × (caller : Caller) × Answers table c.caller s words (Ok answer) caller s'))
+    (c'.unsent ≡ c.unsent)
+    × (KeepsData s s' ⊎ ((words : List (List ℕ)) × (answer : Answer) × (caller : Caller) × (block : Block) × Answers table c.caller c.block s words (Ok answer) caller block s'))
 
 -- the next request is answered, if there is one
 abbrev pub AnswersNext : List Endpoint → ConnectionModel → LocalStateModel → Result Bool NoMemory → ConnectionModel → LocalStateModel → Type 0

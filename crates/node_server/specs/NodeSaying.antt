@@ -1,9 +1,12 @@
--- Whether serving a command told a reply.
+-- Whether serving a command told a reply, and commands that were served together replies alone.
 -- Only private functions cite it.
-use Rattle.std.specs.Prelude.{◌≡◌, Bool, true, false, Result, Ok, Err}
+use Rattle.std.specs.Prelude.{◌≡◌, Bool, true, false, List, map, Some, None, Result, Ok, Err, Vec}
+use Rattle.std.specs.declared.alloc.Global.{Global}
+use Rattle.resp_wire.specs.Seen.{data_of}
 use Rattle.resp_wire.specs.declared.value.Value.{Value}
 use Rattle.key_split.specs.declared.travel.Told.{Told}
 use Rattle.key_split.specs.declared.travel.Told.TheVariants.{Reply, Moved, Ask, TryAgain, ClusterDown, Unclear, Lost, Unsent}
+use Rattle.node_server.specs.NodeAnswers.{refused_in, replies_in}
 
 abbrev pub is_reply : Told → Bool
 is_reply (Reply v) = true
@@ -19,3 +22,7 @@ is_reply Unsent = false
 abbrev pub Parted : Told → Result Value Told → Type 0
 Parted told (Ok value) = told ≡ Reply value
 Parted told (Err back) = (back ≡ told) × (is_reply told ≡ false)
+
+abbrev pub PartedAll : List Told → Result (Vec Value Global) Told → Type 0
+PartedAll tolds (Ok replies) = (refused_in tolds ≡ None) × (map data_of replies.items ≡ replies_in tolds)
+PartedAll tolds (Err told) = refused_in tolds ≡ Some told

@@ -1,8 +1,10 @@
 //! What a node answers to a request.
 
 ghost use Rattle.std.specs.Prelude.{◌≡◌, ◌<◌, IfOk, OnErr, length};
-ghost use Rattle.node_server.specs.NodeAnswers.{one_key_only, planned, Answers, AnswersParts, AnswersPlan, Executes, KeepsData};
+ghost use Rattle.node_server.specs.NodeAnswers.{one_key_only, planned, Answers, AnswersAlone, AnswersCall, AnswersParts, AnswersPlan, Executes, KeepsData};
 
+use crate::block::Block;
+use crate::block_answer::answer_within;
 use crate::call::{Call, call_of};
 use crate::caller::Caller;
 use crate::told_value::{cluster_down, error_line, simple_line, value_of_told};
@@ -25,21 +27,69 @@ pub enum Answer {
 pub(crate) fn answer_request(
     alloc: Global,
     caller: &mut Caller,
+    block: &mut Block,
     state: &mut LocalState<GhostHistory>,
     table: &NodeTable,
     words: &[Bytes],
 ) -> Result<Answer, NoMemory>
     requires { 0 < length words.now }
-    ensures { Answers table.now caller.old state.old words.now result caller.new state.new }
+    ensures { Answers table.now caller.old block.old state.old words.now result caller.new block.new state.new }
 {
     let call = call_of(words);
-    let answer = match call {
-        Call::Asking => Answer::Says(simple_line(alloc, b"OK")?),
-        Call::Slots => Answer::Says(state.cluster().slots_value(table)?),
-        Call::Command => answer_command(alloc, *caller, state, table, words)?,
-    };
+    let answer = answer_call(alloc, *caller, block, state, table, words, call)?;
     *caller = caller.after_request(call.is_asking());
     Ok(answer)
+}
+
+/// Answers a request that asks this, between MULTI and EXEC or elsewhere.
+fn answer_call(
+    alloc: Global,
+    caller: Caller,
+    block: &mut Block,
+    state: &mut LocalState<GhostHistory>,
+    table: &NodeTable,
+    words: &[Bytes],
+    call: Call,
+) -> Result<Answer, NoMemory>
+    requires { 0 < length words.now }
+    ensures answer { IfOk result (λ answer. AnswersCall table.now caller block.old state.old words.now call answer block.new state.new) }
+    ensures refused { OnErr result (KeepsData state.old state.new) }
+    ensures block { OnErr result (block.new ≡ block.old) }
+{
+    if block.is_open() {
+        answer_within(alloc, caller, block, state, table, words, call)
+    } else {
+        answer_alone(alloc, caller, block, state, table, words, call)
+    }
+}
+
+/// Answers a request that comes outside of MULTI and EXEC.
+fn answer_alone(
+    alloc: Global,
+    caller: Caller,
+    block: &mut Block,
+    state: &mut LocalState<GhostHistory>,
+    table: &NodeTable,
+    words: &[Bytes],
+    call: Call,
+) -> Result<Answer, NoMemory>
+    requires { 0 < length words.now }
+    ensures answer { IfOk result (λ answer. AnswersAlone table.now caller block.old state.old words.now call answer block.new state.new) }
+    ensures refused { OnErr result (KeepsData state.old state.new) }
+    ensures block { OnErr result (block.new ≡ block.old) }
+{
+    match call {
+        Call::Asking => Ok(Answer::Says(simple_line(alloc, b"OK")?)),
+        Call::Slots => Ok(Answer::Says(state.cluster().slots_value(table)?)),
+        Call::Multi => {
+            let okay = simple_line(alloc, b"OK")?;
+            *block = Block::open(alloc);
+            Ok(Answer::Says(okay))
+        }
+        Call::Exec => Ok(Answer::Says(error_line(alloc, b"ERR EXEC without MULTI")?)),
+        Call::Discard => Ok(Answer::Says(error_line(alloc, b"ERR DISCARD without MULTI")?)),
+        Call::Command => answer_command(alloc, caller, state, table, words),
+    }
 }
 
 /// Answers a command.
@@ -85,7 +135,7 @@ fn answer_parts(
 }
 
 /// The answer to a command that has not one part.
-fn refuse_several(alloc: Global) -> Result<Answer, NoMemory>
+pub(crate) fn refuse_several(alloc: Global) -> Result<Answer, NoMemory>
     ensures { IfOk result (λ answer. answer ≡ Answer.Says one_key_only) }
 {
     Ok(Answer::Says(error_line(alloc, b"ERR node: one key only")?))

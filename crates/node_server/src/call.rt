@@ -1,7 +1,7 @@
 //! What a request asks of a node.
 
 ghost use Rattle.std.specs.Prelude.{◌≡◌};
-ghost use Rattle.node_server.specs.NodeAnswers.{call_of, is_asking};
+ghost use Rattle.node_server.specs.NodeAnswers.{call_of, call_of_word, is_asking};
 
 use key_split::same_letters;
 use resp_wire::Bytes;
@@ -13,6 +13,12 @@ pub enum Call {
     Asking,
     /// CLUSTER SLOTS: which node has which slots.
     Slots,
+    /// MULTI: the commands that follow wait for EXEC.
+    Multi,
+    /// EXEC: those commands are executed together.
+    Exec,
+    /// DISCARD: they are forgotten.
+    Discard,
     Command,
 }
 
@@ -22,8 +28,7 @@ impl Call {
     {
         match self {
             Call::Asking => true,
-            Call::Slots => false,
-            Call::Command => false,
+            Call::Slots | Call::Multi | Call::Exec | Call::Discard | Call::Command => false,
         }
     }
 }
@@ -35,13 +40,7 @@ pub(crate) fn call_of(words: &[Bytes]) -> Call
 {
     match words {
         [] => Call::Command,
-        [word] => {
-            if same_letters(word.as_slice(), b"ASKING") {
-                Call::Asking
-            } else {
-                Call::Command
-            }
-        }
+        [word] => call_of_word(word.as_slice()),
         [word, argument] => {
             if same_letters(word.as_slice(), b"CLUSTER")
                 && same_letters(argument.as_slice(), b"SLOTS")
@@ -52,5 +51,22 @@ pub(crate) fn call_of(words: &[Bytes]) -> Call
             }
         }
         [_, _, _, ..] => Call::Command,
+    }
+}
+
+/// What a word that is a whole request asks.
+fn call_of_word(word: &[u8]) -> Call
+    ensures { result ≡ call_of_word word.now }
+{
+    if same_letters(word, b"ASKING") {
+        Call::Asking
+    } else if same_letters(word, b"MULTI") {
+        Call::Multi
+    } else if same_letters(word, b"EXEC") {
+        Call::Exec
+    } else if same_letters(word, b"DISCARD") {
+        Call::Discard
+    } else {
+        Call::Command
     }
 }

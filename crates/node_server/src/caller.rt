@@ -19,20 +19,29 @@ pub struct Caller {
 }
 
 impl Caller {
-    ghost use Rattle.node_server.specs.NodeAnswers.{after_request, batch_of};
+    ghost use Rattle.node_server.specs.NodeAnswers.{after_request, batch_of, ticket_of};
+
+    /// The ticket of the next request.
+    pub(crate) fn ticket(self) -> Ticket
+        ensures { result ≡ ticket_of self }
+    {
+        Ticket {
+            worker: u16::from(self.node.number()),
+            client: self.client,
+            part: self.requests,
+        }
+    }
 
     /// The part as this node is asked for it.
     pub(crate) fn batch(self, part: Part) -> Batch
         ensures { result ≡ batch_of self part }
     {
+        let node = self.node;
+        let asking = self.asking;
         Batch {
-            ticket: Ticket {
-                worker: u16::from(self.node.number()),
-                client: self.client,
-                part: self.requests,
-            },
-            node: self.node,
-            asking: self.asking,
+            ticket: self.ticket(),
+            node,
+            asking,
             part,
         }
     }

@@ -6,6 +6,7 @@ ghost use Rattle.session_order.specs.Requests as requests;
 ghost use Rattle.session_order.specs.Requests.{asked_of};
 
 use crate::answer::{Answer, answer_request};
+use crate::block::Block;
 use crate::caller::Caller;
 use crate::next_value::{NextValue, feed_reader, take_next};
 use crate::told_value::error_line;
@@ -25,6 +26,8 @@ const SEND_LIMIT: usize = 64 * 1024;
 pub struct Connection {
     alloc: Global,
     caller: Caller,
+    /// What came since MULTI.
+    block: Block,
     reader: Reader,
     unsent: ByteQueue,
     reads_on: bool,
@@ -35,7 +38,7 @@ impl Model for Connection {
 
     ghost Value = { ConnectionModel };
 
-    ghost view = { λ c. record { caller = c.caller; input = c.reader; unsent = c.unsent; reads_on = c.reads_on } };
+    ghost view = { λ c. record { caller = c.caller; block = c.block; input = c.reader; unsent = c.unsent; reads_on = c.reads_on } };
 }
 
 impl Connection {
@@ -53,6 +56,7 @@ impl Connection {
                 requests: 0,
                 asking: false,
             },
+            block: Block::Closed,
             reader: Reader::new(alloc, Limits::full()),
             unsent: ByteQueue::new(alloc),
             reads_on: true,
@@ -179,7 +183,14 @@ impl Connection {
         ensures answered { OnOk result (AnswersAsked table.now self.old state.old (requests.Words words.now) self.new state.new) }
         ensures unanswered { OnErr result (Unanswered table.now self.old state.old self.new state.new) }
     {
-        let answer = answer_request(self.alloc, &mut self.caller, state, table, words.as_slice())?;
+        let answer = answer_request(
+            self.alloc,
+            &mut self.caller,
+            &mut self.block,
+            state,
+            table,
+            words.as_slice(),
+        )?;
         self.reply(&answer)
     }
 

@@ -1,12 +1,12 @@
 //! What a node says of what it did with a command.
 
-ghost use Rattle.std.specs.Prelude.{◌≡◌, IfOk, OnErr, IsTrue, false, is_some, slice_get};
+ghost use Rattle.std.specs.Prelude.{◌≡◌, ◌≤◌, IfOk, OnErr, IsTrue, [], true, false, is_some, length, slice_get, vec_capacity};
 ghost use Rattle.resp_wire.specs.Text.{is_one_line};
-ghost use Rattle.node_server.specs.NodeAnswers.{can_write, cluster_down, IsSaid};
-ghost use Rattle.node_server.specs.NodeSaying.{is_reply, Parted};
+ghost use Rattle.node_server.specs.NodeAnswers.{can_write, cluster_down, refused_in, IsSaid, IsSaidTogether};
+ghost use Rattle.node_server.specs.NodeSaying.{is_reply, Parted, PartedAll};
 
 use key_split::{Told, told_value};
-use resp_wire::{Line, NoMemory, Value};
+use resp_wire::{Line, NoMemory, Value, Values};
 use slot_map::{NodeId, NodeTable};
 use std::alloc::Global;
 
@@ -19,6 +19,41 @@ pub(crate) fn value_of_told(alloc: Global, told: Told, table: &NodeTable) -> Res
         Ok(value) => Ok(value),
         Err(told) => value_of_refusal(alloc, &told, table),
     }
+}
+
+/// What a node says of commands that it served together: the replies in an array, or the refusal by the table. `room` is
+/// for the replies.
+pub(crate) fn value_of_tolds(
+    alloc: Global,
+    tolds: Vec<Told>,
+    room: Vec<Value>,
+    table: &NodeTable,
+) -> Result<Value, NoMemory>
+    requires empty { room.items ≡ [] }
+    requires room { length tolds.items ≤ vec_capacity room }
+    ensures value { IfOk result (IsSaidTogether table.now tolds.items) }
+    ensures refused { OnErr result (is_some (refused_in tolds.items) ≡ true) }
+{
+    match replies_in(tolds, room) {
+        Ok(replies) => Ok(Value::Array(Values::new(replies))),
+        Err(told) => value_of_refusal(alloc, &told, table),
+    }
+}
+
+/// The replies, or the first of what was told that is none.
+fn replies_in(tolds: Vec<Told>, room: Vec<Value>) -> Result<Vec<Value>, Told>
+    requires empty { room.items ≡ [] }
+    requires room { length tolds.items ≤ vec_capacity room }
+    ensures { PartedAll tolds.items result }
+{
+    let mut replies = room;
+    for told in tolds {
+        match reply_in(told) {
+            Ok(value) => replies.push_reserved(value),
+            Err(told) => return Err(told),
+        }
+    }
+    Ok(replies)
 }
 
 /// The reply, or what else was told.
@@ -38,7 +73,11 @@ fn reply_in(told: Told) -> Result<Value, Told>
 }
 
 /// What a node says where it did not execute a command.
-fn value_of_refusal(alloc: Global, told: &Told, table: &NodeTable) -> Result<Value, NoMemory>
+pub(crate) fn value_of_refusal(
+    alloc: Global,
+    told: &Told,
+    table: &NodeTable,
+) -> Result<Value, NoMemory>
     ensures { IfOk result (IsSaid table.now told.now) }
 {
     if can_write(told, table) {

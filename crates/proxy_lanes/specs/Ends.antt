@@ -1,7 +1,7 @@
 -- The ends of all lanes: those of each worker, and the carrier's.
 -- A call of the carrier changes the lanes of one worker and of no other.
 use Rattle.std.specs.Prelude.{◌≡◌, ℕ, List, Option, Some, None, Result, Err, IfSome, slice_get, slice_set}
-use Rattle.key_split.specs.declared.travel.Batch.{Batch}
+use Rattle.key_split.specs.Runs.{RunModel}
 use Rattle.key_split.specs.declared.travel.Ticket.{Ticket}
 use Rattle.key_split.specs.declared.travel.Told.{Told}
 use Rattle.proxy_lanes.specs.declared.ring.Note.{Note}
@@ -24,11 +24,11 @@ Finishes (Some old) new note = (new ≡ None) × IfSome note (FinishesAs old)
 Finishes None new note = (new ≡ None) × (note ≡ None)
 
 module _ {H : Type 0} where
-  -- a batch is taken from the worker's lane
-  abbrev pub TakesUp : LaneEnds H → LaneEnds H → Option Batch → Type 0
+  -- a run is taken from the worker's lane
+  abbrev pub TakesUp : LaneEnds H → LaneEnds H → Option RunModel → Type 0
   TakesUp old new taken = (new ≡ record old { up = new.up }) × Takes old.up new.up taken
 
-  abbrev pub SettlesUp : LaneEnds H → LaneEnds H → Note Batch → ℕ → Type 0
+  abbrev pub SettlesUp : LaneEnds H → LaneEnds H → Note RunModel → ℕ → Type 0
   SettlesUp old new note left = (new ≡ record old { up = new.up }) × Settles old.up new.up note left
 
   -- the worker is told something

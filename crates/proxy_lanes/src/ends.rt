@@ -6,7 +6,7 @@ mod made;
 use crate::history::Naming;
 use crate::map_view::MapView;
 use crate::ring::{Inlet, Note, Outlet};
-use key_split::{Batch, Ticket, Told};
+use key_split::{Run, Ticket, Told};
 pub use lane_ends::LaneEnds;
 pub use made::lanes;
 
@@ -19,7 +19,7 @@ pub struct WorkerEnds<H: Drop, J: Naming> {
     pub worker: u16,
     /// How many workers there are.
     pub workers: u16,
-    pub outlet: Outlet<Batch>,
+    pub outlet: Outlet<Run>,
     pub inlet: Inlet<(Ticket, Told)>,
     pub newcomers: Newcomers<H>,
     pub view: MapView<J>,
@@ -46,8 +46,8 @@ impl<H: Drop, M: Drop> CarrierEnds<H, M> {
         self.lanes.len()
     }
 
-    /// Takes the next batch of this worker.
-    pub fn take(&mut self, worker: u16) -> Option<Batch>
+    /// Takes the next run of this worker.
+    pub fn take(&mut self, worker: u16) -> Option<Run>
         requires { worker < length (lanes_of self.old) }
         ensures lane { ChangesAt (lanes_of self.old) worker (lanes_of self.new) (λ old new. TakesUp old new result) }
         ensures workers { length (lanes_of self.new) ≡ length (lanes_of self.old) }
@@ -94,8 +94,8 @@ impl<H: Drop, M: Drop> CarrierEnds<H, M> {
         self.lanes[usize::from(worker)].finish_down()
     }
 
-    /// How many batches of this worker are left to take, once it has finished.
-    pub fn settle(&mut self, worker: u16, note: Note<Batch>) -> usize
+    /// How many runs of this worker are left to take, once it has finished.
+    pub fn settle(&mut self, worker: u16, note: Note<Run>) -> usize
         requires worker { worker < length (lanes_of self.old) }
         requires note { ForSome (slice_get (lanes_of self.old) worker) (λ lane. IsNoteOf note lane.up) }
         ensures lane { ChangesAt (lanes_of self.old) worker (lanes_of self.new) (λ old new. SettlesUp old new note result) }

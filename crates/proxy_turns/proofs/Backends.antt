@@ -1,5 +1,5 @@
 -- What tests and faults say of a backend.
-use Rattle.std.proofs.Common.{◌≡◌, ◌≢◌, ◌∙◌, inl, inr, ℕ, Bool, List, false, Option, Some, None, Result, Ok, Err, is_some, refl, sym, subst, ap}
+use Rattle.std.proofs.Common.{◌≡◌, ◌≢◌, ◌∙◌, ◌<◌, inl, inr, ℕ, Bool, List, false, Option, Some, None, Result, Ok, Err, is_some, refl, sym, subst, ap}
 use Rattle.std.proofs.lemmas.Bool.{false≢true}
 use Rattle.std.specs.Prelude.{IsTrue, IsSome}
 use Rattle.slot_map.specs.declared.fault.MapFault.{MapFault}
@@ -9,11 +9,13 @@ use Rattle.slot_map.specs.Slots.{SlotsReading, ReadsAs}
 use Rattle.slot_map.specs.Table.{Endpoint}
 use Rattle.resp_wire.specs.declared.value.Value.{Value}
 use Rattle.key_split.specs.Requests.{Request}
+use Rattle.key_split.specs.Runs.{RunModel, count_in}
 use Rattle.node_link.specs.LinkModel.{LinkModel}
 use Rattle.node_link.specs.LinkCalls.{Receives}
 use Rattle.node_link.specs.declared.link.Got.{Got}
 use Rattle.node_link.specs.declared.link.Got.TheVariants as got
 use Rattle.proxy_turns.specs.Backend.{HoldOutcome, BackendFetches}
+use Rattle.proxy_turns.specs.Sending.{IsTooLong}
 use Rattle.proxy_turns.specs.declared.backend.Backend.{Backend}
 use Rattle.proxy_turns.specs.declared.backend_step.BackendStep.{BackendStep}
 
@@ -44,6 +46,15 @@ never f a = false≢true (f a)
 pub none_unless : {X : Type 0} (o : Option X) → (IsSome o → IsTrue false) → o ≡ None
 none_unless None f = refl
 none_unless (Some x) f = absurd (false≢true (f refl))
+
+-- an open link whose port takes no run as long
+pub too_long_for : {P : Type 0} (longest : P → ℕ) (run : RunModel) (o : Option (LinkModel P)) (link : LinkModel P) → o ≡ Some link → link.failure ≡ None → longest link.port < count_in run
+    → 1 < count_in run → IsTooLong longest run o
+too_long_for longest run None link is open_still long several = absurd (cc)
+too_long_for longest run (Some other) link is open_still long several =
+    let same : link ≡ other = cc in
+    let Q : LinkModel _ → Type 0 = λ l. (l.failure ≡ None) × (longest l.port < count_in run) × (1 < count_in run) in
+    subst Q same (open_still, long, several)
 
 -- a link on which a call waited has not failed
 pub waits : {P : Type 0} (failures : P → ℕ) (is_garbled : P → Type 0) (exchange : P → List Request → List Value → P → Type 0) (link link' : LinkModel P) (nodes nodes' : List Endpoint)

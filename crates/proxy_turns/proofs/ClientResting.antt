@@ -1,10 +1,10 @@
 -- A client whose turn moved nothing is at rest.
-use Rattle.std.proofs.Common.{◌≡◌, ◌∙◌, ◌||◌, ◌<◌, ◌≤◌, ◌+◌, ◌-◌, ◌^◌, ◌++◌, ◌∷◌, [], ℕ, zero, suc, Bool, true, false, List, Option, Some, None, Result, Ok, Err, inl, inr, refl, sym, ap, subst, not, arith, drop, take, length, nat_lt, is_some}
-use Rattle.std.specs.Prelude.{◌⊎◌, ◌↔◌, IfSome}
+use Rattle.std.proofs.Common.{◌≡◌, ◌≢◌, ◌∙◌, ◌||◌, ◌<◌, ◌≤◌, ◌+◌, ◌-◌, ◌^◌, ◌++◌, ◌∷◌, [], ℕ, zero, suc, Bool, true, false, List, Option, Some, None, Result, Ok, Err, inl, inr, refl, sym, ap, subst, not, arith, drop, take, length, nat_lt, is_some}
+use Rattle.std.specs.Prelude.{◌⊎◌, ◌↔◌}
 use Rattle.std.proofs.lemmas.Bool.{false≢true}
 use Rattle.std.proofs.lemmas.Bool.Decides.{nat_tests}
 use Rattle.resp_wire.specs.declared.fault.NoMemory.{NoMemory}
-use Rattle.key_split.specs.declared.travel.Batch.{Batch}
+use Rattle.key_split.specs.Runs.{RunModel}
 use Rattle.command_future.specs.declared.stage.Stage.{Stage}
 use Rattle.command_future.specs.declared.stage.Stage.TheVariants.{Wants, WantsAsking, Awaits, Over}
 use Rattle.command_future.specs.declared.stage.Want.TheVariants.{Await, Finished}
@@ -21,7 +21,7 @@ use Rattle.session_order.specs.Turn.{MayPost, NextPlace}
 use Rattle.proxy_lanes.specs.declared.ring.Outlet.{Outlet}
 use Rattle.proxy_lanes.specs.Lane.{Posts, free_places, posted}
 use Rattle.slot_map.specs.declared.ops.MapOp.{MapOp}
-use Rattle.proxy_turns.specs.Commands.{CommandsModel, Drops, PostsFreshResult}
+use Rattle.proxy_turns.specs.Commands.{BeginOutcome, CommandsModel, Drops, PostsFreshResult}
 use Rattle.proxy_turns.specs.ClientModel.{ClientModel, read_answer}
 use Rattle.proxy_turns.specs.ClientTurn.{most_drained}
 use Rattle.proxy_turns.specs.ClientRest.{BeginsNone, DrainsNone, FeedsNone, HasNoPlace, HasNoneToBegin, HasNoneToDrain, HasNoneToFeed, HasNoneToPost, HasNoneToPull, HasNoneToPush, HasNoneToRead, IfStill, IsAnswered, IsClientAtRest, IsIdle, MayBeHeld, PostsNone, PullsNone, PushesNone, ReadsNone, SendsNone, TakesNoMore, WorksNone, WritesNone}
@@ -132,11 +132,11 @@ if_turned true still e = absurd (cc)
 if_turned false still e = still
 
 module _ {C : Type 0} where
-  post_none : (client : ClientModel C) (outlet : Outlet Batch) → client.commands.fresh ≡ None → HasNoneToPost client outlet
-  post_none client outlet none = subst (λ o. IfSome o (λ command. (client.gone ≡ false) × HasNoPlace outlet)) (sym none) tt
+  post_none : (client : ClientModel C) (outlet : Outlet RunModel) → client.commands.fresh ≡ [] → HasNoneToPost client outlet
+  post_none client outlet none some = absurd (some none)
 
   -- a client that begins nothing, and the command that waits is not posted
-  pub sends_none : (old mid new : ClientModel C) (outlet : Outlet Batch) → BeginsNone old mid → PostsNone mid new outlet → SendsNone old new outlet
+  pub sends_none : (old mid new : ClientModel C) (outlet : Outlet RunModel) → BeginsNone old mid → PostsNone mid new outlet → SendsNone old new outlet
   sends_none old mid new outlet begins posts = record {
     kept = posts.kept ∙ begins.kept;
     begun = subst HasNoneToBegin (sym posts.kept) begins.begun;
@@ -144,7 +144,7 @@ module _ {C : Type 0} where
   }
 
   -- a client that is gone drops nothing
-  pub drops_none : (old new : ClientModel C) (outlet : Outlet Batch) → old.gone ≡ true → (new ≡ old) × (new.commands.fresh ≡ None) → SendsNone old new outlet
+  pub drops_none : (old new : ClientModel C) (outlet : Outlet RunModel) → old.gone ≡ true → (new ≡ old) × (new.commands.fresh ≡ []) → SendsNone old new outlet
   drops_none old new outlet gone (same, none) = record {
     kept = same;
     begun = λ here nothing i may. absurd (false≢true (sym here ∙ ap (λ (m : ClientModel C). m.gone) same ∙ gone));
@@ -161,7 +161,7 @@ module _ {C : Type 0} where
           pushed = pushes.pushed;
         }
 
-    pub works_none : (s0 s1 s2 s3 s4 : ClientModel C) (outlet : Outlet Batch) → FeedsNone s0 s1 → ReadsNone s1 s2 → SendsNone s2 s3 outlet → WritesNone takes_none s3 s4 → WorksNone takes_none s0 s4 outlet
+    pub works_none : (s0 s1 s2 s3 s4 : ClientModel C) (outlet : Outlet RunModel) → FeedsNone s0 s1 → ReadsNone s1 s2 → SendsNone s2 s3 outlet → WritesNone takes_none s3 s4 → WorksNone takes_none s0 s4 outlet
     works_none s0 s1 s2 s3 s4 outlet feeds reads sends writes =
         let unpushed : s3.unpushed ≡ s0.unpushed = ap (λ (m : ClientModel C). m.unpushed) sends.kept ∙ ap (λ (m : ClientModel C). m.unpushed) reads.kept ∙ ap (λ (m : ClientModel C). m.unpushed) feeds.kept in
         let port : s3.port ≡ s0.port = ap (λ (m : ClientModel C). m.port) sends.kept ∙ ap (λ (m : ClientModel C). m.port) reads.kept ∙ ap (λ (m : ClientModel C). m.port) feeds.kept in
@@ -182,7 +182,7 @@ module _ {C : Type 0} where
 
     module _ (gives_none : C → Type 0) where
       -- a client that was idle, of which no bytes came
-      pub idle_rests : (held_back : Bool) (old new : ClientModel C) (outlet : Outlet Batch) → held_back ≡ false → IsIdle old → PullsNone gives_none held_back old new → IsClientAtRest gives_none takes_none new outlet
+      pub idle_rests : (held_back : Bool) (old new : ClientModel C) (outlet : Outlet RunModel) → held_back ≡ false → IsIdle old → PullsNone gives_none held_back old new → IsClientAtRest gives_none takes_none new outlet
       idle_rests held_back old new outlet is idle pulls = record {
         pulled = λ here none answered. pulls.asked is (sym (ap (λ (m : ClientModel C). m.gone) pulls.kept) ∙ here) (sym (ap (λ (m : ClientModel C). m.unfed) pulls.kept) ∙ none);
         fed = subst HasNoneToFeed (sym pulls.kept) idle.fed;
@@ -203,7 +203,7 @@ module _ {C : Type 0} where
         drained = subst HasNoneToDrain (sym pulls.kept) idle.drained;
       }
 
-      pub idle_of : (client : ClientModel C) (outlet : Outlet Batch) → IsClientAtRest gives_none takes_none client outlet → (client.unpushed ≡ []) × (client.commands.fresh ≡ None) → IsIdle client
+      pub idle_of : (client : ClientModel C) (outlet : Outlet RunModel) → IsClientAtRest gives_none takes_none client outlet → (client.unpushed ≡ []) × (client.commands.fresh ≡ []) → IsIdle client
       idle_of client outlet rests (unpushed, fresh) = record {
         unpushed = unpushed;
         fresh = fresh;
@@ -214,7 +214,7 @@ module _ {C : Type 0} where
       }
 
       -- a client was asked for bytes before its work, or behind it where it was held back until then
-      asked_once : (held_back again : Bool) (s0 s1 s2 s3 : ClientModel C) (outlet : Outlet Batch) → PullsNone gives_none held_back s0 s1 → WorksNone takes_none s1 s2 outlet
+      asked_once : (held_back again : Bool) (s0 s1 s2 s3 : ClientModel C) (outlet : Outlet RunModel) → PullsNone gives_none held_back s0 s1 → WorksNone takes_none s1 s2 outlet
           → (again ≡ true → (held_back ≡ true) × IsAnswered s2) → (held_back ≡ true → IsAnswered s2 → again ≡ true) → PullsNone gives_none (not again) s2 s3
           → HasNoneToPull gives_none s3
       asked_once false true s0 s1 s2 s3 outlet pulls works was becomes more here none answered = absurd (false≢true (was refl).0)
@@ -235,7 +235,7 @@ module _ {C : Type 0} where
       offered_once false held_back s2 s3 pushed was more = subst (HasNoneToPush takes_none) (sym (more.unasked refl)) pushed
 
       -- bytes were asked for, all work was done, and none of it moved anything
-      pub worked_rests : (held_back again : Bool) (s0 s1 s2 now s3 : ClientModel C) (outlet : Outlet Batch) → now ≡ s2
+      pub worked_rests : (held_back again : Bool) (s0 s1 s2 now s3 : ClientModel C) (outlet : Outlet RunModel) → now ≡ s2
           → (again ≡ true → (held_back ≡ true) × IsAnswered s2) → (held_back ≡ true → IsAnswered s2 → again ≡ true)
           → PullsNone gives_none held_back s0 s1 → WorksNone takes_none s1 s2 outlet → PullsNone gives_none (not again) now s3
           → IsClientAtRest gives_none takes_none s3 outlet
@@ -263,8 +263,8 @@ last_moved P false false is = absurd (false≢true is)
 -- ---- one call of a client
 
 -- a lane that refused takes nothing more
-pub refused_full : (old new : Outlet Batch) (batch back : Batch) → Posts old new batch (Err back) → HasNoPlace new
-refused_full old new batch back (same, is, kept, many, none) = by_either none
+pub refused_full : (old new : Outlet RunModel) (run back : RunModel) → Posts old new run (Err back) → HasNoPlace new
+refused_full old new run back (same, is, kept, many, none) = by_either none
   where
     len : length (posted old) ≡ length (posted new)
     len = ap length (sym kept)
@@ -321,36 +321,33 @@ module _ {C : Type 0} (t : ClientModel C) where
       record { kept = refl; read = was.0; fed = feed_on session was.1 }
   reads_none session given (Err refused) is reads = tt
 
-  pub begins_waiting : is_some t.commands.fresh ≡ true → BeginsNone t t
-  begins_waiting some = record { kept = refl; begun = λ here none i may. absurd (false≢true (sym (ap (λ o. is_some o) none) ∙ some)) }
+  pub begins_waiting : t.commands.fresh ≢ [] → BeginsNone t t
+  begins_waiting some = record { kept = refl; begun = λ here none i may. absurd (some none) }
 
   pub begins_held : ((i : ℕ) → MayPost t.session.stages i → MayBeHeld t.session i) → BeginsNone t t
   begins_held held = record { kept = refl; begun = λ here waits. held }
 
-  pub begins_none : (session : SessionModel) → ReadyOutcome t.session None session → BeginsNone t (record t { session = session })
-  begins_none session (none, same) = record {
-    kept = λ i. record t { session = same i };
+  pub begins_none : (session : SessionModel) (commands : CommandsModel) (result : Result Bool NoMemory) → BeginOutcome t.commands t.session result commands session
+      → IfStill result (BeginsNone t (record t { session = session; commands = commands }))
+  begins_none session commands (Ok true) begins = tt
+  begins_none session commands (Ok false) ((none, same), kept) = record {
+    kept = λ i. record t { session = same i; commands = kept i };
     begun = λ here waits i may. absurd (none i (subst (λ (s : SessionModel). MayPost s.stages i) same may));
   }
+  begins_none session commands (Err refused) begins = tt
 
-  pub drop_none : (commands : CommandsModel) (was : Bool) → Drops t.commands was commands → was ≡ false → (record t { commands = commands } ≡ t) × (commands.fresh ≡ None)
+  pub drop_none : (commands : CommandsModel) (was : Bool) → Drops t.commands was commands → was ≡ false → (record t { commands = commands } ≡ t) × (commands.fresh ≡ [])
   drop_none commands true drops not_so = absurd (false≢true (sym not_so))
   drop_none commands false (none, same) not_so = ((λ i. record t { commands = same i }), ap (λ (m : CommandsModel). m.fresh) same ∙ none)
 
-  waits_full : (o : Option CommandModel) (outlet : Outlet Batch) → t.gone ≡ false → ((c : CommandModel) → o ≡ Some c → WantsPost c.stage)
-      → IfSome o (λ command. WantsPost command.stage → HasNoPlace outlet) → IfSome o (λ command. (t.gone ≡ false) × HasNoPlace outlet)
-  waits_full None outlet here wants full = tt
-  waits_full (Some command) outlet here wants full = (here, full (wants command refl))
-
-  pub posts_nothing : (commands : CommandsModel) (o o' : Outlet Batch) (v v' : List MapOp) (result : Result Bool NoMemory) → t.gone ≡ false → ((c : CommandModel) → t.commands.fresh ≡ Some c → WantsPost c.stage)
-      → PostsFreshResult t.commands o v result commands o' v'
-      → IfStill result (IfSome t.commands.fresh (λ command. WantsPost command.stage → HasNoPlace o')) → IfStill result (PostsNone t (record t { commands = commands }) o')
-  posts_nothing commands o o' v v' (Ok true) here wants posts full = tt
-  posts_nothing commands o o' v v' (Ok false) here wants (same, slot, tries) full = record {
+  pub posts_nothing : (commands : CommandsModel) (o o' : Outlet RunModel) (v v' : List MapOp) (result : Result Bool NoMemory) → t.gone ≡ false → PostsFreshResult t.commands o v result commands o' v'
+      → IfStill result (t.commands.fresh ≢ [] → HasNoPlace o') → IfStill result (PostsNone t (record t { commands = commands }) o')
+  posts_nothing commands o o' v v' (Ok true) here posts full = tt
+  posts_nothing commands o o' v v' (Ok false) here (same, slot, tries) full = record {
     kept = λ i. record t { commands = same i };
-    posted = waits_full commands.fresh o' here (λ c is. wants c (ap (λ (m : CommandsModel). m.fresh) (sym same) ∙ is)) (subst (λ (m : CommandsModel). IfSome m.fresh (λ command. WantsPost command.stage → HasNoPlace o')) (sym same) full);
+    posted = λ some. (here, full (λ none. some (ap (λ (m : CommandsModel). m.fresh) same ∙ none)));
   }
-  posts_nothing commands o o' v v' (Err refused) here wants posts full = tt
+  posts_nothing commands o o' v v' (Err refused) here posts full = tt
 
   module _ (takes_none : C → Type 0) where
     pub unoffered : (may : Bool) → ((may ≡ true) ↔ ((t.gone ≡ false) × (t.unpushed ≡ [] → ⊥))) → may ≡ false → PushesNone takes_none t t
@@ -404,13 +401,7 @@ module _ {C : Type 0} (t : ClientModel C) where
   pub unfed_none : length t.unfed ≡ 0 → FeedsNone t t
   unfed_none none = record { kept = refl; fed = inl (empty_by_length t.unfed (sym none)) }
 
--- ---- the command that waits for its first post
-
-pub fresh_none : (o : Option CommandModel) (F : CommandModel → Type 0) → o ≡ None → IfSome o F
-fresh_none o F is = subst (λ o. IfSome o F) (sym is) tt
-
-pub fresh_some : (o : Option CommandModel) (c : CommandModel) (F : CommandModel → Type 0) → o ≡ Some c → F c → IfSome o F
-fresh_some o c F is holds = subst (λ o. IfSome o F) (sym is) holds
+-- ---- what a command wants
 
 pub not_awaiting : (stage : Stage) → Await ≡ want_at stage → WantsPost stage → ⊥
 not_awaiting (Wants named) is wants = cc
@@ -431,3 +422,8 @@ undone_by false e = refl
 pub done_by : (done : Bool) → not done ≡ false → done ≡ true
 done_by true e = refl
 done_by false e = absurd (false≢true (sym e))
+
+-- nothing was sent, and then no work moved anything
+pub sent_works : {C : Type 0} (takes_none : C → Type 0) (s0 s1 s2 : ClientModel C) (sent outlet : Outlet RunModel)
+    → SendsNone s0 s1 sent → WorksNone takes_none s1 s2 outlet → WorksNone takes_none s0 s2 outlet
+sent_works takes_none s0 s1 s2 sent outlet sends works = subst (λ m. WorksNone takes_none m s2 outlet) sends.kept works

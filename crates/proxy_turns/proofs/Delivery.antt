@@ -7,7 +7,7 @@ use Rattle.proxy_lanes.specs.declared.ends.lane_ends.LaneEnds.{LaneEnds}
 use Rattle.proxy_lanes.specs.Ends.{ChangesAt, Gives, GivesDown}
 use Rattle.proxy_turns.specs.declared.backend.Backend.{Backend}
 use Rattle.proxy_turns.specs.declared.backend.PendingTold.{PendingTold}
-use Rattle.proxy_turns.specs.PendingBatch.{DeliverOutcome, GiveOutcome, WaitsToGive}
+use Rattle.proxy_turns.specs.PendingRun.{DeliverOutcome, GiveOutcome, WaitsToGive}
 use Rattle.proxy_turns.proofs.Backends.{none_where}
 
 comes_back : (old new : Option (Outlet (Ticket × Told))) (pair back : Ticket × Told) → Gives old new pair (Err back) → back ≡ pair

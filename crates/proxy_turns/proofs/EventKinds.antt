@@ -2,7 +2,7 @@
 use Rattle.std.proofs.Common.{◌≡◌, ◌||◌, ◌&&◌, Bool, true, false, refl}
 use Rattle.proxy_turns.specs.ClientTurn.{ClientEvent, is_begin, is_drain, is_drop, is_feed, is_post, is_push, is_read, is_send, is_work, is_write}
 use Rattle.proxy_turns.specs.WorkerModel.{WorkerEvent, turns_client, removes_client, serves_client}
-use Rattle.proxy_turns.specs.CarrierModel.{CarrierEvent, adds_backend, dials_seed, dials_node, dials_to_ask, seeks_by_dial, renews_map, fetches, gives, tells_unsent, takes_batch, sends, connects_seed, connects, serves_backend, serves_lane}
+use Rattle.proxy_turns.specs.CarrierModel.{CarrierEvent, adds_backend, dials_seed, dials_node, dials_to_ask, seeks_by_dial, renews_map, fetches, gives, tells_unsent, takes_run, sends, connects_seed, connects, serves_backend, serves_lane}
 
 pub and_true : (a b : Bool) → a ≡ true → b ≡ true → (a && b) ≡ true
 and_true true true e f = refl
@@ -47,21 +47,21 @@ pub reply_given : (event : CarrierEvent) → gives event ≡ true → serves_bac
 reply_given event kind = or_right (renews_map event) (fetches event || gives event) (or_right (fetches event) (gives event) kind)
 
 pub unsent_told : (event : CarrierEvent) → tells_unsent event ≡ true → serves_lane event ≡ true
-unsent_told event kind = or_left (tells_unsent event) (takes_batch event || (sends event || connects event)) kind
+unsent_told event kind = or_left (tells_unsent event) (takes_run event || (sends event || connects event)) kind
 
-pub batch_taken : (event : CarrierEvent) → takes_batch event ≡ true → serves_lane event ≡ true
-batch_taken event kind =
-    or_right (tells_unsent event) (takes_batch event || (sends event || connects event)) (or_left (takes_batch event) (sends event || connects event) kind)
+pub run_taken : (event : CarrierEvent) → takes_run event ≡ true → serves_lane event ≡ true
+run_taken event kind =
+    or_right (tells_unsent event) (takes_run event || (sends event || connects event)) (or_left (takes_run event) (sends event || connects event) kind)
 
-pub batch_sent : (event : CarrierEvent) → sends event ≡ true → serves_lane event ≡ true
-batch_sent event kind =
-    or_right (tells_unsent event) (takes_batch event || (sends event || connects event))
-    (or_right (takes_batch event) (sends event || connects event) (or_left (sends event) (connects event) kind))
+pub run_sent : (event : CarrierEvent) → sends event ≡ true → serves_lane event ≡ true
+run_sent event kind =
+    or_right (tells_unsent event) (takes_run event || (sends event || connects event))
+    (or_right (takes_run event) (sends event || connects event) (or_left (sends event) (connects event) kind))
 
 pub node_connected : (event : CarrierEvent) → connects event ≡ true → serves_lane event ≡ true
 node_connected event kind =
-    or_right (tells_unsent event) (takes_batch event || (sends event || connects event))
-    (or_right (takes_batch event) (sends event || connects event) (or_right (sends event) (connects event) kind))
+    or_right (tells_unsent event) (takes_run event || (sends event || connects event))
+    (or_right (takes_run event) (sends event || connects event) (or_right (sends event) (connects event) kind))
 
 -- a whole turn may make every event
 abbrev pub every : CarrierEvent → Bool

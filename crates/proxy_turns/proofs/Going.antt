@@ -1,31 +1,34 @@
 -- One event of a client's turn, or none, or some after others.
-use Rattle.std.proofs.Common.{◌≡◌, ◌||◌, ◌≤◌, ◌⊎◌, inl, inr, Bool, ℕ, List, [], ◌∷◌, ◌++◌, Option, Some, None, true, false, length, length-take-le, take, drop, is_some, nat_lt, Result, Ok, Err, refl, sym, ap, subst, ◌∙◌}
+use Rattle.std.proofs.Common.{◌≡◌, ◌||◌, ◌≤◌, ◌⊎◌, inl, inr, Bool, ℕ, List, [], ◌∷◌, ◌++◌, Option, Some, None, true, false, arith, length, length-take-le, map, take, drop, is_some, nat_lt, Result, Ok, Err, refl, sym, ap, subst, ◌∙◌}
 use Rattle.std.specs.FinMap.{get}
+use Rattle.std.specs.Prelude.{All}
 use Rattle.std.specs.List.{FoldsTo, list_all, list_any}
+use Rattle.std.proofs.lemmas.List.Elements.{All-nil}
 use Rattle.std.proofs.lemmas.Bool.{false≢true}
 use Rattle.std.proofs.Math.ListN.{take-append-drop}
 use Rattle.std.proofs.lemmas.List.Folds.{list_all-append, list_any-append}
 use Rattle.slot_map.specs.declared.ops.MapOp.{MapOp}
 use Rattle.resp_wire.specs.declared.fault.NoMemory.{NoMemory}
 use Rattle.key_split.specs.PartModel.{PartModel}
-use Rattle.key_split.specs.declared.travel.Batch.{Batch}
+use Rattle.key_split.specs.Runs.{RunModel, GoTogether, IsTogether, count_in}
 use Rattle.key_split.specs.declared.travel.Ticket.{Ticket}
-use Rattle.command_future.specs.CommandModel.{CommandModel, fresh}
+use Rattle.command_future.specs.CommandModel.{CommandModel, IsFresh}
 use Rattle.session_order.specs.SessionModel.{SessionModel}
 use Rattle.session_order.specs.HangingUp.{HangsUp}
 use Rattle.session_order.specs.declared.fault.SessionFault.{SessionFault}
 use Rattle.session_order.specs.declared.fault.SessionFault.TheVariants as fault
 use Rattle.session_order.specs.Replies.{DrainOutcome}
-use Rattle.session_order.specs.Steps.{IsOut, FeedOutcome, ReadOutcome, ReadyOutcome}
+use Rattle.session_order.specs.Steps.{IsOut, FeedOutcome, ReadOutcome}
 use Rattle.proxy_lanes.specs.declared.map_view.NotEntered.{NotEntered}
 use Rattle.proxy_lanes.specs.declared.ring.Outlet.{Outlet}
 use Rattle.proxy_lanes.specs.Lane.{Posts}
 use Rattle.proxy_turns.specs.Port.{Moves}
-use Rattle.proxy_turns.specs.Commands.{CommandsModel, Drops, Looks, PostOutcome, PostsAt, PostsAtResult, PostsFresh, PostsFreshResult, TakesCommand, Tries, with_command}
+use Rattle.proxy_turns.specs.Commands.{AreOneRun, BeginOutcome, CommandsModel, Drops, FollowOutcome, Looks, PostsAt, PostsAtResult, PostsFresh, PostsFreshResult, Tries, awaiting, most_together, run_of, with_command}
 use Rattle.proxy_turns.specs.ClientModel.{ClientModel, IsSoundClient, Takings, read_answer}
 use Rattle.proxy_turns.specs.ClientTurn.{ClientContext, ClientEvent, ClientDoes, ClientGoes, ClientGoesBy, ClientTurns, ClientTurnsBy, is_client_move, left_of, most_drained}
-use Rattle.proxy_turns.specs.ClientTurn.ClientEvent.{Pulled, Fed, Read, HandedOut, Looked, CameBack, Posted, Drained, Pushed, Tried, Parted, Dropped}
+use Rattle.proxy_turns.specs.ClientTurn.ClientEvent.{Pulled, Fed, Read, HandedOut, Followed, Looked, CameBack, Posted, Drained, Pushed, Tried, Parted, Dropped}
 use Rattle.proxy_turns.proofs.EventKinds.{and_both, and_true}
+use Rattle.proxy_turns.proofs.Sound.{few_together, one_run, run_turn, together}
 
 pub or_false : (b : Bool) → (b || false) ≡ b
 or_false true = refl
@@ -42,7 +45,7 @@ pub not_some : {A : Type 0} (o : Option A) → is_some o ≡ false → o ≡ Non
 not_some None e = refl
 not_some (Some x) e = absurd (false≢true (sym e))
 
-abbrev pub at : {C : Type 0} → ClientModel C → Outlet Batch → List MapOp → ClientContext C
+abbrev pub at : {C : Type 0} → ClientModel C → Outlet RunModel → List MapOp → ClientContext C
 at client outlet view = record { client = client; outlet = outlet; view = view }
 
 all_wider : (few may : ClientEvent → Bool) → ((event : ClientEvent) → few event ≡ true → may event ≡ true) → (events : List ClientEvent) → list_all few events ≡ true → list_all may events ≡ true
@@ -84,8 +87,13 @@ module _ {C : Type 0} (moves : Moves C) (may : ClientEvent → Bool) where
   err_turn old new moved e result is goes =
       let P : Result Bool NoMemory → Type 0 = λ r. ClientTurnsBy moves may old r new in subst P (sym is) (moved, goes)
 
+  -- a call that moved something
+  pub moved_by : (old : ClientContext C) (moved : Bool) (new : ClientContext C) → moved ≡ true → ClientTurnsBy moves may old (Ok moved) new → ClientGoesBy moves may old true new
+  moved_by old true new is goes = goes
+  moved_by old false new is goes = absurd (false≢true is)
+
   -- the same where a value changed that is not seen
-  pub goes_seen : (old : ClientContext C) (moved : Bool) (t t' : ClientModel C) (o : Outlet Batch) (v : List MapOp) → t' ≡ t → ClientGoesBy moves may old moved (at t o v) → ClientGoesBy moves may old moved (at t' o v)
+  pub goes_seen : (old : ClientContext C) (moved : Bool) (t t' : ClientModel C) (o : Outlet RunModel) (v : List MapOp) → t' ≡ t → ClientGoesBy moves may old moved (at t o v) → ClientGoesBy moves may old moved (at t' o v)
   goes_seen old moved t t' o v same goes = let P : ClientModel C → Type 0 = λ x. ClientGoesBy moves may old moved (at x o v) in subst P (sym same) goes
 
   -- whatever a call answered, it did some events
@@ -93,7 +101,7 @@ module _ {C : Type 0} (moves : Moves C) (may : ClientEvent → Bool) where
   goes_anyhow old (Ok moved) new goes = (moved, goes)
   goes_anyhow old (Err e) new goes = goes
 
-  module _ (t : ClientModel C) (o : Outlet Batch) (v : List MapOp) where
+  module _ (t : ClientModel C) (o : Outlet RunModel) (v : List MapOp) where
     pub tried : may Tried ≡ true → (port : C) → moves t.port [] [] [] port → ClientGoesBy moves may (at t o v) false (at (record t { port = port }) o v)
     tried kind port m = by (at t o v) Tried _ false refl kind (m, refl)
 
@@ -116,11 +124,28 @@ module _ {C : Type 0} (moves : Moves C) (may : ClientEvent → Bool) where
         → moved ≡ is_client_move (Read result) → ClientGoesBy moves may (at t o v) moved (at (record t { session = session }) o v)
     has_read kind session result moved reads is = by (at t o v) (Read result) _ moved is (kind result) (reads, refl)
 
-    pub handed : ((ticket : Ticket) (part : PartModel) → may (HandedOut ticket part) ≡ true) → (session : SessionModel) (ticket : Ticket) (part : PartModel) (commands : CommandsModel) → t.gone ≡ false → t.commands.fresh ≡ None → ReadyOutcome t.session (Some (ticket, part)) session
-        → commands ≡ record t.commands { fresh = Some (fresh ticket part) } → ClientGoesBy moves may (at t o v) true (at (record t { session = session; commands = commands }) o v)
-    handed kind session ticket part commands here none ready begun =
+    -- nothing was handed out
+    same_parts : (session : SessionModel) (commands : CommandsModel) → session ≡ t.session → commands ≡ t.commands → ClientGoesBy moves may (at t o v) false (at (record t { session = session; commands = commands }) o v)
+    same_parts session commands same kept =
+        let stand : ClientContext C = at (record t { session = session; commands = commands }) o v in
+        let is : at t o v ≡ stand = λ i. at (record t { session = sym same i; commands = sym kept i }) o v in
+        subst (ClientGoesBy moves may (at t o v) false) is (stays (at t o v))
+
+    pub begins : ((ticket : Ticket) (part : PartModel) → may (HandedOut ticket part) ≡ true) → (session : SessionModel) (commands : CommandsModel) (result : Result Bool NoMemory) → t.gone ≡ false → t.commands.fresh ≡ []
+        → BeginOutcome t.commands t.session result commands session → ClientTurnsBy moves may (at t o v) result (at (record t { session = session; commands = commands }) o v)
+    begins kind session commands (Ok true) here none (ticket, part, ready, is) =
         let with_commands : CommandsModel → ClientContext C = λ cs. at (record t { session = session; commands = cs }) o v in
-        by (at t o v) (HandedOut ticket part) (with_commands commands) true refl (kind ticket part) (here, none, ready, ap with_commands begun)
+        by (at t o v) (HandedOut ticket part) (with_commands commands) true refl (kind ticket part) (here, none, ready, ap with_commands is)
+    begins kind session commands (Ok false) here none ((nothing, same), kept) = same_parts session commands same kept
+    begins kind session commands (Err e) here none (kept, same) = (false, same_parts session commands same kept)
+
+    pub follows : ((ticket : Ticket) (part : PartModel) → may (Followed ticket part) ≡ true) → (session : SessionModel) (commands : CommandsModel) (result : Result Bool NoMemory) → t.gone ≡ false
+        → FollowOutcome t.commands t.session result commands session → ClientTurnsBy moves may (at t o v) result (at (record t { session = session; commands = commands }) o v)
+    follows kind session commands (Ok true) here (ticket, part, behind, is) =
+        let with_commands : CommandsModel → ClientContext C = λ cs. at (record t { session = session; commands = cs }) o v in
+        by (at t o v) (Followed ticket part) (with_commands commands) true refl (kind ticket part) (here, behind, ap with_commands is)
+    follows kind session commands (Ok false) here (kept, same) = same_parts session commands same kept
+    follows kind session commands (Err e) here (kept, same) = (false, same_parts session commands same kept)
 
     pub drained : ((n : ℕ) → may (Drained n) ≡ true) → (session : SessionModel) (n : ℕ) (unpushed : List ℕ) (moved : Bool) → t.gone ≡ false → DrainOutcome most_drained t.session t.unpushed (Ok n) session unpushed
         → moved ≡ nat_lt 0 n → ClientGoesBy moves may (at t o v) moved (at (record t { session = session; unpushed = unpushed }) o v)
@@ -130,14 +155,10 @@ module _ {C : Type 0} (moves : Moves C) (may : ClientEvent → Bool) where
         → moved ≡ nat_lt 0 (length bytes) → ClientGoesBy moves may (at t o v) moved (at (record t { port = port; unpushed = unpushed }) o v)
     pushed kind port bytes unpushed moved m left is = by (at t o v) (Pushed bytes) _ moved is (kind bytes) (m, left, refl)
 
-    pub dropped : ((ticket : Ticket) → may (Dropped ticket) ≡ true) → (ticket : Ticket) (c : CommandModel) (commands : CommandsModel) → t.gone ≡ true → t.commands.fresh ≡ Some c → c.ticket ≡ ticket
-        → commands ≡ record t.commands { fresh = None } → ClientGoesBy moves may (at t o v) true (at (record t { commands = commands }) o v)
-    dropped kind ticket c commands gone there named left =
+    pub drops : ((tickets : List Ticket) → may (Dropped tickets) ≡ true) → (commands : CommandsModel) (was : Bool) → t.gone ≡ true → Drops t.commands was commands → ClientGoesBy moves may (at t o v) was (at (record t { commands = commands }) o v)
+    drops kind commands true gone (some, left) =
         let with_commands : CommandsModel → ClientContext C = λ cs. at (record t { commands = cs }) o v in
-        by (at t o v) (Dropped ticket) (with_commands commands) true refl (kind ticket) (gone, c, there, named, ap with_commands left)
-
-    pub drops : ((ticket : Ticket) → may (Dropped ticket) ≡ true) → (commands : CommandsModel) (was : Bool) → t.gone ≡ true → Drops t.commands was commands → ClientGoesBy moves may (at t o v) was (at (record t { commands = commands }) o v)
-    drops kind commands true gone (c, there, left) = dropped kind c.ticket c commands gone there refl left
+        by (at t o v) (Dropped (map (λ c. c.ticket) t.commands.fresh)) (with_commands commands) true refl (kind (map (λ c. c.ticket) t.commands.fresh)) (gone, some, refl, ap with_commands left)
     drops kind commands false gone (none, same) =
         let P : CommandsModel → Type 0 = λ cs. ClientGoesBy moves may (at t o v) false (at (record t { commands = cs }) o v) in subst P (sym same) (stays (at t o v))
 
@@ -172,45 +193,40 @@ module _ {C : Type 0} (moves : Moves C) (may : ClientEvent → Bool) where
     looked kind slot view (inl same) = let P : List MapOp → Type 0 = λ x. ClientGoesBy moves may (at t o v) false (at t o x) in subst P (sym same) (stays (at t o v))
     looked kind slot view (inr (answer, looks)) = by (at t o v) (Looked slot) (at t o view) false refl (kind slot) ((answer, looks), refl)
 
-    came_back : ((batch : Batch) → may (CameBack batch) ≡ true) → (outlet : Outlet Batch) → (outlet ≡ o) ⊎ ((batch : Batch) × Posts o outlet batch (Err batch)) → ClientGoesBy moves may (at t o v) false (at t outlet v)
-    came_back kind outlet (inl same) = let P : Outlet Batch → Type 0 = λ x. ClientGoesBy moves may (at t o v) false (at t x v) in subst P (sym same) (stays (at t o v))
-    came_back kind outlet (inr (batch, back)) = by (at t o v) (CameBack batch) (at t outlet v) false refl (kind batch) (back, refl)
+    came_back : ((run : RunModel) → may (CameBack run) ≡ true) → (outlet : Outlet RunModel) → (outlet ≡ o) ⊎ ((run : RunModel) × Posts o outlet run (Err run)) → ClientGoesBy moves may (at t o v) false (at t outlet v)
+    came_back kind outlet (inl same) = let P : Outlet RunModel → Type 0 = λ x. ClientGoesBy moves may (at t o v) false (at t x v) in subst P (sym same) (stays (at t o v))
+    came_back kind outlet (inr (run, back)) = by (at t o v) (CameBack run) (at t outlet v) false refl (kind run) (back, refl)
 
-  is_out : (session : SessionModel) (commands : CommandsModel) (number : ℕ) (c : CommandModel) (rest : CommandsModel) → IsSoundClient session commands → TakesCommand commands number c rest → IsOut session c.ticket
-  is_out session commands number c rest sound (inl (there, named, left)) = sound.fresh c there
-  is_out session commands number c rest sound (inr (there, left)) = (sound.posted number c there).1
-
-  module _ (looks_too : (slot : ℕ) → may (Looked slot) ≡ true) (back_too : (batch : Batch) → may (CameBack batch) ≡ true) (posted_too : (batch : Batch) → may (Posted batch) ≡ true)
-      (t : ClientModel C) (o o' : Outlet Batch) (v v' : List MapOp) (commands : CommandsModel) where
-    -- a command is posted
-    posts_one : (number : ℕ) (c c' : CommandModel) (rest : CommandsModel) → IsSoundClient t.session t.commands → TakesCommand t.commands number c rest → (t.gone ≡ true → get t.commands.posted number ≡ Some c)
-        → PostOutcome c o v true c' o' v' → commands ≡ with_command rest number c' → ClientGoesBy moves may (at t o v) true (at (record t { commands = commands }) o' v')
-    posts_one number c c' rest sound takes again (batch, goes, is, post, waits) new =
-        let as_context : CommandsModel → ClientContext C = λ cs. at (record t { commands = cs }) o' v' in
-        by (at t o v) (Posted batch) (as_context commands) true refl (posted_too batch) (
-          number,
-          c,
-          rest,
-          takes,
-          again,
-          is_out t.session t.commands number c rest sound takes,
-          goes,
-          is,
-          post,
-          ap as_context (new ∙ ap (λ (d : CommandModel). with_command rest number d) waits),
-        )
-
+  module _ (looks_too : (slot : ℕ) → may (Looked slot) ≡ true) (back_too : (run : RunModel) → may (CameBack run) ≡ true) (posted_too : (run : RunModel) → may (Posted run) ≡ true)
+      (t : ClientModel C) (o o' : Outlet RunModel) (v v' : List MapOp) (commands : CommandsModel) where
     -- none is
     posts_none : (slot : ℕ) → commands ≡ t.commands → Tries slot o v o' v' → ClientGoesBy moves may (at t o v) false (at (record t { commands = commands }) o' v')
     posts_none slot same (looks, backs) =
         let P : CommandsModel → Type 0 = λ cs. ClientGoesBy moves may (at t o v) false (at (record t { commands = cs }) o' v') in
         subst P (sym same) (goes_then (at t o v) false (at t o v') false (at t o' v') (looked t o v looks_too slot v' looks) (came_back t o v' back_too o' backs))
 
-    -- the command that was not posted yet, of a client that is there
+    -- the commands that were not posted yet, of a client that is there
     posts_fresh : (moved : Bool) → IsSoundClient t.session t.commands → t.gone ≡ false → PostsFresh t.commands o v moved commands o' v'
         → ClientGoesBy moves may (at t o v) moved (at (record t { commands = commands }) o' v')
-    posts_fresh true sound here (c, c', is, post, new) =
-        posts_one c.ticket.part c c' (record t.commands { fresh = None }) sound (inl (is, refl, refl)) (λ gone. absurd (false≢true (sym here ∙ gone))) post new
+    posts_fresh true sound here (first, later, run, those, goes, is, posts, new) =
+        let as_context : CommandsModel → ClientContext C = λ cs. at (record t { commands = cs }) o' v' in
+        let turn = run_turn t.session t.commands first later sound those in
+        let one : AreOneRun (first ∷ later) = subst AreOneRun those (one_run t.session t.commands sound) in
+        by (at t o v) (Posted run) (as_context commands) true refl (posted_too run) (
+          first,
+          later,
+          record t.commands { fresh = [] },
+          inl (those, subst (All IsFresh) those sound.fresh, refl),
+          λ gone. absurd (false≢true (sym here ∙ gone)),
+          turn.0,
+          turn.1,
+          goes,
+          is,
+          subst IsTogether (sym is) (together first later run.first.node one),
+          subst (λ r. count_in r ≤ most_together) (sym is) (few_together t.session t.commands first later run.first.node sound those),
+          posts,
+          ap as_context new,
+        )
     posts_fresh false sound here (same, slot, tries) = posts_none slot same tries
 
     pub turns_posts_fresh : (result : Result Bool NoMemory) → IsSoundClient t.session t.commands → t.gone ≡ false → PostsFreshResult t.commands o v result commands o' v'
@@ -218,16 +234,34 @@ module _ {C : Type 0} (moves : Moves C) (may : ClientEvent → Bool) where
     turns_posts_fresh (Ok moved) sound here done = posts_fresh moved sound here done
     turns_posts_fresh (Err e) sound here done = (false, posts_fresh false sound here done)
 
-    -- one that was posted before
-    posts_again : (number : ℕ) (moved : Bool) → IsSoundClient t.session t.commands → PostsAt t.commands number o v moved commands o' v'
+    -- one that was posted before, in its turn
+    posts_again : (number : ℕ) (moved : Bool) → IsSoundClient t.session t.commands → ((c : CommandModel) → get t.commands.posted number ≡ Some c → IsOut t.session c.ticket) → PostsAt t.commands number o v moved commands o' v'
         → ClientGoesBy moves may (at t o v) moved (at (record t { commands = commands }) o' v')
-    posts_again number true sound (c, c', there, post, new) = posts_one number c c' t.commands sound (inr (there, refl)) (λ gone. there) post new
-    posts_again number false sound (same, slot, tries) = posts_none slot same tries
+    posts_again number true sound turn (c, c', there, (run, goes, is, post, waits), new) =
+        let as_context : CommandsModel → ClientContext C = λ cs. at (record t { commands = cs }) o' v' in
+        let named : c.ticket.part ≡ number = (sound.posted number c there).0 in
+        let mine : get t.commands.posted c.ticket.part ≡ Some c = ap (get t.commands.posted) named ∙ there in
+        by (at t o v) (Posted run) (as_context commands) true refl (posted_too run) (
+          c,
+          [],
+          t.commands,
+          inr (mine, refl, refl),
+          λ gone. mine,
+          turn c there,
+          tt,
+          goes,
+          is,
+          subst IsTogether (sym is) (All-nil (GoTogether (run_of c [] run.first.node).first)),
+          subst (λ r. count_in r ≤ most_together) (sym is) (omega arith),
+          post,
+          ap as_context (new ∙ ap (λ (d : CommandModel). with_command t.commands number d) waits ∙ ap (λ n. with_command t.commands n (awaiting c)) (sym named)),
+        )
+    posts_again number false sound turn (same, slot, tries) = posts_none slot same tries
 
-    pub turns_posts_again : (number : ℕ) (result : Result Bool NoMemory) → IsSoundClient t.session t.commands → PostsAtResult t.commands number o v result commands o' v'
-        → ClientTurnsBy moves may (at t o v) result (at (record t { commands = commands }) o' v')
-    turns_posts_again number (Ok moved) sound done = posts_again number moved sound done
-    turns_posts_again number (Err e) sound done = (false, posts_again number false sound done)
+    pub turns_posts_again : (number : ℕ) (result : Result Bool NoMemory) → IsSoundClient t.session t.commands → ((c : CommandModel) → get t.commands.posted number ≡ Some c → IsOut t.session c.ticket)
+        → PostsAtResult t.commands number o v result commands o' v' → ClientTurnsBy moves may (at t o v) result (at (record t { commands = commands }) o' v')
+    turns_posts_again number (Ok moved) sound turn done = posts_again number moved sound turn done
+    turns_posts_again number (Err e) sound turn done = (false, posts_again number false sound turn done)
 
   -- events of one kind are of a wider one
   pub goes_wider : (few : ClientEvent → Bool) → ((event : ClientEvent) → few event ≡ true → may event ≡ true) → (old : ClientContext C) (moved : Bool) (new : ClientContext C)

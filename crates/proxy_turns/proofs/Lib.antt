@@ -12,6 +12,7 @@ pub mod Carrying
 pub mod Places
 pub mod Quiet
 pub mod Receiving
+pub mod Refusing
 pub mod Resting
 pub mod Counting
 pub mod EventKinds
@@ -22,3 +23,4 @@ pub mod Draining
 pub mod Noting
 pub mod Settling
 pub mod Undrained
+pub mod Turns

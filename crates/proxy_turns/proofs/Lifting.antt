@@ -16,18 +16,20 @@ use Rattle.proxy_lanes.specs.declared.ring.Inlet.{Inlet}
 use Rattle.proxy_lanes.specs.Lane.{Takes}
 use Rattle.proxy_turns.specs.declared.newcomer.Newcomer.{Newcomer}
 use Rattle.proxy_turns.specs.declared.turned.Turned.{Turned}
+use Rattle.proxy_turns.specs.declared.turned.Finish.{Finish}
+use Rattle.proxy_turns.specs.declared.turned.Finish.TheVariants as finish
 use Rattle.proxy_turns.specs.declared.turned.Settled.{Settled}
 use Rattle.proxy_turns.specs.declared.turned.Settled.TheVariants as settled
 use Rattle.proxy_turns.specs.Port.{Moves}
 use Rattle.proxy_turns.specs.Commands.{AwaitsIn, Hears}
 use Rattle.proxy_turns.specs.ClientModel.{ClientModel, IsDone, new_client}
-use Rattle.proxy_turns.specs.ClientTurn.{ClientContext, ClientEvent, ClientDoes, ClientGoes, SettleOutcome, TurnOutcome, is_client_move, is_settled}
-use Rattle.proxy_turns.specs.ClientTable.{AtClient, AtPlace, ClientsContext}
-use Rattle.proxy_turns.specs.WorkerModel.{WorkerModel, GivesBack, WorkerGoes, WorkerGoesBy, WorkerEvent, WorkerDoes, Learns, Leaves, OneCame, Tells, WorkerTurns, WorkerTurnsBy, clients_in, is_worker_move, with_port}
+use Rattle.proxy_turns.specs.ClientTurn.{ClientContext, ClientEvent, ClientDoes, ClientGoes, FinishOutcome, SettleOutcome, TurnOutcome, is_client_move, is_settled}
+use Rattle.proxy_turns.specs.ClientTable.{AtClient, AtPlace, ClientFinishes, ClientsContext}
+use Rattle.proxy_turns.specs.WorkerModel.{WorkerModel, GivesBack, WorkerGoes, WorkerGoesBy, WorkerEvent, WorkerDoes, Learns, Leaves, OneCame, Tells, WorkerTurns, WorkerTurnsBy, clients_in, is_worker_move, one_more, with_port}
 use Rattle.proxy_turns.specs.WorkerModel.WorkerEvent.{Came, Did, Finished, FoundNobody, FoundNone, Left, Took, TurnedAway}
-use Rattle.proxy_turns.specs.Arrivals.{PutsNew, counted_by, settled_in, turned_in}
-use Rattle.proxy_turns.proofs.Going.{at, or_false}
-use Rattle.proxy_turns.proofs.EventKinds.{and_both, and_true, every_one}
+use Rattle.proxy_turns.specs.Arrivals.{PutsNew, settled_in, turned_in}
+use Rattle.proxy_turns.proofs.Going.{at, goes_of as client_goes, or_false, tried}
+use Rattle.proxy_turns.proofs.EventKinds.{and_both, and_true, every_one, whatever}
 use Rattle.proxy_turns.proofs.Posting.{some_same}
 use Rattle.proxy_turns.proofs.Tables.{at_number, none_some, put_again}
 
@@ -157,37 +159,49 @@ module _ {C J : Type 0} (moves : Moves C) (may : WorkerEvent → Bool) where
   turned did base (Ok t) new entries place (inr (k, client, client', there, done, put, stands)) = goes_at did k base client client' new t.moved there put done.0
   turned did base (Err e) new entries place (inr (k, client, client', there, (moved, goes), put, stands)) = (moved, goes_at did k base client client' new moved there put goes)
 
-  counts : (base : WorkerModel C J) (new : ClientsContext C) (moved : Bool) (answered : ℕ) → answered ≡ base.answered → WorkerGoesBy moves may base moved (with_contexts base new)
-      → WorkerGoesBy moves may base moved (record (with_contexts base new) { answered = answered })
-  counts base new moved answered same goes =
-      let P : ℕ → Type 0 = λ n. WorkerGoesBy moves may base moved (record (with_contexts base new) { answered = n }) in subst P (sym same) goes
-
-  -- a step of a client's command is the worker's, and an end counts
-  pub settled_ok : ((k : ℕ) (event : ClientEvent) → may (Did k event) ≡ true) → ((k : ℕ) (t : Ticket) (end : Ended) → may (Finished k t end) ≡ true) → (base : WorkerModel C J) (ticket : Ticket) (s : Settled) (new : ClientsContext C) (answered : ℕ)
-      → AtClient (contexts_of base) ticket.client (λ a b. SettleOutcome moves a ticket.part (Ok s) b) (◌≡◌ {A = Result Settled NoMemory} (Ok s) (Ok settled.Nothing)) new
-      → answered ≡ counted_by s base.answered → WorkerGoesBy moves may base (is_settled s) (record (with_contexts base new) { answered = answered })
+  -- a step of a client's command is the worker's
+  pub settled_ok : ((k : ℕ) (event : ClientEvent) → may (Did k event) ≡ true) → (base : WorkerModel C J) (number : ℕ) (s : Settled) (new : ClientsContext C)
+      → AtClient (contexts_of base) number (λ a b. SettleOutcome moves a (Ok s) b) (◌≡◌ {A = Result Settled NoMemory} (Ok s) (Ok settled.Nothing)) new
+      → WorkerGoesBy moves may base (is_settled s) (with_contexts base new)
   unfolding ok_settled
-  settled_ok did ended base ticket s new answered (inl (absent, is, same)) count =
+  settled_ok did base number s new (inl (absent, is, same)) =
       let none : s ≡ settled.Nothing = ap ok_settled is in
-      let P : Settled → Type 0 = λ x. answered ≡ counted_by x base.answered → WorkerGoesBy moves may base (is_settled x) (record (with_contexts base new) { answered = answered }) in
-      subst P (sym none) (λ count. counts base new false answered count (unmoved base new same)) count
-  settled_ok did ended base ticket settled.Finished new answered (inr (client, client', there, (t, end, named, fin, is), put)) count =
-      by_all base (Finished ticket.client t end) (record (with_contexts base new) { answered = answered }) true refl (ended ticket.client t end)
-      (client, client', there, fin, λ i. record base { clients = put i; outlet = (is i).outlet; view = (is i).view; answered = count i })
-  settled_ok did ended base ticket settled.Posted new answered (inr (client, client', there, goes, put)) count =
-      counts base new true answered count (goes_at did ticket.client base client client' new true there put goes)
-  settled_ok did ended base ticket settled.Held new answered (inr (client, client', there, goes, put)) count =
-      counts base new false answered count (goes_at did ticket.client base client client' new false there put goes)
-  settled_ok did ended base ticket settled.Nothing new answered (inr (client, client', there, goes, put)) count =
-      counts base new false answered count (goes_at did ticket.client base client client' new false there put goes)
+      let P : Settled → Type 0 = λ x. WorkerGoesBy moves may base (is_settled x) (with_contexts base new) in
+      subst P (sym none) (unmoved base new same)
+  settled_ok did base number settled.Posted new (inr (client, client', there, goes, put)) = goes_at did number base client client' new true there put goes
+  settled_ok did base number settled.Held new (inr (client, client', there, goes, put)) = goes_at did number base client client' new false there put goes
+  settled_ok did base number settled.Nothing new (inr (client, client', there, goes, put)) = goes_at did number base client client' new false there put goes
 
-  pub settled_err : ((k : ℕ) (event : ClientEvent) → may (Did k event) ≡ true) → (base : WorkerModel C J) (ticket : Ticket) (e e' : NoMemory) (result : Result Settled NoMemory) (new : ClientsContext C)
-      → AtClient (contexts_of base) ticket.client (λ a b. SettleOutcome moves a ticket.part (Err e) b) (◌≡◌ {A = Result Settled NoMemory} (Err e) (Ok settled.Nothing)) new
-      → result ≡ Err e' → WorkerTurnsBy moves may base (settled_in result) (with_contexts base new)
-  settled_err did base ticket e e' result new (inl (absent, is, same)) so = absurd (not_ok settled.Nothing e is)
-  settled_err did base ticket e e' result new (inr (client, client', there, (moved, goes), put)) so =
-      let P : Result Settled NoMemory → Type 0 = λ r. WorkerTurnsBy moves may base (settled_in r) (with_contexts base new) in
-      subst P (sym so) (moved, goes_at did ticket.client base client client' new moved there put goes)
+  pub settled_all : ((k : ℕ) (event : ClientEvent) → may (Did k event) ≡ true) → (base : WorkerModel C J) (number : ℕ) (result : Result Settled NoMemory) (new : ClientsContext C)
+      → AtClient (contexts_of base) number (λ a b. SettleOutcome moves a result b) (result ≡ Ok settled.Nothing) new → WorkerTurnsBy moves may base (settled_in result) (with_contexts base new)
+  settled_all did base number (Ok s) new at = settled_ok did base number s new at
+  settled_all did base number (Err e) new (inl (absent, is, same)) = absurd (not_ok settled.Nothing e is)
+  settled_all did base number (Err e) new (inr (client, client', there, (moved, goes), put)) = (moved, goes_at did number base client client' new moved there put goes)
+
+  -- a part ends
+  pub finished : ((k : ℕ) (t : Ticket) (end : Ended) → may (Finished k t end) ≡ true) → (base : WorkerModel C J) (asked : Ticket) (next : Option Ticket) (clients' : FinMap nat_cmp (ClientModel C)) (answered : ℕ)
+      → ClientFinishes moves base.clients asked (Ok (finish.Ended next)) clients' → answered ≡ one_more base.answered → WorkerGoesBy moves may base true (record base { clients = clients'; answered = answered })
+  finished ended base asked next clients' answered (inl (absent, is, same)) count = absurd (cc)
+  finished ended base asked next clients' answered (inr (client, client', there, (t, end, named, was_out, fin, comes), put)) count =
+      by_all base (Finished asked.client t end) (record base { clients = clients'; answered = answered }) true refl (ended asked.client t end)
+      (client, client', there, fin, λ i. record base { clients = put i; answered = count i })
+
+  pub not_finished : (base : WorkerModel C J) (asked : Ticket) (clients' : FinMap nat_cmp (ClientModel C)) → ClientFinishes moves base.clients asked (Ok finish.Open) clients' → WorkerGoesBy moves may base false (record base { clients = clients' })
+  not_finished base asked clients' (inl (absent, is, same)) = stays_all base (record base { clients = clients' }) (λ i. record base { clients = same i })
+  not_finished base asked clients' (inr (client, client', there, (none, same), put)) =
+      stays_all base (record base { clients = clients' }) (λ i. record base { clients = (put ∙ ap (insert base.clients asked.client) same ∙ put_again base.clients asked.client client there) i })
+
+  pub finish_failed : ((k : ℕ) (event : ClientEvent) → may (Did k event) ≡ true) → (base : WorkerModel C J) (asked : Ticket) (e e' : NoMemory) (result : Result Bool NoMemory) (clients' : FinMap nat_cmp (ClientModel C))
+      → ClientFinishes moves base.clients asked (Err e) clients' → result ≡ Err e' → WorkerTurnsBy moves may base result (record base { clients = clients' })
+  finish_failed did base asked e e' result clients' (inl (absent, is, same)) so = absurd (cc)
+  finish_failed did base asked e e' result clients' (inr (client, client', there, (m, same), put)) so =
+      let P : Result Bool NoMemory → Type 0 = λ r. WorkerTurnsBy moves may base r (record base { clients = clients' }) in
+      let as_context : ClientModel C → ClientContext C = λ x. at x base.outlet base.view in
+      subst P (sym so) (
+        false,
+        goes_at did asked.client base client client' (record { clients = clients'; outlet = base.outlet; view = base.view }) false there put
+            (subst (λ x. ClientGoes moves (at client base.outlet base.view) false (as_context x)) (sym same) (client_goes moves whatever _ _ _ (tried moves whatever client base.outlet base.view refl client'.port m))),
+      )
 
   pub took : ((ticket : Ticket) (told : Told) → may (Took ticket told) ≡ true) → (base : WorkerModel C J) (clients' : FinMap nat_cmp (ClientModel C)) (inlet' : Inlet (Ticket × Told)) (ticket : Ticket) (told : Told) (heard : Bool)
       → Takes base.inlet inlet' (Some (ticket, told)) → Tells base.clients ticket told heard clients' → WorkerGoesBy moves may base true (record base { clients = clients'; inlet = inlet' })

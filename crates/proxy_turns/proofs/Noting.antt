@@ -10,7 +10,7 @@ use Rattle.std.specs.BinaryHeap.{heap_items}
 use Rattle.std.proofs.lemmas.Bool.{false≢true}
 use Rattle.std.proofs.lemmas.Bool.Decides.{nat_tests}
 use Rattle.std.proofs.lemmas.List.Sorted.{list_any-IsPermutation}
-use Rattle.key_split.specs.declared.travel.Batch.{Batch}
+use Rattle.key_split.specs.Runs.{RunModel}
 use Rattle.key_split.specs.declared.travel.Ticket.{Ticket}
 use Rattle.command_future.specs.declared.stage.Stage.{Stage}
 use Rattle.command_future.specs.declared.stage.Stage.TheVariants.{Wants, WantsAsking, Awaits, Over}
@@ -99,21 +99,19 @@ wants_pause (WantsAsking node) followed is wants = cc
 wants_pause Awaits followed is wants = wants
 wants_pause (Over end) followed is wants = wants
 
--- whatever a step left of a command wants to be posted
-pub left_wants : (s : Settled) (P : CommandModel → Type 0) (outlet : Outlet Batch) → IsSettled (Ok s) P outlet → (c : CommandModel) → P c → WantsPost c.stage
-left_wants settled.Finished P outlet left c is = absurd (left c is)
-left_wants settled.Posted P outlet left c is = absurd (left c is)
-left_wants settled.Held P outlet left c is = left.1 c is
-left_wants settled.Nothing P outlet left c is = absurd (left c is)
+pause_wants : (stage : Stage) (followed pause : ℕ) → pause_at stage followed ≡ Some pause → WantsPost stage
+pause_wants (Wants named) followed pause is = tt
+pause_wants (WantsAsking node) followed pause is = tt
+pause_wants Awaits followed pause is = cc
+pause_wants (Over end) followed pause is = cc
 
-pub held_full : (s : Settled) (P : CommandModel → Type 0) (outlet : Outlet Batch) → s ≡ settled.Held → IsSettled (Ok s) P outlet → HasNoPlace outlet
-held_full s P outlet held left = (subst (λ s. IsSettled (Ok s) P outlet) held left).0
+pub held_full : (s : Settled) (P : CommandModel → Type 0) (outlet : Outlet RunModel) → s ≡ settled.Held → IsSettled (Ok s) P outlet → HasNoPlace outlet
+held_full s P outlet held left = subst (λ s. IsSettled (Ok s) P outlet) held left
 
-pub left_none : (s : Settled) (P : CommandModel → Type 0) (outlet : Outlet Batch) → (s ≡ settled.Held → ⊥) → IsSettled (Ok s) P outlet → (c : CommandModel) → P c → ⊥
-left_none settled.Finished P outlet not left c is = left c is
-left_none settled.Posted P outlet not left c is = left c is
-left_none settled.Held P outlet not left c is = absurd (not refl)
-left_none settled.Nothing P outlet not left c is = left c is
+pub left_none : (s : Settled) (P : CommandModel → Type 0) (outlet : Outlet RunModel) → (s ≡ settled.Held → ⊥) → IsSettled (Ok s) P outlet → (c : CommandModel) → P c → WantsPost c.stage → ⊥
+left_none settled.Posted P outlet not left c is wants = left c is wants
+left_none settled.Held P outlet not left c is wants = absurd (not refl)
+left_none settled.Nothing P outlet not left c is wants = left c is wants
 
 module _ {C : Type 0} (clients : FinMap nat_cmp (ClientModel C)) (old new : DueCommands) (ticket : Ticket) (rest : List Ticket) where
   stands_here : (number part : ℕ) (c : CommandModel) → is_ticket number part ticket ≡ true → IsToSettleAt clients number part c → IsToSettleAt clients ticket.client ticket.part c
@@ -133,16 +131,16 @@ module _ {C : Type 0} (clients : FinMap nat_cmp (ClientModel C)) (old new : DueC
           (sym (ap (list_any (is_ticket number part)) first) ∙ was)
       by (Some pause) is was = (λ i. list_any (is_ticket number part) (kept.0 i).items || (nat_lt 0 pause && list_any (is_pause_of number part) (heap_items (kept.1 i)))) ∙ was
 
-  -- the oldest of those that are due is dropped, where no command is left of it
+  -- the oldest of those that are due is dropped, where no command is left of it that wants its post
   pub due_dropped : old.due.items ≡ ticket ∷ rest → new.due.items ≡ drop 1 old.due.items → (new.ended ≡ old.ended) × (new.paused ≡ old.paused)
-      → ((c : CommandModel) → IsToSettleAt clients ticket.client ticket.part c → ⊥) → AreNoted clients old → AreNoted clients new
-  due_dropped first dropped kept left noted number part c stands = by (pause_at c.stage c.followed) (noted number part c stands)
+      → ((c : CommandModel) → IsToSettleAt clients ticket.client ticket.part c → WantsPost c.stage → ⊥) → AreNoted clients old → AreNoted clients new
+  due_dropped first dropped kept left noted number part c stands = by (pause_at c.stage c.followed) refl (noted number part c stands)
     where
-      by : (pause : Option ℕ) → is_noted old number part pause ≡ true → is_noted new number part pause ≡ true
-      by None was = (λ i. list_any (is_ticket number part) (kept.0 i).items) ∙ was
-      by (Some pause) was =
+      by : (pause : Option ℕ) → pause_at c.stage c.followed ≡ pause → is_noted old number part pause ≡ true → is_noted new number part pause ≡ true
+      by None is was = (λ i. list_any (is_ticket number part) (kept.0 i).items) ∙ was
+      by (Some pause) is was =
           let q = is_ticket number part in
           let waits = nat_lt 0 pause && list_any (is_pause_of number part) (heap_items old.paused) in
           (λ i. list_any q ((dropped ∙ ap (drop 1) first) i) || (nat_lt 0 pause && list_any (is_pause_of number part) (heap_items (kept.1 i))))
-          ∙ or_both (list_any q (ticket ∷ rest)) waits (list_any q rest) waits (not_here (q ticket) (list_any q rest) (λ same. left c (stands_here number part c same stands))) (λ is. is)
+          ∙ or_both (list_any q (ticket ∷ rest)) waits (list_any q rest) waits (not_here (q ticket) (list_any q rest) (λ same. left c (stands_here number part c same stands) (pause_wants c.stage c.followed pause is))) (λ is. is)
           (sym (ap (λ ts. list_any q ts || waits) first) ∙ was)

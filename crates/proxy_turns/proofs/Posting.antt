@@ -1,22 +1,24 @@
 -- One command of a client's is posted, told, or ends.
-use Rattle.std.proofs.Common.{◌≡◌, ◌⊎◌, ℕ, nat_eq, Bool, true, false, List, Option, is_some, Some, None, Result, Ok, Err, inl, inr, refl, sym, ap, ◌∙◌, subst}
-use Rattle.std.specs.Prelude.{IfOk, OnErr}
+use Rattle.std.proofs.Common.{◌≡◌, ◌⊎◌, ◌≤◌, ◌-◌, ◌++◌, ◌∷◌, [], arith, drop, get_or, length, map, take, ℕ, nat_eq, Bool, true, false, List, Option, Some, None, Result, Ok, Err, inl, inr, refl, sym, ap, ◌∙◌, subst}
+use Rattle.std.specs.Prelude.{All, IfOk, OnErr}
+use Rattle.std.proofs.lemmas.List.{append_assoc}
+use Rattle.std.proofs.lemmas.List.Elements.{All-cons, All-nil, All-tail, All-weaker}
 use Rattle.std.specs.FinMap.{get, insert}
 use Rattle.std.specs.Map.{lookup}
-use Rattle.std.proofs.lemmas.Bool.{false≢true}
 use Rattle.slot_hash.specs.Slot.{slot_of}
 use Rattle.slot_map.specs.declared.ops.MapOp.{MapOp}
 use Rattle.resp_wire.specs.declared.fault.NoMemory.{NoMemory}
-use Rattle.key_split.specs.declared.travel.Batch.{Batch}
+use Rattle.key_split.specs.Runs.{RunModel}
 use Rattle.key_split.specs.declared.travel.Ticket.{Ticket}
 use Rattle.key_split.specs.declared.travel.Told.{Told}
 use Rattle.command_future.specs.declared.stage.Stage.{Stage}
 use Rattle.command_future.specs.declared.stage.Stage.TheVariants.{Wants, WantsAsking, Awaits, Over}
-use Rattle.command_future.specs.CommandModel.{CommandModel, WantsPost, batch_of}
+use Rattle.key_split.specs.declared.travel.Batch.{Batch}
+use Rattle.command_future.specs.CommandModel.{CommandModel, IsFresh, MayPostTo, WantsPost, batch_of}
 use Rattle.proxy_lanes.specs.declared.map_view.NotEntered.{NotEntered}
 use Rattle.proxy_lanes.specs.declared.ring.Outlet.{Outlet}
 use Rattle.proxy_lanes.specs.Lane.{Posts}
-use Rattle.proxy_turns.specs.Commands.{CommandsModel, Drops, WantsPostAt, commanded, in_table, AwaitsIn, Hears, HearsOne, GoesTo, Looks, PostOutcome, PostsAtResult, PostsFresh}
+use Rattle.proxy_turns.specs.Commands.{AreOneRun, AwaitsIn, CommandsModel, GoesTo, GoesWith, Hears, HearsOne, Looks, PostOutcome, PostsAtResult, PostsFresh, WantsPostAt, awaiting, commanded, in_table, run_of, with_posted}
 use Rattle.proxy_turns.specs.ClientRest.{IfStill}
 use Rattle.proxy_turns.specs.Pause.{pause_at}
 use Rattle.proxy_turns.proofs.Tables.{put_again, at_number, none_some}
@@ -37,32 +39,36 @@ went (WantsAsking named) slot view node view' goes = inl goes.1
 went Awaits slot view node view' goes = absurd goes
 went (Over end) slot view node view' goes = absurd goes
 
--- the batch was made and could not be posted, or could not be made
-pub came_back : (c : CommandModel) (outlet outlet' : Outlet Batch) (view view' : List MapOp) (node : ℕ) (batch : Batch)
-    → GoesTo c.stage (slot_of c.part.key) view node view' → Posts outlet outlet' batch (Err batch) → PostOutcome c outlet view false c outlet' view'
-came_back c outlet outlet' view view' node batch goes back = (refl, (went c.stage (slot_of c.part.key) view node view' goes, inr (batch, back)))
+-- the run was made and could not be posted, or could not be made
+pub came_back : (c : CommandModel) (outlet outlet' : Outlet RunModel) (view view' : List MapOp) (node : ℕ) (run : RunModel)
+    → GoesTo c.stage (slot_of c.part.key) view node view' → Posts outlet outlet' run (Err run) → PostOutcome c outlet view false c outlet' view'
+came_back c outlet outlet' view view' node run goes back = (refl, (went c.stage (slot_of c.part.key) view node view' goes, inr (run, back)))
 
-pub not_made : (c : CommandModel) (outlet : Outlet Batch) (view view' : List MapOp) (node : ℕ)
+pub not_made : (c : CommandModel) (outlet : Outlet RunModel) (view view' : List MapOp) (node : ℕ)
     → GoesTo c.stage (slot_of c.part.key) view node view' → PostOutcome c outlet view false c outlet view'
 not_made c outlet view view' node goes = (refl, (went c.stage (slot_of c.part.key) view node view' goes, inl refl))
 
-pub was_posted : (c c' : CommandModel) (outlet outlet' : Outlet Batch) (view view' : List MapOp) (node : ℕ) (batch : Batch)
-    → GoesTo c.stage (slot_of c.part.key) view node view' → batch ≡ batch_of c node → Posts outlet outlet' batch (Ok tt) → c' ≡ record c { stage = Awaits }
-    → PostOutcome c outlet view true c' outlet' view'
-was_posted c c' outlet outlet' view view' node batch goes is posts new =
-    let same : batch.node ≡ node = ap (λ (b : Batch). b.node) is in
-    let P : ℕ → Type 0 = λ n. GoesTo c.stage (slot_of c.part.key) view n view' × (batch ≡ batch_of c n) in
-    let both = subst P (sym same) (goes, is) in
-    (batch, both.0, both.1, posts, new)
+-- where the first goes, the run goes
+run_goes : (first : CommandModel) (later : List CommandModel) (view view' : List MapOp) (node : ℕ) (run : RunModel) → GoesTo first.stage (slot_of first.part.key) view node view' → run ≡ run_of first later node
+    → GoesTo first.stage (slot_of first.part.key) view run.first.node view' × (run ≡ run_of first later run.first.node)
+run_goes first later view view' node run goes is =
+    let same : run.first.node ≡ node = ap (λ (r : RunModel). r.first.node) is in
+    let P : ℕ → Type 0 = λ n. GoesTo first.stage (slot_of first.part.key) view n view' × (run ≡ run_of first later n) in
+    subst P (sym same) (goes, is)
 
-module _ (fresh : Option CommandModel) (old new : List (ℕ × CommandModel)) (number : ℕ) (c c' : CommandModel)
+pub was_posted : (c c' : CommandModel) (outlet outlet' : Outlet RunModel) (view view' : List MapOp) (node : ℕ) (run : RunModel)
+    → GoesTo c.stage (slot_of c.part.key) view node view' → run ≡ run_of c [] node → Posts outlet outlet' run (Ok tt) → c' ≡ awaiting c → PostOutcome c outlet view true c' outlet' view'
+was_posted c c' outlet outlet' view view' node run goes is posts new =
+    let both = run_goes c [] view view' node run goes is in (run, both.0, both.1, posts, new)
+
+module _ (fresh : List CommandModel) (old new : List (ℕ × CommandModel)) (number : ℕ) (c c' : CommandModel)
     (at : get (in_table old) number ≡ Some c) (put : in_table new ≡ insert (in_table old) number c') where
   unchanged : c' ≡ c → commanded fresh new ≡ commanded fresh old
   unchanged is =
       let same : in_table new ≡ in_table old = put ∙ ap (insert (in_table old) number) is ∙ put_again (in_table old) number c at in
       λ i. record { fresh = fresh; posted = same i }
 
-  pub posts_at : (outlet outlet' : Outlet Batch) (view view' : List MapOp) (result : Result Bool NoMemory)
+  pub posts_at : (outlet outlet' : Outlet RunModel) (view view' : List MapOp) (result : Result Bool NoMemory)
       → IfOk result (λ moved. PostOutcome c outlet view moved c' outlet' view') → OnErr result (PostOutcome c outlet view false c' outlet' view')
       → PostsAtResult (commanded fresh old) number outlet view result (commanded fresh new) outlet' view'
   posts_at outlet outlet' view view' (Ok true) ok err =
@@ -85,37 +91,69 @@ module _ (fresh : Option CommandModel) (old new : List (ℕ × CommandModel)) (n
   )
 
 -- no command of the ticket was posted
-pub silent : (fresh : Option CommandModel) (entries : List (ℕ × CommandModel)) (ticket : Ticket) → lookup (nat_eq ticket.part) entries ≡ None
+pub silent : (fresh : List CommandModel) (entries : List (ℕ × CommandModel)) (ticket : Ticket) → lookup (nat_eq ticket.part) entries ≡ None
     → AwaitsIn (commanded fresh entries) ticket → ⊥
 silent fresh entries ticket absent (c, (at, named, waits)) = none_some c (sym absent ∙ at_number ticket.part entries ∙ at)
 
-pub same_commands : (fresh fresh' : Option CommandModel) (old new : List (ℕ × CommandModel)) → fresh' ≡ fresh → in_table new ≡ in_table old → commanded fresh' new ≡ commanded fresh old
-same_commands fresh fresh' old new f t = λ i. record { fresh = f i; posted = t i }
+pub same_commands : (fresh : List CommandModel) (old new : List (ℕ × CommandModel)) → in_table new ≡ in_table old → commanded fresh new ≡ commanded fresh old
+same_commands fresh old new t = λ i. record { fresh = fresh; posted = t i }
 
-module _ (fresh : Option CommandModel) (old reserved : List (ℕ × CommandModel)) (c c' : CommandModel) (is : fresh ≡ Some c) (same : in_table reserved ≡ in_table old)
-    (outlet outlet' : Outlet Batch) (view view' : List MapOp) where
-  pub posts_fresh : (after : Option CommandModel) (new : List (ℕ × CommandModel)) → after ≡ None → in_table new ≡ insert (in_table reserved) c'.ticket.part c'
-      → PostOutcome c outlet view true c' outlet' view' → PostsFresh (commanded fresh old) outlet view true (commanded after new) outlet' view'
-  posts_fresh after new cleared put (batch, goes, wanted, posts, now) =
-      let number : c'.ticket.part ≡ c.ticket.part = ap (λ (x : CommandModel). x.ticket.part) now in (
-        c,
-        c',
-        is,
-        (batch, goes, wanted, posts, now),
-        λ i. record { fresh = cleared i; posted = (put ∙ ap (λ m. insert m c'.ticket.part c') same ∙ ap (λ n. insert (in_table old) n c') number) i },
+module _ (fresh : List CommandModel) (first : CommandModel) (later : List CommandModel) (those : fresh ≡ first ∷ later) (old reserved : List (ℕ × CommandModel)) (same : in_table reserved ≡ in_table old)
+    (outlet outlet' : Outlet RunModel) (view view' : List MapOp) (node : ℕ) (goes : GoesTo first.stage (slot_of first.part.key) view node view') where
+  -- all were posted
+  pub posts_all : (run : RunModel) → run ≡ run_of first later node → Posts outlet outlet' run (Ok tt) → (left : List CommandModel) → left ≡ [] → (new : List (ℕ × CommandModel))
+      → in_table new ≡ with_posted (in_table reserved) fresh → PostsFresh (commanded fresh old) outlet view true (commanded left new) outlet' view'
+  posts_all run is posts left none new put =
+      let both = run_goes first later view view' node run goes is in (
+        first,
+        later,
+        run,
+        those,
+        both.0,
+        both.1,
+        posts,
+        λ i. record { fresh = none i; posted = (put ∙ ap (λ m. with_posted m fresh) same ∙ ap (with_posted (in_table old)) those) i },
       )
 
-  pub keeps_fresh : (fresh' : Option CommandModel) → fresh' ≡ Some c' → PostOutcome c outlet view false c' outlet' view'
-      → PostsFresh (commanded fresh old) outlet view false (commanded fresh' reserved) outlet' view'
-  keeps_fresh fresh' now (unchanged, tries) =
-      (same_commands fresh fresh' old reserved (now ∙ ap Some unchanged ∙ sym is) same, slot_of c.part.key, tries)
+  -- the run came back
+  pub none_back : (run : RunModel) → Posts outlet outlet' run (Err run) → PostsFresh (commanded fresh old) outlet view false (commanded fresh reserved) outlet' view'
+  none_back run back = (same_commands fresh old reserved same, slot_of first.part.key, (went first.stage (slot_of first.part.key) view node view' goes, inr (run, back)))
 
-pub drops_by : (fresh fresh' : Option CommandModel) (entries : List (ℕ × CommandModel)) (was : Bool) → was ≡ is_some fresh → fresh' ≡ None
-    → Drops (commanded fresh entries) was (commanded fresh' entries)
-drops_by None fresh' entries true e cleared = absurd (false≢true (sym e))
-drops_by None fresh' entries false e cleared = (refl, λ i. record { fresh = cleared i; posted = in_table entries })
-drops_by (Some c) fresh' entries true e cleared = (c, refl, λ i. record { fresh = cleared i; posted = in_table entries })
-drops_by (Some c) fresh' entries false e cleared = absurd (false≢true e)
+  -- no run was made
+  pub none_made : PostsFresh (commanded fresh old) outlet view false (commanded fresh reserved) outlet view'
+  none_made = (same_commands fresh old reserved same, slot_of first.part.key, (went first.stage (slot_of first.part.key) view node view' goes, inl refl))
+
+all_taken : {X : Type 0} (xs : List X) → take (length xs) xs ≡ xs
+all_taken [] = refl
+all_taken (x ∷ xs) = ap (λ ys. x ∷ ys) (all_taken xs)
+
+-- the first of a list, and those behind it
+pub front_item : {X : Type 0} (xs : List X) (x : X) → 1 ≤ length xs → x ≡ get_or xs 0 x → xs ≡ x ∷ take (length xs - 1) (drop 1 xs)
+front_item [] x some is = absurd (omega (arith, some))
+front_item (first ∷ more) x some is =
+    let count : length (first ∷ more) - 1 ≡ length more = omega arith in
+    ap (λ p. p ∷ more) (sym is) ∙ ap (λ ps. x ∷ ps) (sym (ap (λ n. take n more) count ∙ all_taken more))
+
+-- one more goes behind the others
+pub one_more_goes : (first : CommandModel) (node : ℕ) (all rest : List CommandModel) (next : CommandModel) (later grown : List Batch) (batch : Batch) → 1 ≤ length rest → next ≡ get_or rest 0 next
+    → batch ≡ batch_of next node → grown ≡ later ++ batch ∷ [] → later ++ map (λ c. batch_of c node) rest ≡ map (λ c. batch_of c node) all → All (GoesWith first) rest
+    → (grown ++ map (λ c. batch_of c node) (take (length rest - 1) (drop 1 rest)) ≡ map (λ c. batch_of c node) all) × All (GoesWith first) (take (length rest - 1) (drop 1 rest))
+one_more_goes first node all rest next later grown batch some item made pushed so_far goes =
+    let tail = take (length rest - 1) (drop 1 rest) in
+    let whole : rest ≡ next ∷ tail = front_item rest next some item in
+    let batches : List CommandModel → List Batch = map (λ c. batch_of c node) in (
+      ap (λ (bs : List Batch). bs ++ batches tail) (pushed ∙ ap (λ (b : Batch). later ++ b ∷ []) made) ∙ append_assoc later (batch_of next node ∷ []) (batches tail) ∙ sym (ap (λ (cs : List CommandModel). later ++ batches cs) whole) ∙ so_far,
+      All-tail (GoesWith first) next tail (subst (All (GoesWith first)) whole goes),
+    )
+
+-- each may be posted anywhere
+pub may_all : (cs : List CommandModel) (node : ℕ) → AreOneRun cs → All (λ c. MayPostTo c.stage node) cs
+may_all [] node one = All-nil (λ c. MayPostTo c.stage node)
+may_all (first ∷ later) node (own, others) =
+    All-cons (λ c. MayPostTo c.stage node) first later (may_one first own) (All-weaker (GoesWith first) (λ c. MayPostTo c.stage node) (λ c goes. may_one c goes.fresh) later others)
+  where
+    may_one : (c : CommandModel) → IsFresh c → MayPostTo c.stage node
+    may_one c is = subst (λ (x : CommandModel). MayPostTo x.stage node) (sym is) tt
 
 -- ---- whether a command wants its post
 
@@ -130,15 +168,9 @@ wants_here commands number c at (d, there, wants) = subst (λ (x : CommandModel)
 pub wants_nowhere : (commands : CommandsModel) (number : ℕ) → get commands.posted number ≡ None → WantsPostAt commands number → ⊥
 wants_nowhere commands number absent (d, there, wants) = none_some d (sym absent ∙ there)
 
-pub has_pause : (stage : Stage) (followed : ℕ) → WantsPost stage → is_some (pause_at stage followed) ≡ true
-has_pause (Wants None) followed wants = refl
-has_pause (Wants (Some node)) followed wants = refl
-has_pause (WantsAsking node) followed wants = refl
-has_pause Awaits followed wants = absurd wants
-has_pause (Over end) followed wants = absurd wants
-
-pub wants_by : (stage : Stage) (followed : ℕ) → is_some (pause_at stage followed) ≡ true → WantsPost stage
-wants_by (Wants named) followed is = tt
-wants_by (WantsAsking node) followed is = tt
-wants_by Awaits followed is = false≢true is
-wants_by (Over end) followed is = false≢true is
+pub wants_no_more : (stage : Stage) (followed : ℕ) → pause_at stage followed ≡ None → WantsPost stage → ⊥
+wants_no_more (Wants None) followed is wants = cc
+wants_no_more (Wants (Some node)) followed is wants = cc
+wants_no_more (WantsAsking node) followed is wants = cc
+wants_no_more Awaits followed is wants = wants
+wants_no_more (Over end) followed is wants = wants

@@ -17,10 +17,10 @@ use Rattle.proxy_lanes.specs.Ends.{ChangesAt, Gives, GivesDown, TakesUp}
 use Rattle.proxy_turns.specs.declared.backend.Backend.{Backend}
 use Rattle.proxy_turns.specs.declared.backend.PendingTold.{PendingTold}
 use Rattle.proxy_turns.specs.declared.backend_step.BackendStep.TheVariants as step
-use Rattle.proxy_turns.specs.declared.pending_batch.PendingBatch.{PendingBatch}
+use Rattle.proxy_turns.specs.declared.pending_run.PendingRun.{PendingRun}
 use Rattle.proxy_turns.specs.Backend.{BackendContext, new_backend}
 use Rattle.key_split.specs.declared.travel.Told.TheVariants.{Unsent}
-use Rattle.proxy_turns.specs.PendingBatch.{ComesBack, TakeOutcome, WaitsToGive, WaitsToTell}
+use Rattle.proxy_turns.specs.PendingRun.{ComesBack, TakeOutcome, WaitsToGive, WaitsToTell}
 use Rattle.proxy_turns.specs.Resting.{IsBlocked}
 use Rattle.proxy_turns.specs.CarrierModel.{CarrierModel, CarrierEvent, CarrierDoes, CarrierGoesBy, adds_worker, is_carrier_move}
 use Rattle.proxy_turns.specs.CarrierModel.CarrierEvent.{AtBackend, Starved, WorkerAdded, BackendAdded, Looked, Took, Opened, Refused, Missed, SeedReached, Sought, Reached, NotFound, Sent, Gave, GaveUnsent}
@@ -112,10 +112,10 @@ module _ {H : Type 0} where
 
 -- ---- a carrier
 
--- what events that move nothing leave: the same batches, backends of which only links went on, lanes that are no emptier
+-- what events that move nothing leave: the same runs, backends of which only links went on, lanes that are no emptier
 pub record Quiet {H P : Type 0} (old new : CarrierModel H P) : Type 0 where
   pub seed : new.seed_to_dial ≡ old.seed_to_dial
-  pub batches : new.pending_batches ≡ old.pending_batches
+  pub runs : new.pending_runs ≡ old.pending_runs
   pub workers : length new.lanes ≡ length old.lanes
   pub lanes : (k : ℕ) → LaneStays (slice_get old.lanes k) (slice_get new.lanes k)
   pub backends : (k : ℕ) → BackendStays (slice_get old.backends k) (slice_get new.backends k)
@@ -124,7 +124,7 @@ module _ {H P : Type 0} where
   pub quiet_same : (old : CarrierModel H P) → Quiet old old
   quiet_same old = record {
     seed = refl;
-    batches = refl;
+    runs = refl;
     workers = refl;
     lanes = λ k. lane_same (slice_get old.lanes k);
     backends = λ k. backend_same (slice_get old.backends k);
@@ -133,7 +133,7 @@ module _ {H P : Type 0} where
   pub quiet_then : (old mid new : CarrierModel H P) → Quiet old mid → Quiet mid new → Quiet old new
   quiet_then old mid new f g = record {
     seed = g.seed ∙ f.seed;
-    batches = g.batches ∙ f.batches;
+    runs = g.runs ∙ f.runs;
     workers = g.workers ∙ f.workers;
     lanes = λ k. lane_then (slice_get old.lanes k) (slice_get mid.lanes k) (slice_get new.lanes k) (f.lanes k) (g.lanes k);
     backends = λ k. backend_then (slice_get old.backends k) (slice_get mid.backends k) (slice_get new.backends k) (f.backends k) (g.backends k);
@@ -146,7 +146,7 @@ module _ {H P : Type 0} where
       let Q : List (LaneEnds H) → Type 0 = λ ls. Quiet old (record old { lanes = ls }) in
       subst Q (sym is) (record {
         seed = refl;
-        batches = refl;
+        runs = refl;
         workers = length-set old.lanes worker lane';
         lanes = set_stays LaneStays lane_same old.lanes worker lane lane' at (stays lane lane' changes);
         backends = λ k. backend_same (slice_get old.backends k);
@@ -164,14 +164,14 @@ module _ {H P : Type 0} where
   gives_nothing old lanes' (Some pending_told) (inl unpublished) = lanes_same old lanes' unpublished.1
   gives_nothing old lanes' (Some pending_told) (inr back) = pair_back old lanes' (pending_told.ticket, pending_told.told) back.1
 
-  tells_none : (old : CarrierModel H P) (lanes' : List (LaneEnds H)) (refused : Option Ticket) → WaitsToTell refused old.lanes lanes' → Quiet old (record old { lanes = lanes' })
-  tells_none old lanes' None same = lanes_same old lanes' same
-  tells_none old lanes' (Some ticket) back = pair_back old lanes' (ticket, Unsent) back
+  tells_none : (old : CarrierModel H P) (lanes' : List (LaneEnds H)) (refused : List Ticket) → WaitsToTell refused old.lanes lanes' → Quiet old (record old { lanes = lanes' })
+  tells_none old lanes' [] same = lanes_same old lanes' same
+  tells_none old lanes' (ticket ∷ later) back = pair_back old lanes' (ticket, Unsent) back
 
-  takes_none : (old : CarrierModel H P) (lanes' : List (LaneEnds H)) (worker : ℕ) (pending_batch : PendingBatch) → TakeOutcome worker pending_batch old.lanes false pending_batch lanes'
+  takes_none : (old : CarrierModel H P) (lanes' : List (LaneEnds H)) (worker : ℕ) (pending_run : PendingRun) → TakeOutcome worker pending_run old.lanes false pending_run lanes'
       → Quiet old (record old { lanes = lanes' })
-  takes_none old lanes' worker pending_batch (same, inl pending) = lanes_same old lanes' pending.1
-  takes_none old lanes' worker pending_batch (same, inr none) = lane_changes old lanes' worker (λ lane lane'. TakesUp lane lane' None) empty_stays none.1
+  takes_none old lanes' worker pending_run (same, inl pending) = lanes_same old lanes' pending.1
+  takes_none old lanes' worker pending_run (same, inr none) = lane_changes old lanes' worker (λ lane lane'. TakesUp lane lane' None) empty_stays none.1
 
   with_lanes : (old new : CarrierModel H P) → new ≡ record old { lanes = new.lanes } → Quiet old (record old { lanes = new.lanes }) → Quiet old new
   with_lanes old new is quiet = let Q : CarrierModel H P → Type 0 = λ c. Quiet old c in subst Q (sym is) quiet
@@ -181,8 +181,8 @@ waited_link : {P : Type 0} (failures : P → ℕ) (is_garbled : P → Type 0) (e
 waited_link failures is_garbled exchange link link' nodes nodes' (none, table, (inl came)) = ap (λ (l : LinkModel _). l.failure) came.1
 waited_link failures is_garbled exchange link link' nodes nodes' (none, table, (inr (value, comes, owed, is))) = ap (λ (l : LinkModel _). l.failure) is
 
-module _ {H P : Type 0} (failures : P → ℕ) (is_garbled : P → Type 0) (exchange : P → List Request → List Value → P → Type 0) (gives_none : P → Type 0) (opens : Endpoint → P → Type 0) where
-  waited : (old new : CarrierModel H P) → CarrierDoes failures is_garbled exchange gives_none opens old (AtBackend step.Waited) new → Quiet old new
+module _ {H P : Type 0} (failures : P → ℕ) (is_garbled : P → Type 0) (exchange : P → List Request → List Value → P → Type 0) (gives_none : P → Type 0) (opens : Endpoint → P → Type 0) (longest : P → ℕ) where
+  waited : (old new : CarrierModel H P) → CarrierDoes failures is_garbled exchange gives_none opens longest old (AtBackend step.Waited) new → Quiet old new
   waited old new (k, backend, backend', at, (link, link', (there, receives), none, context), is) =
       let now : backend' ≡ record backend { link = Some link' } = ap (λ (c : BackendContext P). c.backend) context in
       let L : Option (LinkModel P) → Type 0 = λ o. LinkStays o (Some link') in
@@ -191,13 +191,13 @@ module _ {H P : Type 0} (failures : P → ℕ) (is_garbled : P → Type 0) (exch
       let Q : CarrierModel H P → Type 0 = λ c. Quiet old c in
       subst Q (sym is) (record {
         seed = refl;
-        batches = refl;
+        runs = refl;
         workers = refl;
         lanes = λ k. lane_same (slice_get old.lanes k);
         backends = set_stays BackendStays backend_same old.backends k backend backend' at stays;
       })
 
-  idle : (old new : CarrierModel H P) → CarrierDoes failures is_garbled exchange gives_none opens old (AtBackend step.Idle) new → Quiet old new
+  idle : (old new : CarrierModel H P) → CarrierDoes failures is_garbled exchange gives_none opens longest old (AtBackend step.Idle) new → Quiet old new
   idle old new (k, backend, backend', at, context, is) =
       let same : backend' ≡ backend = ap (λ (c : BackendContext P). c.backend) context in
       let back : slice_set old.backends k backend' ≡ old.backends = ap (λ x. slice_set old.backends k x) same ∙ set-itself old.backends k backend at in
@@ -205,30 +205,30 @@ module _ {H P : Type 0} (failures : P → ℕ) (is_garbled : P → Type 0) (exch
       let B : List (Backend P) → Type 0 = λ bs. Quiet old (record old { backends = bs; nodes = new.nodes; published = new.published }) in
       subst Q (sym is) (subst B (sym back) (record {
         seed = refl;
-        batches = refl;
+        runs = refl;
         workers = refl;
         lanes = λ k. lane_same (slice_get old.lanes k);
         backends = λ k. backend_same (slice_get old.backends k);
       }))
 
-  looked : (old new : CarrierModel H P) → CarrierDoes failures is_garbled exchange gives_none opens old Looked new → Quiet old new
+  looked : (old new : CarrierModel H P) → CarrierDoes failures is_garbled exchange gives_none opens longest old Looked new → Quiet old new
   looked old new (is, inl (k, backend, at, (same, gives))) = with_lanes old new is (gives_nothing old new.lanes backend.pending_told gives)
-  looked old new (is, inr (k, pending_batch, at, inl (same, tells))) = with_lanes old new is (tells_none old new.lanes pending_batch.refused tells)
-  looked old new (is, inr (k, pending_batch, at, inr takes)) = with_lanes old new is (takes_none old new.lanes k pending_batch takes)
+  looked old new (is, inr (k, pending_run, at, inl (same, tells))) = with_lanes old new is (tells_none old new.lanes pending_run.refused tells)
+  looked old new (is, inr (k, pending_run, at, inr takes)) = with_lanes old new is (takes_none old new.lanes k pending_run takes)
 
-  added : (old new : CarrierModel H P) → CarrierDoes failures is_garbled exchange gives_none opens old BackendAdded new → Quiet old new
+  added : (old new : CarrierModel H P) → CarrierDoes failures is_garbled exchange gives_none opens longest old BackendAdded new → Quiet old new
   added old new is =
       let Q : CarrierModel H P → Type 0 = λ c. Quiet old c in
       subst Q (sym is) (record {
         seed = refl;
-        batches = refl;
+        runs = refl;
         workers = refl;
         lanes = λ k. lane_same (slice_get old.lanes k);
         backends = added_stays BackendStays backend_same old.backends new_backend refl;
       })
 
   event_quiet : (old : CarrierModel H P) (event : CarrierEvent) (new : CarrierModel H P) → adds_worker event ≡ false → is_carrier_move event ≡ false
-      → CarrierDoes failures is_garbled exchange gives_none opens old event new → Quiet old new
+      → CarrierDoes failures is_garbled exchange gives_none opens longest old event new → Quiet old new
   event_quiet old (AtBackend step.Idle) new few still does = idle old new does
   event_quiet old (AtBackend step.Waited) new few still does = waited old new does
   event_quiet old (AtBackend step.Broke) new few still does = absurd (cc)
@@ -259,7 +259,7 @@ module _ {H P : Type 0} (failures : P → ℕ) (is_garbled : P → Type 0) (exch
   event_quiet old GaveUnsent new few still does = absurd (cc)
 
   events_quiet : (may : CarrierEvent → Bool) → ((event : CarrierEvent) → may event ≡ true → adds_worker event ≡ false) → (old : CarrierModel H P) (events : List CarrierEvent) (new : CarrierModel H P)
-      → list_all may events ≡ true → list_any is_carrier_move events ≡ false → FoldsTo (CarrierDoes failures is_garbled exchange gives_none opens) old events new → Quiet old new
+      → list_all may events ≡ true → list_any is_carrier_move events ≡ false → FoldsTo (CarrierDoes failures is_garbled exchange gives_none opens longest) old events new → Quiet old new
   events_quiet may few old [] new all still same = let Q : CarrierModel H P → Type 0 = λ c. Quiet old c in subst Q same (quiet_same old)
   events_quiet may few old (event ∷ events) new all still (mid, does, rest) =
       let both = and_both (may event) (list_all may events) all in
@@ -268,7 +268,7 @@ module _ {H P : Type 0} (failures : P → ℕ) (is_garbled : P → Type 0) (exch
 
   -- a call that moved nothing was quiet
   stays_quiet : (may : CarrierEvent → Bool) → ((event : CarrierEvent) → may event ≡ true → adds_worker event ≡ false) → (old : CarrierModel H P) (moved : Bool) (new : CarrierModel H P)
-      → moved ≡ false → CarrierGoesBy failures is_garbled exchange gives_none opens may old moved new → Quiet old new
+      → moved ≡ false → CarrierGoesBy failures is_garbled exchange gives_none opens longest may old moved new → Quiet old new
   stays_quiet may few old moved new still (events, folds, is, all) = events_quiet may few old events new all (sym is ∙ still) folds
 
 -- ---- calls
@@ -292,8 +292,8 @@ no_worker may none Sent kind = refl
 no_worker may none Gave kind = refl
 no_worker may none GaveUnsent kind = refl
 
-module _ {H P : Type 0} (failures : P → ℕ) (is_garbled : P → Type 0) (exchange : P → List Request → List Value → P → Type 0) (gives_none : P → Type 0) (opens : Endpoint → P → Type 0) where
+module _ {H P : Type 0} (failures : P → ℕ) (is_garbled : P → Type 0) (exchange : P → List Request → List Value → P → Type 0) (gives_none : P → Type 0) (opens : Endpoint → P → Type 0) (longest : P → ℕ) where
   -- a call that moved nothing was quiet
   pub quiet_by : (may : CarrierEvent → Bool) → may WorkerAdded ≡ false → (old : CarrierModel H P) (moved : Bool) (new : CarrierModel H P)
-      → moved ≡ false → CarrierGoesBy failures is_garbled exchange gives_none opens may old moved new → Quiet old new
-  quiet_by may none old moved new still goes = stays_quiet failures is_garbled exchange gives_none opens may (no_worker may none) old moved new still goes
+      → moved ≡ false → CarrierGoesBy failures is_garbled exchange gives_none opens longest may old moved new → Quiet old new
+  quiet_by may none old moved new still goes = stays_quiet failures is_garbled exchange gives_none opens longest may (no_worker may none) old moved new still goes

@@ -39,8 +39,8 @@ abbrev pub KeepsReceived : {H P : Type 0} → (LinkModel P → Type 0) → Carri
 KeepsReceived gave_none old new =
     (k : ℕ) → ForSome (slice_get old.backends k) (HasReceived gave_none old.nodes) → ForSome (slice_get new.backends k) (HasReceived gave_none new.nodes)
 
-module _ {H P : Type 0} (failures : P → ℕ) (is_garbled : P → Type 0) (exchange : P → List Request → List Value → P → Type 0) (gives_none : P → Type 0) (opens : Endpoint → P → Type 0) where
-  waited : (old new : CarrierModel H P) → CarrierDoes failures is_garbled exchange gives_none opens old (AtBackend step.Waited) new → KeepsReceived (GaveNone failures is_garbled exchange gives_none) old new
+module _ {H P : Type 0} (failures : P → ℕ) (is_garbled : P → Type 0) (exchange : P → List Request → List Value → P → Type 0) (gives_none : P → Type 0) (opens : Endpoint → P → Type 0) (longest : P → ℕ) where
+  waited : (old new : CarrierModel H P) → CarrierDoes failures is_garbled exchange gives_none opens longest old (AtBackend step.Waited) new → KeepsReceived (GaveNone failures is_garbled exchange gives_none) old new
   waited old new (k, backend, backend', at, (link, link', (there, receives), none, context), is) =
       let gave = GaveNone failures is_garbled exchange gives_none in
       let now : backend'.link ≡ Some link' = ap (λ (c : BackendContext P). c.backend.link) context in
@@ -51,7 +51,7 @@ module _ {H P : Type 0} (failures : P → ℕ) (is_garbled : P → Type 0) (exch
       let R : CarrierModel H P → Type 0 = λ c. KeepsReceived gave old c in
       subst R (sym is) (subst Q (sym table) (set_stays (Keeps F) (λ o f. f) old.backends k backend backend' at (λ f x e. let B : Option (Backend P) → Type 0 = λ o. IfSome o F in subst B e heard)))
 
-  idle : (old new : CarrierModel H P) → CarrierDoes failures is_garbled exchange gives_none opens old (AtBackend step.Idle) new → KeepsReceived (GaveNone failures is_garbled exchange gives_none) old new
+  idle : (old new : CarrierModel H P) → CarrierDoes failures is_garbled exchange gives_none opens longest old (AtBackend step.Idle) new → KeepsReceived (GaveNone failures is_garbled exchange gives_none) old new
   idle old new (k, backend, backend', at, context, is) =
       let gave = GaveNone failures is_garbled exchange gives_none in
       let same : backend' ≡ backend = ap (λ (c : BackendContext P). c.backend) context in
@@ -60,13 +60,13 @@ module _ {H P : Type 0} (failures : P → ℕ) (is_garbled : P → Type 0) (exch
       let R : CarrierModel H P → Type 0 = λ c. KeepsReceived gave old c in
       subst R (sym is) (subst R (λ i. record old { backends = sym back i; nodes = sym table i; published = new.published }) (λ k f. f))
 
-  looked : (old new : CarrierModel H P) → CarrierDoes failures is_garbled exchange gives_none opens old Looked new → KeepsReceived (GaveNone failures is_garbled exchange gives_none) old new
+  looked : (old new : CarrierModel H P) → CarrierDoes failures is_garbled exchange gives_none opens longest old Looked new → KeepsReceived (GaveNone failures is_garbled exchange gives_none) old new
   looked old new (is, why) = let R : CarrierModel H P → Type 0 = λ c. KeepsReceived (GaveNone failures is_garbled exchange gives_none) old c in subst R (sym is) (λ k f. f)
 
-  worker_added : (old new : CarrierModel H P) → CarrierDoes failures is_garbled exchange gives_none opens old WorkerAdded new → KeepsReceived (GaveNone failures is_garbled exchange gives_none) old new
+  worker_added : (old new : CarrierModel H P) → CarrierDoes failures is_garbled exchange gives_none opens longest old WorkerAdded new → KeepsReceived (GaveNone failures is_garbled exchange gives_none) old new
   worker_added old new is = let R : CarrierModel H P → Type 0 = λ c. KeepsReceived (GaveNone failures is_garbled exchange gives_none) old c in subst R (sym is) (λ k f. f)
 
-  backend_added : (old new : CarrierModel H P) → CarrierDoes failures is_garbled exchange gives_none opens old BackendAdded new → KeepsReceived (GaveNone failures is_garbled exchange gives_none) old new
+  backend_added : (old new : CarrierModel H P) → CarrierDoes failures is_garbled exchange gives_none opens longest old BackendAdded new → KeepsReceived (GaveNone failures is_garbled exchange gives_none) old new
   backend_added old new is =
       let gave = GaveNone failures is_garbled exchange gives_none in
       let F : Backend P → Type 0 = HasReceived gave old.nodes in
@@ -74,7 +74,7 @@ module _ {H P : Type 0} (failures : P → ℕ) (is_garbled : P → Type 0) (exch
       subst R (sym is) (added_stays (Keeps F) (λ o f. f) old.backends new_backend (λ f x e. let B : Option (Backend P) → Type 0 = λ o. IfSome o F in subst B e (none_yet gave old.nodes)))
 
   event_keeps : (old : CarrierModel H P) (event : CarrierEvent) (new : CarrierModel H P) → is_carrier_move event ≡ false
-      → CarrierDoes failures is_garbled exchange gives_none opens old event new → KeepsReceived (GaveNone failures is_garbled exchange gives_none) old new
+      → CarrierDoes failures is_garbled exchange gives_none opens longest old event new → KeepsReceived (GaveNone failures is_garbled exchange gives_none) old new
   event_keeps old (AtBackend step.Idle) new still does = idle old new does
   event_keeps old (AtBackend step.Waited) new still does = waited old new does
   event_keeps old (AtBackend step.Broke) new still does = absurd (cc)
@@ -105,7 +105,7 @@ module _ {H P : Type 0} (failures : P → ℕ) (is_garbled : P → Type 0) (exch
   event_keeps old GaveUnsent new still does = absurd (cc)
 
   events_keep : (old : CarrierModel H P) (events : List CarrierEvent) (new : CarrierModel H P)
-      → list_any is_carrier_move events ≡ false → FoldsTo (CarrierDoes failures is_garbled exchange gives_none opens) old events new → KeepsReceived (GaveNone failures is_garbled exchange gives_none) old new
+      → list_any is_carrier_move events ≡ false → FoldsTo (CarrierDoes failures is_garbled exchange gives_none opens longest) old events new → KeepsReceived (GaveNone failures is_garbled exchange gives_none) old new
   events_keep old [] new still same = let R : CarrierModel H P → Type 0 = λ c. KeepsReceived (GaveNone failures is_garbled exchange gives_none) old c in subst R same (λ k f. f)
   events_keep old (event ∷ events) new still (mid, does, rest) =
       let none = or_false (is_carrier_move event) (list_any is_carrier_move events) still in
@@ -113,5 +113,5 @@ module _ {H P : Type 0} (failures : P → ℕ) (is_garbled : P → Type 0) (exch
 
   -- a call that moved nothing leaves what links gave
   pub keeps_received : (may : CarrierEvent → Bool) (old : CarrierModel H P) (moved : Bool) (new : CarrierModel H P)
-      → moved ≡ false → CarrierGoesBy failures is_garbled exchange gives_none opens may old moved new → KeepsReceived (GaveNone failures is_garbled exchange gives_none) old new
+      → moved ≡ false → CarrierGoesBy failures is_garbled exchange gives_none opens longest may old moved new → KeepsReceived (GaveNone failures is_garbled exchange gives_none) old new
   keeps_received may old moved new still (events, folds, is, all) = events_keep old events new (sym is ∙ still) folds

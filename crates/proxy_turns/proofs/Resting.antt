@@ -1,10 +1,10 @@
 -- What rests, and goes on to rest.
 use Rattle.std.proofs.Common.{◌≡◌, ◌∙◌, ◌||◌, ◌<◌, ◌≤◌, inl, inr, ℕ, zero, suc, List, [], ◌∷◌, length, Bool, true, false, Option, Some, None, Result, Ok, Err, refl, sym, ap, subst, is_some, arith}
-use Rattle.std.specs.Prelude.{◌⊎◌, IfSome, IsSome, is_none, slice_get, slice_set}
+use Rattle.std.specs.Prelude.{◌≢◌, ◌⊎◌, IfSome, IsSome, is_none, slice_get, slice_set}
 use Rattle.std.specs.Option.{ForSome}
 use Rattle.resp_wire.specs.declared.fault.NoMemory.{NoMemory}
 use Rattle.resp_wire.specs.declared.value.Value.{Value}
-use Rattle.key_split.specs.declared.travel.Batch.{Batch}
+use Rattle.key_split.specs.Runs.{RunModel}
 use Rattle.key_split.specs.declared.travel.Ticket.{Ticket}
 use Rattle.key_split.specs.declared.travel.Told.{Told}
 use Rattle.key_split.specs.Requests.{Request}
@@ -15,13 +15,13 @@ use Rattle.proxy_lanes.specs.declared.ends.lane_ends.LaneEnds.{LaneEnds}
 use Rattle.proxy_lanes.specs.Lane.{held}
 use Rattle.proxy_turns.specs.declared.backend.Backend.{Backend}
 use Rattle.proxy_turns.specs.declared.backend.PendingTold.{PendingTold}
-use Rattle.proxy_turns.specs.declared.pending_batch.PendingBatch.{PendingBatch}
+use Rattle.proxy_turns.specs.declared.pending_run.PendingRun.{PendingRun}
 use Rattle.proxy_turns.specs.declared.backend.MapTask.{MapTask}
 use Rattle.proxy_turns.specs.declared.backend.MapTask.TheVariants as task
 use Rattle.proxy_turns.specs.Backend.{GaveNone, HasNoMapWork, HasNoneToTake, HasReceived, IsDone, has_failed, has_map_work, is_open, is_unpublished, new_backend}
 use Rattle.key_split.specs.declared.travel.Told.TheVariants.{Unsent}
-use Rattle.proxy_turns.specs.PendingBatch.{ComesBack, GiveOutcome, IsPending, TakeOutcome, TellOutcome, WaitsToGive, WaitsToTell, target_of}
-use Rattle.proxy_turns.specs.Resting.{BackendRests, BatchRests, HasLink, HasNoBatch, HasNoOpenLink, HasNoneToCarry, HasNoneToGive, HasNoneToTell, IsBlockedAt}
+use Rattle.proxy_turns.specs.PendingRun.{ComesBack, GiveOutcome, IsPending, TakeOutcome, TellOutcome, WaitsToGive, WaitsToTell, target_of}
+use Rattle.proxy_turns.specs.Resting.{BackendRests, CanTellNone, RunRests, HasLink, HasNoRun, HasNoOpenLink, HasNoneToCarry, HasNoneToGive, HasNoneToTell, IsBlockedAt}
 use Rattle.proxy_turns.specs.CarrierModel.{CarrierModel, IsAtRest, RestsAfter, TakesTurn}
 use Rattle.proxy_turns.proofs.Backends.{none_where}
 use Rattle.proxy_turns.proofs.Places.{get_set, or_false, set_at}
@@ -134,7 +134,7 @@ module _ {H P : Type 0} where
       let there = lane_there (slice_get new.lanes worker) lane (subst Q at (quiet.lanes worker)) in
       (there.0, there.1, there.2.0 blocked)
 
-  pub empty_goes_on : (old new : CarrierModel H P) → Quiet old new → (worker : ℕ) → HasNoBatch old.lanes worker → HasNoBatch new.lanes worker
+  pub empty_goes_on : (old new : CarrierModel H P) → Quiet old new → (worker : ℕ) → HasNoRun old.lanes worker → HasNoRun new.lanes worker
   empty_goes_on old new quiet worker none few lane' at =
       let Q : Option (LaneEnds H) → Type 0 = λ o. LaneStays (slice_get old.lanes worker) o in
       let there = lane_before (slice_get old.lanes worker) lane' (subst Q at (quiet.lanes worker)) in
@@ -171,22 +171,22 @@ module _ {H P : Type 0} where
       let Q : Option (Backend P) → Type 0 = λ o. BackendStays (slice_get old.backends node) o in
       rests_as gave_none old new quiet (slice_get old.backends node) backend' (subst Q at (quiet.backends node)) rests (keeps node (λ backend is. (rests backend is).received) backend' at)
 
-  -- a worker's batch that rested rests
-  pub batch_rests_on : (old new : CarrierModel H P) → Quiet old new → (worker : ℕ) (refused : Option Ticket) (batch : Option Batch)
-      → BatchRests old.lanes old.backends worker refused batch → BatchRests new.lanes new.backends worker refused batch
-  batch_rests_on old new quiet worker (Some ticket) batch rests = blocked_stays old new quiet ticket.worker rests
-  batch_rests_on old new quiet worker None (Some batch) (backend, at, failed) =
-      failed_there (slice_get old.backends batch.node) (slice_get new.backends batch.node) backend at (quiet.backends batch.node) failed
-  batch_rests_on old new quiet worker None None rests = empty_goes_on old new quiet worker rests
+  -- a worker's run that rested rests
+  pub run_rests_on : (old new : CarrierModel H P) → Quiet old new → (worker : ℕ) (refused : List Ticket) (run : Option RunModel)
+      → RunRests old.lanes old.backends worker refused run → RunRests new.lanes new.backends worker refused run
+  run_rests_on old new quiet worker (ticket ∷ later) run rests = blocked_stays old new quiet ticket.worker rests
+  run_rests_on old new quiet worker [] (Some run) (backend, at, failed) =
+      failed_there (slice_get old.backends run.first.node) (slice_get new.backends run.first.node) backend at (quiet.backends run.first.node) failed
+  run_rests_on old new quiet worker [] None rests = empty_goes_on old new quiet worker rests
 
-  pub batches_rest_on : (old new : CarrierModel H P) → Quiet old new → (worker : ℕ)
-      → ForSome (slice_get old.pending_batches worker) (λ pending. BatchRests old.lanes old.backends worker pending.refused pending.batch)
-      → ForSome (slice_get new.pending_batches worker) (λ pending. BatchRests new.lanes new.backends worker pending.refused pending.batch)
-  batches_rest_on old new quiet worker rests pending at =
-      let Q : List PendingBatch → Type 0 = λ ps. slice_get ps worker ≡ Some pending in
-      batch_rests_on old new quiet worker pending.refused pending.batch (rests pending (subst Q quiet.batches at))
+  pub runs_rest_on : (old new : CarrierModel H P) → Quiet old new → (worker : ℕ)
+      → ForSome (slice_get old.pending_runs worker) (λ pending. RunRests old.lanes old.backends worker pending.refused pending.run)
+      → ForSome (slice_get new.pending_runs worker) (λ pending. RunRests new.lanes new.backends worker pending.refused pending.run)
+  runs_rest_on old new quiet worker rests pending at =
+      let Q : List PendingRun → Type 0 = λ ps. slice_get ps worker ≡ Some pending in
+      run_rests_on old new quiet worker pending.refused pending.run (rests pending (subst Q quiet.runs at))
 
--- ---- three calls at a backend, four at a worker's batch
+-- ---- three calls at a backend, four at a worker's run
 
 module _ {H P : Type 0} where
   -- of the slot map nothing is left, nothing can be taken and nothing given
@@ -215,43 +215,43 @@ module _ {H P : Type 0} where
       (give backend at)
       (keeps node (λ there is. (take there is).1) backend at)
 
-  batch_by : (s1 s2 s3 s4 : CarrierModel H P) → Quiet s1 s2 → Quiet s2 s3 → Quiet s3 s4 → (worker : ℕ) (refused : Option Ticket) (batch : Option Batch)
-      → IfSome refused (λ ticket. IsBlockedAt s1.lanes ticket.worker) → (IsSome batch ⊎ IsSome refused) ⊎ HasNoBatch s2.lanes worker
-      → ForSome (target_of refused batch) (HasLink s3.backends) → IfSome batch (λ b. ForSome (slice_get s4.backends b.node) (λ backend. is_open backend.link ≡ false))
-      → BatchRests s4.lanes s4.backends worker refused batch
-  batch_by s1 s2 s3 s4 q1 q2 q3 worker (Some ticket) batch told take link send = blocked_stays s1 s4 (quiet_then s1 s2 s4 q1 (quiet_then s2 s3 s4 q2 q3)) ticket.worker told
-  batch_by s1 s2 s3 s4 q1 q2 q3 worker None (Some batch) told take link send =
-      let there = link batch.node refl in
-      let Q : Option (Backend P) → Type 0 = λ o. BackendStays o (slice_get s4.backends batch.node) in
-      linked_failed there.0 (slice_get s4.backends batch.node) (subst Q there.1 (q3.backends batch.node)) there.2 send
-  batch_by s1 s2 s3 s4 q1 q2 q3 worker None None told (inl (inl some)) link send = absurd (cc)
-  batch_by s1 s2 s3 s4 q1 q2 q3 worker None None told (inl (inr some)) link send = absurd (cc)
-  batch_by s1 s2 s3 s4 q1 q2 q3 worker None None told (inr none) link send = empty_goes_on s2 s4 (quiet_then s2 s3 s4 q2 q3) worker none
+  run_by : (s1 s2 s3 s4 : CarrierModel H P) → Quiet s1 s2 → Quiet s2 s3 → Quiet s3 s4 → (worker : ℕ) (refused : List Ticket) (run : Option RunModel)
+      → CanTellNone s1.lanes refused → (IsSome run ⊎ (refused ≢ [])) ⊎ HasNoRun s2.lanes worker
+      → ForSome (target_of refused run) (HasLink s3.backends) → ForSome (target_of refused run) (λ node. ForSome (slice_get s4.backends node) (λ backend. is_open backend.link ≡ false))
+      → RunRests s4.lanes s4.backends worker refused run
+  run_by s1 s2 s3 s4 q1 q2 q3 worker (ticket ∷ later) run told take link send = blocked_stays s1 s4 (quiet_then s1 s2 s4 q1 (quiet_then s2 s3 s4 q2 q3)) ticket.worker told
+  run_by s1 s2 s3 s4 q1 q2 q3 worker [] (Some run) told take link send =
+      let there = link run.first.node refl in
+      let Q : Option (Backend P) → Type 0 = λ o. BackendStays o (slice_get s4.backends run.first.node) in
+      linked_failed there.0 (slice_get s4.backends run.first.node) (subst Q there.1 (q3.backends run.first.node)) there.2 (send run.first.node refl)
+  run_by s1 s2 s3 s4 q1 q2 q3 worker [] None told (inl (inl some)) link send = absurd (cc)
+  run_by s1 s2 s3 s4 q1 q2 q3 worker [] None told (inl (inr some)) link send = absurd (some refl)
+  run_by s1 s2 s3 s4 q1 q2 q3 worker [] None told (inr none) link send = empty_goes_on s2 s4 (quiet_then s2 s3 s4 q2 q3) worker none
 
   -- a worker's whole turn moved nothing
-  pub batch_at_rest : (s1 s2 s3 s4 : CarrierModel H P) → Quiet s1 s2 → Quiet s2 s3 → Quiet s3 s4 → (worker : ℕ) → ForSome (slice_get s1.pending_batches worker) (HasNoneToTell s1.lanes)
-      → ForSome (slice_get s2.pending_batches worker) (HasNoneToCarry s2.lanes worker)
-      → ForSome (slice_get s3.pending_batches worker) (λ pending. ForSome (target_of pending.refused pending.batch) (HasLink s3.backends))
-      → ForSome (slice_get s4.pending_batches worker) (HasNoOpenLink s4.backends)
-      → ForSome (slice_get s4.pending_batches worker) (λ pending. BatchRests s4.lanes s4.backends worker pending.refused pending.batch)
-  batch_at_rest s1 s2 s3 s4 q1 q2 q3 worker told take link send pending at =
-      let Q : List PendingBatch → Type 0 = λ ps. slice_get ps worker ≡ Some pending in
-      let at3 : slice_get s3.pending_batches worker ≡ Some pending = subst Q q3.batches at in
-      let at2 : slice_get s2.pending_batches worker ≡ Some pending = subst Q q2.batches at3 in
-      let at1 : slice_get s1.pending_batches worker ≡ Some pending = subst Q q1.batches at2 in
-      batch_by s1 s2 s3 s4 q1 q2 q3 worker pending.refused pending.batch (told pending at1) (take pending at2) (link pending at3) (send pending at)
+  pub run_at_rest : (s1 s2 s3 s4 : CarrierModel H P) → Quiet s1 s2 → Quiet s2 s3 → Quiet s3 s4 → (worker : ℕ) → ForSome (slice_get s1.pending_runs worker) (HasNoneToTell s1.lanes)
+      → ForSome (slice_get s2.pending_runs worker) (HasNoneToCarry s2.lanes worker)
+      → ForSome (slice_get s3.pending_runs worker) (λ pending. ForSome (target_of pending.refused pending.run) (HasLink s3.backends))
+      → ForSome (slice_get s4.pending_runs worker) (HasNoOpenLink s4.backends)
+      → ForSome (slice_get s4.pending_runs worker) (λ pending. RunRests s4.lanes s4.backends worker pending.refused pending.run)
+  run_at_rest s1 s2 s3 s4 q1 q2 q3 worker told take link send pending at =
+      let Q : List PendingRun → Type 0 = λ ps. slice_get ps worker ≡ Some pending in
+      let at3 : slice_get s3.pending_runs worker ≡ Some pending = subst Q q3.runs at in
+      let at2 : slice_get s2.pending_runs worker ≡ Some pending = subst Q q2.runs at3 in
+      let at1 : slice_get s1.pending_runs worker ≡ Some pending = subst Q q1.runs at2 in
+      run_by s1 s2 s3 s4 q1 q2 q3 worker pending.refused pending.run (told pending at1) (take pending at2) (link pending at3) (send pending at)
 
   link_by_node : (mid new : CarrierModel H P) → Quiet mid new → (node n : ℕ) → node < length mid.backends → node ≡ n → HasLink new.backends n ⊎ (length new.backends ≤ n) → HasLink new.backends n
   link_by_node mid new quiet node n lt same (inl link) = link
   link_by_node mid new quiet node n lt same (inr none) = absurd (no_fewer mid.backends new.backends node lt (quiet.backends node) (omega (arith, none, same)))
 
-  -- the node of a pending batch has a link, once it has a backend
-  pub linked : (mid new : CarrierModel H P) → Quiet mid new → (worker node : ℕ) → ForSome (slice_get mid.pending_batches worker) (λ pending. target_of pending.refused pending.batch ≡ Some node)
-      → node < length mid.backends → ForSome (slice_get new.pending_batches worker) (λ pending. ForSome (target_of pending.refused pending.batch) (λ n. HasLink new.backends n ⊎ (length new.backends ≤ n)))
-      → ForSome (slice_get new.pending_batches worker) (λ pending. ForSome (target_of pending.refused pending.batch) (HasLink new.backends))
+  -- the node of a pending run has a link, once it has a backend
+  pub linked : (mid new : CarrierModel H P) → Quiet mid new → (worker node : ℕ) → ForSome (slice_get mid.pending_runs worker) (λ pending. target_of pending.refused pending.run ≡ Some node)
+      → node < length mid.backends → ForSome (slice_get new.pending_runs worker) (λ pending. ForSome (target_of pending.refused pending.run) (λ n. HasLink new.backends n ⊎ (length new.backends ≤ n)))
+      → ForSome (slice_get new.pending_runs worker) (λ pending. ForSome (target_of pending.refused pending.run) (HasLink new.backends))
   linked mid new quiet worker node goal lt either pending at n is =
-      let Q : List PendingBatch → Type 0 = λ ps. slice_get ps worker ≡ Some pending in
-      link_by_node mid new quiet node n lt (same_target (goal pending (subst Q quiet.batches at)) is) (either pending at n is)
+      let Q : List PendingRun → Type 0 = λ ps. slice_get ps worker ≡ Some pending in
+      link_by_node mid new quiet node n lt (same_target (goal pending (subst Q quiet.runs at)) is) (either pending at n is)
 
   -- the seed was dialled, once it has a backend
   pub dialled_seed : (mid new : CarrierModel H P) → Quiet mid new → (seed : ℕ) → seed < length mid.backends → (new.seed_to_dial ≡ false) ⊎ (length new.backends ≤ 0) → new.seed_to_dial ≡ false
@@ -271,9 +271,9 @@ module _ {H : Type 0} where
   waits_to_give old new (Some told) (inl unpublished) = inl unpublished.0
   waits_to_give old new (Some told) (inr back) = inr (back_blocked old new (told.ticket, told.told) back.1)
 
-  waits_to_tell : (old new : List (LaneEnds H)) (refused : Option Ticket) → WaitsToTell refused old new → IfSome refused (λ ticket. IsBlockedAt new ticket.worker)
-  waits_to_tell old new None waits = tt
-  waits_to_tell old new (Some ticket) back = back_blocked old new (ticket, Unsent) back
+  waits_to_tell : (old new : List (LaneEnds H)) (refused : List Ticket) → WaitsToTell refused old new → CanTellNone new refused
+  waits_to_tell old new [] waits = tt
+  waits_to_tell old new (ticket ∷ later) back = back_blocked old new (ticket, Unsent) back
 
   pub given : {P : Type 0} (old new : Backend P) (lanes lanes' : List (LaneEnds H)) (moved : Bool) → moved ≡ false → GiveOutcome old lanes moved new lanes' → HasNoneToGive lanes' new
   given old new lanes lanes' true still outcome = absurd (cc)
@@ -281,13 +281,13 @@ module _ {H : Type 0} where
       let Q : Option PendingTold → Type 0 = λ o. IfSome o (λ told. IsSome told.change ⊎ IsBlockedAt lanes' told.ticket.worker) in
       subst Q (sym (ap (λ (b : Backend _). b.pending_told) same)) (waits_to_give lanes lanes' old.pending_told waits)
 
-  pub told_unsent : (old new : PendingBatch) (lanes lanes' : List (LaneEnds H)) (moved : Bool) → moved ≡ false → TellOutcome old lanes moved new lanes' → HasNoneToTell lanes' new
+  pub told_unsent : (old new : PendingRun) (lanes lanes' : List (LaneEnds H)) (moved : Bool) → moved ≡ false → TellOutcome old lanes moved new lanes' → HasNoneToTell lanes' new
   told_unsent old new lanes lanes' true still outcome = absurd (cc)
   told_unsent old new lanes lanes' false still (same, waits) =
-      let Q : Option Ticket → Type 0 = λ o. IfSome o (λ ticket. IsBlockedAt lanes' ticket.worker) in
-      subst Q (sym (ap (λ (b : PendingBatch). b.refused) same)) (waits_to_tell lanes lanes' old.refused waits)
+      let Q : List Ticket → Type 0 = λ o. CanTellNone lanes' o in
+      subst Q (sym (ap (λ (b : PendingRun). b.refused) same)) (waits_to_tell lanes lanes' old.refused waits)
 
-  pub taken : (worker : ℕ) (old new : PendingBatch) (lanes lanes' : List (LaneEnds H)) (moved : Bool) → moved ≡ false → TakeOutcome worker old lanes moved new lanes' → HasNoneToCarry lanes' worker new
+  pub taken : (worker : ℕ) (old new : PendingRun) (lanes lanes' : List (LaneEnds H)) (moved : Bool) → moved ≡ false → TakeOutcome worker old lanes moved new lanes' → HasNoneToCarry lanes' worker new
   taken worker old new lanes lanes' true still outcome = absurd (cc)
   taken worker old new lanes lanes' false still (same, inl pending) = inl (subst IsPending (sym same) pending.0)
   taken worker old new lanes lanes' false still (same, inr (none, (lane, lane', at, is, (up, (ring, before, now, took))))) =
@@ -336,20 +336,20 @@ map_at_rest s1 s2 s3 s4 q1 q2 q3 node published asked read renewed backend at =
 
 module _ {H P : Type 0} where
   -- a whole turn moved nothing
-  pub carrier_at_rest : (gave_none : LinkModel P → Type 0) (s1 s2 s3 s4 : CarrierModel H P) → Quiet s1 s2 → Quiet s2 s3 → Quiet s3 s4 → KeepsReceived gave_none s3 s4 → length s1.lanes ≤ length s1.pending_batches → s2.seed_to_dial ≡ false
+  pub carrier_at_rest : (gave_none : LinkModel P → Type 0) (s1 s2 s3 s4 : CarrierModel H P) → Quiet s1 s2 → Quiet s2 s3 → Quiet s3 s4 → KeepsReceived gave_none s3 s4 → length s1.lanes ≤ length s1.pending_runs → s2.seed_to_dial ≡ false
       → ((node : ℕ) → ForSome (slice_get s3.backends node) (BackendRests gave_none s3.nodes s3.lanes))
-      → ((worker : ℕ) → ForSome (slice_get s4.pending_batches worker) (λ pending. BatchRests s4.lanes s4.backends worker pending.refused pending.batch)) → IsAtRest gave_none s4
-  carrier_at_rest gave_none s1 s2 s3 s4 q1 q2 q3 keeps workers seed backends batches =
+      → ((worker : ℕ) → ForSome (slice_get s4.pending_runs worker) (λ pending. RunRests s4.lanes s4.backends worker pending.refused pending.run)) → IsAtRest gave_none s4
+  carrier_at_rest gave_none s1 s2 s3 s4 q1 q2 q3 keeps workers seed backends runs =
       let all = quiet_then s1 s2 s4 q1 (quiet_then s2 s3 s4 q2 q3) in
       record {
         seed = q3.seed ∙ q2.seed ∙ seed;
-        workers = omega (arith, workers, all.workers, ap (λ (xs : List PendingBatch). length xs) all.batches);
-        batches = batches;
+        workers = omega (arith, workers, all.workers, ap (λ (xs : List PendingRun). length xs) all.runs);
+        runs = runs;
         backends = λ node. backend_rests_on gave_none s3 s4 q3 keeps node (backends node);
       }
 
-module _ {H P : Type 0} (failures : P → ℕ) (is_garbled : P → Type 0) (exchange : P → List Request → List Value → P → Type 0) (gives_none : P → Type 0) (opens : Endpoint → P → Type 0) where
-  pub rests_after : (old : CarrierModel H P) (result : Result Bool NoMemory) (new : CarrierModel H P) → TakesTurn failures is_garbled exchange gives_none opens old result new → RestsAfter (GaveNone failures is_garbled exchange gives_none) result new
+module _ {H P : Type 0} (failures : P → ℕ) (is_garbled : P → Type 0) (exchange : P → List Request → List Value → P → Type 0) (gives_none : P → Type 0) (opens : Endpoint → P → Type 0) (longest : P → ℕ) where
+  pub rests_after : (old : CarrierModel H P) (result : Result Bool NoMemory) (new : CarrierModel H P) → TakesTurn failures is_garbled exchange gives_none opens longest old result new → RestsAfter (GaveNone failures is_garbled exchange gives_none) result new
   rests_after old (Ok moved) new (goes, rests) = rests
   rests_after old (Err e) new gives = tt
 
@@ -360,20 +360,37 @@ module _ {P : Type 0} where
       let Q : ℕ → Type 0 = λ m. slice_get (slice_set xs n backend') m ≡ Some backend' in
       (backend', subst Q is (get_set xs n backend backend' at), ap (λ (b : Backend P). is_some b.link) same ∙ some)
 
-  pub no_batch : (xs : List (Backend P)) (pending_batch : PendingBatch) → pending_batch.batch ≡ None → HasNoOpenLink xs pending_batch
-  no_batch xs pending_batch none =
-      let Q : Option Batch → Type 0 = λ o. IfSome o (λ batch. ForSome (slice_get xs batch.node) (λ backend. is_open backend.link ≡ false)) in
-      subst Q (sym none) tt
+  pub no_run : (xs : List (Backend P)) (pending_run : PendingRun) → pending_run.run ≡ None → HasNoOpenLink xs pending_run
+  no_run xs pending_run none = no_target pending_run.refused pending_run.run none
+    where
+      no_target : (refused : List Ticket) (run : Option RunModel) → run ≡ None → ForSome (target_of refused run) (λ node. ForSome (slice_get xs node) (λ backend. is_open backend.link ≡ false))
+      no_target [] None e n is = absurd (cc)
+      no_target [] (Some run) e n is = absurd (cc)
+      no_target (ticket ∷ later) run e n is = absurd (cc)
 
-  pub not_open : (xs : List (Backend P)) (pending_batch : PendingBatch) (batch : Batch) → pending_batch.batch ≡ Some batch → ForSome (slice_get xs batch.node) (λ backend. is_open backend.link ≡ false)
-      → HasNoOpenLink xs pending_batch
-  not_open xs pending_batch batch is closed =
-      let Q : Option Batch → Type 0 = λ o. IfSome o (λ b. ForSome (slice_get xs b.node) (λ backend. is_open backend.link ≡ false)) in
-      subst Q (sym is) closed
+  -- one that was refused goes nowhere
+  pub no_way : (xs : List (Backend P)) (pending_run : PendingRun) → pending_run.refused ≢ [] → HasNoOpenLink xs pending_run
+  no_way xs pending_run some = none_to pending_run.refused pending_run.run some
+    where
+      none_to : (refused : List Ticket) (run : Option RunModel) → refused ≢ [] → ForSome (target_of refused run) (λ node. ForSome (slice_get xs node) (λ backend. is_open backend.link ≡ false))
+      none_to [] run some n is = absurd (some refl)
+      none_to (ticket ∷ later) run some n is = absurd (cc)
 
-  pub not_open_set : (xs : List (Backend P)) (n : ℕ) (pending_batch : PendingBatch) (batch : Batch) (backend backend' : Backend P) → pending_batch.batch ≡ Some batch → n ≡ batch.node
-      → slice_get xs n ≡ Some backend → backend' ≡ backend → is_open backend.link ≡ false → HasNoOpenLink (slice_set xs n backend') pending_batch
-  not_open_set xs n pending_batch batch backend backend' is node at same closed =
+  pub not_open : (xs : List (Backend P)) (pending_run : PendingRun) (run : RunModel) → pending_run.run ≡ Some run → ForSome (slice_get xs run.first.node) (λ backend. is_open backend.link ≡ false)
+      → HasNoOpenLink xs pending_run
+  not_open xs pending_run run is closed = at_target pending_run.refused pending_run.run is
+    where
+      at_target : (refused : List Ticket) (o : Option RunModel) → o ≡ Some run → ForSome (target_of refused o) (λ node. ForSome (slice_get xs node) (λ backend. is_open backend.link ≡ false))
+      at_target (ticket ∷ later) o e n there = absurd (cc)
+      at_target [] None e n there = absurd (cc)
+      at_target [] (Some other) e n there =
+          let node : run.first.node ≡ n = cc in
+          let Q : ℕ → Type 0 = λ m. ForSome (slice_get xs m) (λ backend. is_open backend.link ≡ false) in
+          subst Q node closed
+
+  pub not_open_set : (xs : List (Backend P)) (n : ℕ) (pending_run : PendingRun) (run : RunModel) (backend backend' : Backend P) → pending_run.run ≡ Some run → n ≡ run.first.node
+      → slice_get xs n ≡ Some backend → backend' ≡ backend → is_open backend.link ≡ false → HasNoOpenLink (slice_set xs n backend') pending_run
+  not_open_set xs n pending_run run backend backend' is node at same closed =
       let Q : ℕ → Type 0 = λ m. ForSome (slice_get (slice_set xs n backend') m) (λ b. is_open b.link ≡ false) in
       let open_as : is_open backend'.link ≡ false = ap (λ (b : Backend P). is_open b.link) same ∙ closed in
-      not_open (slice_set xs n backend') pending_batch batch is (subst Q node (set_at (λ b. is_open b.link ≡ false) xs n backend backend' at open_as))
+      not_open (slice_set xs n backend') pending_run run is (subst Q node (set_at (λ b. is_open b.link ≡ false) xs n backend backend' at open_as))

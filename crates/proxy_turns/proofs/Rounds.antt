@@ -9,13 +9,13 @@ use Rattle.std.proofs.lemmas.Bool.Decides.{nat_tests}
 use Rattle.indexmap.specs.IndexMap.{set_value_at}
 use Rattle.resp_wire.specs.declared.fault.NoMemory.{NoMemory}
 use Rattle.slot_map.specs.declared.ops.MapOp.{MapOp}
-use Rattle.key_split.specs.declared.travel.Batch.{Batch}
+use Rattle.key_split.specs.Runs.{RunModel}
 use Rattle.command_future.specs.CommandModel.{CommandModel}
 use Rattle.proxy_lanes.specs.declared.ring.Outlet.{Outlet}
 use Rattle.proxy_turns.specs.Port.{Moves}
 use Rattle.proxy_turns.specs.ClientModel.{ClientModel, IsDone}
 use Rattle.proxy_turns.specs.ClientTurn.{ClientContext, ClientDoes, ClientEvent, TurnOutcome, is_client_move}
-use Rattle.proxy_turns.specs.ClientTurn.ClientEvent.{CameBack, Drained, Dropped, Fed, HandedOut, Looked, Parted, Posted, Pulled, Pushed, Read, Tried}
+use Rattle.proxy_turns.specs.ClientTurn.ClientEvent.{CameBack, Drained, Dropped, Fed, Followed, HandedOut, Looked, Parted, Posted, Pulled, Pushed, Read, Tried}
 use Rattle.proxy_turns.specs.ClientRest.{HasNoPlace, HasNoneToPost, IfStill, IfTurnedStill, IsClientAtRest}
 use Rattle.proxy_turns.specs.declared.turned.Turned.{Turned}
 use Rattle.proxy_turns.specs.ClientTable.{IsAtRestAt, IsStillAt, IsTurnedAt}
@@ -37,14 +37,15 @@ module _ {C : Type 0} (moves : Moves C) where
   full_one (Fed result) old new still (feeds, is) full = subst HasNoPlace (sym (ap (λ (c : ClientContext C). c.outlet) is)) full
   full_one (Read result) old new still (reads, is) full = subst HasNoPlace (sym (ap (λ (c : ClientContext C). c.outlet) is)) full
   full_one (HandedOut ticket part) old new still does full = absurd (false≢true (sym still))
+  full_one (Followed ticket part) old new still does full = absurd (false≢true (sym still))
   full_one (Looked slot) old new still (looks, is) full = subst HasNoPlace (sym (ap (λ (c : ClientContext C). c.outlet) is)) full
-  full_one (CameBack batch) old new still (refused, is) full = refused_full old.outlet new.outlet batch batch refused
-  full_one (Posted batch) old new still does full = absurd (false≢true (sym still))
+  full_one (CameBack run) old new still (refused, is) full = refused_full old.outlet new.outlet run run refused
+  full_one (Posted run) old new still does full = absurd (false≢true (sym still))
   full_one (Drained n) old new still (there, drains, is) full = subst HasNoPlace (sym (ap (λ (c : ClientContext C). c.outlet) is)) full
   full_one (Pushed bytes) old new still (m, left, is) full = subst HasNoPlace (sym (ap (λ (c : ClientContext C). c.outlet) is)) full
   full_one Tried old new still (m, is) full = subst HasNoPlace (sym (ap (λ (c : ClientContext C). c.outlet) is)) full
   full_one Parted old new still does full = absurd (false≢true (sym still))
-  full_one (Dropped ticket) old new still does full = absurd (false≢true (sym still))
+  full_one (Dropped tickets) old new still does full = absurd (false≢true (sym still))
 
   module _ {J : Type 0} where
     full_served : (event : WorkerEvent) (old new : WorkerModel C J) → serves_client event ≡ true → is_worker_move event ≡ false → WorkerDoes moves old event new → HasNoPlace old.outlet → HasNoPlace new.outlet
@@ -109,14 +110,10 @@ module _ {X : Type 0} where
 -- ---- a client rests while others have their turns
 
 module _ {C : Type 0} (gives_none takes_none : C → Type 0) where
-  post_on : (client : ClientModel C) (old new : Outlet Batch) → (HasNoPlace old → HasNoPlace new) → HasNoneToPost client old → HasNoneToPost client new
-  post_on client old new on none = by_fresh client.commands.fresh none
-    where
-      by_fresh : (o : Option CommandModel) → IfSome o (λ command. (client.gone ≡ false) × HasNoPlace old) → IfSome o (λ command. (client.gone ≡ false) × HasNoPlace new)
-      by_fresh None none = tt
-      by_fresh (Some command) (here, full) = (here, on full)
+  post_on : (client : ClientModel C) (old new : Outlet RunModel) → (HasNoPlace old → HasNoPlace new) → HasNoneToPost client old → HasNoneToPost client new
+  post_on client old new on none some = ((none some).0, on (none some).1)
 
-  rest_on : (client : ClientModel C) (old new : Outlet Batch) → (HasNoPlace old → HasNoPlace new) → IsClientAtRest gives_none takes_none client old → IsClientAtRest gives_none takes_none client new
+  rest_on : (client : ClientModel C) (old new : Outlet RunModel) → (HasNoPlace old → HasNoPlace new) → IsClientAtRest gives_none takes_none client old → IsClientAtRest gives_none takes_none client new
   rest_on client old new on rests = record {
     pulled = rests.pulled;
     fed = rests.fed;
@@ -127,7 +124,7 @@ module _ {C : Type 0} (gives_none takes_none : C → Type 0) where
     pushed = rests.pushed;
   }
 
-  one_more : (old new : List (ℕ × ClientModel C)) (place other : ℕ) (o o' : Outlet Batch) → (HasNoPlace o → HasNoPlace o') → IsStillAt gives_none takes_none old place o' new
+  one_more : (old new : List (ℕ × ClientModel C)) (place other : ℕ) (o o' : Outlet RunModel) → (HasNoPlace o → HasNoPlace o') → IsStillAt gives_none takes_none old place o' new
       → (b : Bool) → nat_eq other place ≡ b → IsAtRestAt gives_none takes_none old o other → IsAtRestAt gives_none takes_none new o' other
   one_more old new place other o o' on still true same was =
       subst (IsAtRestAt gives_none takes_none new o') (sym (eqb→eq other place (subst T (sym same) tt))) still.here
@@ -142,12 +139,12 @@ module _ {C : Type 0} (gives_none takes_none : C → Type 0) where
       apart_by same = false≢true (sym apart ∙ ap (nat_eq other) (sym same) ∙ same_number other)
 
   -- those that had their turns before, and the one that has it now
-  pub still_on : (old new : List (ℕ × ClientModel C)) (place other : ℕ) (o o' : Outlet Batch) → (HasNoPlace o → HasNoPlace o') → IsStillAt gives_none takes_none old place o' new
+  pub still_on : (old new : List (ℕ × ClientModel C)) (place other : ℕ) (o o' : Outlet RunModel) → (HasNoPlace o → HasNoPlace o') → IsStillAt gives_none takes_none old place o' new
       → IsAtRestAt gives_none takes_none old o other → IsAtRestAt gives_none takes_none new o' other
   still_on old new place other o o' on still was = one_more old new place other o o' on still (nat_eq other place) refl was
 
   -- who is not done after a turn that moved nothing
-  pub still_of : (old mid : List (ℕ × ClientModel C)) (place : ℕ) (outlet : Outlet Batch) (turned : Turned) → IsTurnedAt gives_none takes_none old place turned outlet mid
+  pub still_of : (old mid : List (ℕ × ClientModel C)) (place : ℕ) (outlet : Outlet RunModel) (turned : Turned) → IsTurnedAt gives_none takes_none old place turned outlet mid
       → length mid ≡ length old → turned.done ≡ false → IfStill (Ok turned.moved) (IsStillAt gives_none takes_none old place outlet mid)
   still_of old mid place outlet turned was len undone =
       if_still turned.moved (λ none. record {
@@ -157,7 +154,7 @@ module _ {C : Type 0} (gives_none takes_none : C → Type 0) where
       })
 
   -- what a client's turn makes of the table
-  pub turned_at : (moves : Moves C) (entries : List (ℕ × ClientModel C)) (place k : ℕ) (client client' : ClientModel C) (o o' : Outlet Batch) (v v' : List MapOp) (result : Result Turned NoMemory)
+  pub turned_at : (moves : Moves C) (entries : List (ℕ × ClientModel C)) (place k : ℕ) (client client' : ClientModel C) (o o' : Outlet RunModel) (v v' : List MapOp) (result : Result Turned NoMemory)
       → slice_get entries place ≡ Some (k, client) → clients_in (set_value_at entries place client') ≡ insert (clients_in entries) k client'
       → TurnOutcome moves (record { client = client; outlet = o; view = v }) result (record { client = client'; outlet = o'; view = v' })
       → IfTurnedStill result (IsClientAtRest gives_none takes_none client' o')

@@ -6,11 +6,10 @@ use Rattle.std.specs.FinMap.{FinMap, insert}
 use Rattle.resp_wire.specs.declared.fault.NoMemory.{NoMemory}
 use Rattle.proxy_turns.specs.declared.turned.Turned.{Turned}
 use Rattle.proxy_turns.specs.declared.turned.Settled.{Settled}
-use Rattle.proxy_turns.specs.declared.turned.Settled.TheVariants as settled
 use Rattle.proxy_turns.specs.Port.{Moves}
 use Rattle.proxy_turns.specs.ClientModel.{ClientModel}
 use Rattle.proxy_turns.specs.ClientTurn.{is_settled}
-use Rattle.proxy_turns.specs.WorkerModel.{MayCome, one_more, with_port}
+use Rattle.proxy_turns.specs.WorkerModel.{MayCome, with_port}
 
 -- clients are to come
 abbrev pub AreToCome : Option ℕ → Type 0
@@ -33,10 +32,3 @@ turned_in (Err refused) = Err refused
 abbrev pub settled_in : Result Settled NoMemory → Result Bool NoMemory
 settled_in (Ok settled) = Ok (is_settled settled)
 settled_in (Err refused) = Err refused
-
--- how many parts have ended, after a step of a command
-abbrev pub counted_by : Settled → ℕ → ℕ
-counted_by settled.Finished answered = one_more answered
-counted_by settled.Posted answered = answered
-counted_by settled.Held answered = answered
-counted_by settled.Nothing answered = answered

@@ -6,7 +6,7 @@ use Rattle.std.specs.List.{FoldsTo, list_all, list_any}
 use Rattle.std.specs.Option.{ForSome}
 use Rattle.resp_wire.specs.declared.fault.NoMemory.{NoMemory}
 use Rattle.resp_wire.specs.declared.value.Value.{Value}
-use Rattle.key_split.specs.declared.travel.Batch.{Batch}
+use Rattle.key_split.specs.Runs.{RunModel}
 use Rattle.key_split.specs.Requests.{Request}
 use Rattle.slot_map.specs.Table.{Endpoint}
 use Rattle.slot_map.specs.declared.ops.MapOp.{MapOp}
@@ -15,20 +15,22 @@ use Rattle.proxy_lanes.specs.declared.ends.lane_ends.LaneEnds.{LaneEnds}
 use Rattle.proxy_lanes.specs.declared.ends.CarrierEnds.{CarrierEnds}
 use Rattle.proxy_lanes.specs.Carrier.{lanes_of}
 use Rattle.proxy_turns.specs.declared.carrier.Carrier.{Carrier}
-use Rattle.proxy_turns.specs.declared.pending_batch.PendingBatch.{PendingBatch}
+use Rattle.proxy_turns.specs.declared.pending_run.PendingRun.{PendingRun}
 use Rattle.proxy_turns.specs.declared.backend.Backend.{Backend}
 use Rattle.proxy_turns.specs.declared.backend_step.BackendStep.{BackendStep}
 use Rattle.proxy_turns.specs.declared.backend.MapTask.{MapTask}
+use Rattle.proxy_turns.specs.declared.backend.RunStep.TheVariants as run_step
 use Rattle.proxy_turns.specs.Backend.{BackendContext, BackendDoes, GaveNone, HasReceived, Starves, new_backend, fresh_link, has_open_link, is_backend_move, is_fetch_step, is_map_step, is_unanswered, HasNoMapWork, HasNoneToTake, IsDone}
-use Rattle.proxy_turns.specs.Sending.{IsUnreached, SendOutcome}
-use Rattle.proxy_turns.specs.Resting.{BackendRests, BatchRests, HasFailedLink, HasLink, HasNoOpenLink, HasNoneToCarry, HasNoneToGive, HasNoneToTell}
-use Rattle.proxy_turns.specs.PendingBatch.{target_of, no_pending_batch, GiveOutcome, TellOutcome, TakeOutcome}
+use Rattle.proxy_turns.specs.Sending.{IsRefused, IsUnreached, SendOutcome}
+use Rattle.proxy_turns.specs.Resting.{BackendRests, RunRests, HasFailedLink, HasLink, HasNoOpenLink, HasNoneToCarry, HasNoneToGive, HasNoneToTell}
+use Rattle.proxy_turns.specs.RefusedRun.{tickets_in}
+use Rattle.proxy_turns.specs.PendingRun.{target_of, no_pending_run, GiveOutcome, TellOutcome, TakeOutcome}
 
 pub record CarrierModel (H : Type 0) (P : Type 0) : Type 0 where
   -- the carrier's ends of each worker's lanes
   pub lanes : List (LaneEnds H)
-  -- the batch of each worker that was taken and not sent yet
-  pub pending_batches : List PendingBatch
+  -- the run of each worker that was taken and not sent yet
+  pub pending_runs : List PendingRun
   -- its backend for each node
   pub backends : List (Backend P)
   pub nodes : List Endpoint
@@ -43,7 +45,7 @@ pub record CarrierModel (H : Type 0) (P : Type 0) : Type 0 where
 abbrev pub carrier_model : {H D P : Type 0} → (D → ℕ) → Carrier H (List MapOp) D P → CarrierModel H P
 carrier_model failures carrier = record {
   lanes = lanes_of carrier.ends;
-  pending_batches = carrier.pending_batches.items;
+  pending_runs = carrier.pending_runs.items;
   backends = carrier.backends.items;
   nodes = carrier.nodes;
   published = carrier.ends.map;
@@ -63,7 +65,7 @@ with_ends carrier ends = record carrier { ends = ends }
 abbrev pub new_carrier : {H P : Type 0} → List (LaneEnds H) → List Endpoint → List MapOp → ℕ → CarrierModel H P
 new_carrier lanes nodes published failures = record {
   lanes = lanes;
-  pending_batches = [];
+  pending_runs = [];
   backends = [];
   nodes = nodes;
   published = published;
@@ -76,16 +78,16 @@ pub data CarrierEvent : Type 0 where
   AtBackend : BackendStep → CarrierEvent
   -- memory ran out at a backend, where something may have come over its link
   Starved : CarrierEvent
-  -- a place for one more worker's pending batch, a backend for one more node
+  -- a place for one more worker's pending run, a backend for one more node
   WorkerAdded : CarrierEvent
   BackendAdded : CarrierEvent
   -- the lanes of a worker gave nothing, or were full
   Looked : CarrierEvent
-  -- a batch was taken from a lane
+  -- a run was taken from a lane
   Took : CarrierEvent
   -- a node was dialled, and its backend has a link
   Opened : CarrierEvent
-  -- the dial of a batch failed
+  -- a run was refused whole: its dial failed, or it is longer than its link's port takes
   Refused : CarrierEvent
   -- the dial of the seed failed, at the start
   Missed : CarrierEvent
@@ -97,11 +99,11 @@ pub data CarrierEvent : Type 0 where
   Reached : CarrierEvent
   -- after a loss no node was found: the dial of the next failed, or a link to it that failed is still to be taken away
   NotFound : CarrierEvent
-  -- a batch went out
+  -- a run went out
   Sent : CarrierEvent
   -- a worker was given what was pending for it
   Gave : CarrierEvent
-  -- Unsent was given
+  -- Unsent was given to the next ticket of a refused run
   GaveUnsent : CarrierEvent
 
 abbrev pub is_carrier_move : CarrierEvent → Bool
@@ -124,7 +126,7 @@ is_carrier_move GaveUnsent = true
 
 -- Which events one part of a turn may make.
 
--- a place for one more worker's pending batch is made
+-- a place for one more worker's pending run is made
 abbrev pub adds_worker : CarrierEvent → Bool
 adds_worker WorkerAdded = true
 adds_worker event = false
@@ -141,7 +143,7 @@ dials_seed Missed = true
 dials_seed SeedReached = true
 dials_seed event = false
 
--- the node of a pending batch is dialled
+-- the node of a pending run is dialled
 abbrev pub dials_node : CarrierEvent → Bool
 dials_node Opened = true
 dials_node Refused = true
@@ -165,21 +167,22 @@ gives Gave = true
 gives Looked = true
 gives event = false
 
--- a worker is told that a batch is unsent, or its lane is full
+-- a worker is told that a run is unsent, or its lane is full
 abbrev pub tells_unsent : CarrierEvent → Bool
 tells_unsent GaveUnsent = true
 tells_unsent Looked = true
 tells_unsent event = false
 
--- a batch is taken from a lane, or the lane gives none
-abbrev pub takes_batch : CarrierEvent → Bool
-takes_batch Took = true
-takes_batch Looked = true
-takes_batch event = false
+-- a run is taken from a lane, or the lane gives none
+abbrev pub takes_run : CarrierEvent → Bool
+takes_run Took = true
+takes_run Looked = true
+takes_run event = false
 
--- a pending batch is sent
+-- a pending run is sent, or is too long for its link
 abbrev pub sends : CarrierEvent → Bool
 sends Sent = true
+sends Refused = true
 sends Starved = true
 sends event = false
 
@@ -187,7 +190,7 @@ sends event = false
 abbrev pub connects_seed : CarrierEvent → Bool
 connects_seed event = adds_backend event || dials_seed event
 
--- the node of a pending batch gets its backend, and is dialled
+-- the node of a pending run gets its backend, and is dialled
 abbrev pub connects : CarrierEvent → Bool
 connects event = adds_backend event || dials_node event
 
@@ -212,17 +215,17 @@ serves_backend event = renews_map event || (fetches event || gives event)
 
 -- the turn of a worker's lanes
 abbrev pub serves_lane : CarrierEvent → Bool
-serves_lane event = tells_unsent event || (takes_batch event || (sends event || connects event))
+serves_lane event = tells_unsent event || (takes_run event || (sends event || connects event))
 
 -- Nothing is left that the carrier can do: what it holds for workers waits for places in full lanes, no lane from a worker has a
--- batch that it could take, nothing of the slot map is left, and no open link gave anything when it was asked for a reply.
+-- run that it could take, nothing of the slot map is left, and no open link gave anything when it was asked for a reply.
 pub record IsAtRest {H P : Type 0} (gave_none : LinkModel P → Type 0) (carrier : CarrierModel H P) : Type 0 where
   -- the seed was dialled
   pub seed : carrier.seed_to_dial ≡ false
-  -- each worker has a place for its batch
-  pub workers : length carrier.lanes ≤ length carrier.pending_batches
-  pub batches : (worker : ℕ) → ForSome (slice_get carrier.pending_batches worker) (λ pending_batch.
-      BatchRests carrier.lanes carrier.backends worker pending_batch.refused pending_batch.batch)
+  -- each worker has a place for its run
+  pub workers : length carrier.lanes ≤ length carrier.pending_runs
+  pub runs : (worker : ℕ) → ForSome (slice_get carrier.pending_runs worker) (λ pending_run.
+      RunRests carrier.lanes carrier.backends worker pending_run.refused pending_run.run)
   pub backends : (node : ℕ) → ForSome (slice_get carrier.backends node) (BackendRests gave_none carrier.nodes carrier.lanes)
 
 -- after a turn that moved nothing, CLUSTER SLOTS is unanswered, or the dial said that no node is to be asked
@@ -251,38 +254,38 @@ module _ {H P : Type 0} where
   AddsBackend old (Ok _) new = new ≡ record old { backends = old.backends ++ new_backend ∷ [] }
   AddsBackend old (Err _) new = new ≡ old
 
-  -- a place for the pending batch of one more worker
+  -- a place for the pending run of one more worker
   abbrev pub AddsWorker : CarrierModel H P → Result (Unit {0}) NoMemory → CarrierModel H P → Type 0
-  AddsWorker old (Ok _) new = new ≡ record old { pending_batches = old.pending_batches ++ no_pending_batch ∷ [] }
+  AddsWorker old (Ok _) new = new ≡ record old { pending_runs = old.pending_runs ++ no_pending_run ∷ [] }
   AddsWorker old (Err _) new = new ≡ old
 
-module _ {H P : Type 0} (failures : P → ℕ) (is_garbled : P → Type 0) (exchange : P → List Request → List Value → P → Type 0) (gives_none : P → Type 0) (opens : Endpoint → P → Type 0) where
+module _ {H P : Type 0} (failures : P → ℕ) (is_garbled : P → Type 0) (exchange : P → List Request → List Value → P → Type 0) (gives_none : P → Type 0) (opens : Endpoint → P → Type 0) (longest : P → ℕ) where
   abbrev pub CarrierDoes : CarrierModel H P → CarrierEvent → CarrierModel H P → Type 0
   CarrierDoes old (AtBackend step) new =
       ChangesBackend old new (λ context context'. BackendDoes failures is_garbled exchange gives_none (list_any is_unanswered old.backends) context step context')
   CarrierDoes old Starved new = ChangesBackend old new (Starves failures is_garbled exchange)
-      ⊎ ((k : ℕ) × (backend : Backend P) × (backend' : Backend P) × (batch : Batch) × (e : NoMemory) × (slice_get old.backends k ≡ Some backend)
-      × SendOutcome failures is_garbled exchange backend batch (Err e) backend'
+      ⊎ ((k : ℕ) × (backend : Backend P) × (backend' : Backend P) × (run : RunModel) × (e : NoMemory) × (slice_get old.backends k ≡ Some backend)
+      × SendOutcome failures is_garbled exchange longest backend run (Err e) backend'
       × (new ≡ record old { backends = slice_set old.backends k backend' }))
-  CarrierDoes old WorkerAdded new = new ≡ record old { pending_batches = old.pending_batches ++ no_pending_batch ∷ [] }
+  CarrierDoes old WorkerAdded new = new ≡ record old { pending_runs = old.pending_runs ++ no_pending_run ∷ [] }
   CarrierDoes old BackendAdded new = new ≡ record old { backends = old.backends ++ new_backend ∷ [] }
   CarrierDoes old Looked new = (new ≡ record old { lanes = new.lanes }) × (
       ((k : ℕ) × (backend : Backend P) × (slice_get old.backends k ≡ Some backend) × GiveOutcome backend old.lanes false backend new.lanes)
-      ⊎ ((k : ℕ) × (pending_batch : PendingBatch) × (slice_get old.pending_batches k ≡ Some pending_batch)
-      × (TellOutcome pending_batch old.lanes false pending_batch new.lanes ⊎ TakeOutcome k pending_batch old.lanes false pending_batch new.lanes)))
-  CarrierDoes old Took new = (k : ℕ) × (pending_batch : PendingBatch) × (pending_batch' : PendingBatch) × (slice_get old.pending_batches k ≡ Some pending_batch)
-      × TakeOutcome k pending_batch old.lanes true pending_batch' new.lanes
-      × (new ≡ record old { lanes = new.lanes; pending_batches = slice_set old.pending_batches k pending_batch' })
+      ⊎ ((k : ℕ) × (pending_run : PendingRun) × (slice_get old.pending_runs k ≡ Some pending_run)
+      × (TellOutcome pending_run old.lanes false pending_run new.lanes ⊎ TakeOutcome k pending_run old.lanes false pending_run new.lanes)))
+  CarrierDoes old Took new = (k : ℕ) × (pending_run : PendingRun) × (pending_run' : PendingRun) × (slice_get old.pending_runs k ≡ Some pending_run)
+      × TakeOutcome k pending_run old.lanes true pending_run' new.lanes
+      × (new ≡ record old { lanes = new.lanes; pending_runs = slice_set old.pending_runs k pending_run' })
   -- only where there is no link, and at the endpoint that the table has for the node
   CarrierDoes old Opened new = (k : ℕ) × (backend : Backend P) × (at : Endpoint) × (port : P) × (slice_get old.backends k ≡ Some backend) × (backend.link ≡ None)
       × (slice_get old.nodes k ≡ Some at) × opens at port
       × (new ≡ record old { backends = slice_set old.backends k (record backend { link = Some (fresh_link port k); asked = false }) })
-  -- no link changed: nothing of the batch was sent
-  CarrierDoes old Refused new = (k : ℕ) × (pending_batch : PendingBatch) × (batch : Batch) × (backend : Backend P)
-      × (slice_get old.pending_batches k ≡ Some pending_batch) × (pending_batch.batch ≡ Some batch) × (pending_batch.refused ≡ None)
-      × (slice_get old.backends batch.node ≡ Some backend) × (backend.link ≡ None)
-      × IsUnreached batch.node (length old.nodes) old.failures new.failures
-      × (new ≡ record old { pending_batches = slice_set old.pending_batches k (record { batch = None; refused = Some batch.ticket }); failures = new.failures })
+  -- no link changed: nothing of the run was sent, and each of its tickets is to be told
+  CarrierDoes old Refused new = (k : ℕ) × (pending_run : PendingRun) × (run : RunModel) × (backend : Backend P)
+      × (slice_get old.pending_runs k ≡ Some pending_run) × (pending_run.run ≡ Some run) × (pending_run.refused ≡ [])
+      × (slice_get old.backends run.first.node ≡ Some backend)
+      × IsRefused longest run backend.link (length old.nodes) old.failures new.failures
+      × (new ≡ record old { pending_runs = slice_set old.pending_runs k (record { run = None; refused = tickets_in run }); failures = new.failures })
   CarrierDoes old Missed new = (old.seed_to_dial ≡ true) × IsUnreached 0 (length old.nodes) old.failures new.failures
       × (new ≡ record old { seed_to_dial = false; failures = new.failures })
   CarrierDoes old SeedReached new = (backend : Backend P) × (old.seed_to_dial ≡ true) × (slice_get old.backends 0 ≡ Some backend)
@@ -298,16 +301,16 @@ module _ {H P : Type 0} (failures : P → ℕ) (is_garbled : P → Type 0) (exch
   -- only where no link is open
   CarrierDoes old NotFound new = (k : ℕ) × (list_any has_open_link old.backends ≡ false) × (new ≡ record old { failures = new.failures })
       × (IsUnreached k (length old.nodes) old.failures new.failures ⊎ (HasFailedLink old.backends k × (new.failures ≡ old.failures)))
-  CarrierDoes old Sent new = (k : ℕ) × (pending_batch : PendingBatch) × (batch : Batch) × (backend : Backend P) × (backend' : Backend P)
-      × (slice_get old.pending_batches k ≡ Some pending_batch) × (pending_batch.batch ≡ Some batch) × (slice_get old.backends batch.node ≡ Some backend)
-      × SendOutcome failures is_garbled exchange backend batch (Ok true) backend'
-      × (new ≡ record old { pending_batches = slice_set old.pending_batches k (record pending_batch { batch = None }); backends = slice_set old.backends batch.node backend' })
+  CarrierDoes old Sent new = (k : ℕ) × (pending_run : PendingRun) × (run : RunModel) × (backend : Backend P) × (backend' : Backend P)
+      × (slice_get old.pending_runs k ≡ Some pending_run) × (pending_run.run ≡ Some run) × (slice_get old.backends run.first.node ≡ Some backend)
+      × SendOutcome failures is_garbled exchange longest backend run (Ok run_step.Sent) backend'
+      × (new ≡ record old { pending_runs = slice_set old.pending_runs k (record pending_run { run = None }); backends = slice_set old.backends run.first.node backend' })
   CarrierDoes old Gave new = (k : ℕ) × (backend : Backend P) × (backend' : Backend P) × (slice_get old.backends k ≡ Some backend)
       × GiveOutcome backend old.lanes true backend' new.lanes
       × (new ≡ record old { lanes = new.lanes; backends = slice_set old.backends k backend' })
-  CarrierDoes old GaveUnsent new = (k : ℕ) × (pending_batch : PendingBatch) × (pending_batch' : PendingBatch) × (slice_get old.pending_batches k ≡ Some pending_batch)
-      × TellOutcome pending_batch old.lanes true pending_batch' new.lanes
-      × (new ≡ record old { lanes = new.lanes; pending_batches = slice_set old.pending_batches k pending_batch' })
+  CarrierDoes old GaveUnsent new = (k : ℕ) × (pending_run : PendingRun) × (pending_run' : PendingRun) × (slice_get old.pending_runs k ≡ Some pending_run)
+      × TellOutcome pending_run old.lanes true pending_run' new.lanes
+      × (new ≡ record old { lanes = new.lanes; pending_runs = slice_set old.pending_runs k pending_run' })
 
   -- events took the one to the other, and something moved exactly where one of them is a move
   abbrev pub CarrierGoes : CarrierModel H P → Bool → CarrierModel H P → Type 0
@@ -331,9 +334,9 @@ module _ {H P : Type 0} (failures : P → ℕ) (is_garbled : P → Type 0) (exch
   CarrierTurnsBy may rests old (Ok moved) new = CarrierCalls may rests old moved new
   CarrierTurnsBy may rests old (Err _) new = (moved : Bool) × CarrierGoesBy may old moved new
 
-  -- places for pending batches are made, until each worker has one; nothing moves
+  -- places for pending runs are made, until each worker has one; nothing moves
   abbrev pub AddsWorkers : CarrierModel H P → Result (Unit {0}) NoMemory → CarrierModel H P → Type 0
-  AddsWorkers old (Ok _) new = CarrierGoesBy adds_worker old false new × (length new.lanes ≤ length new.pending_batches)
+  AddsWorkers old (Ok _) new = CarrierGoesBy adds_worker old false new × (length new.lanes ≤ length new.pending_runs)
   AddsWorkers old (Err _) new = (moved : Bool) × CarrierGoesBy adds_worker old moved new
 
   -- backends are made, until this node has one; nothing moves
@@ -349,15 +352,15 @@ module _ {H P : Type 0} (failures : P → ℕ) (is_garbled : P → Type 0) (exch
   abbrev pub ConnectsSeed : CarrierModel H P → Result Bool NoMemory → CarrierModel H P → Type 0
   ConnectsSeed = CarrierTurnsBy connects_seed (λ left. left.seed_to_dial ≡ false)
 
-  -- the node of a pending batch is dialled, where it has a backend
+  -- the node of a pending run is dialled, where it has a backend
   abbrev pub DialsNode : ℕ → CarrierModel H P → Result Bool NoMemory → CarrierModel H P → Type 0
-  DialsNode worker = CarrierTurnsBy dials_node (λ left. ForSome (slice_get left.pending_batches worker) (λ pending_batch.
-      ForSome (target_of pending_batch.refused pending_batch.batch) (λ node. HasLink left.backends node ⊎ (length left.backends ≤ node))))
+  DialsNode worker = CarrierTurnsBy dials_node (λ left. ForSome (slice_get left.pending_runs worker) (λ pending_run.
+      ForSome (target_of pending_run.refused pending_run.run) (λ node. HasLink left.backends node ⊎ (length left.backends ≤ node))))
 
-  -- the node of a pending batch gets its backend, and is dialled
+  -- the node of a pending run gets its backend, and is dialled
   abbrev pub Connects : ℕ → CarrierModel H P → Result Bool NoMemory → CarrierModel H P → Type 0
-  Connects worker = CarrierTurnsBy connects (λ left. ForSome (slice_get left.pending_batches worker) (λ pending_batch.
-      ForSome (target_of pending_batch.refused pending_batch.batch) (HasLink left.backends)))
+  Connects worker = CarrierTurnsBy connects (λ left. ForSome (slice_get left.pending_runs worker) (λ pending_run.
+      ForSome (target_of pending_run.refused pending_run.run) (HasLink left.backends)))
 
   -- one task for the slot map is done at a backend
   abbrev pub DoesMapTask : MapTask → ℕ → CarrierModel H P → Result Bool NoMemory → CarrierModel H P → Type 0
@@ -372,9 +375,9 @@ module _ {H P : Type 0} (failures : P → ℕ) (is_garbled : P → Type 0) (exch
   FetchesReply node = CarrierTurnsBy fetches (λ left. ForSome (slice_get left.backends node) (λ backend.
       HasNoneToTake backend × HasReceived (GaveNone failures is_garbled exchange gives_none) left.nodes backend))
 
-  -- a pending batch is sent
-  abbrev pub SendsBatch : ℕ → CarrierModel H P → Result Bool NoMemory → CarrierModel H P → Type 0
-  SendsBatch worker = CarrierTurnsBy sends (λ left. ForSome (slice_get left.pending_batches worker) (HasNoOpenLink left.backends))
+  -- a pending run is sent, or refused
+  abbrev pub SendsRun : ℕ → CarrierModel H P → Result Bool NoMemory → CarrierModel H P → Type 0
+  SendsRun worker = CarrierTurnsBy sends (λ left. ForSome (slice_get left.pending_runs worker) (HasNoOpenLink left.backends))
 
   -- a backend has its turn
   abbrev pub ServesBackend : ℕ → CarrierModel H P → Result Bool NoMemory → CarrierModel H P → Type 0
@@ -386,13 +389,13 @@ module _ {H P : Type 0} (failures : P → ℕ) (is_garbled : P → Type 0) (exch
 
   -- a worker's lanes have their turn
   abbrev pub ServesLane : ℕ → CarrierModel H P → Result Bool NoMemory → CarrierModel H P → Type 0
-  ServesLane worker = CarrierTurnsBy serves_lane (λ left. ForSome (slice_get left.pending_batches worker) (λ pending_batch.
-      BatchRests left.lanes left.backends worker pending_batch.refused pending_batch.batch))
+  ServesLane worker = CarrierTurnsBy serves_lane (λ left. ForSome (slice_get left.pending_runs worker) (λ pending_run.
+      RunRests left.lanes left.backends worker pending_run.refused pending_run.run))
 
   -- all workers' lanes have their turns
   abbrev pub ServesLanes : CarrierModel H P → Result Bool NoMemory → CarrierModel H P → Type 0
-  ServesLanes = CarrierTurnsBy serves_lane (λ left. (worker : ℕ) → ForSome (slice_get left.pending_batches worker) (λ pending_batch.
-      BatchRests left.lanes left.backends worker pending_batch.refused pending_batch.batch))
+  ServesLanes = CarrierTurnsBy serves_lane (λ left. (worker : ℕ) → ForSome (slice_get left.pending_runs worker) (λ pending_run.
+      RunRests left.lanes left.backends worker pending_run.refused pending_run.run))
 
   -- a whole turn
   abbrev pub TakesTurn : CarrierModel H P → Result Bool NoMemory → CarrierModel H P → Type 0
@@ -414,10 +417,10 @@ module _ {H P : Type 0} (failures : P → ℕ) (is_garbled : P → Type 0) (exch
   abbrev pub GivesReply : ℕ → CarrierModel H P → Bool → CarrierModel H P → Type 0
   GivesReply node = CarrierCalls gives (λ left. ForSome (slice_get left.backends node) (HasNoneToGive left.lanes))
 
-  -- a worker is told that a batch is unsent
+  -- a worker is told that a run is unsent
   abbrev pub TellsUnsent : ℕ → CarrierModel H P → Bool → CarrierModel H P → Type 0
-  TellsUnsent worker = CarrierCalls tells_unsent (λ left. ForSome (slice_get left.pending_batches worker) (HasNoneToTell left.lanes))
+  TellsUnsent worker = CarrierCalls tells_unsent (λ left. ForSome (slice_get left.pending_runs worker) (HasNoneToTell left.lanes))
 
-  -- a batch is taken from a lane
-  abbrev pub TakesBatch : ℕ → CarrierModel H P → Bool → CarrierModel H P → Type 0
-  TakesBatch worker = CarrierCalls takes_batch (λ left. ForSome (slice_get left.pending_batches worker) (HasNoneToCarry left.lanes worker))
+  -- a run is taken from a lane
+  abbrev pub TakesRun : ℕ → CarrierModel H P → Bool → CarrierModel H P → Type 0
+  TakesRun worker = CarrierCalls takes_run (λ left. ForSome (slice_get left.pending_runs worker) (HasNoneToCarry left.lanes worker))

@@ -1,19 +1,21 @@
 -- One client of a worker.
--- A client that is gone keeps its posted commands until they end, since their nodes may execute them. A command that
--- was never posted is dropped.
-use Rattle.std.specs.Prelude.{◌≡◌, ◌≢◌, ◌⊎◌, ℕ, List, [], Bool, true, false, Some, None, Result, Ok, Err, length}
+-- A client that is gone keeps its posted commands until they end, since their nodes may execute them. Commands that
+-- were never posted are dropped.
+use Rattle.std.specs.Prelude.{◌≡◌, ◌⊎◌, ◌++◌, ◌∷◌, ◌≤◌, ℕ, List, [], Bool, true, false, Some, None, Result, Ok, Err, All, length, ⊤}
 use Rattle.std.specs.FinMap.{empty, get}
+use Rattle.slot_hash.specs.Slot.{slot_of}
 use Rattle.resp_wire.specs.LimitsModel.{LimitsModel}
 use Rattle.resp_wire.specs.declared.fault.NoMemory.{NoMemory}
 use Rattle.node_link.specs.declared.stream.Flow.{Flow}
 use Rattle.node_link.specs.declared.stream.Flow.TheVariants.{Bytes, Nothing, Gone}
-use Rattle.command_future.specs.CommandModel.{CommandModel, WantsPost}
+use Rattle.command_future.specs.CommandModel.{CommandModel, IsFresh}
 use Rattle.session_order.specs.SessionModel.{SessionModel}
 use Rattle.session_order.specs.declared.fault.SessionFault.{SessionFault}
 use Rattle.session_order.specs.declared.fault.SessionFault.TheVariants as fault
 use Rattle.session_order.specs.Life.{fresh}
-use Rattle.session_order.specs.Steps.{IsOut, IsFinished}
-use Rattle.proxy_turns.specs.Commands.{CommandsModel}
+use Rattle.session_order.specs.Behind.{IsOutBehind}
+use Rattle.session_order.specs.Steps.{IsOutInOrder, IsFinished}
+use Rattle.proxy_turns.specs.Commands.{CommandsModel, most_together}
 use Rattle.proxy_turns.specs.Port.{Moves}
 
 -- Its port, its session and its commands; the bytes that were pulled and not fed to the session, and those that it drained
@@ -26,19 +28,28 @@ pub record ClientModel (C : Type 0) : Type 0 where
   pub unpushed : List ℕ
   pub gone : Bool
 
--- Each command is of a part that is out, and no two are of one part. The one that was not posted yet wants its post.
+-- These commands, for parts of one slot, are out behind these parts, and each behind those before it.
+abbrev pub GoBehind : SessionModel → ℕ → List ℕ → List CommandModel → Type 0
+GoBehind session slot before [] = ⊤
+GoBehind session slot before (c ∷ cs) =
+    (slot_of c.part.key ≡ slot) × IsOutBehind session slot before c.ticket × GoBehind session slot (before ++ c.ticket.part ∷ []) cs
+
+-- Each command is of a part that is out in order, and no two are of one part. Those that were not posted yet are for one slot, whose
+-- turn is theirs, and were never refused.
 pub record IsSoundClient (session : SessionModel) (commands : CommandsModel) : Type 0 where
-  pub posted : (number : ℕ) (c : CommandModel) → get commands.posted number ≡ Some c → (c.ticket.part ≡ number) × IsOut session c.ticket
-  pub fresh : (c : CommandModel) → commands.fresh ≡ Some c → IsOut session c.ticket
-  pub wants : (c : CommandModel) → commands.fresh ≡ Some c → WantsPost c.stage
-  pub apart : (c : CommandModel) → commands.fresh ≡ Some c → (number : ℕ) (d : CommandModel) → get commands.posted number ≡ Some d → d.ticket ≢ c.ticket
+  pub posted : (number : ℕ) (c : CommandModel) → get commands.posted number ≡ Some c → (c.ticket.part ≡ number) × IsOutInOrder session c.ticket
+  pub fresh : All IsFresh commands.fresh
+  pub few : length commands.fresh ≤ most_together
+  pub order : All (λ c. IsOutInOrder session c.ticket) commands.fresh
+  pub turn : (slot : ℕ) × GoBehind session slot [] commands.fresh
+  pub apart : All (λ c. get commands.posted c.ticket.part ≡ None) commands.fresh
 
 -- a client with which nothing has happened
 abbrev pub new_client : {C : Type 0} → ℕ → ℕ → LimitsModel → C → ClientModel C
 new_client worker number bounds port = record {
   port = port;
   session = fresh worker number bounds;
-  commands = record { fresh = None; posted = empty };
+  commands = record { fresh = []; posted = empty };
   unfed = [];
   unpushed = [];
   gone = false;
@@ -50,7 +61,7 @@ IsClientServed client = IsFinished client.session × (client.unpushed ≡ [])
 
 -- it is gone, and no command is left
 abbrev pub IsLeft : {C : Type 0} → ClientModel C → Type 0
-IsLeft client = (client.gone ≡ true) × (client.commands ≡ record { fresh = None; posted = empty })
+IsLeft client = (client.gone ≡ true) × (client.commands ≡ record { fresh = []; posted = empty })
 
 -- nothing is left to do for it
 abbrev pub IsDone : {C : Type 0} → ClientModel C → Type 0

@@ -1,9 +1,9 @@
 -- When nothing is left to do for a client but to wait.
 -- Of its posted commands nothing is said here.
-use Rattle.std.specs.Prelude.{◌≡◌, ◌⊎◌, ◌≤◌, ◌^◌, ◌-◌, ℕ, [], Bool, true, false, None, Result, Ok, Err, IfSome, length, take, ⊤}
+use Rattle.std.specs.Prelude.{◌≡◌, ◌≢◌, ◌⊎◌, ◌≤◌, ◌^◌, ◌-◌, ℕ, [], Bool, true, false, Result, Ok, Err, length, take, ⊤}
 use Rattle.std.specs.FinMap.{empty}
 use Rattle.resp_wire.specs.declared.fault.NoMemory.{NoMemory}
-use Rattle.key_split.specs.declared.travel.Batch.{Batch}
+use Rattle.key_split.specs.Runs.{RunModel}
 use Rattle.session_order.specs.SessionModel.{SessionModel}
 use Rattle.session_order.specs.Turn.{MayPost}
 use Rattle.session_order.specs.RequestReaderModel.{IsDry}
@@ -21,7 +21,7 @@ IfStill (Ok false) P = P
 IfStill (Err refused) P = ⊤
 
 -- the lane takes nothing more now: it is full, or no number is left
-abbrev pub HasNoPlace : Outlet Batch → Type 0
+abbrev pub HasNoPlace : Outlet RunModel → Type 0
 HasNoPlace outlet = (1024 ≤ length (posted outlet)) × ((free_places outlet ≡ 0) ⊎ (length (posted outlet) ≡ 2 ^ 64 - 1))
 
 -- the session takes no bytes: too many requests are unanswered, or a fault closed it
@@ -35,7 +35,7 @@ MayBeHeld session i = (parts_of (take 1 session.requests) ≤ i) × (4 ≤ i)
 module _ {C : Type 0} where
   -- it has all its bytes, and no command of it is left
   abbrev pub IsAnswered : ClientModel C → Type 0
-  IsAnswered client = (client.unpushed ≡ []) × (client.commands ≡ record { fresh = None; posted = empty })
+  IsAnswered client = (client.unpushed ≡ []) × (client.commands ≡ record { fresh = []; posted = empty })
 
   -- Who is there, is owed nothing and left nothing that was pulled gave nothing when it was last asked.
   abbrev pub HasNoneToPull : (C → Type 0) → ClientModel C → Type 0
@@ -49,13 +49,13 @@ module _ {C : Type 0} where
   abbrev pub HasNoneToRead : ClientModel C → Type 0
   HasNoneToRead client = MayRead client.session → IsDry client.session.incoming
 
-  -- the turn of no part has come that may not be held back, or a command waits for its first post
+  -- the turn of no part has come that may not be held back, or commands wait for their first post
   abbrev pub HasNoneToBegin : ClientModel C → Type 0
-  HasNoneToBegin client = client.gone ≡ false → client.commands.fresh ≡ None → (i : ℕ) → MayPost client.session.stages i → MayBeHeld client.session i
+  HasNoneToBegin client = client.gone ≡ false → client.commands.fresh ≡ [] → (i : ℕ) → MayPost client.session.stages i → MayBeHeld client.session i
 
-  -- a command waits for its first post only at a lane that takes nothing more, and only of a client that is there
-  abbrev pub HasNoneToPost : ClientModel C → Outlet Batch → Type 0
-  HasNoneToPost client outlet = IfSome client.commands.fresh (λ command. (client.gone ≡ false) × HasNoPlace outlet)
+  -- commands wait for their first post only at a lane that takes nothing more, and only of a client that is there
+  abbrev pub HasNoneToPost : ClientModel C → Outlet RunModel → Type 0
+  HasNoneToPost client outlet = client.commands.fresh ≢ [] → (client.gone ≡ false) × HasNoPlace outlet
 
   -- no reply is ready for who is there and has all its bytes
   abbrev pub HasNoneToDrain : ClientModel C → Type 0
@@ -66,7 +66,7 @@ module _ {C : Type 0} where
   HasNoneToPush takes_none client = client.gone ≡ false → (client.unpushed ≡ []) ⊎ takes_none client.port
 
   -- what a turn of the client leaves that moved nothing
-  pub record IsClientAtRest (gives_none takes_none : C → Type 0) (client : ClientModel C) (outlet : Outlet Batch) : Type 0 where
+  pub record IsClientAtRest (gives_none takes_none : C → Type 0) (client : ClientModel C) (outlet : Outlet RunModel) : Type 0 where
     pub pulled : HasNoneToPull gives_none client
     pub fed : HasNoneToFeed client
     pub read : HasNoneToRead client
@@ -103,11 +103,11 @@ module _ {C : Type 0} where
     pub kept : new ≡ old
     pub begun : HasNoneToBegin new
 
-  pub record PostsNone (old new : ClientModel C) (outlet : Outlet Batch) : Type 0 where
+  pub record PostsNone (old new : ClientModel C) (outlet : Outlet RunModel) : Type 0 where
     pub kept : new ≡ old
     pub posted : HasNoneToPost new outlet
 
-  pub record SendsNone (old new : ClientModel C) (outlet : Outlet Batch) : Type 0 where
+  pub record SendsNone (old new : ClientModel C) (outlet : Outlet RunModel) : Type 0 where
     pub kept : new ≡ old
     pub begun : HasNoneToBegin new
     pub posted : HasNoneToPost new outlet
@@ -128,7 +128,7 @@ module _ {C : Type 0} where
     pub drained : HasNoneToDrain new
     pub pushed : HasNoneToPush takes_none new
 
-  pub record WorksNone (takes_none : C → Type 0) (old new : ClientModel C) (outlet : Outlet Batch) : Type 0 where
+  pub record WorksNone (takes_none : C → Type 0) (old new : ClientModel C) (outlet : Outlet RunModel) : Type 0 where
     pub gone : new.gone ≡ old.gone
     pub unfed : new.unfed ≡ old.unfed
     pub unpushed : new.unpushed ≡ old.unpushed
@@ -143,7 +143,7 @@ module _ {C : Type 0} where
   -- The client has nothing to do until bytes are pulled or a command ends.
   pub record IsIdle (client : ClientModel C) : Type 0 where
     pub unpushed : client.unpushed ≡ []
-    pub fresh : client.commands.fresh ≡ None
+    pub fresh : client.commands.fresh ≡ []
     pub fed : HasNoneToFeed client
     pub read : HasNoneToRead client
     pub begun : HasNoneToBegin client

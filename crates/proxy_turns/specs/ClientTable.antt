@@ -1,22 +1,27 @@
 -- What calls on one of a worker's clients do to all of them.
 -- Only that client changes.
-use Rattle.std.specs.Prelude.{◌≡◌, ◌≢◌, ◌⊎◌, ℕ, List, true, false, Option, Some, None, length, slice_get}
+use Rattle.std.specs.Prelude.{◌≡◌, ◌≢◌, ◌⊎◌, ℕ, List, true, false, Option, Some, None, Result, Ok, length, slice_get}
 use Rattle.std.specs.Option.{ForSome}
 use Rattle.std.specs.Ordering.{nat_cmp}
 use Rattle.std.specs.FinMap.{FinMap, empty, get, insert, remove}
 use Rattle.slot_map.specs.declared.ops.MapOp.{MapOp}
-use Rattle.key_split.specs.declared.travel.Batch.{Batch}
+use Rattle.resp_wire.specs.declared.fault.NoMemory.{NoMemory}
+use Rattle.key_split.specs.declared.travel.Ticket.{Ticket}
+use Rattle.key_split.specs.Runs.{RunModel}
 use Rattle.proxy_lanes.specs.declared.ring.Outlet.{Outlet}
 use Rattle.proxy_turns.specs.ClientModel.{ClientModel, IsDone}
-use Rattle.proxy_turns.specs.ClientTurn.{ClientContext}
+use Rattle.proxy_turns.specs.Port.{Moves}
+use Rattle.proxy_turns.specs.ClientTurn.{ClientContext, FinishOutcome}
 use Rattle.proxy_turns.specs.ClientRest.{IsClientAtRest}
+use Rattle.proxy_turns.specs.declared.turned.Finish.{Finish}
+use Rattle.proxy_turns.specs.declared.turned.Finish.TheVariants as finish
 use Rattle.proxy_turns.specs.declared.turned.Turned.{Turned}
 use Rattle.proxy_turns.specs.WorkerModel.{Leaves, clients_in}
 
 -- The clients beside the lane into which the worker posts and its view of the map.
 pub record ClientsContext (C : Type 0) : Type 0 where
   pub clients : FinMap nat_cmp (ClientModel C)
-  pub outlet : Outlet Batch
+  pub outlet : Outlet RunModel
   pub view : List MapOp
 
 -- One client's step, with the lane and the view. Where none has the number nothing happens, and the answer is this.
@@ -35,6 +40,13 @@ AtPlace {C} entries place old step answers_none new =
     × step (record { client = client; outlet = old.outlet; view = old.view }) (record { client = client'; outlet = new.outlet; view = new.view })
     × (new.clients ≡ insert old.clients number client') × (slice_get entries place ≡ Some (number, client)))
 
+-- The command of this ticket ends, where it has an end; nothing happens exactly where it has none.
+abbrev pub ClientFinishes : {C : Type 0} → Moves C → FinMap nat_cmp (ClientModel C) → Ticket → Result Finish NoMemory → FinMap nat_cmp (ClientModel C) → Type 0
+ClientFinishes {C} moves old ticket result new =
+    ((get old ticket.client ≡ None) × (result ≡ Ok finish.Open) × (new ≡ old))
+    ⊎ ((client : ClientModel C) × (client' : ClientModel C) × (get old ticket.client ≡ Some client)
+    × FinishOutcome moves client ticket.part result client' × (new ≡ insert old ticket.client client'))
+
 -- nothing is left to do for the client at this place
 abbrev pub IsDoneAt : {C : Type 0} → List (ℕ × ClientModel C) → ℕ → Type 0
 IsDoneAt {C} entries place =
@@ -52,18 +64,18 @@ TakesAny old None new = (old ≡ empty) × (new ≡ old)
 TakesAny {C} old (Some port) new = (number : ℕ) × (client : ClientModel C) × (get old number ≡ Some client) × (port ≡ client.port) × (new ≡ remove old number)
 
 -- The client at this place had its turn: it rests after one that moved nothing, and the answer says whether it is done.
-pub record IsTurnedAt {C : Type 0} (gives_none takes_none : C → Type 0) (old : List (ℕ × ClientModel C)) (place : ℕ) (turned : Turned) (outlet : Outlet Batch) (new : List (ℕ × ClientModel C)) : Type 0 where
+pub record IsTurnedAt {C : Type 0} (gives_none takes_none : C → Type 0) (old : List (ℕ × ClientModel C)) (place : ℕ) (turned : Turned) (outlet : Outlet RunModel) (new : List (ℕ × ClientModel C)) : Type 0 where
   pub others : (other : ℕ) → other ≢ place → slice_get new other ≡ slice_get old other
   pub rests : turned.moved ≡ false → ForSome (slice_get new place) (λ entry. IsClientAtRest gives_none takes_none entry.1 outlet)
   pub done : turned.done ≡ true → IsDoneAt new place
   pub undone : turned.done ≡ false → ForSome (slice_get new place) (λ entry. IsDone entry.1 → ⊥)
 
 -- the client at this place is at rest, and not done
-abbrev pub IsAtRestAt : {C : Type 0} → (C → Type 0) → (C → Type 0) → List (ℕ × ClientModel C) → Outlet Batch → ℕ → Type 0
+abbrev pub IsAtRestAt : {C : Type 0} → (C → Type 0) → (C → Type 0) → List (ℕ × ClientModel C) → Outlet RunModel → ℕ → Type 0
 IsAtRestAt gives_none takes_none entries outlet place = ForSome (slice_get entries place) (λ entry. (IsDone entry.1 → ⊥) × IsClientAtRest gives_none takes_none entry.1 outlet)
 
 -- a turn of the client at this place moved nothing, and it is at rest and not done
-pub record IsStillAt {C : Type 0} (gives_none takes_none : C → Type 0) (old : List (ℕ × ClientModel C)) (place : ℕ) (outlet : Outlet Batch) (new : List (ℕ × ClientModel C)) : Type 0 where
+pub record IsStillAt {C : Type 0} (gives_none takes_none : C → Type 0) (old : List (ℕ × ClientModel C)) (place : ℕ) (outlet : Outlet RunModel) (new : List (ℕ × ClientModel C)) : Type 0 where
   pub others : (other : ℕ) → other ≢ place → slice_get new other ≡ slice_get old other
   pub here : IsAtRestAt gives_none takes_none new outlet place
   pub len : length new ≡ length old

@@ -1,35 +1,37 @@
 -- What happens to one client in a worker's turn, at the lane into which the worker posts, and at its view of the slot
 -- map.
 -- A turn is a list of events, and moved exactly where one of them is a move. Nothing says that a turn makes any.
-use Rattle.std.specs.Prelude.{◌*◌, ◌||◌, ◌≡◌, ◌↔◌, ◌++◌, ◌∷◌, [], ℕ, List, Bool, true, false, IsTrue, Option, Some, None, Result, Ok, Err, length, drop, nat_lt}
+use Rattle.std.specs.Prelude.{◌*◌, ◌||◌, ◌≡◌, ◌≢◌, ◌≤◌, ◌↔◌, ◌++◌, ◌∷◌, [], ℕ, List, Bool, true, false, IsTrue, Option, Some, None, Result, Ok, Err, length, drop, map, nat_lt}
 use Rattle.std.specs.List.{FoldsTo, list_all, list_any}
 use Rattle.std.specs.FinMap.{get, remove}
 use Rattle.slot_hash.specs.Slot.{slot_of}
 use Rattle.slot_map.specs.declared.ops.MapOp.{MapOp}
 use Rattle.resp_wire.specs.declared.fault.NoMemory.{NoMemory}
 use Rattle.key_split.specs.PartModel.{PartModel}
-use Rattle.key_split.specs.declared.travel.Batch.{Batch}
+use Rattle.key_split.specs.Runs.{RunModel, IsTogether, count_in}
 use Rattle.key_split.specs.declared.travel.Ticket.{Ticket}
 use Rattle.key_split.specs.declared.travel.Ended.{Ended}
-use Rattle.command_future.specs.declared.stage.Stage.TheVariants.{Awaits}
-use Rattle.command_future.specs.CommandModel.{CommandModel, fresh, batch_of}
+use Rattle.command_future.specs.CommandModel.{CommandModel}
 use Rattle.session_order.specs.declared.fault.SessionFault.{SessionFault}
 use Rattle.session_order.specs.HangingUp.{HangsUp}
 use Rattle.session_order.specs.Replies.{DrainOutcome}
-use Rattle.session_order.specs.Steps.{IsOut, FeedOutcome, ReadOutcome, ReadyOutcome, EndOutcome}
+use Rattle.session_order.specs.Steps.{IsHandedOut, IsOut, FeedOutcome, ReadOutcome, ReadyOutcome, FollowerOutcome, EndOutcome}
+use Rattle.session_order.specs.Behind.{NextInTurn}
 use Rattle.proxy_lanes.specs.declared.map_view.NotEntered.{NotEntered}
 use Rattle.proxy_lanes.specs.declared.ring.Outlet.{Outlet}
 use Rattle.proxy_lanes.specs.Lane.{Posts}
 use Rattle.proxy_turns.specs.Port.{Moves}
-use Rattle.proxy_turns.specs.Commands.{CommandsModel, TakesCommand, with_command, HasEndAt, HasEnd, Looks, GoesTo}
+use Rattle.proxy_turns.specs.Commands.{CommandsModel, TakesRun, most_together, run_of, with_fresh, with_run, HasEndAt, HasEnd, Looks, GoesTo}
 use Rattle.proxy_turns.specs.declared.turned.Turned.{Turned}
+use Rattle.proxy_turns.specs.declared.turned.Finish.{Finish}
+use Rattle.proxy_turns.specs.declared.turned.Finish.TheVariants as finish
 use Rattle.proxy_turns.specs.declared.turned.Settled.{Settled}
 use Rattle.proxy_turns.specs.declared.turned.Settled.TheVariants as settled
-use Rattle.proxy_turns.specs.ClientModel.{ClientModel, IsDone}
+use Rattle.proxy_turns.specs.ClientModel.{ClientModel, GoBehind, IsDone}
 
 pub record ClientContext (C : Type 0) : Type 0 where
   pub client : ClientModel C
-  pub outlet : Outlet Batch
+  pub outlet : Outlet RunModel
   pub view : List MapOp
 
 pub data ClientEvent : Type 0 where
@@ -37,20 +39,21 @@ pub data ClientEvent : Type 0 where
   Fed : Result ℕ SessionFault → ClientEvent
   Read : Result Bool SessionFault → ClientEvent
   HandedOut : Ticket → PartModel → ClientEvent
+  Followed : Ticket → PartModel → ClientEvent
   Looked : ℕ → ClientEvent
-  CameBack : Batch → ClientEvent
-  Posted : Batch → ClientEvent
+  CameBack : RunModel → ClientEvent
+  Posted : RunModel → ClientEvent
   Drained : ℕ → ClientEvent
   Pushed : List ℕ → ClientEvent
   Tried : ClientEvent
   Parted : ClientEvent
-  Dropped : Ticket → ClientEvent
+  Dropped : List Ticket → ClientEvent
 
 -- A turn drains replies of so many bytes, and the last of them to its end.
 abbrev pub most_drained : ℕ
 most_drained = 64 * 1024
 
--- Whether it moved something: a look at the map does not, nor a batch that came back, nor a call that found nothing.
+-- Whether it moved something: a look at the map does not, nor a run that came back, nor a call that found nothing.
 abbrev pub is_client_move : ClientEvent → Bool
 is_client_move (Pulled bytes) = nat_lt 0 (length bytes)
 is_client_move (Fed (Ok n)) = nat_lt 0 n
@@ -58,14 +61,15 @@ is_client_move (Fed (Err fault)) = false
 is_client_move (Read (Ok read)) = read
 is_client_move (Read (Err fault)) = false
 is_client_move (HandedOut ticket part) = true
+is_client_move (Followed ticket part) = true
 is_client_move (Looked slot) = false
-is_client_move (CameBack batch) = false
-is_client_move (Posted batch) = true
+is_client_move (CameBack run) = false
+is_client_move (Posted run) = true
 is_client_move (Drained n) = nat_lt 0 n
 is_client_move (Pushed bytes) = nat_lt 0 (length bytes)
 is_client_move Tried = false
 is_client_move Parted = true
-is_client_move (Dropped ticket) = true
+is_client_move (Dropped tickets) = true
 
 -- Which events one part of a turn may make.
 
@@ -86,21 +90,22 @@ abbrev pub is_read : ClientEvent → Bool
 is_read (Read result) = true
 is_read event = false
 
--- a command begins
+-- commands begin
 abbrev pub is_begin : ClientEvent → Bool
 is_begin (HandedOut ticket part) = true
+is_begin (Followed ticket part) = true
 is_begin event = false
 
--- the command of a client that is gone is dropped
+-- the commands of a client that is gone are dropped
 abbrev pub is_drop : ClientEvent → Bool
-is_drop (Dropped ticket) = true
+is_drop (Dropped tickets) = true
 is_drop event = false
 
--- a command is posted, or only tried
+-- commands are posted, or only tried
 abbrev pub is_post : ClientEvent → Bool
 is_post (Looked slot) = true
-is_post (CameBack batch) = true
-is_post (Posted batch) = true
+is_post (CameBack run) = true
+is_post (Posted run) = true
 is_post event = false
 
 -- the session is drained
@@ -152,25 +157,33 @@ module _ {C : Type 0} where
         × (new ≡ with_client old (record old.client { session = new.client.session }))
     -- the session of a client that is there hands out a part, whose command begins
     ClientDoes old (HandedOut ticket part) new =
-        (old.client.gone ≡ false) × (old.client.commands.fresh ≡ None)
+        (old.client.gone ≡ false) × (old.client.commands.fresh ≡ [])
         × ReadyOutcome old.client.session (Some (ticket, part)) new.client.session
-        × (new ≡ with_client old (record old.client { session = new.client.session; commands = record old.client.commands { fresh = Some (fresh ticket part) } }))
+        × (new ≡ with_client old (record old.client { session = new.client.session; commands = with_fresh old.client.commands ticket part }))
+    -- it hands out the next part for the slot, whose command goes behind the last of those that were not posted yet
+    ClientDoes old (Followed ticket part) new =
+        (old.client.gone ≡ false)
+        × ((before : List CommandModel) × (last : CommandModel) × (old.client.commands.fresh ≡ before ++ last ∷ [])
+        × FollowerOutcome old.client.session last.ticket (Some (ticket, part)) new.client.session)
+        × (new ≡ with_client old (record old.client { session = new.client.session; commands = with_fresh old.client.commands ticket part }))
     -- a look at the map
     ClientDoes old (Looked slot) new =
         ((answer : Result (Option ℕ) NotEntered) × Looks old.view slot answer new.view) × (new ≡ record old { view = new.view })
-    -- the lane takes no batch
-    ClientDoes old (CameBack batch) new = Posts old.outlet new.outlet batch (Err batch) × (new ≡ record old { outlet = new.outlet })
-    -- A command that wants to be posted, in the turn of its part, is posted as it wants. For a client that is gone this is one that
-    -- was posted before.
-    ClientDoes old (Posted batch) new =
-        (number : ℕ) × (c : CommandModel) × (rest : CommandsModel)
-        × TakesCommand old.client.commands number c rest
-        × (old.client.gone ≡ true → get old.client.commands.posted number ≡ Some c)
-        × IsOut old.client.session c.ticket
-        × GoesTo c.stage (slot_of c.part.key) old.view batch.node new.view
-        × (batch ≡ batch_of c batch.node)
-        × Posts old.outlet new.outlet batch (Ok tt)
-        × (new ≡ record { client = record old.client { commands = with_command rest number (record c { stage = Awaits }) }; outlet = new.outlet; view = new.view })
+    -- the lane takes no run
+    ClientDoes old (CameBack run) new = Posts old.outlet new.outlet run (Err run) × (new ≡ record old { outlet = new.outlet })
+    -- Commands that want to be posted go as the first of them wants, in the turn of its part, each behind those before it. For a client that
+    -- is gone this is one that was posted before.
+    ClientDoes old (Posted run) new =
+        (first : CommandModel) × (later : List CommandModel) × (rest : CommandsModel)
+        × TakesRun old.client.commands first later rest
+        × (old.client.gone ≡ true → get old.client.commands.posted first.ticket.part ≡ Some first)
+        × IsOut old.client.session first.ticket
+        × GoBehind old.client.session (slot_of first.part.key) (first.ticket.part ∷ []) later
+        × GoesTo first.stage (slot_of first.part.key) old.view run.first.node new.view
+        × (run ≡ run_of first later run.first.node)
+        × IsTogether run × (count_in run ≤ most_together)
+        × Posts old.outlet new.outlet run (Ok tt)
+        × (new ≡ record { client = record old.client { commands = with_run rest first later }; outlet = new.outlet; view = new.view })
     -- the session of a client that is there drains replies that are next in order, until they have so many bytes
     ClientDoes old (Drained n) new =
         (old.client.gone ≡ false)
@@ -189,10 +202,10 @@ module _ {C : Type 0} where
         (old.client.gone ≡ false)
         × HangsUp old.client.session new.client.session
         × (new ≡ with_client old (record old.client { session = new.client.session; gone = true; unfed = []; unpushed = [] }))
-    -- the command of a client that is gone is dropped before its first post
-    ClientDoes old (Dropped ticket) new =
-        (old.client.gone ≡ true) × (c : CommandModel) × (old.client.commands.fresh ≡ Some c) × (c.ticket ≡ ticket)
-        × (new ≡ with_client old (record old.client { commands = record old.client.commands { fresh = None } }))
+    -- the commands of a client that is gone are dropped before their first post
+    ClientDoes old (Dropped tickets) new =
+        (old.client.gone ≡ true) × (old.client.commands.fresh ≢ []) × (tickets ≡ map (λ c. c.ticket) old.client.commands.fresh)
+        × (new ≡ with_client old (record old.client { commands = record old.client.commands { fresh = [] } }))
 
     -- some events took one to the other, and this says whether one of them moved something
     abbrev pub ClientGoes : ClientContext C → Bool → ClientContext C → Type 0
@@ -218,7 +231,7 @@ module _ {C : Type 0} where
     ClientTurnsBy may old (Err refused) new = (moved : Bool) × ClientGoesBy may old moved new
 
     abbrev pub ClientTurnsAloneBy : (ClientEvent → Bool) → ClientModel C → Result Bool NoMemory → ClientModel C → Type 0
-    ClientTurnsAloneBy may old result new = (outlet : Outlet Batch) (view : List MapOp)
+    ClientTurnsAloneBy may old result new = (outlet : Outlet RunModel) (view : List MapOp)
         → ClientTurnsBy may (record { client = old; outlet = outlet; view = view }) result (record { client = new; outlet = outlet; view = view })
 
     -- bytes are pulled
@@ -233,13 +246,13 @@ module _ {C : Type 0} where
     abbrev pub ReadsRequests : ClientModel C → Result Bool NoMemory → ClientModel C → Type 0
     ReadsRequests = ClientTurnsAloneBy is_read
 
-    -- a command begins
-    abbrev pub BeginsCommand : ClientModel C → Result Bool NoMemory → ClientModel C → Type 0
-    BeginsCommand = ClientTurnsAloneBy is_begin
+    -- commands begin
+    abbrev pub BeginsCommands : ClientModel C → Result Bool NoMemory → ClientModel C → Type 0
+    BeginsCommands = ClientTurnsAloneBy is_begin
 
-    -- the command of a client that is gone is dropped
-    abbrev pub DropsCommand : ClientModel C → Result Bool NoMemory → ClientModel C → Type 0
-    DropsCommand = ClientTurnsAloneBy is_drop
+    -- the commands of a client that is gone are dropped
+    abbrev pub DropsCommands : ClientModel C → Result Bool NoMemory → ClientModel C → Type 0
+    DropsCommands = ClientTurnsAloneBy is_drop
 
     -- the session is drained
     abbrev pub DrainsReplies : ClientModel C → Result Bool NoMemory → ClientModel C → Type 0
@@ -253,9 +266,9 @@ module _ {C : Type 0} where
     abbrev pub WritesReplies : ClientModel C → Result Bool NoMemory → ClientModel C → Type 0
     WritesReplies = ClientTurnsAloneBy is_write
 
-    -- a command is posted, or only tried
-    abbrev pub PostsCommand : ClientContext C → Result Bool NoMemory → ClientContext C → Type 0
-    PostsCommand = ClientTurnsBy is_post
+    -- commands are posted, or only tried
+    abbrev pub PostsCommands : ClientContext C → Result Bool NoMemory → ClientContext C → Type 0
+    PostsCommands = ClientTurnsBy is_post
 
     -- commands begin and are posted
     abbrev pub SendsCommands : ClientContext C → Result Bool NoMemory → ClientContext C → Type 0
@@ -273,24 +286,24 @@ module _ {C : Type 0} where
         × EndOutcome old.session ticket end new.session
         × (new ≡ record old { port = new.port; session = new.session; commands = record old.commands { posted = remove old.commands.posted ticket.part } })
 
-    -- the command for the part of this number, where it has ended; where the port finds no memory for the end nothing happens
-    abbrev pub FinishOutcome : ClientModel C → ℕ → Result Bool NoMemory → ClientModel C → Type 0
-    FinishOutcome old number (Ok true) new = (ticket : Ticket) × (end : Ended) × (ticket.part ≡ number) × Finishes old ticket end new
-    FinishOutcome old number (Ok false) new = (HasEndAt old.commands number → ⊥) × (new ≡ old)
+    -- The command for the part of this number, where it has ended, with the next one that is out for its slot. Where the port finds no
+    -- memory for the end nothing happens.
+    abbrev pub FinishOutcome : ClientModel C → ℕ → Result Finish NoMemory → ClientModel C → Type 0
+    FinishOutcome old number (Ok (finish.Ended next)) new =
+        (ticket : Ticket) × (end : Ended) × (ticket.part ≡ number) × IsHandedOut old.session ticket × Finishes old ticket end new
+        × NextInTurn old.session ticket next
+    FinishOutcome old number (Ok finish.Open) new = (HasEndAt old.commands number → ⊥) × (new ≡ old)
     FinishOutcome old number (Err refused) new = moves old.port [] [] [] new.port × (new ≡ record old { port = new.port })
 
-    -- the command for the part of this number ends, or is posted again, or neither
-    abbrev pub SettleOutcome : ClientContext C → ℕ → Result Settled NoMemory → ClientContext C → Type 0
-    SettleOutcome old number (Ok settled.Finished) new =
-        (ticket : Ticket) × (end : Ended) × (ticket.part ≡ number) × Finishes old.client ticket end new.client × (new ≡ with_client old new.client)
-    SettleOutcome old number (Ok settled.Posted) new = ClientGoes old true new
-    SettleOutcome old number (Ok settled.Held) new = ClientGoes old false new
-    SettleOutcome old number (Ok settled.Nothing) new = ClientGoes old false new
-    SettleOutcome old number (Err refused) new = (moved : Bool) × ClientGoes old moved new
+    -- a posted command is posted again, or not
+    abbrev pub SettleOutcome : ClientContext C → Result Settled NoMemory → ClientContext C → Type 0
+    SettleOutcome old (Ok settled.Posted) new = ClientGoes old true new
+    SettleOutcome old (Ok settled.Held) new = ClientGoes old false new
+    SettleOutcome old (Ok settled.Nothing) new = ClientGoes old false new
+    SettleOutcome old (Err refused) new = (moved : Bool) × ClientGoes old moved new
 
 -- whether it moved something
 abbrev pub is_settled : Settled → Bool
-is_settled settled.Finished = true
 is_settled settled.Posted = true
 is_settled settled.Held = false
 is_settled settled.Nothing = false

@@ -1,7 +1,7 @@
 -- What a dial says: a port that it gives is a new connection to the endpoint that was dialled, and the count of its failures
 -- rises exactly where it failed.
 -- A dial that is under way, or may not begin yet, counts as failed: no connection stands. Who is told Unsent after a failure is
--- said in Sending.antt and PendingBatch.antt.
+-- said in Sending.antt and PendingRun.antt.
 use Rattle.std.specs.Prelude.{◌≡◌, ◌<◌, ℕ, Result, Ok, Err}
 use Rattle.slot_map.specs.Table.{Endpoint}
 use Rattle.proxy_turns.specs.declared.dial.DialFault.{DialFault}

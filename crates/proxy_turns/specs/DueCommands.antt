@@ -1,6 +1,6 @@
 -- Which commands of a worker have something to do, and that each of them is noted.
 -- Only private functions cite it.
-use Rattle.std.specs.Prelude.{◌≡◌, ◌≢◌, ◌||◌, ◌&&◌, ◌<◌, ℕ, Bool, true, Option, Some, None, Result, Ok, Err, nat_eq, nat_lt, ⊤}
+use Rattle.std.specs.Prelude.{◌≡◌, ◌≢◌, ◌⊎◌, ◌||◌, ◌&&◌, ◌<◌, ℕ, Bool, true, Option, Some, None, Result, Ok, Err, IsSomeAnd, nat_eq, nat_lt, ⊤}
 use Rattle.std.specs.List.{list_any}
 use Rattle.std.specs.Ordering.{nat_cmp}
 use Rattle.std.specs.FinMap.{FinMap, get}
@@ -8,16 +8,19 @@ use Rattle.std.specs.declared.cmp.Reverse.{Reverse}
 use Rattle.std.specs.BinaryHeap.{heap_items, heap_len, heap_capacity}
 use Rattle.std.specs.VecDeque.{deque_len, deque_capacity}
 use Rattle.resp_wire.specs.declared.fault.NoMemory.{NoMemory}
-use Rattle.key_split.specs.declared.travel.Batch.{Batch}
+use Rattle.key_split.specs.Runs.{RunModel}
 use Rattle.key_split.specs.declared.travel.Ticket.{Ticket}
 use Rattle.command_future.specs.declared.stage.Stage.TheVariants.{Awaits}
 use Rattle.command_future.specs.CommandModel.{CommandModel, WantsPost}
+use Rattle.session_order.specs.SessionModel.{SessionModel}
+use Rattle.session_order.specs.Behind.{IsOutFor}
 use Rattle.proxy_lanes.specs.declared.ring.Outlet.{Outlet}
 use Rattle.proxy_turns.specs.declared.due_commands.DueCommands.{DueCommands}
 use Rattle.proxy_turns.specs.declared.due_commands.PausedCommand.{PausedCommand}
+use Rattle.proxy_turns.specs.declared.turned.NextStep.{NextStep}
+use Rattle.proxy_turns.specs.declared.turned.NextStep.TheVariants as next_step
 use Rattle.proxy_turns.specs.declared.turned.Settled.{Settled}
 use Rattle.proxy_turns.specs.declared.turned.Settled.TheVariants as settled
-use Rattle.proxy_turns.specs.Commands.{CommandsModel}
 use Rattle.proxy_turns.specs.ClientModel.{ClientModel}
 use Rattle.proxy_turns.specs.ClientRest.{HasNoPlace}
 use Rattle.proxy_turns.specs.Pause.{pause_at}
@@ -50,23 +53,44 @@ TakesPaused old None new = (new.ended ≡ old.ended) × (new.due ≡ old.due) ×
 TakesPaused old (Some ticket) new = (new.ended ≡ old.ended) × (new.due ≡ old.due)
     × ((client part : ℕ) → list_any (is_pause_of client part) (heap_items old.paused) ≡ (is_ticket client part ticket || list_any (is_pause_of client part) (heap_items new.paused)))
 
--- the command for the part of this number was posted, and does not await its answer
-abbrev pub IsToSettle : CommandsModel → ℕ → CommandModel → Type 0
-IsToSettle commands part command = (get commands.posted part ≡ Some command) × (command.stage ≢ Awaits)
+-- no earlier part for the slot of this one is out
+abbrev pub IsFirstOut : SessionModel → ℕ → Type 0
+IsFirstOut session part = (slot number : ℕ) → IsOutFor session slot part → IsOutFor session slot number → number < part → ⊥
+
+-- the command for the part of this number was posted, and has ended, or wants its post and its turn has come
+abbrev pub IsToSettle : {C : Type 0} → ClientModel C → ℕ → CommandModel → Type 0
+IsToSettle client part command = (get client.commands.posted part ≡ Some command) × (command.stage ≢ Awaits) × (WantsPost command.stage → command.ticket.part ≡ part → IsFirstOut client.session part)
 
 -- the same of one of a worker's clients
 abbrev pub IsToSettleAt : {C : Type 0} → FinMap nat_cmp (ClientModel C) → ℕ → ℕ → CommandModel → Type 0
-IsToSettleAt {C} clients number part command = (client : ClientModel C) × (get clients number ≡ Some client) × IsToSettle client.commands part command
+IsToSettleAt {C} clients number part command = (client : ClientModel C) × (get clients number ≡ Some client) × IsToSettle client part command
 
--- each command that was posted and does not await its answer is noted
+-- What a posted command has to do, once its turn has come: nothing, or to end, or to be posted after this pause.
+abbrev pub StepOf : NextStep → CommandModel → Type 0
+StepOf next_step.Rest command = command.stage ≡ Awaits
+StepOf next_step.End command = (command.stage ≢ Awaits) × (pause_at command.stage command.followed ≡ None)
+StepOf (next_step.Post pause) command = WantsPost command.stage × (pause_at command.stage command.followed ≡ Some pause)
+
+-- What one that has something to do has to do.
+abbrev pub NextStepOf : NextStep → CommandModel → Type 0
+NextStepOf next_step.Rest command = ⊥
+NextStepOf next_step.End command = pause_at command.stage command.followed ≡ None
+NextStepOf (next_step.Post pause) command = pause_at command.stage command.followed ≡ Some pause
+
+-- each posted command that has ended, or wants its post and whose turn has come, is noted
 abbrev pub AreNoted : {C : Type 0} → FinMap nat_cmp (ClientModel C) → DueCommands → Type 0
 AreNoted clients due =
     (number part : ℕ) (command : CommandModel) → IsToSettleAt clients number part command → is_noted due number part (pause_at command.stage command.followed) ≡ true
 
--- What a step of one command leaves of it: the lane took nothing and it wants its post, or it awaits its answer or is over.
-abbrev pub IsSettled : Result Settled NoMemory → (CommandModel → Type 0) → Outlet Batch → Type 0
-IsSettled (Ok settled.Finished) is_left outlet = (command : CommandModel) → is_left command → ⊥
-IsSettled (Ok settled.Posted) is_left outlet = (command : CommandModel) → is_left command → ⊥
-IsSettled (Ok settled.Held) is_left outlet = HasNoPlace outlet × ((command : CommandModel) → is_left command → WantsPost command.stage)
-IsSettled (Ok settled.Nothing) is_left outlet = (command : CommandModel) → is_left command → ⊥
+-- What an attempt to post a command again leaves of it: the lane took nothing and it wants its post, or it wants none.
+abbrev pub IsSettled : Result Settled NoMemory → (CommandModel → Type 0) → Outlet RunModel → Type 0
+IsSettled (Ok settled.Posted) is_left outlet = (command : CommandModel) → is_left command → WantsPost command.stage → ⊥
+IsSettled (Ok settled.Held) is_left outlet = HasNoPlace outlet
+IsSettled (Ok settled.Nothing) is_left outlet = (command : CommandModel) → is_left command → WantsPost command.stage → ⊥
 IsSettled (Err refused) is_left outlet = ⊤
+
+-- each posted command that has something to do pauses before its next post, or the lane takes nothing more
+abbrev pub AreSettled : {C : Type 0} → FinMap nat_cmp (ClientModel C) → Outlet RunModel → Type 0
+AreSettled clients outlet =
+    (number part : ℕ) (command : CommandModel) → IsToSettleAt clients number part command
+    → WantsPost command.stage × (IsSomeAnd (pause_at command.stage command.followed) (λ pause. 0 < pause) ⊎ HasNoPlace outlet)

@@ -14,7 +14,8 @@ pub mod Worker
 pub mod Dialling
 pub mod Backend
 pub mod Sending
-pub mod PendingBatch
+pub mod RefusedRun
+pub mod PendingRun
 pub mod Resting
 pub mod CarrierModel
 pub mod Owing

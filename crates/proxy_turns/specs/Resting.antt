@@ -1,7 +1,7 @@
 -- When nothing is left for the carrier to do but to wait.
-use Rattle.std.specs.Prelude.{◌≡◌, ◌⊎◌, ◌≤◌, ◌<◌, ◌-◌, ◌^◌, ℕ, List, [], true, false, Option, Some, None, IsSome, IfSome, length, slice_get}
+use Rattle.std.specs.Prelude.{◌≡◌, ◌⊎◌, ◌≤◌, ◌<◌, ◌-◌, ◌^◌, ℕ, List, [], ◌∷◌, true, false, Option, Some, None, IsSome, IfSome, length, slice_get}
 use Rattle.std.specs.Option.{ForSome}
-use Rattle.key_split.specs.declared.travel.Batch.{Batch}
+use Rattle.key_split.specs.Runs.{RunModel}
 use Rattle.key_split.specs.declared.travel.Ticket.{Ticket}
 use Rattle.key_split.specs.declared.travel.Told.{Told}
 use Rattle.slot_map.specs.Table.{Endpoint}
@@ -10,9 +10,9 @@ use Rattle.proxy_lanes.specs.declared.ends.lane_ends.LaneEnds.{LaneEnds}
 use Rattle.proxy_lanes.specs.declared.ring.Outlet.{Outlet}
 use Rattle.proxy_lanes.specs.Lane.{posted, free_places, held}
 use Rattle.proxy_turns.specs.declared.backend.Backend.{Backend}
-use Rattle.proxy_turns.specs.declared.pending_batch.PendingBatch.{PendingBatch}
+use Rattle.proxy_turns.specs.declared.pending_run.PendingRun.{PendingRun}
 use Rattle.proxy_turns.specs.Backend.{HasReceived, has_failed, is_open}
-use Rattle.proxy_turns.specs.PendingBatch.{IsPending}
+use Rattle.proxy_turns.specs.PendingRun.{IsPending, target_of}
 
 -- a lane to a worker takes nothing more now: it is finished, or it is full, or no number is left
 abbrev pub IsBlocked : Option (Outlet (Ticket × Told)) → Type 0
@@ -24,9 +24,9 @@ module _ {H : Type 0} where
   abbrev pub IsBlockedAt : List (LaneEnds H) → ℕ → Type 0
   IsBlockedAt lanes worker = (lane : LaneEnds H) × (slice_get lanes worker ≡ Some lane) × IsBlocked lane.down
 
-  -- the lane from this worker has no batch
-  abbrev pub HasNoBatch : List (LaneEnds H) → ℕ → Type 0
-  HasNoBatch lanes worker = worker < 2 ^ 16 → ForSome (slice_get lanes worker) (λ lane. held lane.up ≡ [])
+  -- the lane from this worker has no run
+  abbrev pub HasNoRun : List (LaneEnds H) → ℕ → Type 0
+  HasNoRun lanes worker = worker < 2 ^ 16 → ForSome (slice_get lanes worker) (λ lane. held lane.up ≡ [])
 
   -- What a call that moved nothing leaves.
 
@@ -34,18 +34,23 @@ module _ {H : Type 0} where
   abbrev pub HasNoneToGive : {P : Type 0} → List (LaneEnds H) → Backend P → Type 0
   HasNoneToGive lanes backend = IfSome backend.pending_told (λ pending_told. IsSome pending_told.change ⊎ IsBlockedAt lanes pending_told.ticket.worker)
 
-  -- no worker can be told that its batch is unsent
-  abbrev pub HasNoneToTell : List (LaneEnds H) → PendingBatch → Type 0
-  HasNoneToTell lanes pending_batch = IfSome pending_batch.refused (λ ticket. IsBlockedAt lanes ticket.worker)
+  -- none of these tickets can be told anything
+  abbrev pub CanTellNone : List (LaneEnds H) → List Ticket → Type 0
+  CanTellNone lanes [] = Unit {0}
+  CanTellNone lanes (ticket ∷ later) = IsBlockedAt lanes ticket.worker
 
-  -- no batch can be taken
-  abbrev pub HasNoneToCarry : List (LaneEnds H) → ℕ → PendingBatch → Type 0
-  HasNoneToCarry lanes worker pending_batch = IsPending pending_batch ⊎ HasNoBatch lanes worker
+  -- no worker can be told that its run is unsent
+  abbrev pub HasNoneToTell : List (LaneEnds H) → PendingRun → Type 0
+  HasNoneToTell lanes pending_run = CanTellNone lanes pending_run.refused
+
+  -- no run can be taken
+  abbrev pub HasNoneToCarry : List (LaneEnds H) → ℕ → PendingRun → Type 0
+  HasNoneToCarry lanes worker pending_run = IsPending pending_run ⊎ HasNoRun lanes worker
 
 module _ {P : Type 0} where
-  -- a pending batch has no open link
-  abbrev pub HasNoOpenLink : List (Backend P) → PendingBatch → Type 0
-  HasNoOpenLink backends pending_batch = IfSome pending_batch.batch (λ batch. ForSome (slice_get backends batch.node) (λ backend. is_open backend.link ≡ false))
+  -- a pending run has no open link
+  abbrev pub HasNoOpenLink : List (Backend P) → PendingRun → Type 0
+  HasNoOpenLink backends pending_run = ForSome (target_of pending_run.refused pending_run.run) (λ node. ForSome (slice_get backends node) (λ backend. is_open backend.link ≡ false))
 
   -- this node has a backend with a link
   abbrev pub HasLink : List (Backend P) → ℕ → Type 0
@@ -65,9 +70,9 @@ pub record BackendRests {H P : Type 0} (gave_none : LinkModel P → Type 0) (nod
   pub link : has_failed backend.link ≡ true → IsSome backend.pending_told
   pub received : HasReceived gave_none nodes backend
 
--- A worker's batch rests: its ticket waits for a place in a full lane, or its node's link has failed, or none is pending and
+-- A worker's run rests: its next ticket waits for a place in a full lane, or its node's link has failed, or none is pending and
 -- the lane has none.
-abbrev pub BatchRests : {H P : Type 0} → List (LaneEnds H) → List (Backend P) → ℕ → Option Ticket → Option Batch → Type 0
-BatchRests lanes backends worker (Some ticket) batch = IsBlockedAt lanes ticket.worker
-BatchRests lanes backends worker None (Some batch) = HasFailedLink backends batch.node
-BatchRests lanes backends worker None None = HasNoBatch lanes worker
+abbrev pub RunRests : {H P : Type 0} → List (LaneEnds H) → List (Backend P) → ℕ → List Ticket → Option RunModel → Type 0
+RunRests lanes backends worker (ticket ∷ later) run = IsBlockedAt lanes ticket.worker
+RunRests lanes backends worker [] (Some run) = HasFailedLink backends run.first.node
+RunRests lanes backends worker [] None = HasNoRun lanes worker

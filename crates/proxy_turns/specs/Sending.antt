@@ -1,11 +1,11 @@
 -- What dialling a node and sending to it do to a backend.
--- A batch (ASKING and its command, or the command) goes out as one item. A failed dial, and a node that the table lacks,
--- make a batch Unsent.
-use Rattle.std.specs.Prelude.{◌≡◌, ◌⊎◌, ◌<◌, ◌≤◌, ℕ, List, Bool, true, false, Some, None, Result, Ok, Err, IsSome, length, slice_get}
+-- A run goes out as one item. A failed dial, a node that the table lacks, and a link whose port takes no run as long, make each
+-- command of a run Unsent.
+use Rattle.std.specs.Prelude.{◌≡◌, ◌⊎◌, ◌<◌, ◌≤◌, ℕ, List, false, Option, Some, None, Result, Ok, Err, IsSome, IsSomeAnd, length, slice_get}
 use Rattle.resp_wire.specs.declared.fault.NoMemory.{NoMemory}
 use Rattle.resp_wire.specs.declared.value.Value.{Value}
-use Rattle.key_split.specs.declared.travel.Batch.{Batch}
-use Rattle.key_split.specs.Requests.{Request, requests_of}
+use Rattle.key_split.specs.Runs.{RunModel, count_in, requests_of_run}
+use Rattle.key_split.specs.Requests.{Request}
 use Rattle.slot_map.specs.Table.{Endpoint}
 use Rattle.node_link.specs.LinkModel.{LinkModel}
 use Rattle.node_link.specs.LinkCalls.{Sends}
@@ -13,6 +13,8 @@ use Rattle.node_link.specs.declared.link.LinkFault.TheVariants as fault
 use Rattle.proxy_turns.specs.declared.backend.Backend.{Backend}
 use Rattle.proxy_turns.specs.declared.backend.Dialled.{Dialled}
 use Rattle.proxy_turns.specs.declared.backend.Dialled.TheVariants.{Present, Opened, Unreached}
+use Rattle.proxy_turns.specs.declared.backend.RunStep.{RunStep}
+use Rattle.proxy_turns.specs.declared.backend.RunStep.TheVariants.{Sent, TooLong, NoLink}
 use Rattle.proxy_turns.specs.Backend.{fresh_link, is_open, GoesOut}
 
 -- the dial failed, or the table of so many nodes has no such node
@@ -27,11 +29,21 @@ DialOutcome {P} opens node nodes old before (Ok Opened) new now = (at : Endpoint
 DialOutcome opens node nodes old before (Ok Unreached) new now = (old.link ≡ None) × (new ≡ old) × IsUnreached node (length nodes) before now
 DialOutcome opens node nodes old before (Err _) new now = (new ≡ old) × (now ≡ before)
 
-module _ {P : Type 0} (failures : P → ℕ) (is_garbled : P → Type 0) (exchange : P → List Request → List Value → P → Type 0) where
-  -- the batch goes out as one item, where a link is open
-  abbrev pub SendOutcome : Backend P → Batch → Result Bool NoMemory → Backend P → Type 0
-  SendOutcome old batch (Ok true) new = (link : LinkModel P) × (link' : LinkModel P) × (old.link ≡ Some link)
-      × GoesOut failures is_garbled exchange link (requests_of batch) link' × (new ≡ record old { link = Some link' })
-  SendOutcome old batch (Ok false) new = (new ≡ old) × (is_open old.link ≡ false)
-  SendOutcome old batch (Err _) new = (link : LinkModel P) × (link' : LinkModel P) × (old.link ≡ Some link)
-      × Sends failures is_garbled exchange link (requests_of batch) (Err fault.NoMemory) link' × (new ≡ record old { link = Some link' })
+-- a run of several is longer than the port of this open link takes
+abbrev pub IsTooLong : {P : Type 0} → (P → ℕ) → RunModel → Option (LinkModel P) → Type 0
+IsTooLong longest run link = IsSomeAnd link (λ link. (link.failure ≡ None) × (longest link.port < count_in run) × (1 < count_in run))
+
+-- Nothing of a run can be sent: there is no link to its node, and none was opened to it; or the run is too long for its link.
+abbrev pub IsRefused : {P : Type 0} → (P → ℕ) → RunModel → Option (LinkModel P) → ℕ → ℕ → ℕ → Type 0
+IsRefused longest run link nodes before now =
+    ((link ≡ None) × IsUnreached run.first.node nodes before now) ⊎ (IsTooLong longest run link × (now ≡ before))
+
+module _ {P : Type 0} (failures : P → ℕ) (is_garbled : P → Type 0) (exchange : P → List Request → List Value → P → Type 0) (longest : P → ℕ) where
+  -- the run goes out as one item, where a link is open whose port takes one as long
+  abbrev pub SendOutcome : Backend P → RunModel → Result RunStep NoMemory → Backend P → Type 0
+  SendOutcome old run (Ok Sent) new = (link : LinkModel P) × (link' : LinkModel P) × (old.link ≡ Some link) × (count_in run ≤ longest link.port)
+      × GoesOut failures is_garbled exchange link (requests_of_run run) link' × (new ≡ record old { link = Some link' })
+  SendOutcome old run (Ok TooLong) new = (new ≡ old) × IsTooLong longest run old.link
+  SendOutcome old run (Ok NoLink) new = (new ≡ old) × (is_open old.link ≡ false)
+  SendOutcome old run (Err _) new = (link : LinkModel P) × (link' : LinkModel P) × (old.link ≡ Some link)
+      × Sends failures is_garbled exchange link (requests_of_run run) (Err fault.NoMemory) link' × (new ≡ record old { link = Some link' })

@@ -9,7 +9,7 @@ use mathlib.Core.List.{IsPrefix}
 use Rattle.resp_wire.specs.LimitsModel.{full}
 use Rattle.slot_map.specs.declared.ops.MapOp.{MapOp}
 use Rattle.resp_wire.specs.declared.fault.NoMemory.{NoMemory}
-use Rattle.key_split.specs.declared.travel.Batch.{Batch}
+use Rattle.key_split.specs.Runs.{RunModel}
 use Rattle.key_split.specs.declared.travel.Ticket.{Ticket}
 use Rattle.key_split.specs.declared.travel.Told.{Told}
 use Rattle.key_split.specs.declared.travel.Ended.{Ended}
@@ -32,7 +32,7 @@ pub record WorkerModel (C J : Type 0) : Type 0 where
   pub newest : Option ℕ
   pub newcomers : Inlet (Newcomer C J)
   pub left : Option ℕ
-  pub outlet : Outlet Batch
+  pub outlet : Outlet RunModel
   pub view : List MapOp
   pub inlet : Inlet (Ticket × Told)
   pub answered : ℕ

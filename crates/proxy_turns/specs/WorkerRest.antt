@@ -2,9 +2,11 @@
 -- That a pause ends when its time has come is not said: no model has the time.
 use Rattle.std.specs.Prelude.{◌≡◌, ◌⊎◌, ◌<◌, ℕ, Some, None, IsSomeAnd}
 use Rattle.std.specs.FinMap.{get}
-use Rattle.key_split.specs.declared.travel.Batch.{Batch}
+use Rattle.key_split.specs.Runs.{RunModel}
 use Rattle.command_future.specs.declared.stage.Stage.TheVariants.{Awaits}
 use Rattle.command_future.specs.CommandModel.{CommandModel, WantsPost}
+use Rattle.session_order.specs.SessionModel.{SessionModel}
+use Rattle.session_order.specs.Steps.{IsOut}
 use Rattle.proxy_lanes.specs.declared.ring.Inlet.{Inlet}
 use Rattle.proxy_lanes.specs.declared.ring.Outlet.{Outlet}
 use Rattle.proxy_lanes.specs.Lane.{Takes}
@@ -35,12 +37,13 @@ AreClientsAtRest {C} gives_none takes_none model =
 abbrev pub IsPaused : CommandModel → Type 0
 IsPaused command = IsSomeAnd (pause_at command.stage command.followed) (λ pause. 0 < pause)
 
--- It awaits its answer, or pauses before its next post, or wants that post at a lane that takes nothing more.
-abbrev pub IsPostedAtRest : CommandModel → Outlet Batch → Type 0
-IsPostedAtRest command outlet = (command.stage ≡ Awaits) ⊎ IsPaused command ⊎ (WantsPost command.stage × HasNoPlace outlet)
+-- It awaits its answer, or wants its next post: once its turn has come it pauses before that post, or the lane takes nothing more.
+abbrev pub IsPostedAtRest : SessionModel → CommandModel → Outlet RunModel → Type 0
+IsPostedAtRest session command outlet =
+    (command.stage ≡ Awaits) ⊎ (WantsPost command.stage × (IsOut session command.ticket → IsPaused command ⊎ HasNoPlace outlet))
 
 -- each command that was posted is at rest, of each client that the worker has
 abbrev pub ArePostedAtRest : {C J : Type 0} → WorkerModel C J → Type 0
 ArePostedAtRest {C} model =
     (number : ℕ) (client : ClientModel C) → get model.clients number ≡ Some client
-    → (part : ℕ) (command : CommandModel) → get client.commands.posted part ≡ Some command → IsPostedAtRest command model.outlet
+    → (part : ℕ) (command : CommandModel) → get client.commands.posted part ≡ Some command → IsPostedAtRest client.session command model.outlet

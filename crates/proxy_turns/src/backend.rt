@@ -7,13 +7,13 @@ ghost use Rattle.slot_map.specs.declared.fault.MapFault.TheVariants as map_fault
 ghost use Rattle.proxy_lanes.specs.Carrier.{lanes_of};
 ghost use Rattle.proxy_turns.specs.Backend.{change_in, has_map_work, has_open_link, is_unanswered, is_unpublished};
 ghost use Rattle.proxy_turns.specs.declared.backend.MapTask.TheVariants as map_task;
-ghost use Rattle.proxy_turns.specs.PendingBatch.{GiveOutcome};
+ghost use Rattle.proxy_turns.specs.PendingRun.{GiveOutcome};
 ghost use Rattle.slot_map.specs.declared.ops.MapOp.{MapOp};
 
 use crate::backend_step::BackendStep;
 use crate::dial::{Dial, DialFault};
-use key_split::{Batch, Ticket, Told};
-use node_link::{Got, Link, LinkFault, NodePort};
+use key_split::{Run, Ticket, Told};
+use node_link::{Got, Link, LinkFault, NodePort, RunPort};
 use proxy_lanes::{CarrierEnds, Naming, Publisher};
 use resp_wire::{NoMemory, Value};
 use slot_map::{MapFault, MapOp, MapOps, NodeId, NodeTable, ops_of};
@@ -97,6 +97,17 @@ pub(crate) enum Dialled {
     Unreached,
 }
 
+/// What came of a run that was to be sent.
+#[derive(Clone, Copy)]
+pub(crate) enum RunStep {
+    /// It was sent, or the link broke at it.
+    Sent,
+    /// It is longer than the link's port takes.
+    TooLong,
+    /// There is no link that has not failed.
+    NoLink,
+}
+
 /// What the carrier does at a backend for the slot map, one thing at a time.
 #[derive(Clone, Copy)]
 pub(crate) enum MapTask {
@@ -127,7 +138,7 @@ pub struct Backend<P> {
 
 impl<P: NodePort + Drop> Backend<P> {
     ghost use Rattle.proxy_turns.specs.Backend.{new_backend, BackendFetches, BackendRenews, HoldOutcome};
-    ghost use Rattle.proxy_turns.specs.Sending.{DialOutcome, SendOutcome};
+    ghost use Rattle.proxy_turns.specs.Sending.{DialOutcome};
 
     pub(crate) fn new() -> Self
         ensures { result ≡ new_backend }
@@ -167,24 +178,6 @@ impl<P: NodePort + Drop> Backend<P> {
             Err(DialFault::NoMemory) => Err(NoMemory),
             Err(DialFault::Failed) => Ok(Dialled::Unreached),
         }
-    }
-
-    /// Sends a batch over the link, where there is one that has not failed. True where it was sent, or the link broke at it.
-    pub(crate) fn send(&mut self, batch: &Batch) -> Result<bool, NoMemory>
-        ensures { SendOutcome P.failures P.is_garbled P.exchange self.old batch.now result self.new }
-    {
-        let Some(link) = &mut self.link else {
-            return Ok(false);
-        };
-        if link.failed() {
-            return Ok(false);
-        }
-        let sent = link.send(batch);
-        if is_starved(&sent) {
-            return Err(NoMemory);
-        }
-        // where the link broke the batch may have been sent, so its ticket waits
-        Ok(true)
     }
 
     /// Takes one reply, or one ticket that is lost, off the link, where the carrier holds none of it.
@@ -446,5 +439,30 @@ impl<P: NodePort + Drop> Backend<P> {
             MapTask::Read => self.read(nodes),
             MapTask::Renew => self.renew(map),
         }
+    }
+}
+
+impl<P: RunPort + Drop> Backend<P> {
+    ghost use Rattle.proxy_turns.specs.Sending.{SendOutcome};
+
+    /// Sends a run over the link, where there is one that has not failed, and the run is not too long for it.
+    pub(crate) fn send(&mut self, run: &Run) -> Result<RunStep, NoMemory>
+        ensures { SendOutcome P.failures P.is_garbled P.exchange P.longest self.old run.now result self.new }
+    {
+        let Some(link) = &mut self.link else {
+            return Ok(RunStep::NoLink);
+        };
+        if link.failed() {
+            return Ok(RunStep::NoLink);
+        }
+        if run.len() > link.longest_run() {
+            return Ok(RunStep::TooLong);
+        }
+        let sent = link.send_run(run);
+        if is_starved(&sent) {
+            return Err(NoMemory);
+        }
+        // where the link broke the run may have been sent, so its tickets wait
+        Ok(RunStep::Sent)
     }
 }

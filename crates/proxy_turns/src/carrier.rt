@@ -5,24 +5,29 @@ ghost use Rattle.std.specs.List.{list_any};
 ghost use Rattle.proxy_turns.specs.Backend.{has_open_link};
 
 use crate::all_backends::{any_unanswered, first_open};
-use crate::backend::{Backend, Dialled, MapTask};
+use crate::backend::{Backend, Dialled, MapTask, RunStep};
 use crate::dial::Dial;
-use crate::pending_batch::PendingBatch;
-use node_link::NodePort;
+use crate::pending_run::PendingRun;
+use node_link::RunPort;
 use proxy_lanes::{CarrierEnds, Naming, Publisher};
 use resp_wire::NoMemory;
 use slot_map::{NodeId, NodeTable};
 use std::alloc::Global;
 use std::sync::Wait;
 
-/// Carries batches from the workers' lanes to the nodes, and what the nodes reply back, and renews the slot map.
+/// So many replies of a link are taken at most in one turn.
+const REPLIES_PER_TURN: u32 = 64;
+/// So many runs of a worker are carried at most in one turn.
+const RUNS_PER_TURN: u32 = 16;
+
+/// Carries runs from the workers' lanes to the nodes, and what the nodes reply back, and renews the slot map.
 #[derive(Drop)]
 pub struct Carrier<H: Drop, M: Drop, D, P> {
     alloc: Global,
     ends: CarrierEnds<H, M>,
     dial: D,
     nodes: NodeTable,
-    pending_batches: Vec<PendingBatch>,
+    pending_runs: Vec<PendingRun>,
     backends: Vec<Backend<P>>,
     /// The seed is still to be dialled.
     seed_to_dial: bool,
@@ -65,10 +70,10 @@ impl<H: Drop, J, R, P, D> Carrier<H, Publisher<J, R>, D, P>
 where
     J: Naming,
     R: Wait + Drop,
-    P: NodePort + Drop,
+    P: RunPort + Drop,
     D: Dial<Port = P> + Drop,
 {
-    ghost use Rattle.proxy_turns.specs.CarrierModel.{AddsBackend, AddsBackends, AddsWorker, AddsWorkers, CarrierTurns, Connects, ConnectsSeed, DialsNode, DialsSeed, DoesMapTask, FetchesReply, GivesReply, IsSought, RenewsMap, RestsAfter, SendsBatch, ServesBackend, ServesBackends, SeekOutcome, SeeksByDial, ServesLane, ServesLanes, TakesBatch, TakesTurn, TellsUnsent, carrier_model, new_carrier};
+    ghost use Rattle.proxy_turns.specs.CarrierModel.{AddsBackend, AddsBackends, AddsWorker, AddsWorkers, CarrierTurns, Connects, ConnectsSeed, DialsNode, DialsSeed, DoesMapTask, FetchesReply, GivesReply, IsSought, RenewsMap, RestsAfter, SendsRun, ServesBackend, ServesBackends, SeekOutcome, SeeksByDial, ServesLane, ServesLanes, TakesRun, TakesTurn, TellsUnsent, carrier_model, new_carrier};
     ghost use Rattle.proxy_lanes.specs.Carrier.{lanes_of};
     ghost use Rattle.proxy_turns.specs.Backend.{GaveNone};
 
@@ -86,7 +91,7 @@ where
             ends,
             dial,
             nodes,
-            pending_batches: Vec::new(alloc),
+            pending_runs: Vec::new(alloc),
             backends: Vec::new(alloc),
             seed_to_dial: true,
             next_dialled: 0,
@@ -95,7 +100,7 @@ where
 
     // Does one task at a backend.
     fn run_map_task(&mut self, at: usize, task: MapTask) -> Result<bool, NoMemory>
-        ensures { DoesMapTask P.failures P.is_garbled P.exchange P.gives_none D.opens task at (carrier_model D.failures self.old) result (carrier_model D.failures self.new) }
+        ensures { DoesMapTask P.failures P.is_garbled P.exchange P.gives_none D.opens P.longest task at (carrier_model D.failures self.old) result (carrier_model D.failures self.new) }
     {
         if at >= self.backends.len() {
             return Ok(false);
@@ -108,7 +113,7 @@ where
 
     // Takes what a backend replied.
     fn fetch_from(&mut self, at: usize) -> Result<bool, NoMemory>
-        ensures { FetchesReply P.failures P.is_garbled P.exchange P.gives_none D.opens at (carrier_model D.failures self.old) result (carrier_model D.failures self.new) }
+        ensures { FetchesReply P.failures P.is_garbled P.exchange P.gives_none D.opens P.longest at (carrier_model D.failures self.old) result (carrier_model D.failures self.new) }
     {
         if at >= self.backends.len() {
             return Ok(false);
@@ -119,7 +124,7 @@ where
 
     // Gives a worker what a backend has for it.
     fn give_from(&mut self, at: usize) -> bool
-        ensures { GivesReply P.failures P.is_garbled P.exchange P.gives_none D.opens at (carrier_model D.failures self.old) result (carrier_model D.failures self.new) }
+        ensures { GivesReply P.failures P.is_garbled P.exchange P.gives_none D.opens P.longest at (carrier_model D.failures self.old) result (carrier_model D.failures self.new) }
     {
         if at >= self.backends.len() {
             return false;
@@ -135,19 +140,19 @@ where
         Ok(())
     }
 
-    // A place for the pending batch of one more worker.
+    // A place for the pending run of one more worker.
     fn add_worker(&mut self) -> Result<(), NoMemory>
         ensures { AddsWorker (carrier_model D.failures self.old) result (carrier_model D.failures self.new) }
     {
-        self.pending_batches.push(PendingBatch::new())?;
+        self.pending_runs.push(PendingRun::new())?;
         Ok(())
     }
 
-    // Takes the next batch of a worker's lane.
+    // Takes the next run of a worker's lane.
     fn take_from(&mut self, at: usize) -> bool
-        ensures { TakesBatch P.failures P.is_garbled P.exchange P.gives_none D.opens at (carrier_model D.failures self.old) result (carrier_model D.failures self.new) }
+        ensures { TakesRun P.failures P.is_garbled P.exchange P.gives_none D.opens P.longest at (carrier_model D.failures self.old) result (carrier_model D.failures self.new) }
     {
-        if at >= self.pending_batches.len() {
+        if at >= self.pending_runs.len() {
             return false;
         }
         if at >= self.ends.workers() {
@@ -156,27 +161,27 @@ where
         if at > 65_535 {
             return false;
         }
-        self.pending_batches[at].take(at as u16, &mut self.ends)
+        self.pending_runs[at].take(at as u16, &mut self.ends)
     }
 
-    // Tells a worker that a batch is unsent.
+    // Tells a worker that a command of a refused run is unsent.
     fn tell_unsent_of(&mut self, at: usize) -> bool
-        ensures { TellsUnsent P.failures P.is_garbled P.exchange P.gives_none D.opens at (carrier_model D.failures self.old) result (carrier_model D.failures self.new) }
+        ensures { TellsUnsent P.failures P.is_garbled P.exchange P.gives_none D.opens P.longest at (carrier_model D.failures self.old) result (carrier_model D.failures self.new) }
     {
-        if at >= self.pending_batches.len() {
+        if at >= self.pending_runs.len() {
             return false;
         }
-        self.pending_batches[at].tell_unsent(&mut self.ends)
+        self.pending_runs[at].tell_unsent(&mut self.ends)
     }
 
-    // Dials the node of a pending batch, where there is no link to it.
+    // Dials the node of a pending run, where there is no link to it.
     fn dial_for(&mut self, worker: usize) -> Result<bool, NoMemory>
-        ensures { DialsNode P.failures P.is_garbled P.exchange P.gives_none D.opens worker (carrier_model D.failures self.old) result (carrier_model D.failures self.new) }
+        ensures { DialsNode P.failures P.is_garbled P.exchange P.gives_none D.opens P.longest worker (carrier_model D.failures self.old) result (carrier_model D.failures self.new) }
     {
-        if worker >= self.pending_batches.len() {
+        if worker >= self.pending_runs.len() {
             return Ok(false);
         }
-        let Some(node) = self.pending_batches[worker].target() else {
+        let Some(node) = self.pending_runs[worker].target() else {
             return Ok(false);
         };
         let at = place_of(node);
@@ -188,38 +193,46 @@ where
             Dialled::Opened => Ok(true),
             Dialled::Unreached => {
                 self.dial.unsent();
-                self.pending_batches[worker].refuse();
+                self.pending_runs[worker].refuse();
                 Ok(true)
             }
         }
     }
 
-    // Sends a pending batch.
+    // Sends a pending run. One that is too long for its link is refused.
     fn send_for(&mut self, worker: usize) -> Result<bool, NoMemory>
-        ensures { SendsBatch P.failures P.is_garbled P.exchange P.gives_none D.opens worker (carrier_model D.failures self.old) result (carrier_model D.failures self.new) }
+        ensures { SendsRun P.failures P.is_garbled P.exchange P.gives_none D.opens P.longest worker (carrier_model D.failures self.old) result (carrier_model D.failures self.new) }
     {
-        if worker >= self.pending_batches.len() {
+        if worker >= self.pending_runs.len() {
             return Ok(false);
         }
-        let pending_batch = &mut self.pending_batches[worker];
-        let Some(batch) = &pending_batch.batch else {
+        let pending_run = &mut self.pending_runs[worker];
+        if pending_run.is_refused() {
+            return Ok(false);
+        }
+        let Some(run) = &pending_run.run else {
             return Ok(false);
         };
-        let at = place_of(batch.node);
+        let at = place_of(run.first().node);
         if at >= self.backends.len() {
             return Ok(false);
         }
-        let sent = self.backends[at].send(batch)?;
-        if !sent {
-            return Ok(false);
+        match self.backends[at].send(run)? {
+            RunStep::Sent => {
+                pending_run.run = None;
+                Ok(true)
+            }
+            RunStep::TooLong => {
+                pending_run.refuse();
+                Ok(true)
+            }
+            RunStep::NoLink => Ok(false),
         }
-        pending_batch.batch = None;
-        Ok(true)
     }
 
     // Backends for all nodes up to this one.
     fn add_backends(&mut self, node: NodeId) -> Result<(), NoMemory>
-        ensures { AddsBackends P.failures P.is_garbled P.exchange P.gives_none D.opens node (carrier_model D.failures self.old) result (carrier_model D.failures self.new) }
+        ensures { AddsBackends P.failures P.is_garbled P.exchange P.gives_none D.opens P.longest node (carrier_model D.failures self.old) result (carrier_model D.failures self.new) }
     {
         for _next in self.backends.len()..place_of(node) + 1 {
             self.add_backend()?;
@@ -227,11 +240,11 @@ where
         Ok(())
     }
 
-    // Places for the pending batches of all workers.
+    // Places for the pending runs of all workers.
     fn add_workers(&mut self) -> Result<(), NoMemory>
-        ensures { AddsWorkers P.failures P.is_garbled P.exchange P.gives_none D.opens (carrier_model D.failures self.old) result (carrier_model D.failures self.new) }
+        ensures { AddsWorkers P.failures P.is_garbled P.exchange P.gives_none D.opens P.longest (carrier_model D.failures self.old) result (carrier_model D.failures self.new) }
     {
-        for _next in self.pending_batches.len()..self.ends.workers() {
+        for _next in self.pending_runs.len()..self.ends.workers() {
             self.add_worker()?;
         }
         Ok(())
@@ -240,7 +253,7 @@ where
     // Dials the seed, which is then to be asked for CLUSTER SLOTS.
     fn dial_seed(&mut self, seed: NodeId) -> Result<bool, NoMemory>
         requires { seed ≡ 0 }
-        ensures { DialsSeed P.failures P.is_garbled P.exchange P.gives_none D.opens (carrier_model D.failures self.old) result (carrier_model D.failures self.new) }
+        ensures { DialsSeed P.failures P.is_garbled P.exchange P.gives_none D.opens P.longest (carrier_model D.failures self.old) result (carrier_model D.failures self.new) }
     {
         if !self.seed_to_dial {
             return Ok(false);
@@ -266,7 +279,7 @@ where
 
     // Publishes what a backend says of the slot map, where it says anything.
     fn renew_map(&mut self, at: usize) -> Result<bool, NoMemory>
-        ensures { RenewsMap P.failures P.is_garbled P.exchange P.gives_none D.opens at (carrier_model D.failures self.old) result (carrier_model D.failures self.new) }
+        ensures { RenewsMap P.failures P.is_garbled P.exchange P.gives_none D.opens P.longest at (carrier_model D.failures self.old) result (carrier_model D.failures self.new) }
     {
         if at >= self.backends.len() {
             return Ok(false);
@@ -279,7 +292,7 @@ where
 
     // Does each task at a backend, in order.
     fn run_map_tasks(&mut self, at: usize) -> Result<bool, NoMemory>
-        ensures { RenewsMap P.failures P.is_garbled P.exchange P.gives_none D.opens at (carrier_model D.failures self.old) result (carrier_model D.failures self.new) }
+        ensures { RenewsMap P.failures P.is_garbled P.exchange P.gives_none D.opens P.longest at (carrier_model D.failures self.old) result (carrier_model D.failures self.new) }
     {
         let published = self.run_map_task(at, MapTask::Publish)?;
         let asked = self.run_map_task(at, MapTask::Ask)?;
@@ -288,10 +301,27 @@ where
         Ok(published | asked | read | renewed)
     }
 
-    // A backend's turn: what it says of the slot map goes on, then one reply is taken, and given where nothing of it is to be
-    // published first.
+    // A backend's turn: several replies are taken and given, as long as something moves.
     fn serve_backend(&mut self, at: usize) -> Result<bool, NoMemory>
-        ensures { ServesBackend P.failures P.is_garbled P.exchange P.gives_none D.opens at (carrier_model D.failures self.old) result (carrier_model D.failures self.new) }
+        ensures { ServesBackend P.failures P.is_garbled P.exchange P.gives_none D.opens P.longest at (carrier_model D.failures self.old) result (carrier_model D.failures self.new) }
+    {
+        let first = self.pass_reply(at)?;
+        if !first {
+            return Ok(false);
+        }
+        for _ in 1..REPLIES_PER_TURN {
+            let passed = self.pass_reply(at)?;
+            if !passed {
+                return Ok(true);
+            }
+        }
+        Ok(true)
+    }
+
+    // What a backend says of the slot map goes on, then one reply is taken, and given where nothing of it is to be published
+    // first.
+    fn pass_reply(&mut self, at: usize) -> Result<bool, NoMemory>
+        ensures { ServesBackend P.failures P.is_garbled P.exchange P.gives_none D.opens P.longest at (carrier_model D.failures self.old) result (carrier_model D.failures self.new) }
     {
         let renewed = self.renew_map(at)?;
         let fetched = self.fetch_from(at)?;
@@ -300,7 +330,7 @@ where
     }
 
     fn serve_backends(&mut self) -> Result<bool, NoMemory>
-        ensures { ServesBackends P.failures P.is_garbled P.exchange P.gives_none D.opens (carrier_model D.failures self.old) result (carrier_model D.failures self.new) }
+        ensures { ServesBackends P.failures P.is_garbled P.exchange P.gives_none D.opens P.longest (carrier_model D.failures self.old) result (carrier_model D.failures self.new) }
     {
         let mut moved = false;
         for at in 0..self.backends.len() {
@@ -309,23 +339,40 @@ where
         Ok(moved)
     }
 
-    // Dials the node of a batch that is still pending.
+    // Dials the node of a run that is still pending.
     fn connect(&mut self, worker: usize) -> Result<bool, NoMemory>
-        ensures { Connects P.failures P.is_garbled P.exchange P.gives_none D.opens worker (carrier_model D.failures self.old) result (carrier_model D.failures self.new) }
+        ensures { Connects P.failures P.is_garbled P.exchange P.gives_none D.opens P.longest worker (carrier_model D.failures self.old) result (carrier_model D.failures self.new) }
     {
-        if worker >= self.pending_batches.len() {
+        if worker >= self.pending_runs.len() {
             return Ok(false);
         }
-        let Some(node) = self.pending_batches[worker].target() else {
+        let Some(node) = self.pending_runs[worker].target() else {
             return Ok(false);
         };
         self.add_backends(node)?;
         self.dial_for(worker)
     }
 
-    // The turn of a worker's lanes.
+    // The turn of a worker's lanes: several runs are carried, as long as something moves.
     fn serve_lane(&mut self, worker: usize) -> Result<bool, NoMemory>
-        ensures { ServesLane P.failures P.is_garbled P.exchange P.gives_none D.opens worker (carrier_model D.failures self.old) result (carrier_model D.failures self.new) }
+        ensures { ServesLane P.failures P.is_garbled P.exchange P.gives_none D.opens P.longest worker (carrier_model D.failures self.old) result (carrier_model D.failures self.new) }
+    {
+        let first = self.carry_run(worker)?;
+        if !first {
+            return Ok(false);
+        }
+        for _ in 1..RUNS_PER_TURN {
+            let carried = self.carry_run(worker)?;
+            if !carried {
+                return Ok(true);
+            }
+        }
+        Ok(true)
+    }
+
+    // Carries one run of a worker, or tells it that one was refused.
+    fn carry_run(&mut self, worker: usize) -> Result<bool, NoMemory>
+        ensures { ServesLane P.failures P.is_garbled P.exchange P.gives_none D.opens P.longest worker (carrier_model D.failures self.old) result (carrier_model D.failures self.new) }
     {
         let told = self.tell_unsent_of(worker);
         let took = self.take_from(worker);
@@ -335,19 +382,19 @@ where
     }
 
     fn serve_lanes(&mut self) -> Result<bool, NoMemory>
-        ensures { ServesLanes P.failures P.is_garbled P.exchange P.gives_none D.opens (carrier_model D.failures self.old) result (carrier_model D.failures self.new) }
+        ensures { ServesLanes P.failures P.is_garbled P.exchange P.gives_none D.opens P.longest (carrier_model D.failures self.old) result (carrier_model D.failures self.new) }
     {
         let mut moved = false;
-        for worker in 0..self.pending_batches.len() {
+        for worker in 0..self.pending_runs.len() {
             moved |= self.serve_lane(worker)?;
         }
         Ok(moved)
     }
 
-    /// Carries at most one batch of each worker, and takes at most one reply off each link. True exactly where something
-    /// moved. After NoMemory what was done stands, and the item at which memory ran out stays where it was.
+    /// Takes up to 64 replies off each link, then carries up to 16 runs of each worker. True exactly where something moved.
+    /// After NoMemory what was done stands, and the item at which memory ran out stays where it was.
     pub fn turn(&mut self) -> Result<bool, NoMemory>
-        ensures turns { CarrierTurns P.failures P.is_garbled P.exchange P.gives_none D.opens (carrier_model D.failures self.old) result (carrier_model D.failures self.new) }
+        ensures turns { CarrierTurns P.failures P.is_garbled P.exchange P.gives_none D.opens P.longest (carrier_model D.failures self.old) result (carrier_model D.failures self.new) }
         ensures rests { RestsAfter (GaveNone P.failures P.is_garbled P.exchange P.gives_none) result (carrier_model D.failures self.new) }
         ensures sought { IsSought (D.is_calm self.new.dial) result (carrier_model D.failures self.new) }
     {
@@ -357,7 +404,7 @@ where
     }
 
     fn take_turn(&mut self) -> Result<bool, NoMemory>
-        ensures { TakesTurn P.failures P.is_garbled P.exchange P.gives_none D.opens (carrier_model D.failures self.old) result (carrier_model D.failures self.new) }
+        ensures { TakesTurn P.failures P.is_garbled P.exchange P.gives_none D.opens P.longest (carrier_model D.failures self.old) result (carrier_model D.failures self.new) }
     {
         self.add_workers()?;
         let connected = self.connect_seed()?;
@@ -368,7 +415,7 @@ where
 
     // Has a node asked for CLUSTER SLOTS, where one was lost: one that has an open link, else the next of the table.
     fn seek(&mut self) -> Result<bool, NoMemory>
-        ensures { SeekOutcome P.failures P.is_garbled P.exchange P.gives_none D.opens (D.is_calm self.new.dial) (carrier_model D.failures self.old) result (carrier_model D.failures self.new) }
+        ensures { SeekOutcome P.failures P.is_garbled P.exchange P.gives_none D.opens P.longest (D.is_calm self.new.dial) (carrier_model D.failures self.old) result (carrier_model D.failures self.new) }
     {
         if any_unanswered(&self.backends) {
             return Ok(false);
@@ -388,7 +435,7 @@ where
     // Dials the next node of the table, which is then to be asked.
     fn dial_next(&mut self) -> Result<bool, NoMemory>
         requires closed { list_any has_open_link self.old.backends.items ≡ false }
-        ensures { SeeksByDial P.failures P.is_garbled P.exchange P.gives_none D.opens (carrier_model D.failures self.old) result (carrier_model D.failures self.new) }
+        ensures { SeeksByDial P.failures P.is_garbled P.exchange P.gives_none D.opens P.longest (carrier_model D.failures self.old) result (carrier_model D.failures self.new) }
     {
         let node = self.next_node();
         self.add_backends(node)?;
@@ -411,7 +458,7 @@ where
     fn dial_to_ask(&mut self, node: NodeId) -> Result<bool, NoMemory>
         requires inside { node < length self.old.backends.items }
         requires closed { list_any has_open_link self.old.backends.items ≡ false }
-        ensures { SeeksByDial P.failures P.is_garbled P.exchange P.gives_none D.opens (carrier_model D.failures self.old) result (carrier_model D.failures self.new) }
+        ensures { SeeksByDial P.failures P.is_garbled P.exchange P.gives_none D.opens P.longest (carrier_model D.failures self.old) result (carrier_model D.failures self.new) }
     {
         let at = place_of(node);
         let backend = &mut self.backends[at];
@@ -426,7 +473,7 @@ where
     }
 
     fn connect_seed(&mut self) -> Result<bool, NoMemory>
-        ensures { ConnectsSeed P.failures P.is_garbled P.exchange P.gives_none D.opens (carrier_model D.failures self.old) result (carrier_model D.failures self.new) }
+        ensures { ConnectsSeed P.failures P.is_garbled P.exchange P.gives_none D.opens P.longest (carrier_model D.failures self.old) result (carrier_model D.failures self.new) }
     {
         if !self.seed_to_dial {
             return Ok(false);

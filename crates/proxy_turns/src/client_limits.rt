@@ -14,5 +14,9 @@ pub(crate) const MAX_TOGETHER: usize = 32 * 1024 * 1024;
 pub(crate) const KEPT: usize = 256 * 1024;
 /// How many requests are read in one turn.
 pub(crate) const MAX_READS: usize = 1024;
-/// How many parts are handed out in one turn: others find room in the lane in the same turn.
+/// How many runs are posted in one turn: others find room in the lane in the same turn.
 pub(crate) const MAX_SENT: usize = 64;
+/// So many commands go out together at most.
+pub(crate) const MAX_RUN: usize = 64;
+/// Once the words of those that go out together have so many bytes, no more go with them.
+pub(crate) const MAX_RUN_WORDS: usize = 64 * 1024;

@@ -1,19 +1,20 @@
 //! What a client of a worker has, and each step of its turn.
 
+mod sending;
+mod settling;
 mod writing;
 
-ghost use Rattle.std.specs.Prelude.{◌≡◌, ◌↔◌, [], ℕ, Result, Ok, Some, false, true, IsTrue, None};
-ghost use Rattle.std.specs.FinMap as map;
+ghost use Rattle.std.specs.Prelude.{◌≡◌, ◌↔◌, [], Result, Ok, false, true, IsTrue};
 
 use crate::client_bytes::{SMALLEST_PIECE, let_go, piece_after, pull_into, take_off};
-use crate::client_limits::{MAX_ASKED, MAX_READS, MAX_SENT};
+use crate::client_limits::{MAX_ASKED, MAX_READS};
 use crate::commands::Commands;
 use crate::held_replies::HeldReplies;
 use crate::port::ClientPort;
 use crate::shared_room::SharedRoom;
-use crate::turned::{Settled, has_read, note_read};
+use crate::turned::{has_read, note_read};
 use crate::unpushed::Unpushed;
-use key_split::{Batch, Ticket, Told};
+use key_split::{Run, Ticket, Told};
 use node_link::Flow;
 use proxy_lanes::{MapView, Naming, Outlet};
 use resp_wire::{Limits, NoMemory};
@@ -64,15 +65,9 @@ impl<C: ClientPort + Drop> Model for ClientParts<C> {
 }
 
 impl<C: ClientPort + Drop> ClientParts<C> {
-    ghost use Rattle.std.specs.FinMap as map;
-    ghost use Rattle.command_future.specs.CommandModel.{CommandModel};
-    ghost use Rattle.proxy_turns.specs.Pause.{pause_at};
     ghost use Rattle.proxy_turns.specs.Commands.{Hears};
-    ghost use Rattle.proxy_turns.specs.DueCommands.{IsSettled, IsToSettle};
     ghost use Rattle.proxy_turns.specs.ClientModel.{new_client, IsDone};
-    ghost use Rattle.proxy_turns.specs.ClientTurn.{ClientContext, SettleOutcome};
 
-    #[tactic(auto, using(crate::proofs::Sound::sound_begun))]
     pub(crate) fn new(
         alloc: Global,
         worker: u16,
@@ -96,42 +91,12 @@ impl<C: ClientPort + Drop> ClientParts<C> {
         }
     }
 
-    /// Ends the command for the part of this number, or posts it again, as it wants.
-    pub(crate) fn finish_or_repost<J: Naming>(
-        &mut self,
-        number: u64,
-        outlet: &mut Outlet<Batch>,
-        view: &mut MapView<J>,
-    ) -> Result<Settled, NoMemory>
-        ensures settles { SettleOutcome C.moves (record { client = self.old; outlet = outlet.old; view = view.old }) number result (record { client = self.new; outlet = outlet.new; view = view.new }) }
-        ensures settled { IsSettled result (IsToSettle self.new.commands number) outlet.new }
-    {
-        if self.end(number)? {
-            return Ok(Settled::Finished);
-        }
-        if self.post_again(number, outlet, view)? {
-            return Ok(Settled::Posted);
-        }
-        if self.commands.wants_post(number) {
-            return Ok(Settled::Held);
-        }
-        Ok(Settled::Nothing)
-    }
-
     /// Tells the command of this ticket what came, where it awaits that. True where it does.
     pub(crate) fn hear(&mut self, ticket: Ticket, told: Told) -> bool
         ensures heard { Hears self.old.commands ticket told result self.new.commands }
         ensures kept { self.new ≡ record self.old { commands = self.new.commands } }
     {
         self.commands.hear(ticket, told)
-    }
-
-    /// How long the command for the part of this number waits before its next post, in milliseconds; `None` where it wants
-    /// none.
-    pub(crate) fn pause(&self, number: u64) -> Option<u64>
-        ensures { (c : CommandModel) → map.get self.now.commands.posted number ≡ Some c → result ≡ pause_at c.stage c.followed }
-    {
-        self.commands.pause(number)
     }
 
     /// Whether nothing is left to do for this client.
@@ -151,11 +116,9 @@ impl<C: ClientPort + Drop> ClientParts<C> {
 
 impl<C: ClientPort + Drop> ClientParts<C> {
     ghost use Rattle.session_order.specs.HangingUp.{HangsUp};
-    ghost use Rattle.session_order.specs.Turn.{MayPost};
     ghost use Rattle.proxy_turns.specs.ClientModel.{IsClientServed, IsLeft};
-    ghost use Rattle.proxy_turns.specs.Commands.{PostsAtResult, WantsPostAt};
-    ghost use Rattle.proxy_turns.specs.ClientRest.{BeginsNone, FeedsNone, HasNoPlace, IfStill, IsAnswered, MayBeHeld, PostsNone, PullsNone, ReadsNone, SendsNone, WorksNone};
-    ghost use Rattle.proxy_turns.specs.ClientTurn.{BeginsCommand, DoesWork, DropsCommand, FeedsSession, FinishOutcome, PostsCommand, PullsBytes, ReadsRequests, SendsCommands};
+    ghost use Rattle.proxy_turns.specs.ClientRest.{FeedsNone, IfStill, IsAnswered, PullsNone, ReadsNone, WorksNone};
+    ghost use Rattle.proxy_turns.specs.ClientTurn.{ClientContext, DoesWork, FeedsSession, PullsBytes, ReadsRequests};
 
     // Whether its session is finished and it has all its bytes.
     fn is_served(&self) -> bool
@@ -171,10 +134,25 @@ impl<C: ClientPort + Drop> ClientParts<C> {
         self.gone && self.commands.is_empty()
     }
 
-    /// Takes in what the client asks for, sends it, and writes what is ready.
+    /// Sends what was read before, so that nodes serve it meanwhile. Then takes in what the client asks for, sends it, and writes what
+    /// is ready.
     pub(crate) fn work<J: Naming>(
         &mut self,
-        outlet: &mut Outlet<Batch>,
+        outlet: &mut Outlet<Run>,
+        view: &mut MapView<J>,
+        room: &mut SharedRoom,
+    ) -> Result<bool, NoMemory>
+        ensures works { DoesWork C.moves (record { client = self.old; outlet = outlet.old; view = view.old }) result (record { client = self.new; outlet = outlet.new; view = view.new }) }
+        ensures none { IfStill result (WorksNone C.takes_none self.old self.new outlet.new) }
+    {
+        let sent = self.send(outlet, view, room.is_crowded())?;
+        let worked = self.take_in(outlet, view, room)?;
+        Ok(sent | worked)
+    }
+
+    fn take_in<J: Naming>(
+        &mut self,
+        outlet: &mut Outlet<Run>,
         view: &mut MapView<J>,
         room: &mut SharedRoom,
     ) -> Result<bool, NoMemory>
@@ -224,7 +202,7 @@ impl<C: ClientPort + Drop> ClientParts<C> {
 
     /// Whether nothing waits for a place in the lane or at the client.
     pub(crate) fn is_quiet(&self) -> bool
-        ensures { IsTrue result → (self.now.unpushed ≡ []) × (self.now.commands.fresh ≡ None) }
+        ensures { IsTrue result → (self.now.unpushed ≡ []) × (self.now.commands.fresh ≡ []) }
     {
         self.unpushed.is_empty() && !self.commands.has_fresh()
     }
@@ -257,7 +235,6 @@ impl<C: ClientPort + Drop> ClientParts<C> {
         }
     }
 
-    #[tactic(auto, using(crate::proofs::Sound::sound_kept))]
     // The client is gone: nothing is fed or pushed any more, so its bytes and their buffers are let go, and its session hangs up.
     fn part(&mut self)
         ensures hung_up { HangsUp self.old.session self.new.session }
@@ -322,126 +299,5 @@ impl<C: ClientPort + Drop> ClientParts<C> {
         ensures none { IfStill result (ReadsNone self.old self.new) }
     {
         has_read(self.session.read(), &self.port)
-    }
-
-    // Hands out some parts and posts their commands, while the lane takes them.
-    fn send<J: Naming>(
-        &mut self,
-        outlet: &mut Outlet<Batch>,
-        view: &mut MapView<J>,
-        is_crowded: bool,
-    ) -> Result<bool, NoMemory>
-        ensures sends { SendsCommands C.moves (record { client = self.old; outlet = outlet.old; view = view.old }) result (record { client = self.new; outlet = outlet.new; view = view.new }) }
-        ensures none { IfStill result (SendsNone self.old self.new outlet.new) }
-    {
-        let first = self.send_next(outlet, view, is_crowded)?;
-        if !first {
-            return Ok(false);
-        }
-        for _ in 1..MAX_SENT {
-            let sent = self.send_next(outlet, view, is_crowded)?;
-            if !sent {
-                return Ok(true);
-            }
-        }
-        Ok(true)
-    }
-
-    // Posts the command that waits, or the one of the next part whose turn it is. A client that is gone begins no more.
-    fn send_next<J: Naming>(
-        &mut self,
-        outlet: &mut Outlet<Batch>,
-        view: &mut MapView<J>,
-        is_crowded: bool,
-    ) -> Result<bool, NoMemory>
-        ensures sends { SendsCommands C.moves (record { client = self.old; outlet = outlet.old; view = view.old }) result (record { client = self.new; outlet = outlet.new; view = view.new }) }
-        ensures none { IfStill result (SendsNone self.old self.new outlet.new) }
-    {
-        if self.gone {
-            return Ok(self.drop_fresh());
-        }
-        let begun = self.begin_command(is_crowded);
-        let posted = self.post_fresh(outlet, view)?;
-        Ok(begun | posted)
-    }
-
-    // Hands out the next part whose turn it is.
-    fn begin_command(&mut self, is_crowded: bool) -> bool
-        requires { self.old.gone ≡ false }
-        ensures begins { BeginsCommand C.moves self.old (Ok result) self.new }
-        ensures gone { self.new.gone ≡ self.old.gone }
-        ensures none { result ≡ false → BeginsNone self.old self.new }
-    {
-        if self.commands.has_fresh() || self.holds_next(is_crowded) {
-            return false;
-        }
-        let Some((ticket, part)) = self.session.ready() else {
-            return false;
-        };
-        self.commands.begin(ticket, part);
-        self.replies.begin();
-        true
-    }
-
-    // Whether the next part whose turn it is waits until replies to earlier ones were drained. Where too much is held for all
-    // clients together the fewest are begun.
-    fn holds_next(&self, is_crowded: bool) -> bool
-        ensures { result ≡ true → (i : ℕ) → MayPost self.now.session.stages i → MayBeHeld self.now.session i }
-    {
-        let Some(place) = self.session.next_place() else {
-            return false;
-        };
-        place >= self.replies.parts_at_once(is_crowded)
-            && place >= self.session.parts_of_oldest() as u64
-    }
-
-    // Drops the command of a client that is gone before its first post.
-    fn drop_fresh(&mut self) -> bool
-        ensures drops { DropsCommand C.moves self.old (Ok result) self.new }
-        ensures none { result ≡ false → self.old.gone ≡ true → (self.new ≡ self.old) × (self.new.commands.fresh ≡ None) }
-    {
-        if !self.gone {
-            return false;
-        }
-        self.commands.drop_fresh()
-    }
-
-    fn post_fresh<J: Naming>(
-        &mut self,
-        outlet: &mut Outlet<Batch>,
-        view: &mut MapView<J>,
-    ) -> Result<bool, NoMemory>
-        requires { self.old.gone ≡ false }
-        ensures posts { PostsCommand C.moves (record { client = self.old; outlet = outlet.old; view = view.old }) result (record { client = self.new; outlet = outlet.new; view = view.new }) }
-        ensures none { IfStill result (PostsNone self.old self.new outlet.new) }
-    {
-        self.commands.post_fresh(outlet, view)
-    }
-
-    fn post_again<J: Naming>(
-        &mut self,
-        number: u64,
-        outlet: &mut Outlet<Batch>,
-        view: &mut MapView<J>,
-    ) -> Result<bool, NoMemory>
-        ensures posts { PostsCommand C.moves (record { client = self.old; outlet = outlet.old; view = view.old }) result (record { client = self.new; outlet = outlet.new; view = view.new }) }
-        ensures commands { PostsAtResult self.old.commands number outlet.old view.old result self.new.commands outlet.new view.new }
-        ensures full { IfStill result (WantsPostAt self.old.commands number → HasNoPlace outlet.new) }
-    {
-        self.commands.post_again(number, outlet, view)
-    }
-
-    // Notes the end of the command for the part of this number, where it has one, and tells the session.
-    fn end(&mut self, number: u64) -> Result<bool, NoMemory>
-        ensures { FinishOutcome C.moves self.old number result self.new }
-    {
-        let Some((ticket, end)) = self.commands.end_of(number) else {
-            return Ok(false);
-        };
-        self.port.note(ticket, end)?;
-        let (ticket, end) = self.commands.finish(number);
-        self.replies.end(&end);
-        self.session.ended(ticket, end);
-        Ok(true)
     }
 }

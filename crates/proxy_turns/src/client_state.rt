@@ -1,13 +1,12 @@
 //! One client of a worker.
 
-ghost use Rattle.std.specs.Prelude.{◌≡◌, ◌↔◌, [], IsTrue, None, Some, false, true};
-ghost use Rattle.std.specs.FinMap as map;
+ghost use Rattle.std.specs.Prelude.{◌≡◌, ◌↔◌, [], IsTrue, false, true};
 
 use crate::client_parts::ClientParts;
 use crate::port::ClientPort;
 use crate::shared_room::SharedRoom;
-use crate::turned::{Settled, Turned};
-use key_split::{Batch, Ticket, Told};
+use crate::turned::{Finish, NextStep, Settled, Turned};
+use key_split::{Run, Ticket, Told};
 use proxy_lanes::{MapView, Naming, Outlet};
 use resp_wire::{Limits, NoMemory};
 use std::alloc::Global;
@@ -40,14 +39,12 @@ impl<C: ClientPort + Drop> Model for ClientState<C> {
 }
 
 impl<C: ClientPort + Drop> ClientState<C> {
-    ghost use Rattle.std.specs.FinMap as map;
     ghost use Rattle.command_future.specs.CommandModel.{CommandModel};
-    ghost use Rattle.proxy_turns.specs.Pause.{pause_at};
     ghost use Rattle.proxy_turns.specs.Commands.{Hears};
-    ghost use Rattle.proxy_turns.specs.DueCommands.{IsSettled, IsToSettle};
+    ghost use Rattle.proxy_turns.specs.DueCommands.{IsSettled, IsToSettle, NextStepOf};
     ghost use Rattle.proxy_turns.specs.ClientModel.{IsDone, new_client};
     ghost use Rattle.proxy_turns.specs.ClientRest.{IfStill, IfTurnedStill, IsClientAtRest};
-    ghost use Rattle.proxy_turns.specs.ClientTurn.{ClientContext, ClientTurns, SettleOutcome, TurnOutcome};
+    ghost use Rattle.proxy_turns.specs.ClientTurn.{ClientContext, ClientTurns, FinishOutcome, SettleOutcome, TurnOutcome};
 
     pub(crate) fn new(
         alloc: Global,
@@ -67,7 +64,7 @@ impl<C: ClientPort + Drop> ClientState<C> {
     /// What a worker does for this client in a turn, beside what became of its commands.
     pub(crate) fn turn<J: Naming>(
         &mut self,
-        outlet: &mut Outlet<Batch>,
+        outlet: &mut Outlet<Run>,
         view: &mut MapView<J>,
         room: &mut SharedRoom,
     ) -> Result<Turned, NoMemory>
@@ -82,7 +79,7 @@ impl<C: ClientPort + Drop> ClientState<C> {
     // Pulls bytes, and does what there is to do. Of an idle client nothing more is asked where none came.
     fn pull_and_work<J: Naming>(
         &mut self,
-        outlet: &mut Outlet<Batch>,
+        outlet: &mut Outlet<Run>,
         view: &mut MapView<J>,
         room: &mut SharedRoom,
     ) -> Result<bool, NoMemory>
@@ -105,18 +102,26 @@ impl<C: ClientPort + Drop> ClientState<C> {
         Ok(moved)
     }
 
-    /// Ends the command for the part of this number, or posts it again, as it wants.
-    pub(crate) fn finish_or_repost<J: Naming>(
-        &mut self,
-        number: u64,
-        outlet: &mut Outlet<Batch>,
-        view: &mut MapView<J>,
-    ) -> Result<Settled, NoMemory>
-        ensures settles { SettleOutcome C.moves (record { client = self.old; outlet = outlet.old; view = view.old }) number result (record { client = self.new; outlet = outlet.new; view = view.new }) }
-        ensures settled { IsSettled result (IsToSettle self.new.commands number) outlet.new }
+    /// Ends the command for the part of this number, where it has an end.
+    pub(crate) fn finish(&mut self, number: u64) -> Result<Finish, NoMemory>
+        ensures { FinishOutcome C.moves self.old number result self.new }
     {
         self.is_idle = false;
-        self.parts.finish_or_repost(number, outlet, view)
+        self.parts.finish(number)
+    }
+
+    /// Posts the command for the part of this number again, where it wants that and its turn has come.
+    pub(crate) fn repost<J: Naming>(
+        &mut self,
+        number: u64,
+        outlet: &mut Outlet<Run>,
+        view: &mut MapView<J>,
+    ) -> Result<Settled, NoMemory>
+        ensures settles { SettleOutcome C.moves (record { client = self.old; outlet = outlet.old; view = view.old }) result (record { client = self.new; outlet = outlet.new; view = view.new }) }
+        ensures settled { IsSettled result (IsToSettle self.new number) outlet.new }
+    {
+        self.is_idle = false;
+        self.parts.repost(number, outlet, view)
     }
 
     /// Tells the command of this ticket what came, where it awaits that. True where it does.
@@ -128,12 +133,11 @@ impl<C: ClientPort + Drop> ClientState<C> {
         self.parts.hear(ticket, told)
     }
 
-    /// How long the command for the part of this number waits before its next post, in milliseconds; `None` where it wants
-    /// none.
-    pub(crate) fn pause(&self, number: u64) -> Option<u64>
-        ensures { (c : CommandModel) → map.get self.now.commands.posted number ≡ Some c → result ≡ pause_at c.stage c.followed }
+    /// What the command for the part of this number has to do.
+    pub(crate) fn next_step(&self, number: u64) -> NextStep
+        ensures { (c : CommandModel) → IsToSettle self.now number c → NextStepOf result c }
     {
-        self.parts.pause(number)
+        self.parts.next_step(number)
     }
 
     /// Whether nothing is left to do for this client.

@@ -4,17 +4,16 @@ ghost use Rattle.std.specs.Prelude.{◌≡◌, ◌↔◌, ◌+◌, [], IsTrue, I
 ghost use Rattle.std.specs.FinMap.{get};
 ghost use Rattle.proxy_turns.specs.ClientTurn.{SettleOutcome, TurnOutcome};
 ghost use Rattle.command_future.specs.CommandModel.{CommandModel};
-ghost use Rattle.proxy_turns.specs.Pause.{pause_at};
-ghost use Rattle.proxy_turns.specs.DueCommands.{IsSettled, IsToSettleAt};
-ghost use Rattle.proxy_turns.specs.ClientTable.{AtClient, AtPlace, IsDoneAt, IsTurnedAt, LeavesAt, TakesAny};
+ghost use Rattle.proxy_turns.specs.DueCommands.{IsSettled, IsToSettleAt, NextStepOf};
+ghost use Rattle.proxy_turns.specs.ClientTable.{AtClient, AtPlace, ClientFinishes, IsDoneAt, IsTurnedAt, LeavesAt, TakesAny};
 ghost use Rattle.proxy_turns.specs.WorkerModel.{Tells, clients_in};
 
 use crate::client_state::ClientState;
 use crate::port::ClientPort;
 use crate::shared_room::SharedRoom;
-use crate::turned::{Settled, Turned};
+use crate::turned::{Finish, NextStep, Settled, Turned};
 use indexmap::IndexMap;
-use key_split::{Batch, Ticket, Told};
+use key_split::{Run, Ticket, Told};
 use proxy_lanes::{MapView, Naming, Outlet};
 use resp_wire::NoMemory;
 
@@ -40,7 +39,7 @@ pub(crate) fn tell_client<C: ClientPort + Drop>(
 pub(crate) fn turn_at<C: ClientPort + Drop, J: Naming>(
     clients: &mut ClientTable<C>,
     place: usize,
-    outlet: &mut Outlet<Batch>,
+    outlet: &mut Outlet<Run>,
     view: &mut MapView<J>,
     room: &mut SharedRoom,
 ) -> Result<Turned, NoMemory>
@@ -59,15 +58,29 @@ pub(crate) fn turn_at<C: ClientPort + Drop, J: Naming>(
     client.turn(outlet, view, room)
 }
 
-/// Ends the command of this ticket, or posts it again, as it wants.
-pub(crate) fn settle_at<C: ClientPort + Drop, J: Naming>(
+/// Ends the command of this ticket, where it has an end.
+pub(crate) fn finish_at<C: ClientPort + Drop>(
     clients: &mut ClientTable<C>,
     ticket: Ticket,
-    outlet: &mut Outlet<Batch>,
+) -> Result<Finish, NoMemory>
+    ensures finishes { ClientFinishes C.moves (clients_in clients.old.entries) ticket result (clients_in clients.new.entries) }
+    ensures len { length clients.new.entries ≡ length clients.old.entries }
+{
+    let Some(client) = clients.get_mut(&ticket.client) else {
+        return Ok(Finish::Open);
+    };
+    client.finish(ticket.part)
+}
+
+/// Posts the command of this ticket again, where it wants that and its turn has come.
+pub(crate) fn repost_at<C: ClientPort + Drop, J: Naming>(
+    clients: &mut ClientTable<C>,
+    ticket: Ticket,
+    outlet: &mut Outlet<Run>,
     view: &mut MapView<J>,
 ) -> Result<Settled, NoMemory>
     ensures settles { AtClient (record { clients = clients_in clients.old.entries; outlet = outlet.old; view = view.old }) ticket.client
-        (λ old new. SettleOutcome C.moves old ticket.part result new) (result ≡ Ok Settled.Nothing)
+        (λ old new. SettleOutcome C.moves old result new) (result ≡ Ok Settled.Nothing)
         (record { clients = clients_in clients.new.entries; outlet = outlet.new; view = view.new }) }
     ensures settled { IsSettled result (IsToSettleAt (clients_in clients.new.entries) ticket.client ticket.part) outlet.new }
     ensures len { length clients.new.entries ≡ length clients.old.entries }
@@ -75,17 +88,20 @@ pub(crate) fn settle_at<C: ClientPort + Drop, J: Naming>(
     let Some(client) = clients.get_mut(&ticket.client) else {
         return Ok(Settled::Nothing);
     };
-    client.finish_or_repost(ticket.part, outlet, view)
+    client.repost(ticket.part, outlet, view)
 }
 
-/// How long the command of this ticket waits before its next post, in milliseconds; `None` where it wants none.
-pub(crate) fn pause_before_post<C: ClientPort + Drop>(
+/// What the command of this ticket has to do.
+pub(crate) fn next_step_at<C: ClientPort + Drop>(
     clients: &ClientTable<C>,
     ticket: Ticket,
-) -> Option<u64>
-    ensures { (c : CommandModel) → IsToSettleAt (clients_in clients.now.entries) ticket.client ticket.part c → result ≡ pause_at c.stage c.followed }
+) -> NextStep
+    ensures { (c : CommandModel) → IsToSettleAt (clients_in clients.now.entries) ticket.client ticket.part c → NextStepOf result c }
 {
-    clients.get(&ticket.client)?.pause(ticket.part)
+    match clients.get(&ticket.client) {
+        Some(client) => client.next_step(ticket.part),
+        None => NextStep::Rest,
+    }
 }
 
 /// Takes off the client at this place, where nothing is left to do for it. The last one takes its place.

@@ -1,23 +1,24 @@
 //! The commands of one client.
 
-ghost use Rattle.std.specs.Prelude.{◌≡◌, ◌<◌, ◌↔◌, ℕ, Option, is_some, IsSome, Result, None, Some, false, IfOk, IfSome, OnErr, IsTrue, IsSomeAnd, MatchOption, ⊤};
-ghost use Rattle.std.specs.FinMap as map;
-ghost use Rattle.std.specs.HashMap.{spare};
-ghost use Rattle.slot_hash.specs.Slot.{slot_of};
-ghost use Rattle.command_future.specs.CommandModel.{CommandModel, MayPostTo, WantsPost, fresh};
-ghost use Rattle.proxy_lanes.specs.declared.map_view.NotEntered.{NotEntered};
-ghost use Rattle.proxy_turns.specs.ClientRest.{HasNoPlace, IfStill};
-ghost use Rattle.proxy_turns.specs.Pause.{pause_at};
-ghost use Rattle.proxy_turns.specs.Commands.{Drops, HasEndAt, GoesTo, PostsBatch, HasEnd, Hears, HearsOne, Looks, PostOutcome, PostsAtResult, PostsFreshResult, WantsPostAt, commanded, in_table, node_looked_up};
+mod posting;
 
+ghost use Rattle.std.specs.Prelude.{◌≡◌, ◌≢◌, ◌<◌, ◌↔◌, [], ◌∷◌, ◌++◌, ℕ, List, length, IsSome, OnOk, OnErr, IfSome, MatchOption, IsTrue, Some, true, false};
+ghost use Rattle.std.specs.FinMap as map;
+ghost use Rattle.command_future.specs.CommandModel.{CommandModel, WantsPost};
+ghost use Rattle.proxy_turns.specs.ClientRest.{HasNoPlace, IfStill};
+ghost use Rattle.proxy_turns.specs.DueCommands.{StepOf};
+ghost use Rattle.proxy_turns.specs.Commands.{AreOneRun, BeginOutcome, Drops, FollowOutcome, HasEnd, HasEndAt, Hears, HearsOne, LastIsOut, PostsAtResult, PostsFreshResult, WantsPostAt, commanded, in_table, most_together};
+
+use crate::client_limits::{MAX_RUN, MAX_RUN_WORDS};
 use crate::pause::pause_millis;
+use crate::turned::NextStep;
 use command_future::{Command, Want};
-use key_split::{Batch, Ended, Part, Ticket, Told};
+use key_split::{Ended, Part, Run, Ticket, Told};
+use posting::{post_all, post_at};
 use proxy_lanes::{MapView, Naming, Outlet};
 use resp_wire::NoMemory;
-use slot_hash::Slot;
-use slot_map::NodeId;
-use std::alloc::{AllocFailed, Global};
+use session_order::Session;
+use std::alloc::Global;
 use std::collections::HashMap;
 use std::marker::Model;
 
@@ -25,8 +26,10 @@ use std::marker::Model;
 #[derive(Drop)]
 pub(crate) struct Commands {
     alloc: Global,
-    // Handed out and not posted yet.
-    fresh: Option<Command>,
+    // Handed out and not posted yet, in the order of their parts: they go out together.
+    fresh: Vec<Command>,
+    // How many bytes their words have.
+    words: usize,
     // Posted at least once, by the numbers of their parts.
     posted: HashMap<u64, Command>,
 }
@@ -41,74 +44,113 @@ impl Model for Commands {
 
     ghost coded = { Prim.hlevel (codes, coded_data, map.code) };
 
-    ghost view = { λ c. record { fresh = c.fresh; posted = map.from_entries c.posted.entries } };
+    ghost view = { λ c. record { fresh = c.fresh.items; posted = map.from_entries c.posted.entries } };
 }
 
 impl Commands {
     pub(crate) fn new(alloc: Global) -> Commands
-        ensures { result ≡ record { fresh = None; posted = map.empty } }
+        ensures { result ≡ record { fresh = []; posted = map.empty } }
     {
         Commands {
             alloc,
-            fresh: None,
+            fresh: Vec::new(alloc),
+            words: 0,
             posted: HashMap::new(alloc),
         }
     }
 
-    /// Whether a command is waiting for its first post.
+    /// Whether commands are waiting for their first post.
     pub(crate) fn has_fresh(&self) -> bool
-        ensures { result ≡ is_some self.now.fresh }
+        ensures there { result ≡ true → self.now.fresh ≢ [] }
+        ensures none { result ≡ false → self.now.fresh ≡ [] }
     {
-        self.fresh.is_some()
+        !self.fresh.is_empty()
     }
 
     /// Whether no command is left.
     pub(crate) fn is_empty(&self) -> bool
-        ensures { IsTrue result ↔ (self.now ≡ record { fresh = None; posted = map.empty }) }
+        ensures { IsTrue result ↔ (self.now ≡ record { fresh = []; posted = map.empty }) }
     {
-        self.fresh.is_none() && self.posted.is_empty()
+        self.fresh.is_empty() && self.posted.is_empty()
     }
 
-    /// The command of a part that was handed out begins.
-    pub(crate) fn begin(&mut self, ticket: Ticket, part: Part)
-        requires { self.old.fresh ≡ None }
-        ensures { self.new ≡ record self.old { fresh = Some (fresh ticket part) } }
+    /// The session hands out the earliest part whose turn it is, and its command begins. There is room for it first.
+    pub(crate) fn begin(&mut self, session: &mut Session) -> Result<bool, NoMemory>
+        ensures { BeginOutcome self.old session.old result self.new session.new }
     {
-        self.fresh = Some(Command::new(ticket, part));
-    }
-
-    /// Drops the command that was not posted yet, where there is one.
-    pub(crate) fn drop_fresh(&mut self) -> bool
-        ensures { Drops self.old result self.new }
-    {
-        self.fresh.take().is_some()
-    }
-
-    /// Posts the command that was not posted yet. True where it was posted.
-    pub(crate) fn post_fresh<J: Naming>(
-        &mut self,
-        outlet: &mut Outlet<Batch>,
-        view: &mut MapView<J>,
-    ) -> Result<bool, NoMemory>
-        ensures posts { PostsFreshResult self.old outlet.old view.old result self.new outlet.new view.new }
-        ensures full { IfStill result (IfSome self.old.fresh (λ command. WantsPost command.stage → HasNoPlace outlet.new)) }
-    {
-        self.posted.reserve(1)?;
-        let Some(command) = &mut self.fresh else {
+        self.fresh.reserve(1)?;
+        let Some((ticket, part)) = session.ready() else {
             return Ok(false);
         };
-        if !post_command(self.alloc, command, outlet, view)? {
-            return Ok(false);
-        }
-        keep_posted(&mut self.fresh, &mut self.posted);
+        self.words = words_of(&part);
+        self.fresh.push_reserved(Command::new(ticket, part));
         Ok(true)
     }
 
-    /// Posts the command for the part of this number again, where it wants that. True where it was posted.
+    /// The ticket of the last command that waits for its first post.
+    pub(crate) fn last_fresh(&self) -> Option<Ticket>
+        ensures { IfSome result (λ ticket. (before : List CommandModel) × (last : CommandModel) × (self.now.fresh ≡ before ++ last ∷ []) × (last.ticket ≡ ticket)) }
+    {
+        match self.fresh.last() {
+            Some(last) => Some(last.ticket()),
+            None => None,
+        }
+    }
+
+    /// Whether one more command may go with those that wait for their first post.
+    pub(crate) fn takes_more(&self) -> bool
+        ensures { result ≡ true → length self.now.fresh < most_together }
+    {
+        self.fresh.len() < MAX_RUN && self.words < MAX_RUN_WORDS
+    }
+
+    /// The session hands out the part that may go out behind the last command that waits for its first post, and its command begins.
+    /// There is room for it first.
+    pub(crate) fn follow(&mut self, session: &mut Session) -> Result<bool, NoMemory>
+        requires { LastIsOut session.old self.old.fresh }
+        ensures { FollowOutcome self.old session.old result self.new session.new }
+    {
+        let Some(last) = self.last_fresh() else {
+            return Ok(false);
+        };
+        self.fresh.reserve(1)?;
+        let Some((ticket, part)) = session.follower(last) else {
+            return Ok(false);
+        };
+        self.words = self.words.saturating_add(words_of(&part));
+        self.fresh.push_reserved(Command::new(ticket, part));
+        Ok(true)
+    }
+
+    /// Drops the commands that were not posted yet, where there are any.
+    pub(crate) fn drop_fresh(&mut self) -> bool
+        ensures { Drops self.old result self.new }
+    {
+        if self.fresh.is_empty() {
+            return false;
+        }
+        self.fresh = Vec::new(self.alloc);
+        true
+    }
+
+    /// Posts the commands that were not posted yet, together. True where they were posted.
+    pub(crate) fn post_fresh<J: Naming>(
+        &mut self,
+        outlet: &mut Outlet<Run>,
+        view: &mut MapView<J>,
+    ) -> Result<bool, NoMemory>
+        requires { AreOneRun self.old.fresh }
+        ensures posts { PostsFreshResult self.old outlet.old view.old result self.new outlet.new view.new }
+        ensures full { IfStill result (self.old.fresh ≢ [] → HasNoPlace outlet.new) }
+    {
+        post_all(self.alloc, &mut self.fresh, &mut self.posted, outlet, view)
+    }
+
+    /// Posts the command for the part of this number again, alone, where it wants that. True where it was posted.
     pub(crate) fn post_again<J: Naming>(
         &mut self,
         number: u64,
-        outlet: &mut Outlet<Batch>,
+        outlet: &mut Outlet<Run>,
         view: &mut MapView<J>,
     ) -> Result<bool, NoMemory>
         ensures posts { PostsAtResult self.old number outlet.old view.old result self.new outlet.new view.new }
@@ -124,22 +166,28 @@ impl Commands {
         tell_at(&mut self.posted, ticket, told)
     }
 
-    /// Whether the command for the part of this number wants to be posted.
-    pub(crate) fn wants_post(&self, number: u64) -> bool
-        ensures { IsTrue result ↔ WantsPostAt self.now number }
+    /// The ticket of the posted command for the part of this number, where it wants to be posted again.
+    pub(crate) fn wants_post(&self, number: u64) -> Option<Ticket>
+        ensures { MatchOption result (WantsPostAt self.now number → ⊥) (λ ticket. (c : CommandModel) × (map.get self.now.posted number ≡ Some c) × WantsPost c.stage × (c.ticket ≡ ticket)) }
     {
-        match self.posted.get(&number) {
-            Some(command) => pause_of(command).is_some(),
-            None => false,
+        let Some(command) = self.posted.get(&number) else {
+            return None;
+        };
+        match step_of(command) {
+            NextStep::Post(_) => Some(command.ticket()),
+            NextStep::End => None,
+            NextStep::Rest => None,
         }
     }
 
-    /// How long the command for the part of this number waits before its next post, in milliseconds; `None` where it wants
-    /// none.
-    pub(crate) fn pause(&self, number: u64) -> Option<u64>
-        ensures { (c : CommandModel) → map.get self.now.posted number ≡ Some c → result ≡ pause_at c.stage c.followed }
+    /// What the posted command for the part of this number has to do, once its turn has come.
+    pub(crate) fn next_step(&self, number: u64) -> NextStep
+        ensures { (c : CommandModel) → map.get self.now.posted number ≡ Some c → StepOf result c }
     {
-        pause_of(self.posted.get(&number)?)
+        match self.posted.get(&number) {
+            Some(command) => step_of(command),
+            None => NextStep::Rest,
+        }
     }
 
     /// The ticket and the end of the command for the part of this number, where it has ended.
@@ -162,38 +210,32 @@ impl Commands {
     }
 }
 
-// How long the command waits before its next post, in milliseconds; `None` where it wants none.
-fn pause_of(command: &Command) -> Option<u64>
-    ensures { result ≡ pause_at command.now.stage command.now.followed }
+// How many bytes the words of a part have.
+fn words_of(part: &Part) -> usize {
+    let first = part
+        .key()
+        .as_slice()
+        .len()
+        .saturating_add(part.arg().as_slice().len());
+    let sizes = part.rest().iter().map(|pair| pair
+        .0
+        .as_slice()
+        .len()
+        .saturating_add(pair.1.as_slice().len()));
+    sizes.fold(first, usize::saturating_add)
+}
+
+fn step_of(command: &Command) -> NextStep
+    ensures { StepOf result command.now }
 {
     match command.want() {
-        Want::Post(asking, named) => {
-            Some(pause_millis(command.followed(), asking || named.is_some()))
-        }
-        Want::Await => None,
-        Want::Finished => None,
+        Want::Post(asking, named) => NextStep::Post(pause_millis(
+            command.followed(),
+            asking || named.is_some(),
+        )),
+        Want::Await => NextStep::Rest,
+        Want::Finished => NextStep::End,
     }
-}
-
-// Puts the command that was posted for the first time among the others. There is room for it.
-fn keep_posted(fresh: &mut Option<Command>, posted: &mut HashMap<u64, Command>)
-    requires { 0 < spare posted.old }
-    ensures taken { fresh.new ≡ None }
-    ensures put { IfSome fresh.old (λ command. in_table posted.new.entries ≡ map.insert (in_table posted.old.entries) command.ticket.part command) }
-{
-    if let Some(command) = fresh.take() {
-        put_ready(posted, command);
-    }
-}
-
-// Puts the command behind the number of its part. There is room for it.
-fn put_ready(posted: &mut HashMap<u64, Command>, command: Command)
-    requires { 0 < spare posted.old }
-    ensures { in_table posted.new.entries ≡ map.insert (in_table posted.old.entries) command.ticket.part command }
-{
-    let number = command.ticket().part;
-    let put: Result<Option<Command>, AllocFailed<(u64, Command)>> = posted.insert(number, command);
-    put.unwrap();
 }
 
 fn take_at(posted: &mut HashMap<u64, Command>, number: u64) -> Command
@@ -205,7 +247,7 @@ fn take_at(posted: &mut HashMap<u64, Command>, number: u64) -> Command
 }
 
 fn tell_at(posted: &mut HashMap<u64, Command>, ticket: Ticket, told: Told) -> bool
-    ensures { (fresh : Option CommandModel) → Hears (commanded fresh posted.old.entries) ticket told result (commanded fresh posted.new.entries) }
+    ensures { (fresh : List CommandModel) → Hears (commanded fresh posted.old.entries) ticket told result (commanded fresh posted.new.entries) }
 {
     let Some(command) = posted.get_mut(&ticket.part) else {
         return false;
@@ -221,84 +263,4 @@ fn tell_command(command: &mut Command, ticket: Ticket, told: Told) -> bool
         return true;
     }
     false
-}
-
-fn post_at<J: Naming>(
-    alloc: Global,
-    posted: &mut HashMap<u64, Command>,
-    number: u64,
-    outlet: &mut Outlet<Batch>,
-    view: &mut MapView<J>,
-) -> Result<bool, NoMemory>
-    ensures posts { (fresh : Option CommandModel) → PostsAtResult (commanded fresh posted.old.entries) number outlet.old view.old result (commanded fresh posted.new.entries) outlet.new view.new }
-    ensures full { IfStill result ((fresh : Option CommandModel) → WantsPostAt (commanded fresh posted.old.entries) number → HasNoPlace outlet.new) }
-{
-    let Some(command) = posted.get_mut(&number) else {
-        return Ok(false);
-    };
-    post_command(alloc, command, outlet, view)
-}
-
-// Posts the command where it wants that. True where it was posted.
-fn post_command<J: Naming>(
-    alloc: Global,
-    command: &mut Command,
-    outlet: &mut Outlet<Batch>,
-    view: &mut MapView<J>,
-) -> Result<bool, NoMemory>
-    ensures ok { IfOk result (λ moved. PostOutcome command.old outlet.old view.old moved command.new outlet.new view.new) }
-    ensures err { OnErr result (PostOutcome command.old outlet.old view.old false command.new outlet.new view.new) }
-    ensures full { IfStill result (WantsPost command.old.stage → HasNoPlace outlet.new) }
-{
-    let Some(node) = aim(command, view) else {
-        return Ok(false);
-    };
-    let batch = command.batch(alloc, node)?;
-    if !post_batch(outlet, batch) {
-        return Ok(false);
-    }
-    command.posted(node);
-    Ok(true)
-}
-
-// The node at which the command wants to be posted.
-fn aim<J: Naming>(command: &Command, view: &mut MapView<J>) -> Option<NodeId>
-    ensures aims { MatchOption result (view.new ≡ view.old) (λ node. GoesTo command.now.stage (slot_of command.now.part.key) view.old node view.new) }
-    ensures may { IfSome result (λ node. MayPostTo command.now.stage node) }
-    ensures none { MatchOption result (WantsPost command.now.stage → ⊥) (λ _. ⊤) }
-{
-    match command.want() {
-        Want::Post(_, Some(node)) => Some(node),
-        Want::Post(_, None) => Some(node_by_map(view, command.slot())),
-        Want::Await => None,
-        Want::Finished => None,
-    }
-}
-
-// Posts the batch. False where it came back.
-fn post_batch(outlet: &mut Outlet<Batch>, batch: Batch) -> bool
-    ensures { PostsBatch outlet.old batch result outlet.new }
-{
-    match outlet.post(batch) {
-        Ok(()) => true,
-        Err(_) => false,
-    }
-}
-
-// The node of the slot by the map, or the seed.
-fn node_by_map<J: Naming>(view: &mut MapView<J>, slot: Slot) -> NodeId
-    ensures { (answer : Result (Option ℕ) NotEntered) × Looks view.old slot answer view.new × (result ≡ node_looked_up answer) }
-{
-    match view.node_of(slot) {
-        Ok(Some(node)) => node,
-        Ok(None) => seed(),
-        Err(_) => seed(),
-    }
-}
-
-// The first node of the table.
-fn seed() -> NodeId
-    ensures { result ≡ 0 }
-{
-    NodeId::new(0).unwrap()
 }

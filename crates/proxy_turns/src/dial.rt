@@ -4,7 +4,7 @@ ghost use Rattle.std.specs.Prelude.{◌≡◌, ℕ, false, ⊤};
 ghost use Rattle.slot_map.specs.Table.{Endpoint};
 ghost use Rattle.proxy_turns.specs.Dialling.{OpenOutcome};
 
-use node_link::NodePort;
+use node_link::RunPort;
 use slot_map::NodeId;
 use thiserror::Error;
 
@@ -21,7 +21,7 @@ pub enum DialFault {
 
 /// Opens connections to nodes.
 pub trait Dial {
-    type Port: NodePort + Drop;
+    type Port: RunPort + Drop;
 
     /// How often a dial failed.
     ghost failures: { Self → ℕ };
@@ -38,7 +38,8 @@ pub trait Dial {
         ensures calm { result ≡ false → is_calm self.new }
         ensures failures { failures self.new ≡ failures self.old };
 
-    /// Told of each batch that could not be sent, since there is no connection to its node, and none was opened.
+    /// Told of each run that could not be sent, since there is no connection to its node, and none was opened: once, however many
+    /// commands it has.
     fn unsent(&self) {}
 
     /// A new connection to the node that listens there.

@@ -47,6 +47,7 @@ impl DueCommands {
     /// Makes room for one more.
     pub(crate) fn reserve_one(&mut self) -> Result<(), NoMemory>
         ensures kept { KeepsNoted self.old self.new }
+        ensures ended { self.new.ended.items ≡ self.old.ended.items }
         ensures room { OnOk result (HasRoom self.new) }
     {
         self.ended.reserve(1)?;
@@ -68,9 +69,11 @@ impl DueCommands {
         }
     }
 
-    fn note_refused<G: Gate>(&mut self, ticket: Ticket, pause: u64, gate: &G)
+    /// Notes a command that was refused, with its pause before its next post.
+    pub(crate) fn note_refused<G: Gate>(&mut self, ticket: Ticket, pause: u64, gate: &G)
         requires { HasRoom self.old }
         ensures kept { KeepsNoted self.old self.new }
+        ensures ended { self.new.ended ≡ self.old.ended }
         ensures noted { is_noted self.new ticket.client ticket.part (Some pause) ≡ true }
     {
         match time_after(pause, gate) {
@@ -82,6 +85,7 @@ impl DueCommands {
     fn pause_until(&mut self, due: u64, ticket: Ticket)
         requires { HasRoom self.old }
         ensures kept { KeepsNoted self.old self.new }
+        ensures ended { self.new.ended ≡ self.old.ended }
         ensures noted { (pause : ℕ) → 0 < pause → is_noted self.new ticket.client ticket.part (Some pause) ≡ true }
     {
         let _ = self.paused.push(Reverse(PausedCommand {

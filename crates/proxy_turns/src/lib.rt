@@ -13,11 +13,12 @@
 //! gate and one turn (`PollOutcome` of `specs/Worker.antt`), and at its end it gives back every port that it still holds. A turn
 //! of it that moved nothing leaves each of its clients at rest (`AreClientsAtRest` of `specs/WorkerRest.antt`), and each command
 //! that was posted: it awaits its answer, pauses, or wants its next post at a lane that takes no more (`ArePostedAtRest`).
-//! The carrier sends each batch as one item; what is given is what a link received, Lost for the tickets that a failed link
-//! lost, and Unsent for a batch whose dial failed; the slot map is renewed by MOVED and CLUSTER SLOTS. A turn of its that moved
-//! nothing leaves it at rest (`IsAtRest` of `specs/CarrierModel.antt`): whatever it holds waits for a full lane, no lane to it
-//! has a batch, and each open link gave nothing when it was asked for a reply. `Script` is a client's
-//! port over memory, gone exactly where it holds every reply that is owed to its bytes (`Owes` of `specs/Owing.antt`).
+//! The carrier sends each run as one item; what is given is what a link received, Lost for the tickets that a failed link
+//! lost, and Unsent for each command of a run whose dial failed, or that is longer than its link takes; the slot map is renewed
+//! by MOVED and CLUSTER SLOTS. A turn of its that moved nothing leaves it at rest (`IsAtRest` of `specs/CarrierModel.antt`):
+//! whatever it holds waits for a full lane, no lane to it has a run, and each open link gave nothing when it was asked for a
+//! reply. `Script` is a client's port over memory, gone exactly where it holds every reply that is owed to its bytes (`Owes` of
+//! `specs/Owing.antt`).
 #![tactic(auto)]
 
 mod all_backends;
@@ -38,9 +39,10 @@ mod kept_ports;
 mod newcomer;
 mod owing;
 mod pause;
-mod pending_batch;
+mod pending_run;
 mod port;
 mod received;
+mod refused_run;
 mod round;
 mod script;
 mod shared_room;
@@ -56,8 +58,9 @@ pub use carrier::Carrier;
 pub use dial::{Dial, DialFault};
 pub use gate::Gate;
 pub use newcomer::Newcomer;
-pub use pending_batch::PendingBatch;
+pub use pending_run::PendingRun;
 pub use port::ClientPort;
+pub use refused_run::RefusedRun;
 pub use script::Script;
 pub use worker::Worker;
 pub use worker_end::{WorkerEnd, WorkerOutcome};

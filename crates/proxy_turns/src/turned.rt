@@ -5,6 +5,7 @@ ghost use Rattle.proxy_turns.specs.ClientModel.{read_answer};
 ghost use Rattle.proxy_turns.specs.ClientTurn.{is_settled};
 
 use crate::port::ClientPort;
+use key_split::Ticket;
 use resp_wire::NoMemory;
 use session_order::SessionFault;
 
@@ -16,11 +17,29 @@ pub(crate) struct Turned {
     pub(crate) done: bool,
 }
 
-/// What became of a command that was told something.
+/// What became of a command that may have ended.
+#[derive(Clone, Copy, Debug, PartialEq, Eq)]
+pub(crate) enum Finish {
+    /// It has ended, and its session knows. With the ticket of the next that is out for its slot.
+    Ended(Option<Ticket>),
+    /// It has not.
+    Open,
+}
+
+/// What a posted command has to do.
+#[derive(Clone, Copy, Debug, PartialEq, Eq)]
+pub(crate) enum NextStep {
+    /// Nothing: it awaits its answer, or its turn has not come.
+    Rest,
+    /// It has ended.
+    End,
+    /// It is to be posted again after so many milliseconds.
+    Post(u64),
+}
+
+/// What became of a command that may have been refused.
 #[derive(Clone, Copy, Debug, PartialEq, Eq)]
 pub(crate) enum Settled {
-    /// It has ended, and its session knows.
-    Finished,
     /// It was posted again.
     Posted,
     /// It wants to be posted again, and the lane did not take it.
@@ -34,7 +53,7 @@ impl Settled {
     pub(crate) fn is_move(self) -> bool
         ensures { result ≡ is_settled self }
     {
-        matches!(self, Settled::Finished | Settled::Posted)
+        matches!(self, Settled::Posted)
     }
 
     /// Whether its command is still to be posted.

@@ -2,7 +2,8 @@
 
 ghost use Rattle.std.specs.Prelude.{◌≡◌, ◌≤◌, ◌↔◌, [], IsTrue, drop, length};
 ghost use Rattle.session_order.specs.Replies.{DrainOutcome};
-ghost use Rattle.session_order.specs.Steps.{KeepsOut};
+ghost use Rattle.session_order.specs.Steps.{KeepsOrder};
+ghost use Rattle.session_order.specs.Behind.{KeepsParts};
 
 use crate::client_bytes::let_go;
 use crate::client_limits::KEPT;
@@ -61,7 +62,8 @@ impl Unpushed {
     /// Puts behind them what the session has to drain, until it is so many bytes.
     pub(crate) fn drain(&mut self, session: &mut Session, most: usize) -> Result<usize, NoMemory>
         ensures does { DrainOutcome most session.old self.old result session.new self.new }
-        ensures kept { KeepsOut session.old session.new }
+        ensures order { KeepsOrder session.old session.new }
+        ensures parts { KeepsParts session.old session.new }
     {
         session.drain(&mut self.bytes, most)
     }

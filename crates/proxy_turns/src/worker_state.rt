@@ -1,15 +1,17 @@
 //! The clients of a worker, between them and the carrier the lanes.
 
-ghost use Rattle.std.specs.Prelude.{◌≡◌, ◌⊎◌, ◌<◌, ◌≤◌, ◌+◌, [], IfOk, IsTrue, ◌↔◌, OnOk, Ok, Some, length, true, vec_capacity};
+ghost use Rattle.std.specs.Prelude.{◌≡◌, ◌⊎◌, ◌<◌, ◌≤◌, ◌+◌, ◌∷◌, [], List, drop, IfOk, IfSome, IsTrue, ◌↔◌, OnOk, Ok, Some, length, true, vec_capacity};
 ghost use Rattle.proxy_turns.specs.WorkerModel.{AdmitsClients, AreAllServed, Learns, RemovesClient, ServesClients, SettlesDue, TakesTold, TurnsClient, WorkerTurns, clients_in};
 ghost use Rattle.proxy_turns.specs.ClientRest.{HasNoPlace, IfStill};
-ghost use Rattle.proxy_turns.specs.DueCommands.{AreNoted, IsSettled, IsToSettleAt};
+ghost use Rattle.command_future.specs.CommandModel.{CommandModel, WantsPost};
+ghost use Rattle.proxy_turns.specs.Pause.{pause_at};
+ghost use Rattle.proxy_turns.specs.DueCommands.{AreNoted, AreSettled, HasRoom, IsSettled, IsToSettleAt, KeepsNoted, is_noted};
 ghost use Rattle.proxy_turns.specs.WorkerRest.{AreClientsAtRest, ArePostedAtRest, HasNoNewcomer, HasNothingToTell};
-ghost use Rattle.proxy_turns.specs.Arrivals.{counted_by, settled_in, turned_in};
+ghost use Rattle.proxy_turns.specs.Arrivals.{settled_in, turned_in};
 
 use crate::client_state::ClientState;
 use crate::client_table::{
-    ClientTable, pause_before_post, settle_at, take_done, tell_client, turn_at,
+    ClientTable, finish_at, next_step_at, repost_at, take_done, tell_client, turn_at,
 };
 use crate::due_commands::DueCommands;
 use crate::gate::Gate;
@@ -20,10 +22,10 @@ use crate::newcomer::{
 use crate::port::ClientPort;
 use crate::round::Round;
 use crate::shared_room::SharedRoom;
-use crate::turned::{Settled, Turned};
+use crate::turned::{Finish, NextStep, Settled, Turned};
 use crate::worker_end::{WorkerEnd, WorkerOutcome};
 use indexmap::IndexMap;
-use key_split::{Batch, Ticket, Told};
+use key_split::{Run, Ticket, Told};
 use proxy_lanes::{Front, Inlet, LANE_PLACES, MapView, Naming, Newcomers, Outlet, WorkerEnds};
 use resp_wire::{Limits, NoMemory};
 use std::alloc::Global;
@@ -42,7 +44,7 @@ pub(crate) struct WorkerState<C: ClientPort + Drop, J: Naming> {
     newcomers: Newcomers<Newcomer<C, J>>,
     // How many are still to come; `None` without end.
     left: Option<u32>,
-    outlet: Outlet<Batch>,
+    outlet: Outlet<Run>,
     view: MapView<J>,
     inlet: Inlet<(Ticket, Told)>,
     // How many parts have ended.
@@ -135,7 +137,7 @@ impl<C: ClientPort + Drop, J: Naming> WorkerState<C, J> {
         self.due.next_due()
     }
 
-    /// How many batches were posted.
+    /// How many runs were posted.
     pub(crate) fn posted(&self) -> u64 {
         self.outlet.posted()
     }
@@ -242,34 +244,52 @@ impl<C: ClientPort + Drop, J: Naming> WorkerState<C, J> {
         if !tell_client(&mut self.clients, ticket, told) {
             return Ok(true);
         }
-        let pause = pause_before_post(&self.clients, ticket);
-        self.due.note(ticket, pause, gate);
+        note_step(&self.clients, &mut self.due, ticket, gate);
         Ok(true)
     }
 
     // Ends the commands that have ended, and posts those again that are due by now, while the lane takes them.
     fn settle_due<G: Gate>(&mut self, gate: &G) -> Result<bool, NoMemory>
         ensures settles { SettlesDue C.moves (state_model self.old) result (state_model self.new) }
-        ensures rest { OnOk result (ArePostedAtRest (state_model self.new)) }
+        ensures rest { OnOk result (AreSettled (clients_in self.new.clients.entries) self.new.outlet) }
     {
         self.due.end_pauses(gate)?;
-        let ended = self.end_all()?;
+        let ended = self.end_all(gate)?;
         let posted = self.post_due()?;
         Ok(ended | posted)
     }
 
     // Ends the commands that have ended.
-    fn end_all(&mut self) -> Result<bool, NoMemory>
+    fn end_all<G: Gate>(&mut self, gate: &G) -> Result<bool, NoMemory>
         ensures settles { SettlesDue C.moves (state_model self.old) result (state_model self.new) }
         ensures none { OnOk result (self.new.due.ended.items ≡ []) }
     {
         let mut moved = false;
         while let Some(ticket) = self.due.first_ended() {
-            let settled = self.settle_one(ticket)?;
-            moved |= settled.is_move();
-            self.due.drop_ended();
+            moved |= self.end_one(ticket, gate)?;
         }
         Ok(moved)
+    }
+
+    // Ends the command of this ticket, the oldest of those that have ended. What comes next for its slot is noted.
+    fn end_one<G: Gate>(&mut self, ticket: Ticket, gate: &G) -> Result<bool, NoMemory>
+        requires { (rest : List Ticket) × (self.old.due.ended.items ≡ ticket ∷ rest) }
+        ensures settles { SettlesDue C.moves (state_model self.old) result (state_model self.new) }
+        ensures ended { OnOk result (self.new.due.ended.items ≡ drop 1 self.old.due.ended.items) }
+    {
+        self.due.reserve_one()?;
+        match finish_at(&mut self.clients, ticket)? {
+            Finish::Open => {
+                self.due.drop_ended();
+                Ok(false)
+            }
+            Finish::Ended(next) => {
+                self.answered = self.answered.saturating_add(1);
+                note_next(&self.clients, &mut self.due, ticket.client, next, gate);
+                self.due.drop_ended();
+                Ok(true)
+            }
+        }
     }
 
     // Posts those again that are due, while the lane takes them.
@@ -280,7 +300,7 @@ impl<C: ClientPort + Drop, J: Naming> WorkerState<C, J> {
     {
         let mut moved = false;
         while let Some(ticket) = self.due.first_due() {
-            let settled = self.settle_one(ticket)?;
+            let settled = self.post_one(ticket)?;
             moved |= settled.is_move();
             if settled.is_held() {
                 return Ok(moved);
@@ -290,14 +310,12 @@ impl<C: ClientPort + Drop, J: Naming> WorkerState<C, J> {
         Ok(moved)
     }
 
-    fn settle_one(&mut self, ticket: Ticket) -> Result<Settled, NoMemory>
+    fn post_one(&mut self, ticket: Ticket) -> Result<Settled, NoMemory>
         ensures settles { SettlesDue C.moves (state_model self.old) (settled_in result) (state_model self.new) }
         ensures settled { IsSettled result (IsToSettleAt (clients_in self.new.clients.entries) ticket.client ticket.part) self.new.outlet }
         ensures due { self.new.due ≡ self.old.due }
     {
-        let settled = settle_at(&mut self.clients, ticket, &mut self.outlet, &mut self.view)?;
-        self.answered = counted(self.answered, settled);
-        Ok(settled)
+        repost_at(&mut self.clients, ticket, &mut self.outlet, &mut self.view)
     }
 
     // Gives each client its turn, and lets it go where it is done.
@@ -367,14 +385,51 @@ fn learn<J: Naming>(view: &mut MapView<J>, front: Option<Front<J>>)
     }
 }
 
-// How many parts have ended, after a step of a command.
-fn counted(answered: u64, settled: Settled) -> u64
-    ensures { result ≡ counted_by settled answered }
+// Notes what the command of this ticket has to do. There is room.
+fn note_step<C: ClientPort + Drop, G: Gate>(
+    clients: &ClientTable<C>,
+    due: &mut DueCommands,
+    ticket: Ticket,
+    gate: &G,
+)
+    requires { HasRoom due.old }
+    ensures kept { KeepsNoted due.old due.new }
+    ensures noted { (c : CommandModel) → IsToSettleAt (clients_in clients.now.entries) ticket.client ticket.part c
+        → is_noted due.new ticket.client ticket.part (pause_at c.stage c.followed) ≡ true }
 {
-    match settled {
-        Settled::Finished => answered.saturating_add(1),
-        Settled::Posted => answered,
-        Settled::Held => answered,
-        Settled::Nothing => answered,
+    match next_step_at(clients, ticket) {
+        NextStep::Rest => {}
+        NextStep::End => due.note(ticket, None, gate),
+        NextStep::Post(pause) => due.note(ticket, Some(pause), gate),
+    }
+}
+
+// Notes that the command of this part of the client is to be posted again, where it is. There is room. One that has ended is noted
+// already.
+fn note_next<C: ClientPort + Drop, G: Gate>(
+    clients: &ClientTable<C>,
+    due: &mut DueCommands,
+    client: u32,
+    next: Option<Ticket>,
+    gate: &G,
+)
+    requires { HasRoom due.old }
+    ensures kept { KeepsNoted due.old due.new }
+    ensures ended { due.new.ended ≡ due.old.ended }
+    ensures noted { IfSome next (λ ticket. (c : CommandModel) → WantsPost c.stage → IsToSettleAt (clients_in clients.now.entries) client ticket.part c
+        → is_noted due.new client ticket.part (pause_at c.stage c.followed) ≡ true) }
+{
+    let Some(Ticket { worker, part, .. }) = next else {
+        return;
+    };
+    let ticket = Ticket {
+        worker,
+        client,
+        part,
+    };
+    match next_step_at(clients, ticket) {
+        NextStep::Post(pause) => due.note_refused(ticket, pause, gate),
+        NextStep::End => {}
+        NextStep::Rest => {}
     }
 }

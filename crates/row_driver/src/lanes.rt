@@ -1,7 +1,7 @@
 //! The lanes between two workers and the carrier, and the map that the carrier publishes, in one thread.
 
 use crate::maps::op_of;
-use key_split::{Batch, Ticket, Told};
+use key_split::{Run, Ticket, Told};
 use proxy_lanes::{CarrierEnds, Front, Naming, NotEntered, Publisher, WorkerEnds};
 use row_words::{Answer, Args, CallFault};
 use slot_map::NodeId;
@@ -96,7 +96,7 @@ impl<J: Naming, R: Wait + Drop> LaneObjects<J, R> {
     }
 }
 
-/// Takes the next batch of a worker.
+/// Takes the next run of a worker.
 fn take<M: Drop>(
     carrier: &mut CarrierEnds<u32, M>,
     worker: u16,
@@ -106,7 +106,7 @@ fn take<M: Drop>(
         return Err(CallFault::NotMade);
     }
     match carrier.take(worker) {
-        Some(batch) => answer.batch(&batch)?,
+        Some(run) => show_run(&run, answer)?,
         None => answer.name("none"),
     }
     Ok(())
@@ -155,7 +155,7 @@ fn call_of_worker<J: Naming>(
     answer: &mut Answer,
 ) -> Result<(), CallFault> {
     match call {
-        "post" => post(ends, args.batch(alloc)?, answer)?,
+        "post" => post(ends, Run::one(alloc, args.batch(alloc)?), answer)?,
         "told" => show_told(ends.inlet.take(), answer),
         "newcomer" => show_newcomer(ends.newcomers.take(), answer),
         "node" => show_node(ends.view.node_of(args.slot()?), answer),
@@ -166,15 +166,25 @@ fn call_of_worker<J: Naming>(
 
 fn post<J: Naming>(
     ends: &mut WorkerEnds<u32, J>,
-    batch: Batch,
+    run: Run,
     answer: &mut Answer,
 ) -> Result<(), CallFault> {
-    match ends.outlet.post(batch) {
+    match ends.outlet.post(run) {
         Ok(()) => answer.name("ok"),
-        Err(batch) => {
+        Err(run) => {
             answer.name("back");
-            answer.batch(&batch)?;
+            show_run(&run, answer)?;
         }
+    }
+    Ok(())
+}
+
+/// Its commands, with `;` between them.
+fn show_run(run: &Run, answer: &mut Answer) -> Result<(), CallFault> {
+    answer.batch(run.first())?;
+    for batch in run.later() {
+        answer.name(";");
+        answer.batch(batch)?;
     }
     Ok(())
 }

@@ -37,7 +37,7 @@ one_few (suc n) = omega arith
 length_zero : {A : Type 0} (xs : List A) → xs ≡ [] → length xs ≡ 0
 length_zero xs is = ap length is
 
-take_all_is : {A : Type 0} (xs : List A) (n : ℕ) → n ≡ length xs → take n xs ≡ xs
+pub take_all_is : {A : Type 0} (xs : List A) (n : ℕ) → n ≡ length xs → take n xs ≡ xs
 take_all_is [] zero is = refl
 take_all_is [] (suc n) is = absurd (omega (arith, is))
 take_all_is (x ∷ xs) zero is = absurd (omega (arith, is))
@@ -94,6 +94,8 @@ module _ (old new : SessionModel) (does : LetsGoOf old new) where
     none_owed = (silent, subst (λ (rs : List PendingReply). length rs ≤ 1) (sym (ap (λ (s : SessionModel). s.requests) does.rest)) (one_few (length new.stages)), ap (λ (s : SessionModel). s.ends) does.rest);
     all_owed = ap parts_of (ap (λ (s : SessionModel). s.requests) does.rest) ∙ one_counted (length new.stages);
     awaited = λ ticket. (awaited_new ticket, awaited_old ticket);
+    first = does.parts.first;
+    places = does.parts.out;
   }
 
   -- what stands before a part is out, or has ended

@@ -133,7 +133,7 @@ ended_over old ticket end new (own, own_le, own_at, own_worker, own_client) is (
     let first : new.first ≡ old.first = rw is refl in
     let both : slice_get new.stages (ticket.part - old.first) ≡ Some (Out slot) = rw (← first) posted in cc
 
-same_part : (a b : Ticket) → a.worker ≡ b.worker → a.client ≡ b.client → a.part ≡ b.part → a ≡ b
+pub same_part : (a b : Ticket) → a.worker ≡ b.worker → a.client ≡ b.client → a.part ≡ b.part → a ≡ b
 same_part a b worker client part =
     let made : ℕ → ℕ → ℕ → Ticket = λ x y z. record { worker = x; client = y; part = z } in
     let same : made a.worker a.client a.part ≡ made b.worker b.client b.part = rw (worker, client, part) refl in same
@@ -181,12 +181,12 @@ feed_keeps p old piece (Err (Wire fault)) new (faulted, is) = kept_same p old ne
 feed_keeps p old piece (Err NotRequest) new (faulted, is) = kept_same p old new (rw is refl) (rw is refl) (rw is refl) (rw is refl)
 
 -- the stages grow, and the numbers stay
-record Grows (old new : SessionModel) : Type 0 where
-  more : List PartStage
-  stages : new.stages ≡ old.stages ++ more
-  first : new.first ≡ old.first
-  worker : new.worker ≡ old.worker
-  client : new.client ≡ old.client
+pub record Grows (old new : SessionModel) : Type 0 where
+  pub more : List PartStage
+  pub stages : new.stages ≡ old.stages ++ more
+  pub first : new.first ≡ old.first
+  pub worker : new.worker ≡ old.worker
+  pub client : new.client ≡ old.client
 
 keeps_of : (p : ℕ → PartStage → Bool) (old new : SessionModel) → Grows old new → KeepsBy p old new
 keeps_of p old new grows = kept_more p old new grows.more grows.stages grows.first grows.worker grows.client
@@ -195,7 +195,7 @@ by_split : (b : Bool) (wide new : SessionModel) → cond {A = Result SessionMode
 by_split true wide new is = cc
 by_split false wide new is = cc
 
-added_grows : (old : SessionModel) (plan : Result Planned PlanFault) (new : SessionModel) → added old plan ≡ Ok new → Grows old new
+pub added_grows : (old : SessionModel) (plan : Result Planned PlanFault) (new : SessionModel) → added old plan ≡ Ok new → Grows old new
 added_grows old (Err fault) new is = let now = by_split true _ new is in record { more = []; stages = rw now (sym (append-nil old.stages)); first = rw now refl; worker = rw now refl; client = rw now refl }
 added_grows old (Ok (planned.Local value)) new is = let now = by_split true _ new is in record { more = []; stages = rw now (sym (append-nil old.stages)); first = rw now refl; worker = rw now refl; client = rw now refl }
 added_grows old (Ok planned.Close) new is = let now = by_split true _ new is in record { more = []; stages = rw now (sym (append-nil old.stages)); first = rw now refl; worker = rw now refl; client = rw now refl }

@@ -18,3 +18,4 @@ pub mod Turning
 pub mod Fronting
 pub mod Forgetting
 pub mod HangingUp
+pub mod Behind

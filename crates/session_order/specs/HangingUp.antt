@@ -1,11 +1,12 @@
 -- What is left of a session whose client is gone.
 -- The command of a part that is out may be executed whatever becomes of the client, and the parts behind it would wait for it. So its
 -- place stays, and nothing else does.
-use Rattle.std.specs.Prelude.{◌≡◌, ◌≤◌, ◌↔◌, [], ℕ, None, length, replicate, slice_get}
+use Rattle.std.specs.Prelude.{◌≡◌, ◌≤◌, ◌↔◌, [], ℕ, Some, None, length, replicate, slice_get}
 use Rattle.key_split.specs.declared.travel.Ticket.{Ticket}
 use Rattle.key_split.specs.declared.travel.Ended.TheVariants.{Lost}
 use Rattle.session_order.specs.declared.closing.Closing.TheVariants.{Quit}
 use Rattle.session_order.specs.Turn.{IsWaiting}
+use Rattle.session_order.specs.declared.queue.PartStage.TheVariants.{Out}
 use Rattle.session_order.specs.SessionModel.{SessionModel}
 use Rattle.session_order.specs.Replies.{output, parts_of}
 use Rattle.session_order.specs.Steps.{IsHandedOut}
@@ -22,3 +23,6 @@ pub record HangsUp (old new : SessionModel) : Type 0 where
   pub all_owed : parts_of new.requests ≡ length new.stages
   -- what was handed out and has not ended is awaited as before, and nothing else is
   pub awaited : (ticket : Ticket) → IsHandedOut new ticket ↔ IsHandedOut old ticket
+  -- each for the slot for which it was
+  pub first : new.first ≡ old.first
+  pub places : (i slot : ℕ) → (slice_get new.stages i ≡ Some (Out slot)) ↔ (slice_get old.stages i ≡ Some (Out slot))

@@ -10,6 +10,8 @@ pub mod Replies
 pub mod SessionModel
 pub mod Sound
 pub mod Steps
+pub mod Behind
+pub mod Next
 pub mod Output
 pub mod Life
 pub mod Front

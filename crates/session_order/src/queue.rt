@@ -5,6 +5,7 @@ ghost use Rattle.std.specs.List.{list_all};
 ghost use Rattle.slot_hash.specs.Slot.{slot_of};
 ghost use Rattle.session_order.specs.Turn.{is_done, IsWaiting, IsOutAt, IsNumbered, HandOutcome, FollowOutcome, NextPlace};
 ghost use Rattle.session_order.specs.Tables.{AreSound, SameParts, HasRoom, parts_in, is_waiting, LinksIn, IsOpenAt, Unlinks, with_link};
+ghost use Rattle.session_order.specs.Next.{FollowerAt, HasTurnAt, NextOutAt, next_open};
 ghost use Rattle.session_order.specs.Front.{done_at_front};
 ghost use Rattle.session_order.specs.LettingGo.{LetsGo, ForgetsAt};
 ghost use Rattle.std.specs.HashMap.{get};
@@ -82,6 +83,7 @@ impl Model for Queue {
 
 impl Queue {
     ghost use Rattle.session_order.specs.Turn.{QueueModel, HandOutcome, FollowOutcome, NextPlace};
+    ghost use Rattle.session_order.specs.Next.{FollowerAt, HasTurnAt, NextOutAt};
     ghost use Rattle.session_order.specs.declared.queue.PartStage.TheVariants.{Waiting, Done};
 
     pub fn new(alloc: Global) -> Queue
@@ -161,6 +163,29 @@ impl Queue {
         ensures { FollowOutcome self.old number result self.new }
     {
         take_follower(&mut self.tables, number)
+    }
+
+    /// The number of the part that `follower` would hand out.
+    pub fn follower_at(&self, number: u64) -> Option<u64>
+        requires out { IsOutAt self.now number }
+        ensures { FollowerAt self.now number result }
+    {
+        follower_at(&self.tables, number)
+    }
+
+    /// Whether the part of this number is out, and all earlier parts for its slot have ended.
+    pub fn has_turn(&self, number: u64) -> bool
+        ensures { IsTrue result ↔ HasTurnAt self.now number }
+    {
+        self.is_out(number) && is_first(&self.tables, number)
+    }
+
+    /// The number of the part that is out next behind the one of this number, for the same slot.
+    pub fn next_out(&self, number: u64) -> Option<u64>
+        requires out { IsOutAt self.now number }
+        ensures { NextOutAt self.now number result }
+    {
+        next_out(&self.tables, number)
     }
 
     /// The place of the earliest part whose turn it is.
@@ -315,15 +340,59 @@ fn take_follower(tables: &mut Tables, number: u64) -> Option<(u64, Part)>
     ensures sound { AreSound tables.new }
     ensures does { FollowOutcome (parts_in tables.old) number result (parts_in tables.new) }
 {
-    let Some(next) = tables.later[(number - tables.first) as usize] else {
+    let Some(next) = follower_at(tables, number) else {
         return None;
     };
-    let i = (next - tables.first) as usize;
-    if !tables.stages[i].is_waiting() {
+    let part = take_part(&mut tables.stages, (next - tables.first) as usize);
+    Some((next, part))
+}
+
+// The number of the part behind the one of this number, for the same slot, where it is the next and waits.
+fn follower_at(tables: &Tables, number: u64) -> Option<u64>
+    requires sound { AreSound tables.now }
+    requires out { IsOutAt (parts_in tables.now) number }
+    ensures { FollowerAt (parts_in tables.now) number result }
+{
+    let Some(next) = next_open(tables, number) else {
+        return None;
+    };
+    if !tables.stages[(next - tables.first) as usize].is_waiting() {
         return None;
     }
-    let part = take_part(&mut tables.stages, i);
-    Some((next, part))
+    Some(next)
+}
+
+// The number of the part behind the one of this number, for the same slot, where it is the next and is out.
+fn next_out(tables: &Tables, number: u64) -> Option<u64>
+    requires sound { AreSound tables.now }
+    requires out { IsOutAt (parts_in tables.now) number }
+    ensures { NextOutAt (parts_in tables.now) number result }
+{
+    let Some(next) = next_open(tables, number) else {
+        return None;
+    };
+    if tables.stages[(next - tables.first) as usize].is_waiting() {
+        return None;
+    }
+    Some(next)
+}
+
+// The number of the next part for the slot of the one of this number, which is out.
+fn next_open(tables: &Tables, number: u64) -> Option<u64>
+    requires links { LinksIn tables.now }
+    requires out { IsOutAt (parts_in tables.now) number }
+    ensures { (slot : ℕ) → slice_get tables.now.stages.items (number - tables.now.first) ≡ Some (PartStage.Out slot) → result ≡ next_open slot tables.now.first (number - tables.now.first) tables.now.stages.items }
+{
+    tables.later[(number - tables.first) as usize]
+}
+
+// Whether the part of this number, which is out, is the first of those of its slot that have not ended.
+fn is_first(tables: &Tables, number: u64) -> bool
+    requires links { LinksIn tables.now }
+    requires out { IsOutAt (parts_in tables.now) number }
+    ensures { IsTrue result ↔ HasTurnAt (parts_in tables.now) number }
+{
+    tables.earlier[(number - tables.first) as usize].is_none()
 }
 
 // Notes that a part has ended. Where it was the first of its slot it is the turn of the next one, if that one waits.

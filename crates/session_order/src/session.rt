@@ -1,6 +1,6 @@
 //! A client's session.
 
-ghost use Rattle.std.specs.Prelude.{◌≡◌, ◌≢◌, ◌<◌, ◌≤◌, ◌+◌, ◌++◌, ◌↔◌, [], ◌∷◌, None, IsTrue, IfSome, true, length, drop, take, replicate};
+ghost use Rattle.std.specs.Prelude.{◌≡◌, ◌≢◌, ℕ, List, ◌<◌, ◌≤◌, ◌+◌, ◌++◌, ◌↔◌, [], ◌∷◌, None, IsTrue, IfSome, true, length, drop, take, replicate};
 ghost use Rattle.std.specs.VecDeque.{deque_len, deque_capacity};
 ghost use Rattle.session_order.specs.LettingGo.{one_for};
 
@@ -64,6 +64,7 @@ impl Session {
     ghost use Rattle.session_order.specs.Replies.{DrainOutcome, parts_of};
     ghost use Rattle.session_order.specs.Turn.{NextPlace};
     ghost use Rattle.session_order.specs.Steps.{FeedOutcome, ReadOutcome, ReadyOutcome, FollowerOutcome, IsHandedOut, EndOutcome, IsFinished, IsOut, KeepsOut, IsOutInOrder, KeepsOrder};
+    ghost use Rattle.session_order.specs.Behind.{FollowerPlace, IsOutBehind, KeepsParts, NextInTurn};
     ghost use Rattle.session_order.specs.HangingUp.{HangsUp};
 
     /// A session to which nothing was fed.
@@ -87,6 +88,7 @@ impl Session {
         ensures does { FeedOutcome self.old piece.now result self.new }
         ensures kept { KeepsOut self.old self.new }
         ensures order { KeepsOrder self.old self.new }
+        ensures parts { KeepsParts self.old self.new }
     {
         self.take_piece(piece)
     }
@@ -96,6 +98,7 @@ impl Session {
         ensures does { ReadOutcome self.old result self.new }
         ensures kept { KeepsOut self.old self.new }
         ensures order { KeepsOrder self.old self.new }
+        ensures parts { KeepsParts self.old self.new }
     {
         self.read_next()
     }
@@ -106,6 +109,7 @@ impl Session {
         ensures out { IfSome result (λ given. IsOut self.new given.0 × (IsOut self.old given.0 → ⊥)) }
         ensures kept { KeepsOut self.old self.new }
         ensures order { KeepsOrder self.old self.new }
+        ensures parts { KeepsParts self.old self.new }
     {
         self.take_ready()
     }
@@ -118,8 +122,20 @@ impl Session {
         ensures out { IfSome result (λ given. IsOutInOrder self.new given.0 × (IsHandedOut self.old given.0 → ⊥)) }
         ensures kept { KeepsOut self.old self.new }
         ensures order { KeepsOrder self.old self.new }
+        ensures parts { KeepsParts self.old self.new }
     {
         self.take_follower(ticket)
+    }
+
+    /// Where the part stands that `follower` would hand out, among those whose replies were not drained.
+    pub fn follower_place(&self, ticket: Ticket) -> Option<u64>
+        requires { IsHandedOut self.now ticket }
+        ensures { FollowerPlace self.now ticket result }
+    {
+        let Some(number) = self.queue.follower_at(ticket.part) else {
+            return None;
+        };
+        Some(number - self.queue.first())
     }
 
     /// Where the part stands that `ready` would hand out, among those whose replies were not drained.
@@ -148,6 +164,30 @@ impl Session {
             && self.queue.is_out(ticket.part)
     }
 
+    /// Whether the ticket is of a part that is out, and all earlier parts for its slot have ended.
+    pub fn has_turn(&self, ticket: Ticket) -> bool
+        ensures { IsTrue result ↔ IsOut self.now ticket }
+    {
+        ticket.client == self.client
+            && ticket.worker == self.worker
+            && self.queue.has_turn(ticket.part)
+    }
+
+    /// The part that is out next behind one that is out, for its slot: once that one has ended in its turn, it is this one's.
+    pub fn next_in_turn(&self, ticket: Ticket) -> Option<Ticket>
+        requires { IsHandedOut self.now ticket }
+        ensures { NextInTurn self.now ticket result }
+    {
+        let Some(part) = self.queue.next_out(ticket.part) else {
+            return None;
+        };
+        Some(Ticket {
+            worker: self.worker,
+            client: self.client,
+            part,
+        })
+    }
+
     /// Tells the end of a part that was handed out.
     pub fn ended(&mut self, ticket: Ticket, end: Ended)
         requires { IsHandedOut self.old ticket }
@@ -155,6 +195,7 @@ impl Session {
         ensures over { IsOut self.new ticket → ⊥ }
         ensures kept { (other : Ticket) → other ≢ ticket → IsOut self.old other → IsOut self.new other }
         ensures order { (other : Ticket) → other ≢ ticket → IsOutInOrder self.old other → IsOutInOrder self.new other }
+        ensures behind { (slot : ℕ) (before : List ℕ) (other : Ticket) → other ≢ ticket → IsOutBehind self.old slot before other → IsOutBehind self.new slot before other }
     {
         self.put_end(ticket, end);
     }
@@ -165,6 +206,7 @@ impl Session {
         ensures does { DrainOutcome most self.old out.old.items result self.new out.new.items }
         ensures kept { KeepsOut self.old self.new }
         ensures order { KeepsOrder self.old self.new }
+        ensures parts { KeepsParts self.old self.new }
     {
         self.write_next(out, most)
     }
@@ -174,6 +216,7 @@ impl Session {
         ensures does { HangsUp self.old self.new }
         ensures kept { KeepsOut self.old self.new }
         ensures order { KeepsOrder self.old self.new }
+        ensures parts { KeepsParts self.old self.new }
     {
         self.let_go();
     }

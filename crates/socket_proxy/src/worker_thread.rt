@@ -4,7 +4,7 @@ use crate::client::SocketClient;
 use crate::gate::SocketGate;
 use crate::shared::Shared;
 use futures::executor::block_on;
-use key_split::{Batch, Ticket, Told};
+use key_split::{Run, Ticket, Told};
 use polled_sockets::Poller;
 use proxy_lanes::{Inlet, MapView, Naming, Newcomers, Outlet, WorkerEnds};
 use proxy_runtime::WireRunFault;
@@ -31,7 +31,7 @@ pub(crate) struct WorkerSetup<N, O, I, V, W> {
 /// What a worker over sockets is given.
 pub(crate) type SocketWorkerSetup<J> = WorkerSetup<
     Newcomers<Newcomer<SocketClient, J>>,
-    Outlet<Batch>,
+    Outlet<Run>,
     Inlet<(Ticket, Told)>,
     MapView<J>,
     Poller,

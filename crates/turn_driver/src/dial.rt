@@ -9,6 +9,15 @@ use proxy_turns::{Dial, DialFault};
 use slot_map::NodeId;
 use std::alloc::Global;
 
+/// What a connection stands.
+#[derive(Clone, Copy)]
+struct PortLimits {
+    /// How many calls.
+    calls: u64,
+    /// How many commands behind the first of a run.
+    behind: u16,
+}
+
 /// Opens connections that stand so many calls as the nodes say, or none where they do not listen.
 #[derive(Drop)]
 pub struct MemoryDial {
@@ -26,17 +35,23 @@ impl MemoryDial {
         }
     }
 
-    /// How many calls a connection stands, where one can be opened.
-    fn calls(&self) -> Option<u64> {
+    /// What a connection stands, where one can be opened.
+    fn limits(&self) -> Option<PortLimits> {
         match self.nodes.try_borrow() {
-            Ok(nodes) if nodes.listens => Some(nodes.calls),
+            Ok(nodes) if nodes.listens => Some(PortLimits {
+                calls: nodes.calls,
+                behind: nodes.behind,
+            }),
             _ => None,
         }
     }
 
-    fn connect(&self, at: NodeId, calls: u64) -> Result<Fuse<MemoryPort>, DialFault> {
+    fn connect(&self, at: NodeId, limits: PortLimits) -> Result<Fuse<MemoryPort>, DialFault> {
         match self.nodes.clone() {
-            Ok(nodes) => Ok(Fuse::new(MemoryPort::new(self.alloc, nodes, at), calls)),
+            Ok(nodes) => {
+                let port = MemoryPort::new(self.alloc, nodes, at, limits.behind);
+                Ok(Fuse::new(port, limits.calls))
+            }
             Err(_) => Err(DialFault::NoMemory),
         }
     }
@@ -54,8 +69,8 @@ impl Dial for MemoryDial {
     }
 
     fn open(&mut self, _: NodeId, _: &[u8], port: u16) -> Result<Fuse<MemoryPort>, DialFault> {
-        if let (Some(at), Some(calls)) = (node_at(port), self.calls()) {
-            return match self.connect(at, calls) {
+        if let (Some(at), Some(limits)) = (node_at(port), self.limits()) {
+            return match self.connect(at, limits) {
                 Ok(opened) => Ok(opened),
                 Err(_) => Err(DialFault::NoMemory),
             };

@@ -26,6 +26,8 @@ pub struct Nodes {
     pub listens: bool,
     /// How many calls a new connection stands.
     pub calls: u64,
+    /// How many commands may go behind the first of a run over a new connection.
+    pub behind: u16,
 }
 
 pub type SharedNodes = Rc<RefCell<Nodes>>;
@@ -66,6 +68,7 @@ pub fn three_nodes(alloc: Global) -> Result<SharedNodes, NoMemory> {
         refuses: false,
         listens: true,
         calls: u64::MAX,
+        behind: 0,
     };
     match Rc::new(alloc, RefCell::new(nodes)) {
         Ok(shared) => Ok(shared),

@@ -1,10 +1,10 @@
 //! A connection to a node in memory.
 
-ghost use Rattle.std.specs.Prelude.{◌^◌};
+ghost use Rattle.std.specs.Prelude.{◌^◌, ◌+◌};
 
 use crate::nodes::SharedNodes;
-use key_split::Batch;
-use node_link::{NodePort, PortFault};
+use key_split::{Batch, Run};
+use node_link::{NodePort, PortFault, RunPort};
 use resp_wire::{Limits, NoMemory, Reader, Value, write_value};
 use slot_map::NodeId;
 use std::alloc::Global;
@@ -16,15 +16,18 @@ pub struct MemoryPort {
     nodes: SharedNodes,
     at: NodeId,
     replies: Reader,
+    /// How many commands may go behind the first of a run.
+    behind: u16,
 }
 
 impl MemoryPort {
-    pub fn new(alloc: Global, nodes: SharedNodes, at: NodeId) -> MemoryPort {
+    pub fn new(alloc: Global, nodes: SharedNodes, at: NodeId, behind: u16) -> MemoryPort {
         MemoryPort {
             alloc,
             nodes,
             at,
             replies: Reader::new(alloc, Limits::full()),
+            behind,
         }
     }
 
@@ -33,6 +36,27 @@ impl MemoryPort {
             Ok(()) => Ok(()),
             Err(_) => Err(PortFault::NoMemory),
         }
+    }
+
+    fn serve(&mut self, batch: &Batch) -> Result<(), PortFault> {
+        if batch.asking {
+            self.put(b"+OK\r\n")?;
+        }
+        let bytes = self.answer(batch)?;
+        self.put(bytes.as_slice())
+    }
+
+    /// Serves the commands of a run. False where memory ran out.
+    fn serve_all(&mut self, run: &Run) -> bool {
+        if self.serve(run.first()).is_err() {
+            return false;
+        }
+        for batch in run.later() {
+            if self.serve(batch).is_err() {
+                return false;
+            }
+        }
+        true
     }
 
     fn answer(&self, batch: &Batch) -> Result<Vec<u8>, PortFault> {
@@ -71,11 +95,10 @@ impl NodePort for MemoryPort {
     ghost still = { λ _. tt };
 
     fn send(&mut self, batch: &Batch) -> Result<(), PortFault> {
-        if batch.asking {
-            self.put(b"+OK\r\n")?;
+        match self.serve(batch) {
+            Ok(()) => Ok(()),
+            Err(_) => Err(PortFault::NoMemory),
         }
-        let bytes = self.answer(batch)?;
-        self.put(bytes.as_slice())
     }
 
     fn ask_slots(&mut self) -> Result<(), PortFault> {
@@ -87,6 +110,22 @@ impl NodePort for MemoryPort {
         match self.replies.next() {
             Ok(value) => Ok(value),
             Err(_) => Err(PortFault::NoMemory),
+        }
+    }
+}
+
+impl RunPort for MemoryPort {
+    ghost longest = { λ port. port.behind + 1 };
+
+    fn longest_run(&self) -> usize {
+        usize::from(self.behind) + 1
+    }
+
+    fn send_run(&mut self, run: &Run) -> Result<(), PortFault> {
+        if self.serve_all(run) {
+            Ok(())
+        } else {
+            Err(PortFault::NoMemory)
         }
     }
 }

@@ -5,6 +5,7 @@ use crate::dial::MemoryDial;
 use crate::gate::Open;
 use crate::nodes::{SharedNodes, three_nodes};
 use crate::port::MemoryPort;
+use key_split::Run;
 use node_link::Fuse;
 use proxy_lanes::{CarrierEnds, Naming, Publisher, WorkerEnds};
 use proxy_turns::{Carrier, Newcomer, Worker};
@@ -37,6 +38,8 @@ pub struct Proxy<'g, J: Naming, R: Wait + Drop> {
     workers: Vec<MemoryWorker<'g, J>>,
     /// The last worker's ends, until a future takes them.
     pub lane: Option<MemoryEnds<J>>,
+    /// The run that is put together for its lane.
+    pub run: Option<Run>,
     pub carrier: RefCell<MemoryCarrier<J, R>>,
 }
 
@@ -59,6 +62,7 @@ impl<'g, J: Naming, R: Wait + Drop> Proxy<'g, J, R> {
             clients: Vec::new(alloc),
             workers,
             lane,
+            run: None,
             carrier: RefCell::new(carrier),
         })
     }

@@ -24,6 +24,7 @@ fn call_of(nodes: &mut Nodes, args: &mut Args<'_>, answer: &mut Answer) -> Resul
         "refuse" => nodes.refuses = true,
         "leave" => nodes.listens = false,
         "fail" => nodes.calls = args.number()?,
+        "longest" => nodes.behind = behind_first(args.short()?)?,
         name => {
             show_step(step(nodes, name, args)?, answer);
             return Ok(());
@@ -31,6 +32,11 @@ fn call_of(nodes: &mut Nodes, args: &mut Args<'_>, answer: &mut Answer) -> Resul
     }
     answer.name("ok");
     Ok(())
+}
+
+/// How many commands go behind the first of so many.
+fn behind_first(longest: u16) -> Result<u16, CallFault> {
+    longest.checked_sub(1).ok_or(CallFault::BadNumber)
 }
 
 /// Makes a step of a slot's move.

@@ -1,9 +1,9 @@
 -- A connection goes on and the machine's links stay: the reply to CLUSTER SLOTS is read.
 use Rattle.std.proofs.Common.{◌≡◌, ◌≢◌, ◌⊎◌, inl, inr, ⊎_elim, ℕ, suc, ◌<◌, List, ◌∷◌, ◌++◌, Some, None, refl, sym, ap, ◌∙◌, subst, arith, length}
-use Rattle.std.specs.Prelude.{slice_get, slice_set, All, map}
+use Rattle.std.specs.Prelude.{slice_get, slice_set, All}
 use Rattle.resp_wire.specs.declared.value.Value.{Value}
 use Rattle.node_link.specs.LinkModel.{LinkModel}
-use Rattle.node_link.specs.LinkCalls.{Comes, due_of}
+use Rattle.node_link.specs.LinkCalls.{Comes}
 use Rattle.node_link.specs.declared.link.Due.{Due}
 use Rattle.node_link.specs.declared.link.Due.TheVariants as due
 use Rattle.proxy_turns.specs.declared.newcomer.Newcomer.{Newcomer}
@@ -14,7 +14,7 @@ use Rattle.proxy_turns.specs.CarrierModel.{CarrierModel, AtBackend}
 use Rattle.world_laws.specs.State.{WorldModel, Link}
 use Rattle.turn_laws.specs.Wire.{Wire, Exchanges}
 use Rattle.turn_laws.specs.System.{System}
-use Rattle.turn_laws.specs.Shadow.{IsShadow, IsWorking, LinksShadow, LaneShadow, BackendShadow, OpenShadow, IsIdle, IsUnnumbered, Numbers, coming, coming_of, requests_in}
+use Rattle.turn_laws.specs.Shadow.{IsShadow, IsWorking, LinksShadow, LaneShadow, BackendShadow, OpenShadow, IsIdle, IsUnnumbered, Numbers, coming, coming_of, requests_in, dues_in}
 use Rattle.turn_laws.specs.Steps.{CarrierStep, any_failures, any_garbled}
 use Rattle.turn_laws.proofs.Frames.{same-seats, down-fits, carrier-frame}
 use Rattle.turn_laws.proofs.Fetching.{fetched-shadow, comes-first, waits-first}
@@ -75,8 +75,8 @@ idle-still : (link link' : LinkModel Wire) (d : Due) (value : Value) → IsIdle 
     → link' ≡ record link { port = link'.port; due = link'.due; kept = None } → IsIdle link'
 idle-still link link' d value h comes dues is =
     let c = comes-first link link'.port value comes in
-    let f = waits-first h.answered (map due_of link.port.requests) link'.due d value link'.port.values (sym dues ∙ h.due) (h.matched ∙ ap length c.0) in
-    let requests : link'.port.requests ≡ link.port.requests = ap (λ (x : Wire). x.requests) c.1 in
+    let f = waits-first h.answered (dues_in link.port.items) link'.due d value link'.port.values (sym dues ∙ h.due) (h.matched ∙ ap length c.0) in
+    let requests : link'.port.items ≡ link.port.items = ap (λ (x : Wire). x.items) c.1 in
     let now : coming link' ≡ link'.port.values = ap (λ o. coming_of o link'.port.values) (ap (λ (x : LinkModel Wire). x.kept) is) in
     record {
       wired = ap (λ (x : Wire). x.node) c.1 ∙ h.wired ∙ sym (ap (λ (x : LinkModel Wire). x.node) is);
@@ -84,7 +84,7 @@ idle-still link link' d value h comes dues is =
       asking = ap (λ (x : Wire). x.asking) c.1 ∙ h.asking;
       requests = ap requests_in requests ∙ h.requests;
       answered = f.0;
-      due = f.2 ∙ ap (λ rs. f.0 ++ map due_of rs) (sym requests);
+      due = f.2 ∙ ap (λ rs. f.0 ++ dues_in rs) (sym requests);
       matched = f.3 ∙ ap length (sym now);
     }
 
@@ -104,7 +104,7 @@ module _ {C J : Type 0} where
       let works : link'.failure ≡ None = ap (λ (c : LinkModel Wire). c.failure) r.4 ∙ r.0 in
       let backends : s'.carrier.backends ≡ slice_set s.carrier.backends k backend' = ap (λ (c : CarrierModel (Newcomer C J) Wire). c.backends) on.does.5 in
       let lanes : s'.carrier.lanes ≡ s.carrier.lanes = ap (λ (c : CarrierModel (Newcomer C J) Wire). c.lanes) on.does.5 in
-      let pending_batches : s'.carrier.pending_batches ≡ s.carrier.pending_batches = ap (λ (c : CarrierModel (Newcomer C J) Wire). c.pending_batches) on.does.5 in
+      let pending_runs : s'.carrier.pending_runs ≡ s.carrier.pending_runs = ap (λ (c : CarrierModel (Newcomer C J) Wire). c.pending_runs) on.does.5 in
       let working : IsWorking s.carrier k link = (backend, on.does.3, was, r.0) in
       let links : LinksShadow s'.carrier s.closed s.opened w =
       quiet-backend s.carrier s'.carrier s.closed s.opened w h.links k link link' working
@@ -118,7 +118,7 @@ module _ {C J : Type 0} where
       let opened : s'.opened ≡ s.opened = same-opened (AtBackend Answered) s s' on refl k backend backend' link link' on.does.3 backends was is r.0 works in
       carrier-frame (AtBackend Answered) s s' w h on
       (subst (λ xs. LinksShadow s'.carrier xs s'.opened w) (sym closed) (subst (λ n. LinksShadow s'.carrier s.closed n w) (sym opened) links))
-      (same-seats s s' (ap length lanes) pending_batches)
+      (same-seats s s' (ap length lanes) pending_runs)
       (λ j model lane p q. down-fits s w h j model lane p (sym (ap (λ xs. slice_get xs j) lanes) ∙ q))
-      (same-bag (AtBackend Answered) s s' on refl k backend backend' link link' on.does.3 backends was is r.0 works lanes pending_batches pending_told)
-      (λ j model lane p q. subst (LaneShadow w j model lane) (sym (ap (λ xs. slice_get xs j) pending_batches)) (h.lanes j model lane p (sym (ap (λ xs. slice_get xs j) lanes) ∙ q)))
+      (same-bag (AtBackend Answered) s s' on refl k backend backend' link link' on.does.3 backends was is r.0 works lanes pending_runs pending_told)
+      (λ j model lane p q. subst (LaneShadow w j model lane) (sym (ap (λ xs. slice_get xs j) pending_runs)) (h.lanes j model lane p (sym (ap (λ xs. slice_get xs j) lanes) ∙ q)))

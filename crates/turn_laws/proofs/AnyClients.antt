@@ -5,7 +5,7 @@ use Rattle.key_split.specs.declared.travel.Ended.{Ended}
 use Rattle.key_split.specs.declared.travel.Ticket.{Ticket}
 use Rattle.proxy_turns.specs.Port.{Moves}
 use Rattle.proxy_turns.specs.ClientModel.{ClientModel}
-use Rattle.proxy_turns.specs.ClientTurn.{ClientContext, ClientEvent, Pulled, Fed, Read, HandedOut, Looked, CameBack, Posted, Drained, Pushed, Tried, Parted, Dropped, ClientDoes, Finishes}
+use Rattle.proxy_turns.specs.ClientTurn.{ClientContext, ClientEvent, Pulled, Fed, Read, HandedOut, Followed, Looked, CameBack, Posted, Drained, Pushed, Tried, Parted, Dropped, ClientDoes, Finishes}
 use Rattle.proxy_turns.specs.WorkerModel.{WorkerModel, WorkerEvent, Did, Finished, Took, FoundNone, Came, TurnedAway, FoundNobody, Left, WorkerDoes}
 use Rattle.turn_laws.specs.Steps.{any_moves}
 use Rattle.turn_laws.specs.AnyPort.{AnyClients, AnyClientTurns}
@@ -15,14 +15,15 @@ any-client moves (Pulled bytes) old new d = (tt, d.1)
 any-client moves (Fed result) old new d = d
 any-client moves (Read result) old new d = d
 any-client moves (HandedOut ticket part) old new d = d
+any-client moves (Followed ticket part) old new d = d
 any-client moves (Looked slot) old new d = d
-any-client moves (CameBack batch) old new d = d
-any-client moves (Posted batch) old new d = d
+any-client moves (CameBack run) old new d = d
+any-client moves (Posted run) old new d = d
 any-client moves (Drained n) old new d = d
 any-client moves (Pushed bytes) old new d = (tt, d.1, d.2)
 any-client moves Tried old new d = (tt, d.1)
 any-client moves Parted old new d = d
-any-client moves (Dropped ticket) old new d = d
+any-client moves (Dropped tickets) old new d = d
 
 any-finish : {C : Type 0} (moves : Moves C) (ticket : Ticket) (end : Ended) (old new : ClientModel C) → Finishes moves old ticket end new → Finishes any_moves old ticket end new
 any-finish moves ticket end old new d = (d.0, tt, d.2, d.3)

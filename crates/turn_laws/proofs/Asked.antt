@@ -20,7 +20,7 @@ use Rattle.proxy_turns.specs.CarrierModel.{CarrierModel, AtBackend}
 use Rattle.world_laws.specs.State.{WorldModel}
 use Rattle.world_laws.specs.declared.event.Event.{Event}
 use Rattle.turn_laws.specs.Walks.{Walk, IsWalked}
-use Rattle.turn_laws.specs.Wire.{Wire, Exchanges}
+use Rattle.turn_laws.specs.Wire.{Wire, Exchanges, Lists}
 use Rattle.turn_laws.specs.System.{System}
 use Rattle.turn_laws.specs.Shadow.{IsShadow, IsWorking, LinksShadow, LaneShadow, OpenShadow, IsKnown, requests_in}
 use Rattle.turn_laws.specs.Steps.{AtCarrier, CarrierStep, any_failures, any_garbled}
@@ -29,15 +29,16 @@ use Rattle.turn_laws.proofs.Frames.{same-seats, down-fits, carrier-frame}
 use Rattle.turn_laws.proofs.Waiting.{now, same-closed, same-opened, same-bag}
 use Rattle.turn_laws.proofs.Answering.{quiet-backend}
 use Rattle.turn_laws.proofs.Settled.{goes-of}
-use Rattle.turn_laws.proofs.Drops.{drops, broken-wire, tickets-append, requests-append}
+use Rattle.turn_laws.proofs.Items.{tickets-append, requests-append}
+use Rattle.turn_laws.proofs.Drops.{drops, broken-wire}
 use Rattle.turn_laws.proofs.Broke.{some-failure}
 use Rattle.turn_laws.proofs.Written.{Writes, open-written, idle-written}
 
 failed-not : (o : Option Failure) (why : Failure) → o ≡ None → o ≡ Some why → ⊥
 failed-not o why e f = cc
 
-all-slots : (commands : _) → All (IsKnown commands) (Slots ∷ [])
-all-slots commands = All-cons (IsKnown commands) Slots [] tt (All-nil (IsKnown commands))
+all-slots : (commands : _) → All (IsKnown commands) (Lists ∷ [])
+all-slots commands = All-cons (IsKnown commands) Lists [] tt (All-nil (IsKnown commands))
 
 module _ {C J : Type 0} (s s' : System C J) (w : WorldModel) (h : IsShadow s w) (walked : IsWalked w) (on : CarrierStep s (AtBackend Asked) s') where
   abbrev k : ℕ
@@ -64,8 +65,8 @@ module _ {C J : Type 0} (s s' : System C J) (w : WorldModel) (h : IsShadow s w) 
   lanes : s'.carrier.lanes ≡ s.carrier.lanes
   lanes = ap (λ (c : Carried). c.lanes) on.does.5
 
-  pending_batches : s'.carrier.pending_batches ≡ s.carrier.pending_batches
-  pending_batches = ap (λ (c : Carried). c.pending_batches) on.does.5
+  pending_runs : s'.carrier.pending_runs ≡ s.carrier.pending_runs
+  pending_runs = ap (λ (c : Carried). c.pending_runs) on.does.5
 
   was : backend.link ≡ Some link
   was = on.does.4.4
@@ -100,10 +101,10 @@ module _ {C J : Type 0} (s s' : System C J) (w : WorldModel) (h : IsShadow s w) 
         refl,
         carrier-frame (AtBackend Asked) s s' w h on
             (subst (λ xs. LinksShadow s'.carrier xs s'.opened w) (sym closed) (subst (λ n. LinksShadow s'.carrier s.closed n w) (sym opened) links))
-            (same-seats s s' (ap length lanes) pending_batches)
+            (same-seats s s' (ap length lanes) pending_runs)
             (λ j model lane p q. down-fits s w h j model lane p (sym (ap (λ xs. slice_get xs j) lanes) ∙ q))
-            (same-bag (AtBackend Asked) s s' on refl k backend backend' link link' on.does.3 backends was is worked works lanes pending_batches owes)
-            (λ j model lane p q. subst (LaneShadow w j model lane) (sym (ap (λ xs. slice_get xs j) pending_batches)) (h.lanes j model lane p (sym (ap (λ xs. slice_get xs j) lanes) ∙ q))),
+            (same-bag (AtBackend Asked) s s' on refl k backend backend' link link' on.does.3 backends was is worked works lanes pending_runs owes)
+            (λ j model lane p q. subst (LaneShadow w j model lane) (sym (ap (λ xs. slice_get xs j) pending_runs)) (h.lanes j model lane p (sym (ap (λ xs. slice_get xs j) lanes) ∙ q))),
       )
 
   breaks : (why : Failure) → link'.failure ≡ Some why → SendsAllOrNone Exchanges link.port (Slots ∷ []) link'.port → link'.due ≡ link.due ++ map due_of (Slots ∷ []) → Simulated
@@ -122,7 +123,7 @@ module _ {C J : Type 0} (s s' : System C J) (w : WorldModel) (h : IsShadow s w) 
     failed = failed;
     owes = owes;
     lanes = lanes;
-    pending_batches = pending_batches;
+    pending_runs = pending_runs;
     opened = ap (λ (x : System C J). x.opened) on.leaves;
     closed = broken-wire s s' on.breaks k backend backend' link link' on.does.3 was worked backends is (some-failure link'.failure why failed);
     due = ap tickets_of dues ∙ tickets-append link.due (due.Slots ∷ []) ∙ append-nil (tickets_of link.due);
@@ -131,13 +132,13 @@ module _ {C J : Type 0} (s s' : System C J) (w : WorldModel) (h : IsShadow s w) 
     asking = ⊎_elim (λ x. ap (λ (p : Wire). p.asking) x.1) (λ x. ap (λ (p : Wire). p.asking) x.1) sends;
     requests = (
       [],
-      append-nil (requests_in link'.port.requests) ∙ ⊎_elim
-          (λ x. ap (λ (p : Wire). requests_in p.requests) x.1 ∙ requests-append link.port.requests (Slots ∷ []) ∙ append-nil (requests_in link.port.requests))
-          (λ x. ap (λ (p : Wire). requests_in p.requests) x.1 ∙ ap requests_in (append-nil link.port.requests)) sends,
+      append-nil (requests_in link'.port.items) ∙ ⊎_elim
+          (λ x. ap (λ (p : Wire). requests_in p.items) x.1 ∙ requests-append link.port.items (Lists ∷ []) ∙ append-nil (requests_in link.port.items))
+          (λ x. ap (λ (p : Wire). requests_in p.items) x.1 ∙ ap requests_in (append-nil link.port.items)) sends,
     );
     known = λ commands all. ⊎_elim
-        (λ x. subst (λ (p : Wire). All (IsKnown commands) p.requests) (sym x.1) (All-append (IsKnown commands) link.port.requests (Slots ∷ []) all (all-slots commands)))
-        (λ x. subst (λ (p : Wire). All (IsKnown commands) p.requests) (sym x.1) (subst (All (IsKnown commands)) (sym (append-nil link.port.requests)) all)) sends;
+        (λ x. subst (λ (p : Wire). All (IsKnown commands) p.items) (sym x.1) (All-append (IsKnown commands) link.port.items (Lists ∷ []) all (all-slots commands)))
+        (λ x. subst (λ (p : Wire). All (IsKnown commands) p.items) (sym x.1) (subst (All (IsKnown commands)) (sym (append-nil link.port.items)) all)) sends;
   })
 
   cases : (given : Result (Unit {0}) LinkFault) → given ≢ Err fault.NoMemory → Sends any_failures any_garbled Exchanges link (Slots ∷ []) given link' → Simulated

@@ -1,9 +1,9 @@
--- The carrier's steps at a worker's lanes and at its pending_batches that the machine does not see.
+-- The carrier's steps at a worker's lanes and at what is pending that the machine does not see.
 use Rattle.std.proofs.Common.{◌≡◌, ◌≢◌, ◌⊎◌, inl, inr, ⊎_elim, ℕ, zero, suc, ◌+◌, ◌<◌, ◌≤◌, List, [], ◌∷◌, ◌++◌, Some, None, Result, Ok, Err, refl, sym, ap, ◌∙◌, subst, arith, length}
 use Rattle.std.specs.Prelude.{slice_get, slice_set, Option, IsSome, map, All}
 use Rattle.std.specs.List.{flat_map}
 use Rattle.std.proofs.lemmas.Grind.{flat_map-append}
-use Rattle.key_split.specs.declared.travel.Batch.{Batch}
+use Rattle.key_split.specs.Runs.{RunModel}
 use Rattle.key_split.specs.declared.travel.Ticket.{Ticket}
 use Rattle.key_split.specs.declared.travel.Told.TheVariants.{Unsent}
 use Rattle.proxy_lanes.specs.declared.ends.lane_ends.LaneEnds.{LaneEnds}
@@ -12,11 +12,11 @@ use Rattle.proxy_lanes.specs.declared.ring.Inlet.{Inlet}
 use Rattle.proxy_lanes.specs.Lane.{Posts}
 use Rattle.proxy_lanes.specs.Ends.{ChangesAt, Gives, GivesDown}
 use Rattle.proxy_turns.specs.declared.newcomer.Newcomer.{Newcomer}
-use Rattle.proxy_turns.specs.declared.pending_batch.PendingBatch.{PendingBatch}
+use Rattle.proxy_turns.specs.declared.pending_run.PendingRun.{PendingRun}
 use Rattle.proxy_turns.specs.declared.backend.Backend.{Backend}
 use Rattle.proxy_turns.specs.declared.backend.PendingTold.{PendingTold}
 use Rattle.proxy_turns.specs.WorkerModel.{WorkerModel}
-use Rattle.proxy_turns.specs.PendingBatch.{no_pending_batch, Delivers}
+use Rattle.proxy_turns.specs.PendingRun.{no_pending_run, Delivers}
 use Rattle.proxy_turns.specs.Backend.{new_backend}
 use Rattle.proxy_turns.specs.CarrierModel.{CarrierModel, CarrierEvent, WorkerAdded, BackendAdded, Missed, NotFound, Took, Gave, GaveUnsent}
 use Rattle.world_laws.specs.State.{WorldModel}
@@ -26,7 +26,7 @@ use Rattle.world_laws.proofs.Tally.{total-append}
 use Rattle.world_laws.proofs.Recorded.{at-set, at-last, before-last, set-same}
 use Rattle.turn_laws.specs.Wire.{Wire}
 use Rattle.turn_laws.specs.System.{System, between, IsInStep}
-use Rattle.turn_laws.specs.Shadow.{IsShadow, UpsShadow, HasPart, lane_of, lying, AreSeated, downs_of, downs_in, down_in, refused_in, told_in, lost_in, ups_in, batch_in}
+use Rattle.turn_laws.specs.Shadow.{IsShadow, UpsShadow, RunShadow, lane_of, lying, AreSeated, downs_of, downs_in, down_in, refused_in, told_in, lost_in, ups_in, run_in}
 use Rattle.turn_laws.specs.Steps.{CarrierStep, opened_by}
 use Rattle.std.proofs.lemmas.List.Elements.{All-append, All-cons, All-nil}
 use Rattle.turn_laws.proofs.Downs.{Pair, SameBag, total-set-flat}
@@ -42,15 +42,15 @@ get-other (z ∷ xs) zero (suc j) y ne = refl
 get-other (z ∷ xs) (suc i) zero y ne = refl
 get-other (z ∷ xs) (suc i) (suc j) y ne = get-other xs i j y (λ e. ne (ap suc e))
 
--- one more pending_batch, which is empty
-add_workers-pending_batch : (pending_batches : List PendingBatch) (e : PendingBatch) (j : ℕ) → (slice_get (pending_batches ++ e ∷ []) j ≡ slice_get pending_batches j) ⊎ ((slice_get pending_batches j ≡ None) × (slice_get (pending_batches ++ e ∷ []) j ≡ Some e))
-add_workers-pending_batch [] e zero = inr (refl, refl)
-add_workers-pending_batch [] e (suc j) = inl refl
-add_workers-pending_batch (h ∷ pending_batches) e zero = inl refl
-add_workers-pending_batch (h ∷ pending_batches) e (suc j) = add_workers-pending_batch pending_batches e j
+-- one more, which is empty
+add_workers-pending_run : (pending_runs : List PendingRun) (e : PendingRun) (j : ℕ) → (slice_get (pending_runs ++ e ∷ []) j ≡ slice_get pending_runs j) ⊎ ((slice_get pending_runs j ≡ None) × (slice_get (pending_runs ++ e ∷ []) j ≡ Some e))
+add_workers-pending_run [] e zero = inr (refl, refl)
+add_workers-pending_run [] e (suc j) = inl refl
+add_workers-pending_run (h ∷ pending_runs) e zero = inl refl
+add_workers-pending_run (h ∷ pending_runs) e (suc j) = add_workers-pending_run pending_runs e j
 
-abbrev pub ListShadow : WorldModel → ℕ → List Batch → Type 0
-ListShadow w k batches = (lane_of k w ≡ map lying batches) × All (λ (b : Batch). HasPart w.commands b.ticket b.part × (b.ticket.worker ≡ k)) batches
+abbrev pub ListShadow : WorldModel → ℕ → List RunModel → Type 0
+ListShadow w k runs = (lane_of k w ≡ map lying runs) × All (RunShadow w.commands k) runs
 
 pub nothing-there : {X : Type 0} (k : ℕ) (x : X) → slice_get [] k ≡ Some x → ⊥
 nothing-there k x e = absurd (cc)
@@ -152,7 +152,7 @@ module _ {C J : Type 0} where
       tail-case f (down_in l.down z.inlet) (downs_in workers lanes) (downs_in workers (slice_set lanes k y)) (total f (down_in x.down model.inlet)) (total f (down_in y.down model.inlet))
       (rings-total f workers lanes k model x y p q)
 
-  -- A step by which one worker's lane changes, and perhaps its pending_batch.
+  -- A step by which one worker's lane changes, and perhaps what is pending of it.
   module _ (event : CarrierEvent) (s s' : System C J) (w : WorldModel) (h : IsShadow s w) (step : CarrierStep s event s') (quiet : opened_by event s.opened ≡ s.opened) (links : SameLinks s s') where
     workers : s'.workers ≡ s.workers
     workers = ap (λ (x : System C J). x.workers) step.leaves
@@ -160,11 +160,11 @@ module _ {C J : Type 0} where
     pub lane-stutter : (k : ℕ) (x y : LaneEnds (Newcomer C J)) → slice_get s.carrier.lanes k ≡ Some x
         → s'.carrier.lanes ≡ slice_set s.carrier.lanes k y → (AreSeated s.carrier → AreSeated s'.carrier)
         → ((model : WorkerModel C J) → slice_get s.workers k ≡ Some model → DownFits k model y)
-        → ((model : WorkerModel C J) → slice_get s.workers k ≡ Some model → ups_in model y (slice_get s'.carrier.pending_batches k) ≡ ups_in model x (slice_get s.carrier.pending_batches k))
-        → ((j : ℕ) → j ≢ k → (model : WorkerModel C J) (lane : LaneEnds (Newcomer C J)) → ups_in model lane (slice_get s'.carrier.pending_batches j) ≡ ups_in model lane (slice_get s.carrier.pending_batches j))
+        → ((model : WorkerModel C J) → slice_get s.workers k ≡ Some model → ups_in model y (slice_get s'.carrier.pending_runs k) ≡ ups_in model x (slice_get s.carrier.pending_runs k))
+        → ((j : ℕ) → j ≢ k → (model : WorkerModel C J) (lane : LaneEnds (Newcomer C J)) → ups_in model lane (slice_get s'.carrier.pending_runs j) ≡ ups_in model lane (slice_get s.carrier.pending_runs j))
         → ((model : WorkerModel C J) → slice_get s.workers k ≡ Some model → (f : Pair → ℕ)
-        → total f (down_in y.down model.inlet) + total f (refusals s'.carrier.pending_batches) + total f (debts s'.carrier.backends)
-        ≡ total f (down_in x.down model.inlet) + total f (refusals s.carrier.pending_batches) + total f (debts s.carrier.backends))
+        → total f (down_in y.down model.inlet) + total f (refusals s'.carrier.pending_runs) + total f (debts s'.carrier.backends)
+        ≡ total f (down_in x.down model.inlet) + total f (refusals s.carrier.pending_runs) + total f (debts s.carrier.backends))
         → IsShadow s' w
     lane-stutter k x y at lanes seats steps ups others bag =
         carrier-stutter event s s' w h step quiet (works-still s s' links) (no-failure s s' links)
@@ -189,19 +189,19 @@ module _ {C J : Type 0} where
         all j model lane p q = ⊎_elim
             (λ (z : (j ≡ k) × (lane ≡ y)).
             let at_k : slice_get s.workers k ≡ Some model = sym (ap (slice_get s.workers) z.0) ∙ p in
-            let here : ups_in model lane (slice_get s'.carrier.pending_batches j) ≡ ups_in model x (slice_get s.carrier.pending_batches j) =
-            (λ i. ups_in model (z.1 i) (slice_get s'.carrier.pending_batches (z.0 i))) ∙ ups model at_k ∙ (λ i. ups_in model x (slice_get s.carrier.pending_batches (sym z.0 i))) in
-            let was : ListShadow w j (ups_in model x (slice_get s.carrier.pending_batches j)) = h.lanes j model x p (ap (slice_get s.carrier.lanes) z.0 ∙ at) in
-            let now : ListShadow w j (ups_in model lane (slice_get s'.carrier.pending_batches j)) = subst (ListShadow w j) (sym here) was in now)
+            let here : ups_in model lane (slice_get s'.carrier.pending_runs j) ≡ ups_in model x (slice_get s.carrier.pending_runs j) =
+            (λ i. ups_in model (z.1 i) (slice_get s'.carrier.pending_runs (z.0 i))) ∙ ups model at_k ∙ (λ i. ups_in model x (slice_get s.carrier.pending_runs (sym z.0 i))) in
+            let was : ListShadow w j (ups_in model x (slice_get s.carrier.pending_runs j)) = h.lanes j model x p (ap (slice_get s.carrier.lanes) z.0 ∙ at) in
+            let now : ListShadow w j (ups_in model lane (slice_get s'.carrier.pending_runs j)) = subst (ListShadow w j) (sym here) was in now)
             (λ (z : (j ≢ k) × (slice_get s.carrier.lanes j ≡ Some lane)). subst (ListShadow w j) (sym (others j z.0 model lane)) (h.lanes j model lane p z.1))
             (seen j lane q)
 
-    -- A step by which no lane changes, and no pending_batch but for what is empty.
-    pub pending_batches-stutter : s'.carrier.lanes ≡ s.carrier.lanes → (AreSeated s.carrier → AreSeated s'.carrier)
-        → ((j : ℕ) (model : WorkerModel C J) (lane : LaneEnds (Newcomer C J)) → ups_in model lane (slice_get s'.carrier.pending_batches j) ≡ ups_in model lane (slice_get s.carrier.pending_batches j))
-        → ((f : Pair → ℕ) → total f (refusals s'.carrier.pending_batches) + total f (debts s'.carrier.backends) ≡ total f (refusals s.carrier.pending_batches) + total f (debts s.carrier.backends))
+    -- A step by which no lane changes, and nothing that is pending but for what is empty.
+    pub pending_runs-stutter : s'.carrier.lanes ≡ s.carrier.lanes → (AreSeated s.carrier → AreSeated s'.carrier)
+        → ((j : ℕ) (model : WorkerModel C J) (lane : LaneEnds (Newcomer C J)) → ups_in model lane (slice_get s'.carrier.pending_runs j) ≡ ups_in model lane (slice_get s.carrier.pending_runs j))
+        → ((f : Pair → ℕ) → total f (refusals s'.carrier.pending_runs) + total f (debts s'.carrier.backends) ≡ total f (refusals s.carrier.pending_runs) + total f (debts s.carrier.backends))
         → IsShadow s' w
-    pending_batches-stutter lanes seats ups bag =
+    pending_runs-stutter lanes seats ups bag =
         carrier-stutter event s s' w h step quiet (works-still s s' links) (no-failure s s' links) (record { lanes = ap length lanes; seated = seats })
         (λ j model lane p q. down-fits s w h j model lane p (sym (ap (λ xs. slice_get xs j) lanes) ∙ q))
         (λ f. (
@@ -215,108 +215,108 @@ module _ {C J : Type 0} where
   pub missed : (s s' : System C J) (w : WorldModel) → IsShadow s w → CarrierStep s Missed s' → IsShadow s' w
   missed s s' w h on =
       let backends : s'.carrier.backends ≡ s.carrier.backends = ap (λ (x : CarrierModel (Newcomer C J) Wire). x.backends) on.does.2 in
-      let pending_batches : s'.carrier.pending_batches ≡ s.carrier.pending_batches = ap (λ (x : CarrierModel (Newcomer C J) Wire). x.pending_batches) on.does.2 in
-      pending_batches-stutter Missed s s' w h on refl (same-backends s s' backends) (ap (λ (x : CarrierModel (Newcomer C J) Wire). x.lanes) on.does.2) (same-seats s s' (ap (λ (x : CarrierModel (Newcomer C J) Wire). length x.lanes) on.does.2) pending_batches).seated
-      (λ j model lane. λ i. ups_in model lane (slice_get (pending_batches i) j))
-      (λ f. λ i. total f (refusals (pending_batches i)) + total f (debts (backends i)))
+      let pending_runs : s'.carrier.pending_runs ≡ s.carrier.pending_runs = ap (λ (x : CarrierModel (Newcomer C J) Wire). x.pending_runs) on.does.2 in
+      pending_runs-stutter Missed s s' w h on refl (same-backends s s' backends) (ap (λ (x : CarrierModel (Newcomer C J) Wire). x.lanes) on.does.2) (same-seats s s' (ap (λ (x : CarrierModel (Newcomer C J) Wire). length x.lanes) on.does.2) pending_runs).seated
+      (λ j model lane. λ i. ups_in model lane (slice_get (pending_runs i) j))
+      (λ f. λ i. total f (refusals (pending_runs i)) + total f (debts (backends i)))
 
   pub not-found : (s s' : System C J) (w : WorldModel) → IsShadow s w → CarrierStep s NotFound s' → IsShadow s' w
   not-found s s' w h on =
       let e = on.does.2 in
       let backends : s'.carrier.backends ≡ s.carrier.backends = ap (λ (x : CarrierModel (Newcomer C J) Wire). x.backends) e in
-      let pending_batches : s'.carrier.pending_batches ≡ s.carrier.pending_batches = ap (λ (x : CarrierModel (Newcomer C J) Wire). x.pending_batches) e in
-      pending_batches-stutter NotFound s s' w h on refl (same-backends s s' backends) (ap (λ (x : CarrierModel (Newcomer C J) Wire). x.lanes) e) (same-seats s s' (ap (λ (x : CarrierModel (Newcomer C J) Wire). length x.lanes) e) pending_batches).seated
-      (λ j model lane. λ i. ups_in model lane (slice_get (pending_batches i) j))
-      (λ f. λ i. total f (refusals (pending_batches i)) + total f (debts (backends i)))
+      let pending_runs : s'.carrier.pending_runs ≡ s.carrier.pending_runs = ap (λ (x : CarrierModel (Newcomer C J) Wire). x.pending_runs) e in
+      pending_runs-stutter NotFound s s' w h on refl (same-backends s s' backends) (ap (λ (x : CarrierModel (Newcomer C J) Wire). x.lanes) e) (same-seats s s' (ap (λ (x : CarrierModel (Newcomer C J) Wire). length x.lanes) e) pending_runs).seated
+      (λ j model lane. λ i. ups_in model lane (slice_get (pending_runs i) j))
+      (λ f. λ i. total f (refusals (pending_runs i)) + total f (debts (backends i)))
 
   pub added : (s s' : System C J) (w : WorldModel) → IsShadow s w → CarrierStep s WorkerAdded s' → IsShadow s' w
   added s s' w h on =
       let backends : s'.carrier.backends ≡ s.carrier.backends = ap (λ (x : CarrierModel (Newcomer C J) Wire). x.backends) on.does in
-      let pending_batches : s'.carrier.pending_batches ≡ s.carrier.pending_batches ++ no_pending_batch ∷ [] = ap (λ (x : CarrierModel (Newcomer C J) Wire). x.pending_batches) on.does in
-      pending_batches-stutter WorkerAdded s s' w h on refl (same-backends s s' backends) (ap (λ (x : CarrierModel (Newcomer C J) Wire). x.lanes) on.does) (λ seated k b batch p q. omega (arith, ap (λ (x : CarrierModel (Newcomer C J) Wire). length x.lanes) on.does, seated k b batch (was-there k b batch (sym (ap (λ xs. slice_get xs k) pending_batches) ∙ p) q) q))
-      (λ j model lane. (λ i. ups_in model lane (slice_get (pending_batches i) j)) ∙ ⊎_elim
-      (λ (e : slice_get (s.carrier.pending_batches ++ no_pending_batch ∷ []) j ≡ slice_get s.carrier.pending_batches j). ap (ups_in model lane) e)
-      (λ (e : (slice_get s.carrier.pending_batches j ≡ None) × (slice_get (s.carrier.pending_batches ++ no_pending_batch ∷ []) j ≡ Some no_pending_batch)).
+      let pending_runs : s'.carrier.pending_runs ≡ s.carrier.pending_runs ++ no_pending_run ∷ [] = ap (λ (x : CarrierModel (Newcomer C J) Wire). x.pending_runs) on.does in
+      pending_runs-stutter WorkerAdded s s' w h on refl (same-backends s s' backends) (ap (λ (x : CarrierModel (Newcomer C J) Wire). x.lanes) on.does) (λ seated k b run p q. omega (arith, ap (λ (x : CarrierModel (Newcomer C J) Wire). length x.lanes) on.does, seated k b run (was-there k b run (sym (ap (λ xs. slice_get xs k) pending_runs) ∙ p) q) q))
+      (λ j model lane. (λ i. ups_in model lane (slice_get (pending_runs i) j)) ∙ ⊎_elim
+      (λ (e : slice_get (s.carrier.pending_runs ++ no_pending_run ∷ []) j ≡ slice_get s.carrier.pending_runs j). ap (ups_in model lane) e)
+      (λ (e : (slice_get s.carrier.pending_runs j ≡ None) × (slice_get (s.carrier.pending_runs ++ no_pending_run ∷ []) j ≡ Some no_pending_run)).
       ap (ups_in model lane) e.1 ∙ sym (ap (ups_in model lane) e.0))
-      (add_workers-pending_batch s.carrier.pending_batches no_pending_batch j))
+      (add_workers-pending_run s.carrier.pending_runs no_pending_run j))
       (λ f. omega (
         arith,
-        (let e : total f (refusals s'.carrier.pending_batches) ≡ total f (refusals s.carrier.pending_batches ++ refusals (no_pending_batch ∷ [])) = (λ i. total f (refusals (pending_batches i))) ∙ ap (total f) (flat_map-append (λ (pending_batch : PendingBatch). refused_in pending_batch.refused) s.carrier.pending_batches (no_pending_batch ∷ [])) in e),
-        total-append f (refusals s.carrier.pending_batches) (refusals (no_pending_batch ∷ [])),
+        (let e : total f (refusals s'.carrier.pending_runs) ≡ total f (refusals s.carrier.pending_runs ++ refusals (no_pending_run ∷ [])) = (λ i. total f (refusals (pending_runs i))) ∙ ap (total f) (flat_map-append (λ (pending_run : PendingRun). refused_in pending_run.refused) s.carrier.pending_runs (no_pending_run ∷ [])) in e),
+        total-append f (refusals s.carrier.pending_runs) (refusals (no_pending_run ∷ [])),
         ap (λ ls. total f (debts ls)) backends,
       ))
     where
-      was-there : (k : ℕ) (b : PendingBatch) (batch : Batch) → slice_get (s.carrier.pending_batches ++ no_pending_batch ∷ []) k ≡ Some b → b.batch ≡ Some batch → slice_get s.carrier.pending_batches k ≡ Some b
-      was-there k b batch p q = ⊎_elim (λ z. z)
-          (λ (z : (k ≡ length s.carrier.pending_batches) × (b ≡ no_pending_batch)). let bad : None ≡ Some batch = ap (λ (x : PendingBatch). x.batch) (sym z.1) ∙ q in absurd (cc))
-          (at-last s.carrier.pending_batches no_pending_batch k b p)
+      was-there : (k : ℕ) (b : PendingRun) (run : RunModel) → slice_get (s.carrier.pending_runs ++ no_pending_run ∷ []) k ≡ Some b → b.run ≡ Some run → slice_get s.carrier.pending_runs k ≡ Some b
+      was-there k b run p q = ⊎_elim (λ z. z)
+          (λ (z : (k ≡ length s.carrier.pending_runs) × (b ≡ no_pending_run)). let bad : None ≡ Some run = ap (λ (x : PendingRun). x.run) (sym z.1) ∙ q in absurd (cc))
+          (at-last s.carrier.pending_runs no_pending_run k b p)
 
   pub lined : (s s' : System C J) (w : WorldModel) → IsShadow s w → CarrierStep s BackendAdded s' → IsShadow s' w
   lined s s' w h on =
       let backends : s'.carrier.backends ≡ s.carrier.backends ++ new_backend ∷ [] = ap (λ (x : CarrierModel (Newcomer C J) Wire). x.backends) on.does in
-      let pending_batches : s'.carrier.pending_batches ≡ s.carrier.pending_batches = ap (λ (x : CarrierModel (Newcomer C J) Wire). x.pending_batches) on.does in
+      let pending_runs : s'.carrier.pending_runs ≡ s.carrier.pending_runs = ap (λ (x : CarrierModel (Newcomer C J) Wire). x.pending_runs) on.does in
       let links : SameLinks s s' = λ k backend' link at linked. ⊎_elim
       (λ (e : slice_get s.carrier.backends k ≡ Some backend'). (backend', e, linked))
       (λ (e : (k ≡ length s.carrier.backends) × (backend' ≡ new_backend)). let bad : None ≡ Some link = ap (λ (x : Backend Wire). x.link) (sym e.1) ∙ linked in absurd (cc))
       (at-last s.carrier.backends new_backend k backend' (sym (ap (λ xs. slice_get xs k) backends) ∙ at)) in
-      pending_batches-stutter BackendAdded s s' w h on refl links (ap (λ (x : CarrierModel (Newcomer C J) Wire). x.lanes) on.does) (same-seats s s' (ap (λ (x : CarrierModel (Newcomer C J) Wire). length x.lanes) on.does) pending_batches).seated
-      (λ j model lane. λ i. ups_in model lane (slice_get (pending_batches i) j))
+      pending_runs-stutter BackendAdded s s' w h on refl links (ap (λ (x : CarrierModel (Newcomer C J) Wire). x.lanes) on.does) (same-seats s s' (ap (λ (x : CarrierModel (Newcomer C J) Wire). length x.lanes) on.does) pending_runs).seated
+      (λ j model lane. λ i. ups_in model lane (slice_get (pending_runs i) j))
       (λ f. omega (
         arith,
         (let e : total f (debts s'.carrier.backends) ≡ total f (debts s.carrier.backends ++ debts (new_backend ∷ [])) = (λ i. total f (debts (backends i))) ∙ ap (total f) (flat_map-append (λ (backend : Backend Wire). told_in backend.pending_told ++ lost_in backend.link) s.carrier.backends (new_backend ∷ [])) in e),
         total-append f (debts s.carrier.backends) (debts (new_backend ∷ [])),
-        ap (λ ls. total f (refusals ls)) pending_batches,
+        ap (λ ls. total f (refusals ls)) pending_runs,
       ))
 
-  -- a batch comes from a lane into a pending_batch
+  -- a run comes from a lane, and is pending
   pub took : (s s' : System C J) (w : WorldModel) → IsShadow s w → CarrierStep s Took s' → IsShadow s' w
   took s s' w h on =
       let d = on.does in
       let k : ℕ = d.0 in
-      let pending_batch : PendingBatch = d.1 in
-      let pending_batch' : PendingBatch = d.2 in
-      let batch : Batch = d.4.0 in
-      let was : pending_batch ≡ no_pending_batch = d.4.1 in
-      let now : pending_batch' ≡ record pending_batch { batch = Some batch } = d.4.2 in
+      let pending_run : PendingRun = d.1 in
+      let pending_run' : PendingRun = d.2 in
+      let run : RunModel = d.4.0 in
+      let was : pending_run ≡ no_pending_run = d.4.1 in
+      let now : pending_run' ≡ record pending_run { run = Some run } = d.4.2 in
       let x : LaneEnds (Newcomer C J) = d.4.3.0 in
       let y : LaneEnds (Newcomer C J) = d.4.3.1 in
       let down : y.down ≡ x.down = ap (λ (l : LaneEnds (Newcomer C J)). l.down) d.4.3.4.0 in
       let backends : s'.carrier.backends ≡ s.carrier.backends = ap (λ (c : CarrierModel (Newcomer C J) Wire). c.backends) d.5 in
-      let pending_batches : s'.carrier.pending_batches ≡ slice_set s.carrier.pending_batches k pending_batch' = ap (λ (c : CarrierModel (Newcomer C J) Wire). c.pending_batches) d.5 in
+      let pending_runs : s'.carrier.pending_runs ≡ slice_set s.carrier.pending_runs k pending_run' = ap (λ (c : CarrierModel (Newcomer C J) Wire). c.pending_runs) d.5 in
       let fl : s'.workers ≡ s.workers = ap (λ (z : System C J). z.workers) on.leaves in
-      let held : slice_get s'.carrier.pending_batches k ≡ Some pending_batch' = ap (λ xs. slice_get xs k) pending_batches ∙ set-same s.carrier.pending_batches k pending_batch pending_batch' d.3 in
-      lane-stutter Took s s' w h on refl (same-backends s s' backends) k x y d.4.3.2 d.4.3.3 (set-seats s s' k pending_batch' (ap length d.4.3.3 ∙ set-size s.carrier.lanes k y) pending_batches (λ b e seated. short s.carrier.lanes k x d.4.3.2)).seated
+      let held : slice_get s'.carrier.pending_runs k ≡ Some pending_run' = ap (λ xs. slice_get xs k) pending_runs ∙ set-same s.carrier.pending_runs k pending_run pending_run' d.3 in
+      lane-stutter Took s s' w h on refl (same-backends s s' backends) k x y d.4.3.2 d.4.3.3 (set-seats s s' k pending_run' (ap length d.4.3.3 ∙ set-size s.carrier.lanes k y) pending_runs (λ b e seated. short s.carrier.lanes k x d.4.3.2)).seated
       (λ model p. (λ outlet e. h.down_steps k model x p d.4.3.2 outlet (sym down ∙ e), subst (λ o. All (λ (q : Pair). q.0.worker ≡ k) (down_in o model.inlet)) (sym down) (h.to_worker k model x p d.4.3.2), subst IsSome (sym down) (h.unfinished k x d.4.3.2)))
       (λ model p.
       let there : slice_get s'.carrier.lanes k ≡ Some y = ap (λ xs. slice_get xs k) d.4.3.3 ∙ set-same s.carrier.lanes k x y d.4.3.2 in
-      let first : between model.outlet x.up ≡ batch ∷ between model.outlet y.up = between-take model.outlet x.up y.up batch (on.in_step k model y (ap (λ xs. slice_get xs k) fl ∙ p) there) d.4.3.4.1 in
-      let full : pending_batch'.batch ≡ Some batch = ap (λ (z : PendingBatch). z.batch) now in
-      let empty : pending_batch.batch ≡ None = ap (λ (z : PendingBatch). z.batch) was in
-      ap (ups_in model y) held ∙ ap (λ o. batch_in o ++ between model.outlet y.up) full ∙ sym first
-      ∙ sym (ap (λ o. batch_in o ++ between model.outlet x.up) empty) ∙ sym (ap (ups_in model x) d.3))
-      (λ j ne model lane. ap (ups_in model lane) (ap (λ xs. slice_get xs j) pending_batches ∙ get-other s.carrier.pending_batches k j pending_batch' ne))
+      let first : between model.outlet x.up ≡ run ∷ between model.outlet y.up = between-take model.outlet x.up y.up run (on.in_step k model y (ap (λ xs. slice_get xs k) fl ∙ p) there) d.4.3.4.1 in
+      let full : pending_run'.run ≡ Some run = ap (λ (z : PendingRun). z.run) now in
+      let empty : pending_run.run ≡ None = ap (λ (z : PendingRun). z.run) was in
+      ap (ups_in model y) held ∙ ap (λ o. run_in o ++ between model.outlet y.up) full ∙ sym first
+      ∙ sym (ap (λ o. run_in o ++ between model.outlet x.up) empty) ∙ sym (ap (ups_in model x) d.3))
+      (λ j ne model lane. ap (ups_in model lane) (ap (λ xs. slice_get xs j) pending_runs ∙ get-other s.carrier.pending_runs k j pending_run' ne))
       (λ model p f. omega (
         arith,
         ap (λ o. total f (down_in o model.inlet)) down,
         ap (λ ls. total f (debts ls)) backends,
-        ap (λ hs. total f (refusals hs)) pending_batches,
-        total-set-flat f (λ (pending_batch : PendingBatch). refused_in pending_batch.refused) s.carrier.pending_batches k pending_batch pending_batch' d.3,
-        ap (λ (z : PendingBatch). total f (refused_in z.refused)) now,
+        ap (λ hs. total f (refusals hs)) pending_runs,
+        total-set-flat f (λ (pending_run : PendingRun). refused_in pending_run.refused) s.carrier.pending_runs k pending_run pending_run' d.3,
+        ap (λ (z : PendingRun). total f (refused_in z.refused)) now,
       ))
 
-  pub ups-up : (model : WorkerModel C J) (x y : LaneEnds (Newcomer C J)) → y.up ≡ x.up → (pending_batch : Option PendingBatch) → ups_in model y pending_batch ≡ ups_in model x pending_batch
+  pub ups-up : (model : WorkerModel C J) (x y : LaneEnds (Newcomer C J)) → y.up ≡ x.up → (pending_run : Option PendingRun) → ups_in model y pending_run ≡ ups_in model x pending_run
   ups-up model x y e None = ap (between model.outlet) e
-  ups-up model x y e (Some pending_batch) = ap (λ u. batch_in pending_batch.batch ++ between model.outlet u) e
+  ups-up model x y e (Some pending_run) = ap (λ u. run_in pending_run.run ++ between model.outlet u) e
 
-  -- a pending_batch with the same batch
-  same-batch : (model : WorkerModel C J) (lane : LaneEnds (Newcomer C J)) (pending_batches : List PendingBatch) (k j : ℕ) (pending_batch pending_batch' : PendingBatch) → slice_get pending_batches k ≡ Some pending_batch → pending_batch'.batch ≡ pending_batch.batch
-      → ups_in model lane (slice_get (slice_set pending_batches k pending_batch') j) ≡ ups_in model lane (slice_get pending_batches j)
-  same-batch model lane [] k j pending_batch pending_batch' at e = refl
-  same-batch model lane (z ∷ pending_batches) zero zero pending_batch pending_batch' at e =
-      let same : z ≡ pending_batch = cc in ap (λ o. batch_in o ++ between model.outlet lane.up) (e ∙ ap (λ (u : PendingBatch). u.batch) (sym same))
-  same-batch model lane (z ∷ pending_batches) zero (suc j) pending_batch pending_batch' at e = refl
-  same-batch model lane (z ∷ pending_batches) (suc k) zero pending_batch pending_batch' at e = refl
-  same-batch model lane (z ∷ pending_batches) (suc k) (suc j) pending_batch pending_batch' at e = same-batch model lane pending_batches k j pending_batch pending_batch' at e
+  -- one with the same run
+  same-run : (model : WorkerModel C J) (lane : LaneEnds (Newcomer C J)) (pending_runs : List PendingRun) (k j : ℕ) (pending_run pending_run' : PendingRun) → slice_get pending_runs k ≡ Some pending_run → pending_run'.run ≡ pending_run.run
+      → ups_in model lane (slice_get (slice_set pending_runs k pending_run') j) ≡ ups_in model lane (slice_get pending_runs j)
+  same-run model lane [] k j pending_run pending_run' at e = refl
+  same-run model lane (z ∷ pending_runs) zero zero pending_run pending_run' at e =
+      let same : z ≡ pending_run = cc in ap (λ o. run_in o ++ between model.outlet lane.up) (e ∙ ap (λ (u : PendingRun). u.run) (sym same))
+  same-run model lane (z ∷ pending_runs) zero (suc j) pending_run pending_run' at e = refl
+  same-run model lane (z ∷ pending_runs) (suc k) zero pending_run pending_run' at e = refl
+  same-run model lane (z ∷ pending_runs) (suc k) (suc j) pending_run pending_run' at e = same-run model lane pending_runs k j pending_run pending_run' at e
 
   -- a pair goes to a worker that there is
   delivered : (s : System C J) (w : WorldModel) → IsShadow s w → (pair : Pair) (i : ℕ) → slice_get (downs_of s) i ≡ Some pair → (lanes' : List (LaneEnds (Newcomer C J)))
@@ -336,10 +336,10 @@ module _ {C J : Type 0} where
       let now : backend' ≡ record backend { pending_told = None } = d.4.4 in
       let owes : told_in backend.pending_told ≡ pair ∷ [] = ap told_in d.4.1 in
       let backends : s'.carrier.backends ≡ slice_set s.carrier.backends k backend' = ap (λ (c : CarrierModel (Newcomer C J) Wire). c.backends) d.5 in
-      let pending_batches : s'.carrier.pending_batches ≡ s.carrier.pending_batches = ap (λ (c : CarrierModel (Newcomer C J) Wire). c.pending_batches) d.5 in
+      let pending_runs : s'.carrier.pending_runs ≡ s.carrier.pending_runs = ap (λ (c : CarrierModel (Newcomer C J) Wire). c.pending_runs) d.5 in
       let in_line : slice_get (told_in backend.pending_told ++ lost_in backend.link) 0 ≡ Some pair = ap (λ ps. slice_get (ps ++ lost_in backend.link) 0) owes in
       let found = in-flat (λ (backend : Backend Wire). told_in backend.pending_told ++ lost_in backend.link) s.carrier.backends k backend pair d.3 in_line in
-      let place = in-right (downs_in s.workers s.carrier.lanes ++ refusals s.carrier.pending_batches) (debts s.carrier.backends) found.0 pair found.1 in
+      let place = in-right (downs_in s.workers s.carrier.lanes ++ refusals s.carrier.pending_runs) (debts s.carrier.backends) found.0 pair found.1 in
       let c = delivered s w h pair place.0 place.1 s'.carrier.lanes d.4.3 in
       let x : LaneEnds (Newcomer C J) = c.0 in
       let y : LaneEnds (Newcomer C J) = c.1 in
@@ -348,15 +348,15 @@ module _ {C J : Type 0} where
       (λ (e : (j ≡ k) × (l ≡ backend')). (backend, ap (slice_get s.carrier.backends) e.0 ∙ d.3, sym (ap (λ (z : Backend Wire). z.link) now) ∙ ap (λ (z : Backend Wire). z.link) (sym e.1) ∙ linked))
       (λ (e : (j ≢ k) × (slice_get s.carrier.backends j ≡ Some l)). (l, e.1, linked))
       (at-set s.carrier.backends k backend' j l (sym (ap (λ xs. slice_get xs j) backends) ∙ at)) in
-      lane-stutter Gave s s' w h on refl links pair.0.worker x y c.2 c.3 (same-seats s s' (ap length c.3 ∙ set-size s.carrier.lanes pair.0.worker y) pending_batches).seated
+      lane-stutter Gave s s' w h on refl links pair.0.worker x y c.2 c.3 (same-seats s s' (ap length c.3 ∙ set-size s.carrier.lanes pair.0.worker y) pending_runs).seated
       (λ model p. given-fits x.down y.down pair model.inlet (given x.down y.down pair c.4.1 model.inlet (h.down_steps pair.0.worker model x p c.2)) (h.to_worker pair.0.worker model x p c.2))
-      (λ model p. ups-up model x y up (slice_get s'.carrier.pending_batches pair.0.worker) ∙ (λ i. ups_in model x (slice_get (pending_batches i) pair.0.worker)))
-      (λ j ne model lane. λ i. ups_in model lane (slice_get (pending_batches i) j))
+      (λ model p. ups-up model x y up (slice_get s'.carrier.pending_runs pair.0.worker) ∙ (λ i. ups_in model x (slice_get (pending_runs i) pair.0.worker)))
+      (λ j ne model lane. λ i. ups_in model lane (slice_get (pending_runs i) j))
       (λ model p f. omega (
         arith,
         ap (total f) (given x.down y.down pair c.4.1 model.inlet (h.down_steps pair.0.worker model x p c.2)).0,
         total-append f (down_in x.down model.inlet) (pair ∷ []),
-        ap (λ hs. total f (refusals hs)) pending_batches,
+        ap (λ hs. total f (refusals hs)) pending_runs,
         ap (λ ls. total f (debts ls)) backends,
         total-set-flat f (λ (backend : Backend Wire). told_in backend.pending_told ++ lost_in backend.link) s.carrier.backends k backend backend' d.3,
         ap (λ (z : Backend Wire). total f (told_in z.pending_told ++ lost_in z.link)) now,
@@ -367,34 +367,35 @@ module _ {C J : Type 0} where
   gave-unsent s s' w h on =
       let d = on.does in
       let k : ℕ = d.0 in
-      let pending_batch : PendingBatch = d.1 in
-      let pending_batch' : PendingBatch = d.2 in
+      let pending_run : PendingRun = d.1 in
+      let pending_run' : PendingRun = d.2 in
       let ticket : Ticket = d.4.0 in
       let pair : Pair = (ticket, Unsent) in
-      let now : pending_batch' ≡ record pending_batch { refused = None } = d.4.3 in
-      let owes : refused_in pending_batch.refused ≡ pair ∷ [] = ap refused_in d.4.1 in
+      let later : List Ticket = d.4.1 in
+      let now : pending_run' ≡ record pending_run { refused = later } = d.4.4 in
+      let owes : refused_in pending_run.refused ≡ pair ∷ refused_in later = ap refused_in d.4.2 in
       let backends : s'.carrier.backends ≡ s.carrier.backends = ap (λ (c : CarrierModel (Newcomer C J) Wire). c.backends) d.5 in
-      let pending_batches : s'.carrier.pending_batches ≡ slice_set s.carrier.pending_batches k pending_batch' = ap (λ (c : CarrierModel (Newcomer C J) Wire). c.pending_batches) d.5 in
-      let found = in-flat (λ (pending_batch : PendingBatch). refused_in pending_batch.refused) s.carrier.pending_batches k pending_batch pair d.3 (ap (λ ps. slice_get ps 0) owes) in
-      let right = in-right (downs_in s.workers s.carrier.lanes) (refusals s.carrier.pending_batches) found.0 pair found.1 in
-      let place : slice_get (downs_of s) right.0 ≡ Some pair = before-last (downs_in s.workers s.carrier.lanes ++ refusals s.carrier.pending_batches) (debts s.carrier.backends) right.0 pair right.1 in
-      let c = delivered s w h pair right.0 place s'.carrier.lanes d.4.2 in
+      let pending_runs : s'.carrier.pending_runs ≡ slice_set s.carrier.pending_runs k pending_run' = ap (λ (c : CarrierModel (Newcomer C J) Wire). c.pending_runs) d.5 in
+      let found = in-flat (λ (pending_run : PendingRun). refused_in pending_run.refused) s.carrier.pending_runs k pending_run pair d.3 (ap (λ ps. slice_get ps 0) owes) in
+      let right = in-right (downs_in s.workers s.carrier.lanes) (refusals s.carrier.pending_runs) found.0 pair found.1 in
+      let place : slice_get (downs_of s) right.0 ≡ Some pair = before-last (downs_in s.workers s.carrier.lanes ++ refusals s.carrier.pending_runs) (debts s.carrier.backends) right.0 pair right.1 in
+      let c = delivered s w h pair right.0 place s'.carrier.lanes d.4.3 in
       let x : LaneEnds (Newcomer C J) = c.0 in
       let y : LaneEnds (Newcomer C J) = c.1 in
       let up : y.up ≡ x.up = ap (λ (l : LaneEnds (Newcomer C J)). l.up) c.4.0 in
-      let same : (j : ℕ) (model : WorkerModel C J) (lane : LaneEnds (Newcomer C J)) → ups_in model lane (slice_get s'.carrier.pending_batches j) ≡ ups_in model lane (slice_get s.carrier.pending_batches j) =
-      λ j model lane. (λ i. ups_in model lane (slice_get (pending_batches i) j)) ∙ same-batch model lane s.carrier.pending_batches k j pending_batch pending_batch' d.3 (ap (λ (z : PendingBatch). z.batch) now) in
-      lane-stutter GaveUnsent s s' w h on refl (same-backends s s' backends) pair.0.worker x y c.2 c.3 (set-seats s s' k pending_batch' (ap length c.3 ∙ set-size s.carrier.lanes pair.0.worker y) pending_batches (λ b e seated. seated k pending_batch b d.3 (ap (λ (z : PendingBatch). z.batch) (sym now) ∙ e))).seated
+      let same : (j : ℕ) (model : WorkerModel C J) (lane : LaneEnds (Newcomer C J)) → ups_in model lane (slice_get s'.carrier.pending_runs j) ≡ ups_in model lane (slice_get s.carrier.pending_runs j) =
+      λ j model lane. (λ i. ups_in model lane (slice_get (pending_runs i) j)) ∙ same-run model lane s.carrier.pending_runs k j pending_run pending_run' d.3 (ap (λ (z : PendingRun). z.run) now) in
+      lane-stutter GaveUnsent s s' w h on refl (same-backends s s' backends) pair.0.worker x y c.2 c.3 (set-seats s s' k pending_run' (ap length c.3 ∙ set-size s.carrier.lanes pair.0.worker y) pending_runs (λ b e seated. seated k pending_run b d.3 (ap (λ (z : PendingRun). z.run) (sym now) ∙ e))).seated
       (λ model p. given-fits x.down y.down pair model.inlet (given x.down y.down pair c.4.1 model.inlet (h.down_steps pair.0.worker model x p c.2)) (h.to_worker pair.0.worker model x p c.2))
-      (λ model p. ups-up model x y up (slice_get s'.carrier.pending_batches pair.0.worker) ∙ same pair.0.worker model x)
+      (λ model p. ups-up model x y up (slice_get s'.carrier.pending_runs pair.0.worker) ∙ same pair.0.worker model x)
       (λ j ne model lane. same j model lane)
       (λ model p f. omega (
         arith,
         ap (total f) (given x.down y.down pair c.4.1 model.inlet (h.down_steps pair.0.worker model x p c.2)).0,
         total-append f (down_in x.down model.inlet) (pair ∷ []),
-        ap (λ hs. total f (refusals hs)) pending_batches,
+        ap (λ hs. total f (refusals hs)) pending_runs,
         ap (λ ls. total f (debts ls)) backends,
-        total-set-flat f (λ (pending_batch : PendingBatch). refused_in pending_batch.refused) s.carrier.pending_batches k pending_batch pending_batch' d.3,
-        ap (λ (z : PendingBatch). total f (refused_in z.refused)) now,
+        total-set-flat f (λ (pending_run : PendingRun). refused_in pending_run.refused) s.carrier.pending_runs k pending_run pending_run' d.3,
+        ap (λ (z : PendingRun). total f (refused_in z.refused)) now,
         ap (total f) owes,
       ))

@@ -52,7 +52,7 @@ module _ {C J : Type 0} where
       → (d : OneLine step s s') → StaysDown d.1 d.2 → SameBag (line_downs d.1) (line_downs d.2) → IsShadow s' w
   changes step s s' w h on d stays bag =
       backend-stutter (AtBackend step) s s' w d.0 d.1 d.2 h on refl d.3
-      (ap (λ (x : CarrierModel _ Wire). x.backends) d.5) (ap (λ (x : CarrierModel _ Wire). x.lanes) d.5) (ap (λ (x : CarrierModel _ Wire). x.pending_batches) d.5) stays bag
+      (ap (λ (x : CarrierModel _ Wire). x.backends) d.5) (ap (λ (x : CarrierModel _ Wire). x.lanes) d.5) (ap (λ (x : CarrierModel _ Wire). x.pending_runs) d.5) stays bag
 
   -- the backend of a context
   line_in : (s' : System C J) (backend' : Backend Wire) (context : BackendContext Wire) → context_of s'.carrier backend' ≡ context → backend' ≡ context.backend
@@ -131,7 +131,7 @@ module _ {C J : Type 0} where
   connected s s' w h on =
       let backend : Backend Wire = on.does.0 in
       backend-stutter SeedReached s s' w 0 backend (record backend { to_ask = true }) h on refl on.does.2
-      (ap (λ (x : CarrierModel _ Wire). x.backends) on.does.3) (ap (λ (x : CarrierModel _ Wire). x.lanes) on.does.3) (ap (λ (x : CarrierModel _ Wire). x.pending_batches) on.does.3)
+      (ap (λ (x : CarrierModel _ Wire). x.backends) on.does.3) (ap (λ (x : CarrierModel _ Wire). x.lanes) on.does.3) (ap (λ (x : CarrierModel _ Wire). x.pending_runs) on.does.3)
       (inl refl) (λ f. refl)
 
   -- after a loss one that has a link is to be asked
@@ -139,7 +139,7 @@ module _ {C J : Type 0} where
   sought s s' w h on =
       let d = on.does in
       backend-stutter Sought s s' w d.0 d.1 (record d.1 { to_ask = true }) h on refl d.2
-      (ap (λ (x : CarrierModel _ Wire). x.backends) d.5) (ap (λ (x : CarrierModel _ Wire). x.lanes) d.5) (ap (λ (x : CarrierModel _ Wire). x.pending_batches) d.5)
+      (ap (λ (x : CarrierModel _ Wire). x.backends) d.5) (ap (λ (x : CarrierModel _ Wire). x.lanes) d.5) (ap (λ (x : CarrierModel _ Wire). x.pending_runs) d.5)
       (inl refl) (λ f. refl)
 
   pub closed : (s s' : System C J) (w : WorldModel) → IsShadow s w → CarrierStep s (AtBackend Closed) s' → IsShadow s' w

@@ -18,7 +18,7 @@ module _ {C J : Type 0} where
   nodes-step : (s s' : System C J) (w : WorldModel) (k : ClusterModel) → IsShadow s w → s' ≡ record s { cluster = k } → IsShadow s' (with_nodes (ticked w) k)
   nodes-step s s' w k h e = subst (λ x. IsShadow x (with_nodes (ticked w) k)) (sym e) (record {
     workers = h.workers;
-    alone = h.alone;
+    limit = h.limit;
     cluster = refl;
     apart = h.apart;
     numbered = h.numbered;

@@ -9,7 +9,7 @@ use Rattle.std.specs.Cmp.{nat_cmp_total}
 use Rattle.std.proofs.Common.{eqb→eq}
 use Rattle.std.specs.Prelude.{T}
 use Rattle.std.specs.Cmp.{unsigned_ties}
-use Rattle.key_split.specs.declared.travel.Batch.{Batch}
+use Rattle.key_split.specs.Runs.{RunModel}
 use Rattle.key_split.specs.declared.travel.Ticket.{Ticket}
 use Rattle.key_split.specs.declared.travel.Ended.{Ended}
 use Rattle.command_future.specs.CommandModel.{CommandModel}
@@ -22,7 +22,7 @@ use Rattle.proxy_lanes.specs.declared.ring.Inlet.{Inlet}
 use Rattle.proxy_lanes.specs.declared.ring.Numbered.{Numbered}
 use Rattle.proxy_lanes.specs.Lane.{posted, taken}
 use Rattle.proxy_turns.specs.declared.newcomer.Newcomer.{Newcomer}
-use Rattle.proxy_turns.specs.declared.pending_batch.PendingBatch.{PendingBatch}
+use Rattle.proxy_turns.specs.declared.pending_run.PendingRun.{PendingRun}
 use Rattle.proxy_turns.specs.Commands.{CommandsModel}
 use Rattle.proxy_turns.specs.ClientModel.{ClientModel}
 use Rattle.session_order.specs.SessionModel.{SessionModel}
@@ -41,11 +41,12 @@ use Rattle.world_laws.specs.Places.{total, is}
 use Rattle.world_laws.proofs.Nodes.{set-size}
 use Rattle.world_laws.proofs.Recorded.{at-set, set-same, set-other}
 use Rattle.turn_laws.specs.System.{System, IsInStep}
-use Rattle.turn_laws.specs.Shadow.{IsShadow, ClientShadow, KeptShadow, IsLetGo, StageShadow, HasCommand, HasPosted, Holds, ToldFrom, DownInStep, downs_of, downs_in, down_in, ups_in, batch_in, seat_of}
+use Rattle.turn_laws.specs.Shadow.{IsShadow, ClientShadow, KeptShadow, IsLetGo, StageShadow, HasCommand, HasPosted, Holds, ToldFrom, DownInStep, downs_of, downs_in, down_in, ups_in, run_in, seat_of}
 use Rattle.turn_laws.specs.Steps.{WorkerStep}
 use Rattle.turn_laws.proofs.Downs.{Pair}
 use Rattle.turn_laws.proofs.Carriers.{refusals, debts}
 use Rattle.turn_laws.proofs.AtLanes.{ListShadow, nothing-there}
+use Rattle.turn_laws.proofs.Standing.{order-on}
 
 -- the same parts, as far and with the same commands
 pub record Alike {C : Type 0} (old new : ClientModel C) : Type 0 where
@@ -63,7 +64,7 @@ stage-alike : (downs : List Pair) (gone gone' : Bool) (commands commands' : Comm
     → (stage : PartStage) (end : Ended) (c : Arrival) → StageShadow downs gone commands stage end c → StageShadow downs gone' commands' stage end c
 stage-alike downs gone gone' commands commands' g e (Waiting part) end c h = h
 stage-alike downs gone gone' commands commands' g e (Out slot) end c h = (
-  λ here. h.0 (sym g ∙ here),
+  h.0,
   ⊎_elim
       (λ (x : (d : CommandModel) × HasCommand commands c.command.ticket.part d × ToldFrom downs d c.command). inl (x.0, subst (λ (cs : CommandsModel). HasCommand cs c.command.ticket.part x.0) (sym e) x.1, x.2))
       (λ x. inr (g ∙ x.0, x.1, ap (λ (cs : CommandsModel). get cs.posted c.command.ticket.part) e ∙ x.2))
@@ -121,7 +122,7 @@ client-alike {C} downs worker number old new arrivals a h = record {
   read = λ here part lt.
       let x = h.read (sym a.gone ∙ here) part (subst (λ n. part < n) (λ i. a.first i + length (a.stages i)) lt) in
       (x.0, x.1, x.2, x.3 ∙ (λ i. record { worker = sym a.worker i; client = sym a.client i; part = part }));
-  stands = λ t out. h.stands t (in-alike old new a t out);
+  stands = λ t out. let was = h.stands t (in-alike old new a t out) in (was.0, order-on old.session new.session arrivals (λ j d e o. inr (out-alike old new a d.command.ticket o)) t was.1);
   homes = h.homes;
   parts = λ j c e n. ⊎_elim
       (λ (x : KeptShadow downs old c). inl (kept-alike downs old new a c x))
@@ -132,8 +133,9 @@ client-alike {C} downs worker number old new arrivals a h = record {
         let x = (h.commands).posted n c ((λ i. get (sym a.commands i).posted n) ∙ e) in
         (x.0, out-alike old new a c.ticket x.1);
     fresh = λ c e.
-        let x = (h.commands).fresh c ((λ i. (sym a.commands i).fresh) ∙ e) in
+        let x = (h.commands).fresh c (e.0, (λ i. slice_get (sym a.commands i).fresh e.0) ∙ e.1) in
         (out-alike old new a c.ticket x.0, x.1, (λ i. get (a.commands i).posted c.ticket.part) ∙ x.2);
+    apart = λ i j c d p q. (h.commands).apart i j c d ((λ n. slice_get (sym a.commands n).fresh i) ∙ p) ((λ n. slice_get (sym a.commands n).fresh j) ∙ q);
   };
   owed = a.owed ∙ h.owed ∙ (λ i. length (sym a.stages i));
   ends = ap length a.ends ∙ h.ends ∙ (λ i. length (sym a.stages i));
@@ -232,9 +234,9 @@ module _ {C J : Type 0} where
       head z at = let same : z ≡ model = cc in ap (λ ps. ps ++ downs_in workers lanes) (e l.down ∙ ap (λ (f : WorkerModel C J). down_in l.down f.inlet) (sym same))
   rings-same (z ∷ workers) (l ∷ lanes) (suc k) model model' at e = ap (λ ps. down_in l.down z.inlet ++ ps) (rings-same workers lanes k model model' at e)
 
-  pub ups-out : (model model' : WorkerModel C J) (lane : LaneEnds (Newcomer C J)) → posted model'.outlet ≡ posted model.outlet → (pending_batch : Option PendingBatch) → ups_in model' lane pending_batch ≡ ups_in model lane pending_batch
-  ups-out model model' lane e None = ap (λ xs. map (λ (x : Numbered Batch). x.item) (drop (length (taken lane.up)) xs)) e
-  ups-out model model' lane e (Some pending_batch) = ap (λ xs. batch_in pending_batch.batch ++ map (λ (x : Numbered Batch). x.item) (drop (length (taken lane.up)) xs)) e
+  pub ups-out : (model model' : WorkerModel C J) (lane : LaneEnds (Newcomer C J)) → posted model'.outlet ≡ posted model.outlet → (pending_run : Option PendingRun) → ups_in model' lane pending_run ≡ ups_in model lane pending_run
+  ups-out model model' lane e None = ap (λ xs. map (λ (x : Numbered RunModel). x.item) (drop (length (taken lane.up)) xs)) e
+  ups-out model model' lane e (Some pending_run) = ap (λ xs. run_in pending_run.run ++ map (λ (x : Numbered RunModel). x.item) (drop (length (taken lane.up)) xs)) e
 
   -- nothing that the machine sees changed
   pub record IsQuiet (old new : WorkerModel C J) : Type 0 where
@@ -249,14 +251,14 @@ module _ {C J : Type 0} where
     here : (j : ℕ) → j ≡ k → slice_get s.workers j ≡ Some model
     here j e = ap (slice_get s.workers) e ∙ at
 
-    downs : downs_in (slice_set s.workers k model') s.carrier.lanes ++ refusals s.carrier.pending_batches ++ debts s.carrier.backends ≡ downs_of s
-    downs = ap (λ ps. ps ++ refusals s.carrier.pending_batches ++ debts s.carrier.backends) (rings-same s.workers s.carrier.lanes k model model' at (λ o. down-same o model.inlet model'.inlet quiet.takes))
+    downs : downs_in (slice_set s.workers k model') s.carrier.lanes ++ refusals s.carrier.pending_runs ++ debts s.carrier.backends ≡ downs_of s
+    downs = ap (λ ps. ps ++ refusals s.carrier.pending_runs ++ debts s.carrier.backends) (rings-same s.workers s.carrier.lanes k model model' at (λ o. down-same o model.inlet model'.inlet quiet.takes))
 
     quiet-client : (worker number : ℕ) (client : ClientModel C) → ClientShadow (downs_of s) worker number client w.commands
-        → ClientShadow (downs_in (slice_set s.workers k model') s.carrier.lanes ++ refusals s.carrier.pending_batches ++ debts s.carrier.backends) worker number client w.commands
+        → ClientShadow (downs_in (slice_set s.workers k model') s.carrier.lanes ++ refusals s.carrier.pending_runs ++ debts s.carrier.backends) worker number client w.commands
     quiet-client worker number client t = subst (λ ps. ClientShadow ps worker number client w.commands) (sym downs) t
 
-    counts : (t : Ticket) → total (λ (p : Pair). is t p.0) (downs_in (slice_set s.workers k model') s.carrier.lanes ++ refusals s.carrier.pending_batches ++ debts s.carrier.backends) ≡ total (λ (p : Pair). is t p.0) (downs_of s)
+    counts : (t : Ticket) → total (λ (p : Pair). is t p.0) (downs_in (slice_set s.workers k model') s.carrier.lanes ++ refusals s.carrier.pending_runs ++ debts s.carrier.backends) ≡ total (λ (p : Pair). is t p.0) (downs_of s)
     counts t = ap (total (λ (p : Pair). is t p.0)) downs
 
     held : (t : Ticket) (c : CommandModel) → Holds s.workers t c → Holds (slice_set s.workers k model') t c
@@ -271,7 +273,7 @@ module _ {C J : Type 0} where
     pub quiet-shadow : IsShadow (record s { workers = slice_set s.workers k model' }) w
     quiet-shadow = record {
       workers = set-size s.workers k model' ∙ h.workers;
-      alone = h.alone;
+      limit = h.limit;
       cluster = h.cluster;
       apart = h.apart;
       numbered = λ j f p. ⊎_elim
@@ -300,8 +302,8 @@ module _ {C J : Type 0} where
       told = h.told;
       lanes = λ j f lane p q. ⊎_elim
           (λ (z : (j ≡ k) × (f ≡ model')).
-          let was : ListShadow w j (ups_in model lane (slice_get s.carrier.pending_batches j)) = h.lanes j model lane (here j z.0) q in
-          let now : ListShadow w j (ups_in f lane (slice_get s.carrier.pending_batches j)) = subst (ListShadow w j) (sym (ap (λ (x : WorkerModel C J). ups_in x lane (slice_get s.carrier.pending_batches j)) z.1 ∙ ups-out model model' lane quiet.posts (slice_get s.carrier.pending_batches j))) was in now)
+          let was : ListShadow w j (ups_in model lane (slice_get s.carrier.pending_runs j)) = h.lanes j model lane (here j z.0) q in
+          let now : ListShadow w j (ups_in f lane (slice_get s.carrier.pending_runs j)) = subst (ListShadow w j) (sym (ap (λ (x : WorkerModel C J). ups_in x lane (slice_get s.carrier.pending_runs j)) z.1 ∙ ups-out model model' lane quiet.posts (slice_get s.carrier.pending_runs j))) was in now)
           (λ (z : (j ≢ k) × (slice_get s.workers j ≡ Some f)). h.lanes j f lane z.1 q)
           (at-set s.workers k model' j f p);
       links = h.links;
@@ -407,10 +409,10 @@ module _ {C J : Type 0} where
       did k number (Looked slot) s s' w h on on.seen.4 (ap (λ (x : ClientContext C). posted x.outlet) e)
       (by-client on.does.0 on.does.1 (ap (λ (x : ClientContext C). x.client.session) e) (ap (λ (x : ClientContext C). x.client.commands) e) (ap (λ (x : ClientContext C). x.client.gone) e))
 
-  pub came-back : (k number : ℕ) (batch : Batch) (s s' : System C J) (w : WorldModel) → IsShadow s w → WorkerStep s k (Did number (CameBack batch)) s' → IsShadow s' w
-  came-back k number batch s s' w h on =
+  pub came-back : (k number : ℕ) (run : RunModel) (s s' : System C J) (w : WorldModel) → IsShadow s w → WorkerStep s k (Did number (CameBack run)) s' → IsShadow s' w
+  came-back k number run s s' w h on =
       let e = on.does.3.1 in
-      did k number (CameBack batch) s s' w h on on.seen.4 on.does.3.0.2
+      did k number (CameBack run) s s' w h on on.seen.4 on.does.3.0.2
       (by-client on.does.0 on.does.1 (ap (λ (x : ClientContext C). x.client.session) e) (ap (λ (x : ClientContext C). x.client.commands) e) (ap (λ (x : ClientContext C). x.client.gone) e))
 
   pub pushed : (k number : ℕ) (bytes : List ℕ) (s s' : System C J) (w : WorldModel) → IsShadow s w → WorkerStep s k (Did number (Pushed bytes)) s' → IsShadow s' w

@@ -34,7 +34,7 @@ some-failure o why e = subst IsSome (sym e) refl
 
 -- the port gave nothing
 gave-nothing : (link : LinkModel Wire) (port : Wire) → Comes any_failures any_garbled Exchanges link None port → port ≡ link.port
-gave-nothing link port c = c.1.1 ∙ (λ i. record (link.port) { requests = append-nil link.port.requests i; values = sym c.1.0 i })
+gave-nothing link port c = c.1.1 ∙ (λ i. record (link.port) { items = append-nil link.port.items i; values = sym c.1.0 i })
 
 none-waits : (answered rest : List Due) (n : ℕ) → [] ≡ answered ++ rest → length answered ≡ suc n → ⊥
 none-waits [] rest n e m = absurd (omega (arith, m))
@@ -65,8 +65,8 @@ module _ {C J : Type 0} (s s' : System C J) (w : WorldModel) (h : IsShadow s w) 
   lanes : s'.carrier.lanes ≡ s.carrier.lanes
   lanes = ap (λ (c : Carried). c.lanes) on.does.5
 
-  pending_batches : s'.carrier.pending_batches ≡ s.carrier.pending_batches
-  pending_batches = ap (λ (c : Carried). c.pending_batches) on.does.5
+  pending_runs : s'.carrier.pending_runs ≡ s.carrier.pending_runs
+  pending_runs = ap (λ (c : Carried). c.pending_runs) on.does.5
 
   was : backend.link ≡ Some link
   was = on.does.4.4.0
@@ -84,7 +84,7 @@ module _ {C J : Type 0} (s s' : System C J) (w : WorldModel) (h : IsShadow s w) 
   before : link' ≡ link → Simulated
   before same =
       let stays : backend'.link ≡ backend.link = is ∙ ap Some same ∙ sym was in
-      ([], w, refl, backend-stutter (AtBackend Broke) s s' w k backend backend' h on refl on.does.3 backends lanes pending_batches (inl stays) (same-owing backend backend' stays (ap told_in owes)))
+      ([], w, refl, backend-stutter (AtBackend Broke) s s' w k backend backend' h on refl on.does.3 backends lanes pending_runs (inl stays) (same-owing backend backend' stays (ap told_in owes)))
 
   breaks : (why : Failure) → link.failure ≡ None → link'.failure ≡ Some why → link'.port ≡ link.port → link'.due ≡ link.due → Simulated
   breaks why worked failed port dues = drops s s' w h walked (goes-of (AtBackend Broke) s s' on) (record {
@@ -102,15 +102,15 @@ module _ {C J : Type 0} (s s' : System C J) (w : WorldModel) (h : IsShadow s w) 
     failed = failed;
     owes = owes;
     lanes = lanes;
-    pending_batches = pending_batches;
+    pending_runs = pending_runs;
     opened = ap (λ (x : System C J). x.opened) on.leaves;
     closed = broken-wire s s' on.breaks k backend backend' link link' on.does.3 was worked backends is (some-failure link'.failure why failed);
     due = ap tickets_of dues;
     id = ap (λ (x : Wire). x.id) port;
     node = ap (λ (x : Wire). x.node) port;
     asking = ap (λ (x : Wire). x.asking) port;
-    requests = ([], append-nil (requests_in link'.port.requests) ∙ ap (λ (x : Wire). requests_in x.requests) port);
-    known = λ commands all. subst (λ (x : Wire). All (IsKnown commands) x.requests) (sym port) all;
+    requests = ([], append-nil (requests_in link'.port.items) ∙ ap (λ (x : Wire). requests_in x.items) port);
+    known = λ commands all. subst (λ (x : Wire). All (IsKnown commands) x.items) (sym port) all;
   })
 
   -- a value came that nothing waits for: of a connection that works each is waited for

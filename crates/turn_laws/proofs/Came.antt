@@ -54,7 +54,8 @@ new-shadow {C} downs worker number port arrivals none = record {
   parts = λ j c e n. absurd (nobody j c e n);
   commands = record {
     posted = λ m c e. absurd (none-some (get (new_client worker number full port).commands.posted m) c (get-empty nat_cmp m) e);
-    fresh = λ c e. absurd (none-some None c refl e);
+    fresh = λ c e. absurd (nothing-there e.0 c e.1);
+    apart = λ i j c d p q e. absurd (nothing-there i c p);
   };
   owed = refl;
   ends = refl;
@@ -93,7 +94,7 @@ module _ (C J : Type 0) where
       let none = (h.unseen k model number on.at dealt is-new.0).0 in
       let shadow : ClientShadow (downs_of s) k number client w.commands = subst (λ n. ClientShadow (downs_of s) n number client w.commands) home (new-shadow (downs_of s) model.worker number (d.0).port w.commands none) in
       let rings : downs_in (slice_set s.workers k model') s.carrier.lanes ≡ downs_in s.workers s.carrier.lanes = rings-same s.workers s.carrier.lanes k model model' on.at (λ o. ap (down_in o) inlet) in
-      let same : downs_of (record s { workers = slice_set s.workers k model' }) ≡ downs_of s = ap (λ ps. ps ++ refusals s.carrier.pending_batches ++ debts s.carrier.backends) rings in
+      let same : downs_of (record s { workers = slice_set s.workers k model' }) ≡ downs_of s = ap (λ ps. ps ++ refusals s.carrier.pending_runs ++ debts s.carrier.backends) rings in
       let here : (j : ℕ) → j ≡ k → slice_get s.workers j ≡ Some model = λ j z. ap (slice_get s.workers) z ∙ on.at in
       let held : (t : Ticket) (c : CommandModel) → Holds s.workers t c → Holds (slice_set s.workers k model') t c = λ t c x. held-in s.workers k model model' t c on.at
       (λ y. keeps model.clients model'.clients number client put is-new.1 t c y) x in

@@ -1,20 +1,18 @@
--- A batch is written: the machine carries it, over the link of the connection or over a new one.
-use Rattle.std.proofs.Common.{◌≡◌, ◌≢◌, ◌⊎◌, inl, inr, ⊎_elim, ℕ, zero, suc, ◌+◌, ◌<◌, Bool, true, false, List, [], ◌∷◌, ◌++◌, Some, None, refl, sym, ap, ◌∙◌, subst, arith, length}
-use Rattle.std.specs.Prelude.{slice_get, slice_set, remove, All, map, if◌then◌else◌}
+-- A run is written: the machine carries it, over the link of the connection or over a new one.
+use Rattle.std.proofs.Common.{◌≡◌, ◌≢◌, ◌⊎◌, inl, inr, ⊎_elim, ℕ, zero, suc, ◌+◌, ◌<◌, List, [], ◌∷◌, ◌++◌, Some, None, refl, sym, ap, ◌∙◌, subst, arith, length}
+use Rattle.std.specs.Prelude.{slice_get, slice_set, remove, All}
 use Rattle.std.proofs.lemmas.List.{append-nil, length-append}
 use Rattle.std.proofs.lemmas.List.Elements.{All-cons, All-nil}
 use Rattle.resp_wire.specs.declared.value.Value.{Value}
-use Rattle.key_split.specs.Requests.{Request, Asking, Command, Slots, requests_of}
-use Rattle.key_split.specs.declared.travel.Batch.{Batch}
+use Rattle.key_split.specs.Runs.{RunModel, requests_of_run}
 use Rattle.slot_map.specs.Table.{Endpoint}
 use Rattle.node_link.specs.LinkModel.{LinkModel}
-use Rattle.node_link.specs.LinkCalls.{due_of}
 use Rattle.node_link.specs.declared.link.Due.{Due}
 use Rattle.node_link.specs.declared.link.Due.TheVariants as due
-use Rattle.proxy_turns.specs.declared.pending_batch.PendingBatch.{PendingBatch}
+use Rattle.proxy_turns.specs.declared.pending_run.PendingRun.{PendingRun}
 use Rattle.proxy_turns.specs.declared.backend.Backend.{Backend}
 use Rattle.proxy_turns.specs.CarrierModel.{CarrierModel}
-use Rattle.world_laws.specs.State.{WorldModel, Link, new_link, sent, requests_of as machine_requests}
+use Rattle.world_laws.specs.State.{WorldModel, Link, new_link, sent}
 use Rattle.world_laws.specs.declared.state.Arrival.{Arrival}
 use Rattle.world_laws.specs.World.{lies_in, CarriesOver}
 use Rattle.world_laws.specs.declared.event.Event.{Event}
@@ -22,36 +20,19 @@ use Rattle.world_laws.specs.declared.event.Event.TheVariants.{Carry}
 use Rattle.world_laws.specs.Places.{total}
 use Rattle.world_laws.proofs.Recorded.{at-set, at-last, before-last}
 use Rattle.turn_laws.specs.Walks.{ticked, Walk, IsWalked}
-use Rattle.turn_laws.specs.Wire.{Wire}
+use Rattle.turn_laws.specs.Wire.{Wire, Item, Asks, Runs, Lists, items_of}
 use Rattle.turn_laws.specs.System.{System}
-use Rattle.turn_laws.specs.Shadow.{IsShadow, IsWorking, LinksShadow, BackendShadow, OpenShadow, ClosedShadow, IsKnown, HasPart, IsIdle, IsUnnumbered, Numbers, lying, coming, backs_in, requests_in, downs_of, downs_in, refused_in, told_in, lost_in, lost_by}
+use Rattle.turn_laws.specs.Shadow.{IsShadow, IsWorking, LinksShadow, BackendShadow, OpenShadow, ClosedShadow, IsKnown, IsIdle, IsUnnumbered, Numbers, lying, coming, backs_in, requests_in, dues_in, downs_of, downs_in, refused_in, told_in, lost_in, lost_by}
 use Rattle.turn_laws.proofs.Downs.{SameBag, total-set-flat}
 use Rattle.turn_laws.proofs.Frames.{set-seats, down-fits}
 use Rattle.turn_laws.proofs.Carriers.{refusals, debts, bag-parts}
 use Rattle.turn_laws.proofs.Openings.{one-connection}
 use Rattle.turn_laws.proofs.Lines.{backend-changes}
 use Rattle.turn_laws.proofs.Settled.{Goes, settles-so}
-use Rattle.turn_laws.proofs.Refused.{leaving, left-lanes, first-of-front}
+use Rattle.turn_laws.proofs.Items.{same-requests, known-run}
+use Rattle.turn_laws.proofs.Refused.{Leaving, leaving, left-lanes, first-of-front}
 use Rattle.turn_laws.proofs.Drops.{all-front}
 use Rattle.turn_laws.proofs.Written.{Writes, open-written}
-
--- the batch's requests, as the machine has them
-same-requests : (b : Batch) → requests_in (requests_of b) ≡ machine_requests (lying b)
-same-requests b = go b.asking
-  where
-    go : (asks : Bool) → requests_in ((if asks then Asking ∷ [] else []) ++ Command b.ticket b.part ∷ []) ≡ machine_requests (record { tickets = b.ticket ∷ []; node = b.node; asking = asks })
-    go true = refl
-    go false = refl
-
-known-batch : (commands : List Arrival) (b : Batch) → HasPart commands b.ticket b.part → All (IsKnown commands) (requests_of b)
-known-batch commands b h = go b.asking
-  where
-    one : All (IsKnown commands) (Command b.ticket b.part ∷ [])
-    one = All-cons (IsKnown commands) (Command b.ticket b.part) [] h (All-nil (IsKnown commands))
-
-    go : (asks : Bool) → All (IsKnown commands) ((if asks then Asking ∷ [] else []) ++ Command b.ticket b.part ∷ [])
-    go true = All-cons (IsKnown commands) Asking (Command b.ticket b.part ∷ []) tt one
-    go false = one
 
 get-last : {X : Type 0} (xs : List X) (y : X) (n : ℕ) → n ≡ length xs → slice_get (xs ++ y ∷ []) n ≡ Some y
 get-last [] y zero e = refl
@@ -65,11 +46,11 @@ set-twice (z ∷ xs) zero x y = refl
 set-twice (z ∷ xs) (suc n) x y = ap (λ us. z ∷ us) (set-twice xs n x y)
 
 -- an idle connection, as a link over which nothing went
-all-known : (commands : List Arrival) (rs : List Request) → requests_in rs ≡ [] → All (IsKnown commands) rs
+all-known : (commands : List Arrival) (rs : List Item) → requests_in rs ≡ [] → All (IsKnown commands) rs
 all-known commands [] e = All-nil (IsKnown commands)
-all-known commands (Asking ∷ rs) e = absurd (cc)
-all-known commands (Command t part ∷ rs) e = absurd (cc)
-all-known commands (Slots ∷ rs) e = All-cons (IsKnown commands) Slots rs tt (all-known commands rs e)
+all-known commands (Asks ∷ rs) e = absurd (cc)
+all-known commands (Runs parts ∷ rs) e = absurd (cc)
+all-known commands (Lists ∷ rs) e = All-cons (IsKnown commands) Lists rs tt (all-known commands rs e)
 
 no-backs : (table : List Endpoint) (node : ℕ) (ds : List Due) (values : List Value) → All (λ d. d ≡ due.Slots) ds → backs_in table node ds values ≡ []
 no-backs table node [] values all = refl
@@ -84,11 +65,11 @@ open-idle table commands link node e h = record {
   is_open = refl;
   asking = sym h.asking;
   requests = sym h.requests;
-  known = all-known commands link.port.requests h.requests;
+  known = all-known commands link.port.items h.requests;
   answered = h.answered;
   due = h.due;
   matched = h.matched;
-  backs = sym (no-backs table link.node h.answered (coming link) (all-front (λ d. d ≡ due.Slots) h.answered (map due_of link.port.requests) (subst (All (λ d. d ≡ due.Slots)) h.due h.none)));
+  backs = sym (no-backs table link.node h.answered (coming link) (all-front (λ d. d ≡ due.Slots) h.answered (dues_in link.port.items) (subst (All (λ d. d ≡ due.Slots)) h.due h.none)));
 }
 
 -- A connection gets its link: the next.
@@ -152,7 +133,7 @@ module _ {H : Type 0} (a b : CarrierModel H Wire) (closed : List Wire) (opened :
           ⊎_elim
               (λ (z : (i : ℕ) × (m : Link) × Numbers h.ids wire.id i × (slice_get w.links i ≡ Some m) × ClosedShadow w.commands wire m).
               inl (z.0, z.1, before-last h.ids (link.port.id ∷ []) z.0 wire.id z.2, before-last w.links (l' ∷ []) z.0 z.1 z.3, z.4))
-              (λ (z : IsUnnumbered h.ids wire.id × (requests_in wire.requests ≡ [])). inr (un-still wire.id (λ same. h.aside k j link wire working e (sym same)) z.0, z.1))
+              (λ (z : IsUnnumbered h.ids wire.id × (requests_in wire.items ≡ [])). inr (un-still wire.id (λ same. h.aside k j link wire working e (sym same)) z.0, z.1))
               old.1,
         );
     apart = λ j m x y p q e. ⊎_elim
@@ -172,29 +153,32 @@ module _ {H : Type 0} (a b : CarrierModel H Wire) (closed : List Wire) (opened :
     each = h.each;
   }
 
--- The batch that is pending at k is written to its node's connection.
+-- The run that is pending at k is written to its node's connection.
 pub record SendsAt {C J : Type 0} (s s' : System C J) : Type 0 where
   pub k : ℕ
-  pub b : PendingBatch
-  pub batch : Batch
+  pub b : PendingRun
+  pub run : RunModel
   pub backend : Backend Wire
   pub link : LinkModel Wire
   pub link' : LinkModel Wire
-  pub at : slice_get s.carrier.pending_batches k ≡ Some b
-  pub full : b.batch ≡ Some batch
-  pub here : slice_get s.carrier.backends batch.node ≡ Some backend
+  pub at : slice_get s.carrier.pending_runs k ≡ Some b
+  pub full : b.run ≡ Some run
+  pub here : slice_get s.carrier.backends run.first.node ≡ Some backend
   pub was : backend.link ≡ Some link
   pub worked : link.failure ≡ None
-  pub writes : Writes link (requests_of batch) link'
-  pub backends : s'.carrier.backends ≡ slice_set s.carrier.backends batch.node (record backend { link = Some link' })
-  pub pending_batches : s'.carrier.pending_batches ≡ slice_set s.carrier.pending_batches k (record b { batch = None })
+  pub writes : Writes link (requests_of_run run) link'
+  pub backends : s'.carrier.backends ≡ slice_set s.carrier.backends run.first.node (record backend { link = Some link' })
+  pub pending_runs : s'.carrier.pending_runs ≡ slice_set s.carrier.pending_runs k (record b { run = None })
   pub lanes : s'.carrier.lanes ≡ s.carrier.lanes
   pub opened : s'.opened ≡ s.opened
   pub closed : s'.closed ≡ s.closed
 
 module _ {C J : Type 0} (s s' : System C J) (w : WorldModel) (h : IsShadow s w) (walked : IsWalked w) (goes : Goes s s') (o : SendsAt s s') where
-  abbrev batch : Batch
-  batch = o.batch
+  abbrev run : RunModel
+  run = o.run
+
+  abbrev node-of : ℕ
+  node-of = run.first.node
 
   abbrev backend' : Backend Wire
   backend' = record o.backend { link = Some o.link' }
@@ -202,14 +186,14 @@ module _ {C J : Type 0} (s s' : System C J) (w : WorldModel) (h : IsShadow s w) 
   works : o.link'.failure ≡ None
   works = ap (λ (c : LinkModel Wire). c.failure) (o.writes).1 ∙ o.worked
 
-  working : IsWorking s.carrier batch.node o.link
+  working : IsWorking s.carrier node-of o.link
   working = (o.backend, o.here, o.was, o.worked)
 
-  now : (j : ℕ) (x : LinkModel Wire) → IsWorking s'.carrier j x → ((j ≡ batch.node) × (x ≡ o.link')) ⊎ ((j ≢ batch.node) × IsWorking s.carrier j x)
+  now : (j : ℕ) (x : LinkModel Wire) → IsWorking s'.carrier j x → ((j ≡ node-of) × (x ≡ o.link')) ⊎ ((j ≢ node-of) × IsWorking s.carrier j x)
   now j x y = ⊎_elim
-      (λ (z : (j ≡ batch.node) × (y.0 ≡ backend')). inl (z.0, one-connection (y.0).link x o.link' y.2 (ap (λ (l : Backend Wire). l.link) z.1)))
-      (λ (z : (j ≢ batch.node) × (slice_get s.carrier.backends j ≡ Some y.0)). inr (z.0, (y.0, z.1, y.2, y.3)))
-      (at-set s.carrier.backends batch.node backend' j y.0 (sym (ap (λ xs. slice_get xs j) o.backends) ∙ y.1))
+      (λ (z : (j ≡ node-of) × (y.0 ≡ backend')). inl (z.0, one-connection (y.0).link x o.link' y.2 (ap (λ (l : Backend Wire). l.link) z.1)))
+      (λ (z : (j ≢ node-of) × (slice_get s.carrier.backends j ≡ Some y.0)). inr (z.0, (y.0, z.1, y.2, y.3)))
+      (at-set s.carrier.backends node-of backend' j y.0 (sym (ap (λ xs. slice_get xs j) o.backends) ∙ y.1))
 
   bag : SameBag (downs_of s ++ []) (downs_of s')
   bag f =
@@ -221,10 +205,10 @@ module _ {C J : Type 0} (s s' : System C J) (w : WorldModel) (h : IsShadow s w) 
         bag-parts f s,
         bag-parts f s',
         rings,
-        ap (λ hs. total f (refusals hs)) o.pending_batches,
-        total-set-flat f (λ (pending_batch : PendingBatch). refused_in pending_batch.refused) s.carrier.pending_batches o.k o.b (record o.b { batch = None }) o.at,
+        ap (λ hs. total f (refusals hs)) o.pending_runs,
+        total-set-flat f (λ (pending_run : PendingRun). refused_in pending_run.refused) s.carrier.pending_runs o.k o.b (record o.b { run = None }) o.at,
         ap (λ ls. total f (debts ls)) o.backends,
-        total-set-flat f (λ (backend : Backend Wire). told_in backend.pending_told ++ lost_in backend.link) s.carrier.backends batch.node o.backend backend' o.here,
+        total-set-flat f (λ (backend : Backend Wire). told_in backend.pending_told ++ lost_in backend.link) s.carrier.backends node-of o.backend backend' o.here,
         none o.link' works,
         (let e : total f (told_in o.backend.pending_told ++ lost_in o.backend.link) ≡ total f (told_in o.backend.pending_told ++ []) = ap (λ p. total f (told_in o.backend.pending_told ++ lost_in p)) o.was ∙ none o.link o.worked in e),
       )
@@ -232,58 +216,61 @@ module _ {C J : Type 0} (s s' : System C J) (w : WorldModel) (h : IsShadow s w) 
   abbrev pub Simulated : Type 0
   Simulated = (events : List Event) × (w' : WorldModel) × Walk w events w' × IsShadow s' w'
 
-  node : o.link'.node ≡ batch.node
-  node = ap (λ (c : LinkModel Wire). c.node) (o.writes).1 ∙ ((h.links).backends batch.node o.link working).0
+  node : o.link'.node ≡ node-of
+  node = ap (λ (c : LinkModel Wire). c.node) (o.writes).1 ∙ ((h.links).backends node-of o.link working).0
 
   id : o.link'.port.id ≡ o.link.port.id
   id = ap (λ (p : Wire). p.id) (o.writes).0.1
 
   -- the machine carries it
-  carries : (i : ℕ) (links' : List Link) → CarriesOver (ticked w) i (lying batch) links' → LinksShadow s'.carrier s.closed s.opened (record w { links = links' }) → Simulated
+  carries : (i : ℕ) (links' : List Link) → CarriesOver (ticked w) i (lying run) links' → LinksShadow s'.carrier s.closed s.opened (record w { links = links' }) → Simulated
   carries i links' over shadow =
-      let f = leaving s w h o.k o.b batch o.at o.full in
+      let f = leaving s w h o.k o.b run o.at o.full in
       settles-so (Carry o.k i) s s' w (remove w.ups f.front.at) links' [] walked h goes
-      (f.front.at, lying batch, links', first-of-front (lies_in o.k) w.ups (lying batch) f.rest f.front, over, λ n. record (ticked w) { ups = remove w.ups f.front.at; links = links'; downs = append-nil w.downs n })
+      (f.front.at, lying run, links', first-of-front (lies_in o.k) w.ups (lying run) f.rest f.front, over, λ n. record (ticked w) { ups = remove w.ups f.front.at; links = links'; downs = append-nil w.downs n })
       (subst (λ xs. LinksShadow s'.carrier xs s'.opened (record w { links = links' })) (sym o.closed) (subst (λ n. LinksShadow s'.carrier s.closed n (record w { links = links' })) (sym o.opened) shadow))
       bag
-      (set-seats s s' o.k (record o.b { batch = None }) (ap length o.lanes) o.pending_batches (λ x e seated. absurd (nothing x e)))
+      (set-seats s s' o.k (record o.b { run = None }) (ap length o.lanes) o.pending_runs (λ x e seated. absurd (nothing x e)))
       (λ j model lane p q. down-fits s w h j model lane p (sym (ap (λ xs. slice_get xs j) o.lanes) ∙ q))
-      (left-lanes s s' w h o.k o.b (record o.b { batch = None }) batch o.at o.full refl o.lanes o.pending_batches)
+      (left-lanes s s' w h o.k o.b (record o.b { run = None }) run o.at o.full refl o.lanes o.pending_runs)
     where
-      nothing : (x : Batch) → None ≡ Some x → ⊥
+      nothing : (x : RunModel) → None ≡ Some x → ⊥
       nothing x e = cc
 
-  known : All (IsKnown w.commands) (requests_of batch)
-  known = known-batch w.commands batch (leaving s w h o.k o.b batch o.at o.full).known
+  left : Leaving s w o.k run
+  left = leaving s w h o.k o.b run o.at o.full
 
-  abbrev with_batch : Link → Link
-  with_batch l = record l { requests = l.requests ++ requests_in (requests_of batch) }
+  known : All (IsKnown w.commands) (items_of (requests_of_run run))
+  known = known-run w.commands o.k run left.known
 
-  is-sent : (l : Link) → with_batch l ≡ sent l (lying batch)
-  is-sent l = λ n. record l { requests = l.requests ++ same-requests batch n }
+  abbrev with_run : Link → Link
+  with_run l = record l { requests = l.requests ++ requests_in (items_of (requests_of_run run)) }
+
+  is-sent : (l : Link) → with_run l ≡ sent l (lying run)
+  is-sent l = λ n. record l { requests = l.requests ++ same-requests run left.known.0 n }
 
   numbered : (i : ℕ) (l : Link) → Numbers (h.links).ids o.link.port.id i → slice_get w.links i ≡ Some l → OpenShadow s.carrier.nodes w.commands o.link l → Simulated
   numbered i l numbers at open' =
-      let l' : Link = with_batch l in
+      let l' : Link = with_run l in
       let links' : List Link = slice_set w.links i l' in
-      let node' : l.node ≡ batch.node = open'.node ∙ ((h.links).backends batch.node o.link working).0 in
+      let node' : l.node ≡ node-of = open'.node ∙ ((h.links).backends node-of o.link working).0 in
       carries i links' (inl (l, at, open'.is_open, node', ap (slice_set w.links i) (is-sent l)))
-      (backend-changes s.carrier s'.carrier s.closed s.opened w (record w { links = links' }) h.links batch.node i o.link o.link' l l' working now
+      (backend-changes s.carrier s'.carrier s.closed s.opened w (record w { links = links' }) h.links node-of i o.link o.link' l l' working now
       node id goes.table numbers at refl
-      (subst (λ t. OpenShadow t w.commands o.link' l') (sym goes.table) (open-written o.link o.link' (requests_of batch) o.writes s.carrier.nodes w.commands l open' known))
+      (subst (λ t. OpenShadow t w.commands o.link' l') (sym goes.table) (open-written o.link o.link' (requests_of_run run) o.writes s.carrier.nodes w.commands l open' known))
       (λ x m z. subst (λ t. OpenShadow t w.commands x m) (sym goes.table) z)
       (λ x m z. z))
 
   unnumbered : IsUnnumbered (h.links).ids o.link.port.id → IsIdle o.link → Simulated
   unnumbered un idle =
-      let l : Link = new_link batch.node in
-      let open' = open-idle s.carrier.nodes w.commands o.link batch.node ((h.links).backends batch.node o.link working).0 idle in
-      carries (length w.links) (w.links ++ with_batch l ∷ []) (inr (refl, ap (λ (x : Link). w.links ++ x ∷ []) (is-sent l)))
-      (links-added s.carrier s'.carrier s.closed s.opened w h.links batch.node o.link o.link' (with_batch l) working now node id goes.table un
-      (open-written o.link o.link' (requests_of batch) o.writes s.carrier.nodes w.commands l open' known))
+      let l : Link = new_link node-of in
+      let open' = open-idle s.carrier.nodes w.commands o.link node-of ((h.links).backends node-of o.link working).0 idle in
+      carries (length w.links) (w.links ++ with_run l ∷ []) (inr (refl, ap (λ (x : Link). w.links ++ x ∷ []) (is-sent l)))
+      (links-added s.carrier s'.carrier s.closed s.opened w h.links node-of o.link o.link' (with_run l) working now node id goes.table un
+      (open-written o.link o.link' (requests_of_run run) o.writes s.carrier.nodes w.commands l open' known))
 
   pub sends : Simulated
   sends = ⊎_elim
       (λ (x : (i : ℕ) × (l : Link) × Numbers (h.links).ids o.link.port.id i × (slice_get w.links i ≡ Some l) × OpenShadow s.carrier.nodes w.commands o.link l). numbered x.0 x.1 x.2 x.3 x.4)
       (λ (x : IsUnnumbered (h.links).ids o.link.port.id × IsIdle o.link). unnumbered x.0 x.1)
-      ((h.links).backends batch.node o.link working).2
+      ((h.links).backends node-of o.link working).2

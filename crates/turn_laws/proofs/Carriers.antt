@@ -4,7 +4,7 @@ use Rattle.std.specs.Prelude.{slice_get, slice_set, IsSome, Option}
 use Rattle.std.specs.List.{flat_map}
 use Rattle.std.proofs.lemmas.Bool.{false≢true}
 use Rattle.node_link.specs.LinkModel.{LinkModel}
-use Rattle.proxy_turns.specs.declared.pending_batch.PendingBatch.{PendingBatch}
+use Rattle.proxy_turns.specs.declared.pending_run.PendingRun.{PendingRun}
 use Rattle.proxy_turns.specs.declared.backend.Backend.{Backend}
 use Rattle.proxy_turns.specs.CarrierModel.{CarrierEvent}
 use Rattle.world_laws.specs.State.{WorldModel}
@@ -18,8 +18,8 @@ use Rattle.turn_laws.specs.Steps.{CarrierStep, FailsAt, opened_by}
 use Rattle.turn_laws.proofs.Downs.{Pair, SameBag, total-set-flat}
 use Rattle.turn_laws.proofs.Frames.{same-seats, carrier-stutter, down-fits}
 
-abbrev pub refusals : List PendingBatch → List Pair
-refusals pending_batches = flat_map (λ (pending_batch : PendingBatch). refused_in pending_batch.refused) pending_batches
+abbrev pub refusals : List PendingRun → List Pair
+refusals pending_runs = flat_map (λ (pending_run : PendingRun). refused_in pending_run.refused) pending_runs
 
 abbrev pub line_downs : Backend Wire → List Pair
 line_downs backend = told_in backend.pending_told ++ lost_in backend.link
@@ -42,22 +42,22 @@ pub not-up : (o : Option (LinkModel Wire)) (link : LinkModel Wire) → o ≡ Som
 not-up o link e f d = absurd (false≢true (subst IsSome f d))
 
 module _ {C J : Type 0} where
-  pub bag-parts : (f : Pair → ℕ) (s : System C J) → total f (downs_of s) ≡ total f (downs_in s.workers s.carrier.lanes) + total f (refusals s.carrier.pending_batches) + total f (debts s.carrier.backends)
+  pub bag-parts : (f : Pair → ℕ) (s : System C J) → total f (downs_of s) ≡ total f (downs_in s.workers s.carrier.lanes) + total f (refusals s.carrier.pending_runs) + total f (debts s.carrier.backends)
   bag-parts f s =
-      let e : total f (downs_of s) ≡ total f ((downs_in s.workers s.carrier.lanes ++ refusals s.carrier.pending_batches) ++ debts s.carrier.backends) = refl in
-      omega (arith, e, total-append f (downs_in s.workers s.carrier.lanes ++ refusals s.carrier.pending_batches) (debts s.carrier.backends), total-append f (downs_in s.workers s.carrier.lanes) (refusals s.carrier.pending_batches))
+      let e : total f (downs_of s) ≡ total f ((downs_in s.workers s.carrier.lanes ++ refusals s.carrier.pending_runs) ++ debts s.carrier.backends) = refl in
+      omega (arith, e, total-append f (downs_in s.workers s.carrier.lanes ++ refusals s.carrier.pending_runs) (debts s.carrier.backends), total-append f (downs_in s.workers s.carrier.lanes) (refusals s.carrier.pending_runs))
 
   -- of a step of the carrier: the workers stay
   workers-stay : (event : CarrierEvent) (s s' : System C J) → CarrierStep s event s' → s'.workers ≡ s.workers
   workers-stay event s s' step = ap (λ (x : System C J). x.workers) step.leaves
 
-  -- A step by which lanes and pending_batches stay, and one backend changes, whose link stays or had failed.
+  -- A step by which lanes and pending_runs stay, and one backend changes, whose link stays or had failed.
   pub backend-stutter : (event : CarrierEvent) (s s' : System C J) (w : WorldModel) (k : ℕ) (backend backend' : Backend Wire) → IsShadow s w
       → CarrierStep s event s' → opened_by event s.opened ≡ s.opened → slice_get s.carrier.backends k ≡ Some backend
-      → s'.carrier.backends ≡ slice_set s.carrier.backends k backend' → s'.carrier.lanes ≡ s.carrier.lanes → s'.carrier.pending_batches ≡ s.carrier.pending_batches
+      → s'.carrier.backends ≡ slice_set s.carrier.backends k backend' → s'.carrier.lanes ≡ s.carrier.lanes → s'.carrier.pending_runs ≡ s.carrier.pending_runs
       → StaysDown backend backend' → SameBag (line_downs backend) (line_downs backend') → IsShadow s' w
-  backend-stutter event s s' w k backend backend' h step quiet at backends lanes pending_batches stays bag =
-      carrier-stutter event s s' w h step quiet works fails (same-seats s s' (ap length lanes) pending_batches)
+  backend-stutter event s s' w k backend backend' h step quiet at backends lanes pending_runs stays bag =
+      carrier-stutter event s s' w h step quiet works fails (same-seats s s' (ap length lanes) pending_runs)
       (λ j model lane p q. down-fits s w h j model lane p (sym (ap (λ xs. slice_get xs j) lanes) ∙ q))
       whole ups
     where
@@ -96,12 +96,12 @@ module _ {C J : Type 0} where
       whole f =
           let fl = workers-stay event s s' step in
           let rings : total f (downs_in s'.workers s'.carrier.lanes) ≡ total f (downs_in s.workers s.carrier.lanes) = λ i. total f (downs_in (fl i) (lanes i)) in
-          let held : total f (refusals s'.carrier.pending_batches) ≡ total f (refusals s.carrier.pending_batches) = λ i. total f (refusals (pending_batches i)) in
+          let held : total f (refusals s'.carrier.pending_runs) ≡ total f (refusals s.carrier.pending_runs) = λ i. total f (refusals (pending_runs i)) in
           let owing : total f (debts s'.carrier.backends) ≡ total f (debts (slice_set s.carrier.backends k backend')) = λ i. total f (debts (backends i)) in
           omega (arith, bag-parts f s, bag-parts f s', rings, held, owing, total-set-flat f (λ (backend : Backend Wire). told_in backend.pending_told ++ lost_in backend.link) s.carrier.backends k backend backend' at, bag f)
 
       ups : UpsShadow s.workers s'.carrier w
       ups j model lane p q =
           let x = h.lanes j model lane p (sym (ap (λ xs. slice_get xs j) lanes) ∙ q) in
-          let pending_batch : slice_get s'.carrier.pending_batches j ≡ slice_get s.carrier.pending_batches j = ap (λ xs. slice_get xs j) pending_batches in
-          subst (LaneShadow w j model lane) (sym pending_batch) x
+          let pending_run : slice_get s'.carrier.pending_runs j ≡ slice_get s.carrier.pending_runs j = ap (λ xs. slice_get xs j) pending_runs in
+          subst (LaneShadow w j model lane) (sym pending_run) x

@@ -85,7 +85,7 @@ module _ {C J : Type 0} where
       → IsShadow (record s { workers = slice_set s.workers k model' }) w
   worker-frame s w h k model model' at worker posts steps fits = record {
     workers = set-size s.workers k model' ∙ h.workers;
-    alone = h.alone;
+    limit = h.limit;
     cluster = h.cluster;
     apart = h.apart;
     numbered = λ j f p. ⊎_elim
@@ -106,8 +106,8 @@ module _ {C J : Type 0} where
     told = h.told;
     lanes = λ j f lane p q. ⊎_elim
         (λ (z : (j ≡ k) × (f ≡ model')).
-        let was : ListShadow w j (ups_in model lane (slice_get s.carrier.pending_batches j)) = h.lanes j model lane (here j z.0) q in
-        let now : ListShadow w j (ups_in f lane (slice_get s.carrier.pending_batches j)) = subst (ListShadow w j) (sym (ap (λ (x : WorkerModel C J). ups_in x lane (slice_get s.carrier.pending_batches j)) z.1 ∙ ups-out model model' lane posts (slice_get s.carrier.pending_batches j))) was in now)
+        let was : ListShadow w j (ups_in model lane (slice_get s.carrier.pending_runs j)) = h.lanes j model lane (here j z.0) q in
+        let now : ListShadow w j (ups_in f lane (slice_get s.carrier.pending_runs j)) = subst (ListShadow w j) (sym (ap (λ (x : WorkerModel C J). ups_in x lane (slice_get s.carrier.pending_runs j)) z.1 ∙ ups-out model model' lane posts (slice_get s.carrier.pending_runs j))) was in now)
         (λ (z : (j ≢ k) × (slice_get s.workers j ≡ Some f)). h.lanes j f lane z.1 q)
         (at-set s.workers k model' j f p);
     links = h.links;
@@ -196,7 +196,7 @@ module _ {C J : Type 0} where
       → IsShadow (record s { workers = slice_set s.workers k model' }) w
   one-client s w h k number model model' client client' at got worker newest outlet inlet put fits shadow keeps =
       let rings : downs_in (slice_set s.workers k model') s.carrier.lanes ≡ downs_in s.workers s.carrier.lanes = rings-same s.workers s.carrier.lanes k model model' at (λ o. ap (down_in o) inlet) in
-      let same : downs_of (record s { workers = slice_set s.workers k model' }) ≡ downs_of s = ap (λ ps. ps ++ refusals s.carrier.pending_batches ++ debts s.carrier.backends) rings in
+      let same : downs_of (record s { workers = slice_set s.workers k model' }) ≡ downs_of s = ap (λ ps. ps ++ refusals s.carrier.pending_runs ++ debts s.carrier.backends) rings in
       worker-frame s w h k model model' at worker (ap posted outlet)
       (λ lane q. subst (λ (i : Inlet Pair). ((o : Outlet Pair) → lane.down ≡ Some o → IsInStep o i) × All (λ (p : Pair). p.0.worker ≡ k) (down_in lane.down i) × IsSome lane.down) (sym inlet) (down-fits s w h k model lane at q))
       (subst (λ ps. Fitting (slice_set s.workers k model') (length s.carrier.lanes) w.workers ps w.commands) (sym same)

@@ -3,12 +3,11 @@ use Rattle.std.proofs.Common.{◌≡◌, ◌≢◌, inl, inr, ⊎_elim, ℕ, zer
 use Rattle.std.specs.Prelude.{slice_get, slice_set, All, map, IsSome}
 use mathlib.Core.List.{IsPrefix}
 use Rattle.resp_wire.specs.declared.value.Value.{Value}
-use Rattle.key_split.specs.Requests.{Request, Asking, Command, Slots}
 use Rattle.key_split.specs.declared.travel.Ticket.{Ticket}
 use Rattle.key_split.specs.declared.travel.Told.TheVariants.{Lost}
 use Rattle.slot_map.specs.Table.{Endpoint}
 use Rattle.node_link.specs.LinkModel.{LinkModel}
-use Rattle.node_link.specs.LinkCalls.{due_of, tickets_of}
+use Rattle.node_link.specs.LinkCalls.{tickets_of}
 use Rattle.node_link.specs.declared.link.Due.{Due}
 use Rattle.node_link.specs.declared.link.Due.TheVariants as due
 use Rattle.node_link.specs.declared.link.Failure.{Failure}
@@ -16,8 +15,6 @@ use Rattle.proxy_turns.specs.declared.backend.Backend.{Backend}
 use Rattle.proxy_turns.specs.CarrierModel.{CarrierModel}
 use Rattle.world_laws.specs.State.{WorldModel, Link, answered_of, sent_of, waiting}
 use Rattle.world_laws.specs.declared.state.Arrival.{Arrival}
-use Rattle.world_laws.specs.declared.state.LinkRequest.{LinkRequest}
-use Rattle.world_laws.specs.declared.state.LinkRequest.TheVariants as asked
 use Rattle.world_laws.specs.declared.event.Event.{Event}
 use Rattle.world_laws.specs.declared.event.Event.TheVariants.{Drop}
 use Rattle.world_laws.specs.Places.{total}
@@ -27,9 +24,10 @@ use Rattle.world_laws.proofs.Recorded.{at-set, set-same, at-last}
 use Rattle.turn_laws.specs.Walks.{Walk, IsWalked}
 use Rattle.turn_laws.specs.Wire.{Wire}
 use Rattle.turn_laws.specs.System.{System}
-use Rattle.turn_laws.specs.Shadow.{IsShadow, IsWorking, LinksShadow, WireShadow, OpenShadow, ClosedShadow, LaneShadow, IsKnown, IsIdle, IsUnnumbered, Numbers, coming, backs_in, requests_in, downs_of, downs_in, told_in, lost_in, lost_by}
+use Rattle.turn_laws.specs.Shadow.{IsShadow, IsWorking, LinksShadow, WireShadow, OpenShadow, ClosedShadow, LaneShadow, IsKnown, IsIdle, IsUnnumbered, Numbers, coming, backs_in, requests_in, dues_in, downs_of, downs_in, told_in, lost_in, lost_by}
 use Rattle.turn_laws.specs.Steps.{FailsAt, Breaks}
 use Rattle.turn_laws.proofs.Downs.{Pair, SameBag, total-set-flat}
+use Rattle.turn_laws.proofs.Items.{tickets-append, sent-tickets}
 use Rattle.turn_laws.proofs.Frames.{same-seats, down-fits}
 use Rattle.turn_laws.proofs.Carriers.{refusals, debts, bag-parts, not-up}
 use Rattle.turn_laws.proofs.Openings.{one-backend, one-connection}
@@ -38,12 +36,6 @@ use Rattle.turn_laws.proofs.Walks.{walked-sound}
 use Rattle.turn_laws.proofs.Settled.{Goes, settled-frame, settles-so}
 
 -- who waits, as the code and the machine have it
-pub tickets-append : (a b : List Due) → tickets_of (a ++ b) ≡ tickets_of a ++ tickets_of b
-tickets-append [] b = refl
-tickets-append (due.Asking ∷ a) b = tickets-append a b
-tickets-append (due.Command t ∷ a) b = ap (λ ts. t ∷ ts) (tickets-append a b)
-tickets-append (due.Slots ∷ a) b = tickets-append a b
-
 answered-tickets : (table : List Endpoint) (node : ℕ) (ds : List Due) (values : List Value) → length ds ≡ length values → answered_of (backs_in table node ds values) ≡ tickets_of ds
 answered-tickets table node [] values e = refl
 answered-tickets table node (d ∷ ds) [] e = absurd (omega (arith, e))
@@ -51,29 +43,17 @@ answered-tickets table node (due.Asking ∷ ds) (v ∷ vs) e = answered-tickets 
 answered-tickets table node (due.Command t ∷ ds) (v ∷ vs) e = ap (λ ts. t ∷ ts) (answered-tickets table node ds vs (omega (arith, e)))
 answered-tickets table node (due.Slots ∷ ds) (v ∷ vs) e = answered-tickets table node ds vs (omega (arith, e))
 
-sent-tickets : (rs : List Request) → sent_of (requests_in rs) ≡ tickets_of (map due_of rs)
-sent-tickets [] = refl
-sent-tickets (Asking ∷ rs) = sent-tickets rs
-sent-tickets (Command t part ∷ rs) = ap (λ ts. t ∷ ts) (sent-tickets rs)
-sent-tickets (Slots ∷ rs) = sent-tickets rs
-
 waiting-tickets : (table : List Endpoint) (commands : _) (link : LinkModel Wire) (l : Link) → OpenShadow table commands link l → waiting l ≡ tickets_of link.due
 waiting-tickets table commands link l h =
     (λ i. answered_of (h.backs i) ++ sent_of (h.requests i))
-    ∙ (λ i. answered-tickets table link.node h.answered (coming link) h.matched i ++ sent-tickets link.port.requests i)
-    ∙ sym (tickets-append h.answered (map due_of link.port.requests)) ∙ ap tickets_of (sym h.due)
+    ∙ (λ i. answered-tickets table link.node h.answered (coming link) h.matched i ++ sent-tickets link.port.items i)
+    ∙ sym (tickets-append h.answered (dues_in link.port.items)) ∙ ap tickets_of (sym h.due)
 
 no-tickets : (ds : List Due) → All (λ d. d ≡ due.Slots) ds → tickets_of ds ≡ []
 no-tickets [] all = refl
 no-tickets (d ∷ ds) all =
     let first : d ≡ due.Slots = all 0 d (omega arith) in
     ap (λ x. tickets_of (x ∷ ds)) first ∙ no-tickets ds (λ i x lt. all (suc i) x (omega (arith, lt)))
-
-pub requests-append : (a b : List Request) → requests_in (a ++ b) ≡ requests_in a ++ requests_in b
-requests-append [] b = refl
-requests-append (Asking ∷ a) b = ap (λ (rs : List LinkRequest). asked.Asking ∷ rs) (requests-append a b)
-requests-append (Command t part ∷ a) b = ap (λ (rs : List LinkRequest). asked.Runs (t ∷ []) ∷ rs) (requests-append a b)
-requests-append (Slots ∷ a) b = requests-append a b
 
 front-empty : {X : Type 0} (a b : List X) → a ++ b ≡ [] → a ≡ []
 front-empty [] b e = refl
@@ -158,7 +138,7 @@ pub record BreaksAt {C J : Type 0} (s s' : System C J) : Type 0 where
   pub failed : link'.failure ≡ Some why
   pub owes : backend'.pending_told ≡ backend.pending_told
   pub lanes : s'.carrier.lanes ≡ s.carrier.lanes
-  pub pending_batches : s'.carrier.pending_batches ≡ s.carrier.pending_batches
+  pub pending_runs : s'.carrier.pending_runs ≡ s.carrier.pending_runs
   pub opened : s'.opened ≡ s.opened
   pub closed : s'.closed ≡ s.closed ++ record link'.port { values = [] } ∷ []
   pub due : tickets_of link'.due ≡ tickets_of link.due
@@ -166,8 +146,8 @@ pub record BreaksAt {C J : Type 0} (s s' : System C J) : Type 0 where
   pub node : link'.port.node ≡ link.port.node
   pub asking : link'.port.asking ≡ link.port.asking
   -- what was written for the machine is a front of what it had
-  pub requests : IsPrefix (requests_in link'.port.requests) (requests_in link.port.requests)
-  pub known : (commands : List Arrival) → All (IsKnown commands) link.port.requests → All (IsKnown commands) link'.port.requests
+  pub requests : IsPrefix (requests_in link'.port.items) (requests_in link.port.items)
+  pub known : (commands : List Arrival) → All (IsKnown commands) link.port.items → All (IsKnown commands) link'.port.items
 
 module _ {C J : Type 0} (s s' : System C J) (w : WorldModel) (h : IsShadow s w) (walked : IsWalked w) (goes : Goes s s') (o : BreaksAt s s') where
   abbrev wire : Wire
@@ -199,7 +179,7 @@ module _ {C J : Type 0} (s s' : System C J) (w : WorldModel) (h : IsShadow s w) 
         bag-parts f s,
         bag-parts f s',
         rings,
-        ap (λ hs. total f (refusals hs)) o.pending_batches,
+        ap (λ hs. total f (refusals hs)) o.pending_runs,
         ap (λ ls. total f (debts ls)) o.backends,
         total-set-flat f (λ (backend : Backend Wire). told_in backend.pending_told ++ lost_in backend.link) s.carrier.backends o.k o.backend o.backend' o.here,
         (let e : total f (told_in o.backend'.pending_told ++ lost_in o.backend'.link) ≡ total f (told_in o.backend.pending_told ++ lost) =
@@ -235,14 +215,14 @@ module _ {C J : Type 0} (s s' : System C J) (w : WorldModel) (h : IsShadow s w) 
       (inl (i, l', subst (λ n. Numbers (h.links).ids n i) (sym o.id) numbers, set-same w.links i l l' at, shadow))
       (λ n other m p ne e. not-mine (h.links).ids w.links i o.link.port.id n other l' m numbers p ne e)))
       bag
-      (same-seats s s' (ap length o.lanes) o.pending_batches)
+      (same-seats s s' (ap length o.lanes) o.pending_runs)
       (λ j model lane p q. down-fits s w h j model lane p (sym (ap (λ xs. slice_get xs j) o.lanes) ∙ q))
-      (λ j model lane p q. subst (LaneShadow w j model lane) (sym (ap (λ xs. slice_get xs j) o.pending_batches)) (h.lanes j model lane p (sym (ap (λ xs. slice_get xs j) o.lanes) ∙ q)))
+      (λ j model lane p q. subst (LaneShadow w j model lane) (sym (ap (λ xs. slice_get xs j) o.pending_runs)) (h.lanes j model lane p (sym (ap (λ xs. slice_get xs j) o.lanes) ∙ q)))
 
   idle : IsUnnumbered (h.links).ids o.link.port.id → IsIdle o.link → Simulated
   idle un idle' =
       let none : lost ≡ [] = ap lost_tickets (no-tickets o.link.due idle'.none) in
-      let quiet : requests_in wire.requests ≡ [] = front-empty (requests_in o.link'.port.requests) (o.requests).0 ((o.requests).1 ∙ idle'.requests) in
+      let quiet : requests_in wire.items ≡ [] = front-empty (requests_in o.link'.port.items) (o.requests).0 ((o.requests).1 ∙ idle'.requests) in
       let same : SameBag (downs_of s ++ []) (downs_of s') = subst (λ ps. SameBag (downs_of s ++ ps) (downs_of s')) none bag in (
         [],
         w,
@@ -252,9 +232,9 @@ module _ {C J : Type 0} (s s' : System C J) (w : WorldModel) (h : IsShadow s w) 
             (shown w.links (links-broken s.carrier s'.carrier s.closed s.opened w h.links w.links o.k o.link wire working now o.id goes.table refl
             (inr (subst (IsUnnumbered (h.links).ids) (sym o.id) un, quiet)) (λ n other m p ne e. e)))
             refl same
-            (same-seats s s' (ap length o.lanes) o.pending_batches)
+            (same-seats s s' (ap length o.lanes) o.pending_runs)
             (λ j model lane p q. down-fits s w h j model lane p (sym (ap (λ xs. slice_get xs j) o.lanes) ∙ q))
-            (λ j model lane p q. subst (LaneShadow w j model lane) (sym (ap (λ xs. slice_get xs j) o.pending_batches)) (h.lanes j model lane p (sym (ap (λ xs. slice_get xs j) o.lanes) ∙ q)))),
+            (λ j model lane p q. subst (LaneShadow w j model lane) (sym (ap (λ xs. slice_get xs j) o.pending_runs)) (h.lanes j model lane p (sym (ap (λ xs. slice_get xs j) o.lanes) ∙ q)))),
       )
 
   pub drops : Simulated

@@ -1,5 +1,5 @@
--- The command of a part is dropped, or ends: the machine does nothing.
-use Rattle.std.proofs.Common.{◌≡◌, ◌≢◌, inl, inr, ⊎_elim, ℕ, zero, suc, ◌+◌, ◌-◌, ◌<◌, ◌≤◌, ◌%◌, ◌==◌, Bool, true, false, List, Some, None, refl, sym, ap, ◌∙◌, subst, arith, length}
+-- Commands are dropped, or one ends: the machine does nothing.
+use Rattle.std.proofs.Common.{◌≡◌, ◌≢◌, ◌⊎◌, inl, inr, ⊎_elim, ℕ, zero, suc, ◌+◌, ◌-◌, ◌<◌, ◌≤◌, ◌%◌, ◌==◌, Bool, true, false, List, [], Some, None, refl, sym, ap, ◌∙◌, subst, arith, length}
 use Rattle.std.specs.Prelude.{slice_get, slice_set, Option, cond, if◌then◌else◌}
 use Rattle.std.specs.FinMap.{FinMap, get, remove, get-remove}
 use Rattle.std.specs.Ordering.{nat_cmp, eq_by_cmp}
@@ -22,16 +22,19 @@ use Rattle.proxy_turns.specs.Commands.{CommandsModel}
 use Rattle.proxy_turns.specs.ClientModel.{ClientModel}
 use Rattle.proxy_turns.specs.ClientTurn.{ClientContext, Dropped}
 use Rattle.proxy_turns.specs.WorkerModel.{WorkerModel, Did, Finished}
+use Rattle.world_laws.specs.State.{HasEnded}
 use Rattle.world_laws.specs.declared.state.Arrival.{Arrival}
 use Rattle.world_laws.specs.Places.{total, is}
 use Rattle.world_laws.proofs.Nodes.{set-size}
 use Rattle.world_laws.proofs.Tally.{total-found}
 use Rattle.world_laws.proofs.Recorded.{at-set, set-same, set-other}
-use Rattle.turn_laws.specs.Shadow.{ClientShadow, KeptShadow, IsLetGo, StageShadow, HasCommand, Holds, ToldFrom, downs_of, seat_of}
+use Rattle.turn_laws.specs.Shadow.{ClientShadow, KeptShadow, IsLetGo, StageShadow, HasCommand, IsAtFirst, Holds, ToldFrom, downs_of, seat_of}
 use Rattle.turn_laws.specs.Steps.{AtWorker}
 use Rattle.turn_laws.specs.Refines.{Simulates}
 use Rattle.turn_laws.proofs.Downs.{Pair}
+use Rattle.turn_laws.proofs.AtLanes.{nothing-there}
 use Rattle.turn_laws.proofs.AtWorkers.{nat_eq_by}
+use Rattle.turn_laws.proofs.Standing.{order-on}
 use Rattle.turn_laws.proofs.Walks.{walked-sound}
 use Rattle.turn_laws.proofs.Told.{Fitting, fitting}
 use Rattle.turn_laws.proofs.Clients.{unseen-step, one-client}
@@ -109,48 +112,45 @@ module _ {C J : Type 0} (workers : List (WorkerModel C J)) (lanes dealt : ℕ) (
 
 -- ---- dropped
 
-dropped-stage : (downs : List Pair) (client-gone : Bool) (commands : CommandsModel) (f : CommandModel) → client-gone ≡ true → commands.fresh ≡ Some f
-    → (f ≡ fresh f.ticket f.part) → (get commands.posted f.ticket.part ≡ None)
-    → ((i : ℕ) (told : Told) → slice_get downs i ≡ Some (f.ticket, told) → ⊥)
-    → (stage : PartStage) (end : Ended) (c : Arrival) → StageShadow downs client-gone commands stage end c → StageShadow downs client-gone (record commands { fresh = None }) stage end c
-dropped-stage downs gone commands f g has begun none alone (Waiting part) end c x = x
-dropped-stage downs gone commands f g has begun none alone (Out slot) end c x = (
+dropped-stage : (downs : List Pair) (client-gone : Bool) (commands : CommandsModel) → client-gone ≡ true
+    → ((f : CommandModel) → IsAtFirst commands f → (f ≡ fresh f.ticket f.part) × (get commands.posted f.ticket.part ≡ None))
+    → ((f : CommandModel) → IsAtFirst commands f → (i : ℕ) (told : Told) → slice_get downs i ≡ Some (f.ticket, told) → ⊥)
+    → (stage : PartStage) (end : Ended) (c : Arrival) → StageShadow downs client-gone commands stage end c → StageShadow downs client-gone (record commands { fresh = [] }) stage end c
+dropped-stage downs gone commands g begun alone (Waiting part) end c x = x
+dropped-stage downs gone commands g begun alone (Out slot) end c x = (
   x.0,
   ⊎_elim
       (λ (y : (d : CommandModel) × HasCommand commands c.command.ticket.part d × ToldFrom downs d c.command). ⊎_elim
-      (λ (z : (commands.fresh ≡ Some y.0) × ((y.0).ticket.part ≡ c.command.ticket.part)).
-      let same : y.0 ≡ f = one-of commands.fresh y.0 f z.0 has in
-      let so : c.command ≡ f = ⊎_elim (λ (u : (c.command ≡ y.0) × (total (λ (p : Pair). is (y.0).ticket p.0) downs ≡ 0)). u.0 ∙ same)
-      (λ (u : (told : Told) × (i : ℕ) × (slice_get downs i ≡ Some ((y.0).ticket, told)) × (c.command ≡ progress_told y.0 told)).
-      absurd (alone u.1 u.0 (u.2 ∙ ap (λ (d : CommandModel). Some (d.ticket, u.0)) same))) y.2 in
-      inr (g, so ∙ begun ∙ ap (λ (d : CommandModel). fresh d.ticket d.part) (sym so), ap (λ (d : CommandModel). get commands.posted d.ticket.part) so ∙ none))
+      (λ (z : IsAtFirst commands y.0 × ((y.0).ticket.part ≡ c.command.ticket.part)).
+      let so : c.command ≡ y.0 = ⊎_elim (λ (u : (c.command ≡ y.0) × (total (λ (p : Pair). is (y.0).ticket p.0) downs ≡ 0)). u.0)
+      (λ (u : (told : Told) × (i : ℕ) × (slice_get downs i ≡ Some ((y.0).ticket, told)) × (c.command ≡ progress_told y.0 told)). absurd (alone y.0 z.0 u.1 u.0 u.2)) y.2 in
+      let was = begun y.0 z.0 in
+      inr (g, so ∙ was.0 ∙ ap (λ (d : CommandModel). fresh d.ticket d.part) (sym so), ap (λ (d : CommandModel). get commands.posted d.ticket.part) so ∙ was.1))
       (λ (z : get commands.posted c.command.ticket.part ≡ Some y.0). inl (y.0, inr z, y.2))
       y.1)
       (λ y. inr y)
       x.1,
 )
-dropped-stage downs gone commands f g has begun none alone Done end c x = x
+dropped-stage downs gone commands g begun alone Done end c x = x
 
 module _ (C J : Type 0) where
-  pub dropped : (k number : ℕ) (ticket : Ticket) → Simulates C J (AtWorker k (Did number (Dropped ticket)))
-  dropped k number ticket s s' w h walked on =
+  pub dropped : (k number : ℕ) (tickets : List Ticket) → Simulates C J (AtWorker k (Did number (Dropped tickets)))
+  dropped k number tickets s s' w h walked on =
       let d = on.does in
       let client : ClientModel C = d.0 in
       let client' : ClientModel C = d.1 in
-      let f : CommandModel = d.3.1 in
       let gone : client.gone ≡ true = d.3.0 in
-      let has : client.commands.fresh ≡ Some f = d.3.2 in
-      let now : client' ≡ record client { commands = record (client.commands) { fresh = None } } = ap (λ (x : ClientContext C). x.client) d.3.4 in
-      let outlet : (on.new).outlet ≡ (on.old).outlet = ap (λ (x : ClientContext C). x.outlet) d.3.4 in
+      let now : client' ≡ record client { commands = record (client.commands) { fresh = [] } } = ap (λ (x : ClientContext C). x.client) d.3.3 in
+      let outlet : (on.new).outlet ≡ (on.old).outlet = ap (λ (x : ClientContext C). x.outlet) d.3.3 in
       let e = d.4 in
       let fits = fitting s w (walked-sound w walked).placed h in
       let old : ClientShadow (downs_of s) k number client w.commands = (h.clients k on.old number client on.at d.2).1 in
+      let alone : (f : CommandModel) → IsAtFirst client.commands f → (i : ℕ) (told : Told) → slice_get (downs_of s) i ≡ Some (f.ticket, told) → ⊥ = λ f has i told x.
       let begun = (old.commands).fresh f has in
-      let alone : (i : ℕ) (told : Told) → slice_get (downs_of s) i ≡ Some (f.ticket, told) → ⊥ = λ i told x.
       let a = told-awaits s.workers (length s.carrier.lanes) w.workers (downs_of s) w.commands fits k number on.old client on.at d.2 f.ticket i told x
       (mine s.workers (length s.carrier.lanes) w.workers (downs_of s) w.commands fits k number on.old client on.at d.2 f.ticket begun.0) in
       none-some (get client.commands.posted f.ticket.part) a.0 begun.2 a.1 in
-      let shadow : ClientShadow (downs_of s) k number (record client { commands = record (client.commands) { fresh = None } }) w.commands = record {
+      let shadow : ClientShadow (downs_of s) k number (record client { commands = record (client.commands) { fresh = [] } }) w.commands = record {
         numbered = old.numbered;
         housed = old.housed;
         all = old.all;
@@ -158,14 +158,14 @@ module _ (C J : Type 0) where
         stands = old.stands;
         homes = old.homes;
         parts = λ j c p q. ⊎_elim (λ (y : KeptShadow (downs_of s) client c). inl (⊎_elim (λ x. inl x)
-            (λ x. inr (x.0, x.1, (x.2.0, x.2.1, x.2.2, x.2.3, dropped-stage (downs_of s) client.gone client.commands f gone has begun.1 begun.2 alone x.2.0 x.2.1 c x.2.4)))
+            (λ x. inr (x.0, x.1, (x.2.0, x.2.1, x.2.2, x.2.3, dropped-stage (downs_of s) client.gone client.commands gone (λ f has. let begun = (old.commands).fresh f has in (begun.1, begun.2)) alone x.2.0 x.2.1 c x.2.4)))
             y)) (λ (y : IsLetGo client c.command.ticket). inr y) (old.parts j c p q);
-        commands = record { posted = (old.commands).posted; fresh = λ c x. absurd (none-some None c refl x) };
+        commands = record { posted = (old.commands).posted; fresh = λ c x. absurd (nothing-there x.0 c x.1); apart = λ i j c d p q e. absurd (nothing-there i c p) };
         owed = old.owed;
         ends = old.ends;
         quit = old.quit;
       } in
-      unseen-step k (Did number (Dropped ticket)) s s' w on on.seen.4
+      unseen-step k (Did number (Dropped tickets)) s s' w on on.seen.4
       (one-client s w h k number on.old on.new client client' on.at d.2 (ap seat_of e) (ap (λ (x : WorkerModel C J). x.newest) e) outlet (ap (λ (x : WorkerModel C J). x.inlet) e) (ap (λ (x : WorkerModel C J). x.clients) e)
       fits (subst (λ (c : ClientModel C). ClientShadow (downs_of s) k number c w.commands) (sym now) shadow)
       (λ part c p q. ap (λ (x : ClientModel C). get x.commands.posted part) now ∙ p))
@@ -183,7 +183,7 @@ finished-stage downs gone commands number c ne (Out slot) end x = (
   x.0,
   ⊎_elim
       (λ (y : (d : CommandModel) × HasCommand commands c.command.ticket.part d × ToldFrom downs d c.command). ⊎_elim
-      (λ (z : (commands.fresh ≡ Some y.0) × ((y.0).ticket.part ≡ c.command.ticket.part)). inl (y.0, inl z, y.2))
+      (λ (z : IsAtFirst commands y.0 × ((y.0).ticket.part ≡ c.command.ticket.part)). inl (y.0, inl z, y.2))
       (λ (z : get commands.posted c.command.ticket.part ≡ Some y.0). inl (y.0, inr (removed-other commands.posted number c.command.ticket.part ne ∙ z), y.2))
       y.1)
       (λ y. inr (y.0, y.1, removed-none commands.posted number c.command.ticket.part y.2))
@@ -193,14 +193,14 @@ finished-stage downs gone commands number c ne Done end x = x
 
 -- the command that ended is that of the machine
 ended-stage : (downs : List Pair) (gone : Bool) (commands : CommandsModel) (number : ℕ) (f : CommandModel) (ended : Ended) → get commands.posted number ≡ Some f → f.stage ≡ Over ended
-    → ((d : CommandModel) → commands.fresh ≡ Some d → get commands.posted d.ticket.part ≡ None)
+    → ((d : CommandModel) → IsAtFirst commands d → get commands.posted d.ticket.part ≡ None)
     → ((i : ℕ) (told : Told) → slice_get downs i ≡ Some (f.ticket, told) → ⊥)
     → (c : Arrival) → c.command.ticket.part ≡ number → (slot : ℕ) (end : Ended) → StageShadow downs gone commands (Out slot) end c → c.command.stage ≡ Over ended
 ended-stage downs gone commands number f ended has over none alone c at slot end x = ⊎_elim
     (λ (y : (d : CommandModel) × HasCommand commands c.command.ticket.part d × ToldFrom downs d c.command).
     let here : get commands.posted c.command.ticket.part ≡ Some f = ap (get commands.posted) at ∙ has in
     let same : y.0 ≡ f = ⊎_elim
-    (λ (z : (commands.fresh ≡ Some y.0) × ((y.0).ticket.part ≡ c.command.ticket.part)). absurd (none-some (get commands.posted c.command.ticket.part) f (ap (get commands.posted) (sym z.1) ∙ none y.0 z.0) here))
+    (λ (z : IsAtFirst commands y.0 × ((y.0).ticket.part ≡ c.command.ticket.part)). absurd (none-some (get commands.posted c.command.ticket.part) f (ap (get commands.posted) (sym z.1) ∙ none y.0 z.0) here))
     (λ (z : get commands.posted c.command.ticket.part ≡ Some y.0). one-of (get commands.posted c.command.ticket.part) y.0 f z here) y.1 in
     ⊎_elim (λ (u : (c.command ≡ y.0) × (total (λ (p : Pair). is (y.0).ticket p.0) downs ≡ 0)). ap (λ (d : CommandModel). d.stage) (u.0 ∙ same) ∙ over)
     (λ (u : (told : Told) × (i : ℕ) × (slice_get downs i ≡ Some ((y.0).ticket, told)) × (c.command ≡ progress_told y.0 told)).
@@ -300,13 +300,34 @@ module _ {C : Type 0} (downs : List Pair) (worker number : ℕ) (client : Client
               (λ (y : ((c.command.ticket.part == ticket.part) ≡ false) × (c.command.ticket.part ≢ ticket.part)). there y.1)
               (eqb_tells c.command.ticket.part ticket.part)
 
+  -- the machine's command of the part that ended has ended too
+  its-end : (j : ℕ) (c : Arrival) → slice_get arrivals j ≡ Some c → IsHandedOut held c.command.ticket → c.command.ticket.part ≡ ticket.part → HasEnded c
+  its-end j c at o same = ⊎_elim
+      (λ (x : KeptShadow downs client c). ⊎_elim
+      (λ (y : (c.command.ticket.part < held.first) × (c.answered ≡ true) × ((ended : Ended) × (c.command.stage ≡ Over ended))). y.2)
+      (λ (y : (held.first ≤ c.command.ticket.part) × (c.answered ≡ false) × ((stage : PartStage) × (e : Ended)
+      × (slice_get held.stages (c.command.ticket.part - held.first) ≡ Some stage)
+      × (slice_get held.ends (c.command.ticket.part - held.first) ≡ Some e)
+      × StageShadow downs client.gone client.commands stage e c)).
+      let is-out : y.2.0 ≡ Out o.0 = one-item held.stages (c.command.ticket.part - held.first) y.2.0 (Out o.0) y.2.2 o.2 in
+      (end, ended-stage downs client.gone client.commands ticket.part f end has over (λ d z. ((old.commands).fresh d z).2) alone c same o.0 y.2.1 (subst (λ s. StageShadow downs client.gone client.commands s y.2.1 c) is-out y.2.4)))
+      x)
+      (λ (x : IsLetGo client c.command.ticket). absurd (x.1 o))
+      (old.parts j c at (o.4 ∙ old.numbered))
+
+  over-or-out : (j : ℕ) (c : Arrival) → slice_get arrivals j ≡ Some c → IsHandedOut held c.command.ticket → HasEnded c ⊎ IsHandedOut session' c.command.ticket
+  over-or-out j c at o = ⊎_elim
+      (λ (y : ((c.command.ticket.part == ticket.part) ≡ true) × (c.command.ticket.part ≡ ticket.part)). inl (its-end j c at o y.1))
+      (λ (y : ((c.command.ticket.part == ticket.part) ≡ false) × (c.command.ticket.part ≢ ticket.part)). inr (beside-it c.command.ticket y.1 o))
+      (eqb_tells c.command.ticket.part ticket.part)
+
   pub finished-shadow : ClientShadow downs worker number (record client { session = session'; commands = commands' }) arrivals
   finished-shadow = record {
     numbered = old.numbered;
     housed = old.housed;
     all = λ here. old.all here ∙ ap (λ m. held.first + m) (sym (set-size held.stages n Done));
     read = λ here part lt. old.read here part (subst (λ m. part < held.first + m) (set-size held.stages n Done) lt);
-    stands = λ t x. old.stands t (was-out t x);
+    stands = λ t x. let was = old.stands t (was-out t x) in (was.0, order-on held session' arrivals over-or-out t was.1);
     homes = old.homes;
     parts = λ j c p q. ⊎_elim
         (λ (x : KeptShadow downs client c). inl (part-of c x))
@@ -320,6 +341,7 @@ module _ {C : Type 0} (downs : List Pair) (worker number : ℕ) (client : Client
       fresh = λ c e.
           let was = (old.commands).fresh c e in
           (beside-it c.ticket (λ same. none-some (get client.commands.posted ticket.part) f (ap (get client.commands.posted) (sym same) ∙ was.2) has) was.0, was.1, removed-none client.commands.posted ticket.part c.ticket.part was.2);
+      apart = (old.commands).apart;
     };
     owed = old.owed ∙ sym (set-size held.stages n Done);
     ends = set-size held.ends n end ∙ old.ends ∙ sym (set-size held.stages n Done);

@@ -71,8 +71,8 @@ module _ {C J : Type 0} (s s' : System C J) (w : WorldModel) (h : IsShadow s w) 
   lanes : s'.carrier.lanes ≡ s.carrier.lanes
   lanes = ap (λ (c : Carried). c.lanes) on.does.5
 
-  pending_batches : s'.carrier.pending_batches ≡ s.carrier.pending_batches
-  pending_batches = ap (λ (c : Carried). c.pending_batches) on.does.5
+  pending_runs : s'.carrier.pending_runs ≡ s.carrier.pending_runs
+  pending_runs = ap (λ (c : Carried). c.pending_runs) on.does.5
 
   was : backend.link ≡ Some link
   was = on.does.4.5.0
@@ -115,7 +115,7 @@ module _ {C J : Type 0} (s s' : System C J) (w : WorldModel) (h : IsShadow s w) 
         bag-parts f s,
         bag-parts f s',
         rings,
-        ap (λ hs. total f (refusals hs)) pending_batches,
+        ap (λ hs. total f (refusals hs)) pending_runs,
         ap (λ ls. total f (debts ls)) backends,
         total-set-flat f (λ (backend : Backend Wire). told_in backend.pending_told ++ lost_in backend.link) s.carrier.backends k backend backend' on.does.3,
         (let e : total f (told_in backend'.pending_told ++ lost_in backend'.link) ≡ total f ((ticket, told) ∷ []) = (λ i. total f (holds i ++ lost_in (is i))) ∙ ap (λ ps. total f ((ticket, told) ∷ ps)) (none link' works) in e),
@@ -148,9 +148,9 @@ module _ {C J : Type 0} (s s' : System C J) (w : WorldModel) (h : IsShadow s w) 
       (l, at, open'.is_open, inr (f.0, ticket, told, first, refl))
       (subst (λ xs. LinksShadow s'.carrier xs s'.opened w1) (sym closed) (subst (λ n. LinksShadow s'.carrier s.closed n w1) (sym opened) shadow))
       bag
-      (same-seats s s' (ap length lanes) pending_batches)
+      (same-seats s s' (ap length lanes) pending_runs)
       (λ j model lane p q. down-fits s w h j model lane p (sym (ap (λ xs. slice_get xs j) lanes) ∙ q))
-      (λ j model lane p q. subst (LaneShadow w j model lane) (sym (ap (λ xs. slice_get xs j) pending_batches)) (h.lanes j model lane p (sym (ap (λ xs. slice_get xs j) lanes) ∙ q)))
+      (λ j model lane p q. subst (LaneShadow w j model lane) (sym (ap (λ xs. slice_get xs j) pending_runs)) (h.lanes j model lane p (sym (ap (λ xs. slice_get xs j) lanes) ∙ q)))
 
   pub fetches : Simulated
   fetches = ⊎_elim

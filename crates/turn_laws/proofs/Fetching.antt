@@ -1,18 +1,18 @@
 -- The carrier reads: nothing, or the reply to ASKING, which the machine fetches too.
 use Rattle.std.proofs.Common.{◌≡◌, ⊎_elim, List, [], ◌∷◌, ◌++◌, Some, None, sym, ap, ◌∙◌, subst, arith, length}
-use Rattle.std.specs.Prelude.{All, map}
+use Rattle.std.specs.Prelude.{All}
 use Rattle.std.proofs.lemmas.List.{append-nil}
 use Rattle.resp_wire.specs.declared.value.Value.{Value}
 use Rattle.slot_map.specs.Table.{Endpoint}
 use Rattle.node_link.specs.LinkModel.{LinkModel}
-use Rattle.node_link.specs.LinkCalls.{due_of, Comes}
+use Rattle.node_link.specs.LinkCalls.{Comes}
 use Rattle.node_link.specs.declared.link.Due.{Due}
 use Rattle.world_laws.specs.State.{Link}
 use Rattle.world_laws.specs.declared.state.Arrival.{Arrival}
 use Rattle.world_laws.specs.declared.state.LinkReply.{LinkReply}
 use Rattle.world_laws.specs.Places.{is}
 use Rattle.turn_laws.specs.Wire.{Wire, Exchanges}
-use Rattle.turn_laws.specs.Shadow.{OpenShadow, coming, coming_of, backs_in, back_of, requests_in, IsKnown}
+use Rattle.turn_laws.specs.Shadow.{OpenShadow, coming, coming_of, backs_in, back_of, requests_in, dues_in, IsKnown}
 use Rattle.turn_laws.specs.Steps.{any_failures, any_garbled}
 
 -- the value that is next stands first among those that come
@@ -25,7 +25,7 @@ comes-first link port value c = ⊎_elim
     ))
     (λ (x : (link.kept ≡ None) × Exchanges link.port [] (value ∷ []) port). (
       ap (λ o. coming_of o link.port.values) x.0 ∙ x.1.0,
-      x.1.1 ∙ (λ i. record (link.port) { requests = append-nil link.port.requests i; values = port.values }),
+      x.1.1 ∙ (λ i. record (link.port) { items = append-nil link.port.items i; values = port.values }),
     ))
     c
 
@@ -45,11 +45,11 @@ pub fetched-shadow : (table : List Endpoint) (commands : List Arrival) (link lin
     → (rest : List LinkReply) × (l.backs ≡ back_of table link.node d value ++ rest) × OpenShadow table commands link' (record l { backs = rest })
 fetched-shadow table commands link link' l d value h comes dues is =
     let c = comes-first link link'.port value comes in
-    let f = waits-first h.answered (map due_of link.port.requests) link'.due d value link'.port.values (sym dues ∙ h.due) (h.matched ∙ ap length c.0) in
+    let f = waits-first h.answered (dues_in link.port.items) link'.due d value link'.port.values (sym dues ∙ h.due) (h.matched ∙ ap length c.0) in
     let node : link'.node ≡ link.node = ap (λ (x : LinkModel Wire). x.node) is in
     let kept : link'.kept ≡ None = ap (λ (x : LinkModel Wire). x.kept) is in
     let now : coming link' ≡ link'.port.values = ap (λ o. coming_of o link'.port.values) kept in
-    let requests : link'.port.requests ≡ link.port.requests = ap (λ (x : Wire). x.requests) c.1 in (
+    let requests : link'.port.items ≡ link.port.items = ap (λ (x : Wire). x.items) c.1 in (
       backs_in table link.node f.0 link'.port.values,
       h.backs ∙ (λ i. backs_in table link.node (f.1 i) (c.0 i)),
       record {
@@ -60,7 +60,7 @@ fetched-shadow table commands link link' l d value h comes dues is =
         requests = h.requests ∙ ap requests_in (sym requests);
         known = subst (All (IsKnown commands)) (sym requests) h.known;
         answered = f.0;
-        due = f.2 ∙ ap (λ rs. f.0 ++ map due_of rs) (sym requests);
+        due = f.2 ∙ ap (λ rs. f.0 ++ dues_in rs) (sym requests);
         matched = f.3 ∙ ap length (sym now);
         backs = λ i. backs_in table (sym node i) f.0 (sym now i);
       },

@@ -10,8 +10,8 @@ use Rattle.session_order.specs.declared.queue.PartStage.{PartStage}
 use Rattle.session_order.specs.declared.queue.PartStage.TheVariants.{Waiting, Out, Done}
 use Rattle.proxy_lanes.specs.declared.ends.lane_ends.LaneEnds.{LaneEnds}
 use Rattle.proxy_turns.specs.declared.newcomer.Newcomer.{Newcomer}
-use Rattle.key_split.specs.declared.travel.Batch.{Batch}
-use Rattle.proxy_turns.specs.declared.pending_batch.PendingBatch.{PendingBatch}
+use Rattle.key_split.specs.Runs.{RunModel}
+use Rattle.proxy_turns.specs.declared.pending_run.PendingRun.{PendingRun}
 use Rattle.world_laws.proofs.Recorded.{at-set}
 use Rattle.proxy_turns.specs.declared.backend.Backend.{Backend}
 use Rattle.proxy_turns.specs.Commands.{CommandsModel}
@@ -131,26 +131,26 @@ module _ {C J : Type 0} where
         each = h.each;
       }))
 
-  -- as many lanes, and each batch that is pending came from one
+  -- as many lanes, and each run that is pending came from one
   pub record Seats (s s' : System C J) : Type 0 where
     pub lanes : length s'.carrier.lanes ≡ length s.carrier.lanes
     pub seated : AreSeated s.carrier → AreSeated s'.carrier
 
-  pub same-seats : (s s' : System C J) → length s'.carrier.lanes ≡ length s.carrier.lanes → s'.carrier.pending_batches ≡ s.carrier.pending_batches → Seats s s'
-  same-seats s s' lanes pending_batches = record {
+  pub same-seats : (s s' : System C J) → length s'.carrier.lanes ≡ length s.carrier.lanes → s'.carrier.pending_runs ≡ s.carrier.pending_runs → Seats s s'
+  same-seats s s' lanes pending_runs = record {
     lanes = lanes;
-    seated = λ h k b batch p q. omega (arith, lanes, h k b batch (sym (ap (λ xs. slice_get xs k) pending_batches) ∙ p) q);
+    seated = λ h k b run p q. omega (arith, lanes, h k b run (sym (ap (λ xs. slice_get xs k) pending_runs) ∙ p) q);
   }
 
-  -- one pending batch is another
-  pub set-seats : (s s' : System C J) (k : ℕ) (b' : PendingBatch) → length s'.carrier.lanes ≡ length s.carrier.lanes → s'.carrier.pending_batches ≡ slice_set s.carrier.pending_batches k b'
-      → ((batch : Batch) → b'.batch ≡ Some batch → AreSeated s.carrier → k < length s.carrier.lanes) → Seats s s'
-  set-seats s s' k b' lanes pending_batches one = record {
+  -- what is pending of one worker changes
+  pub set-seats : (s s' : System C J) (k : ℕ) (b' : PendingRun) → length s'.carrier.lanes ≡ length s.carrier.lanes → s'.carrier.pending_runs ≡ slice_set s.carrier.pending_runs k b'
+      → ((run : RunModel) → b'.run ≡ Some run → AreSeated s.carrier → k < length s.carrier.lanes) → Seats s s'
+  set-seats s s' k b' lanes pending_runs one = record {
     lanes = lanes;
-    seated = λ h j b batch p q. ⊎_elim
-        (λ (z : (j ≡ k) × (b ≡ b')). omega (arith, lanes, z.0, one batch (ap (λ (x : PendingBatch). x.batch) (sym z.1) ∙ q) h))
-        (λ (z : (j ≢ k) × (slice_get s.carrier.pending_batches j ≡ Some b)). omega (arith, lanes, h j b batch z.1 q))
-        (at-set s.carrier.pending_batches k b' j b (sym (ap (λ xs. slice_get xs j) pending_batches) ∙ p));
+    seated = λ h j b run p q. ⊎_elim
+        (λ (z : (j ≡ k) × (b ≡ b')). omega (arith, lanes, z.0, one run (ap (λ (x : PendingRun). x.run) (sym z.1) ∙ q) h))
+        (λ (z : (j ≢ k) × (slice_get s.carrier.pending_runs j ≡ Some b)). omega (arith, lanes, h j b run z.1 q))
+        (at-set s.carrier.pending_runs k b' j b (sym (ap (λ xs. slice_get xs j) pending_runs) ∙ p));
   }
 
   -- what comes down a lane is for its worker, and the lane is not finished
@@ -176,7 +176,7 @@ module _ {C J : Type 0} where
       let back : SameBag (downs_of s') (downs_of s) = λ f. sym (bag f) in
       record {
         workers = ap length workers ∙ h.workers;
-        alone = h.alone;
+        limit = h.limit;
         cluster = h.cluster ∙ sym cluster;
         apart = subst AreApart (sym step.table) h.apart;
         numbered = λ k model e. h.numbered k model (at k model e);

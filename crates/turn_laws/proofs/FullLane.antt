@@ -1,4 +1,4 @@
--- A lane through which 1,024 batches went gives the next one back, until its outlet learns of free places.
+-- A lane through which 1,024 runs went gives the next one back, until its outlet learns of free places.
 use Rattle.std.proofs.Common.{◌≡◌, inl, ℕ, zero, suc, ◌-◌, ◌≤◌, true, List, [], ◌∷◌, Some, None, Err, refl, ap, arith, length}
 use Rattle.std.specs.Prelude.{IsSome, map, drop}
 use Rattle.std.specs.FinMap.{insert, empty, get-empty}
@@ -6,7 +6,7 @@ use Rattle.std.specs.Ordering.{nat_cmp}
 use Rattle.std.proofs.lemmas.List.{append-nil}
 use denote.RawPtr.{null_ptr}
 use Rattle.rtrb.specs.Fifo.{position_of}
-use Rattle.key_split.specs.declared.travel.Batch.{Batch}
+use Rattle.key_split.specs.Runs.{RunModel}
 use Rattle.proxy_lanes.specs.declared.ends.lane_ends.LaneEnds.{LaneEnds}
 use Rattle.proxy_lanes.specs.declared.ring.Outlet.{Outlet}
 use Rattle.proxy_lanes.specs.declared.ring.Numbered.{Numbered}
@@ -50,16 +50,16 @@ nothing-left : {T : Type 0} (xs : List T) → drop (length xs) xs ≡ []
 nothing-left [] = refl
 nothing-left (x ∷ xs) = nothing-left xs
 
--- so many batches, numbered on
-abbrev batches : ℕ → ℕ → List (Numbered Batch)
-batches k zero = []
-batches k (suc n) = numbered k (plain 0 0 set) ∷ batches (suc k) n
+-- so many runs, numbered on
+abbrev runs : ℕ → ℕ → List (Numbered RunModel)
+runs k zero = []
+runs k (suc n) = numbered k (plain 0 0 set) ∷ runs (suc k) n
 
-as-many : (k n : ℕ) → length (batches k n) ≡ n
+as-many : (k n : ℕ) → length (runs k n) ≡ n
 as-many k zero = refl
 as-many k (suc n) = ap suc (as-many (suc k) n)
 
-module _ {C J : Type 0} (port : C) (xs : List (Numbered Batch)) (many : 1024 ≤ length xs) where
+module _ {C J : Type 0} (port : C) (xs : List (Numbered RunModel)) (many : 1024 ≤ length xs) where
   abbrev w0 : WorkerModel C J
   w0 = record {
     worker = 0;
@@ -92,14 +92,14 @@ module _ {C J : Type 0} (port : C) (xs : List (Numbered Batch)) (many : 1024 ≤
     idle = only-one (λ k model. ((model.worker, model.workers) ≡ (k, 1)) × (model.clients ≡ empty)) w0 (refl, refl);
     ups = λ k model l p q.
         only-one (λ k model. (between model.outlet l.up ≡ []) × (down_in l.down model.inlet ≡ [])) w0
-        (only-one (λ k l. (between w0.outlet l.up ≡ []) × (down_in l.down w0.inlet ≡ [])) l0 (ap (map (λ (x : Numbered Batch). x.item)) (nothing-left xs), refl) k l q) k model p;
+        (only-one (λ k l. (between w0.outlet l.up ≡ []) × (down_in l.down w0.inlet ≡ [])) l0 (ap (map (λ (x : Numbered RunModel). x.item)) (nothing-left xs), refl) k l q) k model p;
     sides = refl;
     up_steps = λ k model l p q.
         only-one (λ k model. IsInStep model.outlet l.up) w0 (only-one (λ k l. IsInStep w0.outlet l.up) l0 ([], append-nil xs) k l q) k model p;
     down_steps = λ k model l p q.
         only-one (λ k model. DownInStep l model) w0 (only-one (λ k l. DownInStep l w0) l0 (down-in l0 w0 _ refl ([], refl)) k l q) k model p;
     unfinished = only-one (λ k l. IsSome l.down) l0 refl;
-    pending_batches = refl;
+    pending_runs = refl;
     backends = refl;
     apart = apart;
     closed = refl;
@@ -125,4 +125,4 @@ module _ {C J : Type 0} (port : C) (xs : List (Numbered Batch)) (many : 1024 ≤
   }
 
 pub given-back : {C J : Type 0} → C → Happens C J script.full []
-given-back {J} port = happens {J = J} port (batches 0 1024) (omega (arith, as-many 0 1024))
+given-back {J} port = happens {J = J} port (runs 0 1024) (omega (arith, as-many 0 1024))

@@ -2,7 +2,7 @@
 use Rattle.std.proofs.Common.{◌≡◌, ◌≢◌, ◌⊎◌, ⊎_elim, ℕ, suc, ◌+◌, ◌<◌, ◌≤◌, ◌==◌, true, false, if◌then◌else◌, List, [], ◌∷◌, ◌++◌, refl, sym, ap, ◌∙◌, arith, length}
 use Rattle.std.specs.Prelude.{map}
 use Rattle.std.proofs.lemmas.Bool.Decides.{eqb_tells}
-use Rattle.std.proofs.lemmas.List.{length-append}
+use Rattle.std.proofs.lemmas.List.{append_assoc, length-append}
 use Rattle.key_split.specs.PartModel.{PartModel}
 use Rattle.key_split.specs.declared.travel.Ticket.{Ticket}
 use Rattle.key_split.specs.declared.travel.Ended.{Ended}
@@ -11,7 +11,7 @@ use Rattle.world_laws.specs.State.{WorldModel}
 use Rattle.world_laws.specs.declared.state.Arrival.{Arrival}
 use Rattle.world_laws.specs.declared.history.Answer.{Answer}
 use Rattle.turn_laws.specs.System.{Mark, Arrived, Executed, Answered}
-use Rattle.turn_laws.specs.Shadow.{LogShadow, arrived_in, executed_in, answered_in}
+use Rattle.turn_laws.specs.Shadow.{LogShadow, entry_at, arrived_in, executed_in, answered_in}
 
 -- what the machine's lists say, as marks have it
 abbrev pub arrivals_of : List Arrival → List (Ticket × PartModel × ℕ)
@@ -39,22 +39,21 @@ module _ (clock later : ℕ → ℕ) (marks : List Mark) (e : ℕ) where
   arrived-more n (Arrived t p ∷ log) is same =
       let r = arrived-more (suc n) log (rest n (Arrived t p) log is) (behind n (Arrived t p) log is same) in
       λ i. (t, p, first n (Arrived t p) log is same i) ∷ r i
-  arrived-more n (Executed t p v ∷ log) is same = arrived-more (suc n) log (rest n (Executed t p v) log is) (behind n (Executed t p v) log is same)
+  arrived-more n (Executed done ∷ log) is same = arrived-more (suc n) log (rest n (Executed done) log is) (behind n (Executed done) log is same)
   arrived-more n (Answered t end ∷ log) is same = arrived-more (suc n) log (rest n (Answered t end) log is) (behind n (Answered t end) log is same)
 
   pub executed-more : (n : ℕ) (log : List Mark) → e ≡ n + length log → Agree n log → executed_in later n (log ++ marks) ≡ executed_in clock n log ++ executed_in later e marks
   executed-more n [] is same = ap (λ m. executed_in later m marks) (omega (arith, is))
   executed-more n (Arrived t p ∷ log) is same = executed-more (suc n) log (rest n (Arrived t p) log is) (behind n (Arrived t p) log is same)
-  executed-more n (Executed t p v ∷ log) is same =
-      let r = executed-more (suc n) log (rest n (Executed t p v) log is) (behind n (Executed t p v) log is same) in
-      let one : executed_in later n (Executed t p v ∷ []) ≡ executed_in clock n (Executed t p v ∷ []) = ap (λ m. executed_in (λ _. m) n (Executed t p v ∷ [])) (first n (Executed t p v) log is same) in
-      λ i. one i ++ r i
+  executed-more n (Executed done ∷ log) is same =
+      let r = executed-more (suc n) log (rest n (Executed done) log is) (behind n (Executed done) log is same) in
+      (λ i. map (entry_at (first n (Executed done) log is same i)) done ++ r i) ∙ sym (append_assoc (map (entry_at (clock n)) done) (executed_in clock (suc n) log) (executed_in later e marks))
   executed-more n (Answered t end ∷ log) is same = executed-more (suc n) log (rest n (Answered t end) log is) (behind n (Answered t end) log is same)
 
   pub answered-more : (n : ℕ) (log : List Mark) → e ≡ n + length log → Agree n log → answered_in later n (log ++ marks) ≡ answered_in clock n log ++ answered_in later e marks
   answered-more n [] is same = ap (λ m. answered_in later m marks) (omega (arith, is))
   answered-more n (Arrived t p ∷ log) is same = answered-more (suc n) log (rest n (Arrived t p) log is) (behind n (Arrived t p) log is same)
-  answered-more n (Executed t p v ∷ log) is same = answered-more (suc n) log (rest n (Executed t p v) log is) (behind n (Executed t p v) log is same)
+  answered-more n (Executed done ∷ log) is same = answered-more (suc n) log (rest n (Executed done) log is) (behind n (Executed done) log is same)
   answered-more n (Answered t end ∷ log) is same =
       let r = answered-more (suc n) log (rest n (Answered t end) log is) (behind n (Answered t end) log is same) in
       λ i. (t, end, first n (Answered t end) log is same i) ∷ r i
@@ -73,17 +72,17 @@ answered_at moment mark = answered_in (λ _. moment) 0 (mark ∷ [])
 module _ (clock : ℕ → ℕ) (e moment : ℕ) (is : clock e ≡ moment) where
   arrived-one : (mark : Mark) → arrived_in clock e (mark ∷ []) ≡ arrived_at moment mark
   arrived-one (Arrived t p) = ap (λ m. arrived_at m (Arrived t p)) is
-  arrived-one (Executed t p v) = refl
+  arrived-one (Executed done) = refl
   arrived-one (Answered t end) = refl
 
   executed-one : (mark : Mark) → executed_in clock e (mark ∷ []) ≡ executed_at moment mark
   executed-one (Arrived t p) = refl
-  executed-one (Executed t p v) = ap (λ m. executed_at m (Executed t p v)) is
+  executed-one (Executed done) = ap (λ m. executed_at m (Executed done)) is
   executed-one (Answered t end) = refl
 
   answered-one : (mark : Mark) → answered_in clock e (mark ∷ []) ≡ answered_at moment mark
   answered-one (Arrived t p) = refl
-  answered-one (Executed t p v) = refl
+  answered-one (Executed done) = refl
   answered-one (Answered t end) = ap (λ m. answered_at m (Answered t end)) is
 
 -- the clock with this moment at this place

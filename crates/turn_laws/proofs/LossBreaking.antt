@@ -1,7 +1,6 @@
 -- The connection to the second node breaks, which executes the command all the same.
 use Rattle.std.proofs.Common.{inl, inr, true, false, [], ◌∷◌, Some, None, Ok, refl, arith}
 use Rattle.std.specs.List.{FoldsTo}
-use Rattle.key_split.specs.Requests.{Command}
 use Rattle.key_split.specs.declared.travel.Told.TheVariants as told
 use Rattle.slot_hash.specs.Slot.{slot_of}
 use Rattle.node_link.specs.LinkModel.{LinkModel}
@@ -11,13 +10,14 @@ use Rattle.node_link.specs.declared.link.LinkFault.TheVariants as fault
 use Rattle.proxy_turns.specs.declared.backend.Backend.{Backend}
 use Rattle.proxy_turns.specs.Backend.{new_backend, new_pending_told}
 use Rattle.proxy_turns.specs.WorkerModel.{one_more}
-use Rattle.turn_laws.specs.Wire.{Wire, Executed}
+use Rattle.turn_laws.specs.Wire.{Wire, Runs}
 use Rattle.turn_laws.specs.System.{System}
 use Rattle.turn_laws.specs.Steps.{SystemStep}
 use Rattle.turn_laws.specs.Scripts as script
-use Rattle.turn_laws.specs.Scripts.{key, set, ok, ticket, plain}
+use Rattle.turn_laws.specs.Scripts.{key, set, ok, ticket, plain, did}
 use Rattle.turn_laws.proofs.Rings.{posts, takes, outlet_with}
 use Rattle.turn_laws.proofs.Scenes.{scene, put, at-worker, at-client, at-carrier, past-failure, breaking, down-in}
+use Rattle.turn_laws.proofs.ScriptFacts.{goes-alone}
 use Rattle.turn_laws.proofs.ScriptStates.{commands, wire, link, backend, pending}
 use Rattle.turn_laws.proofs.ScriptAsking.{log2}
 use Rattle.turn_laws.proofs.LossStates.{j0, j1, does-late, v2, v3, d2, d3, x4, x5, x6, p4, p5, e5, e6, e7, e8, e9, e10, u5, u6, u7, u8, u9, u10, line, drains, log3, log4}
@@ -28,7 +28,7 @@ abbrev opened : Backend Wire
 opened = backend (Some (link 1 (wire 1 [] [] false) [])) None
 
 abbrev sending : LinkModel Wire
-sending = link 1 (wire 1 (Command (ticket 0) set ∷ []) [] false) (due.Command (ticket 0) ∷ [])
+sending = link 1 (wire 1 (Runs ((ticket 0, set) ∷ []) ∷ []) [] false) (due.Command (ticket 0) ∷ [])
 
 abbrev failed : LinkModel Wire
 failed = record sending { failure = Some failure.PortFailed }
@@ -38,7 +38,7 @@ let-go = record failed { due = [] }
 
 -- the broken connection, while the node may serve it, after it did, and when the rest was thrown away
 abbrev left : Wire
-left = wire 1 (Command (ticket 0) set ∷ []) [] false
+left = wire 1 (Runs ((ticket 0, set) ∷ []) ∷ []) [] false
 
 abbrev pub done : Wire
 done = wire 1 [] [] false
@@ -51,14 +51,17 @@ module _ {C J : Type 0} (port : C) where
   breaks = (
     scene (w port (u6 port) v3 d2 0) (c port (ends port v2 d2) (pending None ∷ []) (to_ask ∷ new_backend ∷ []) 3 op) [] 1 j0 log2,
     at-client {J = J} (ends port v2 d2) 0 (e5 port) (e6 port) (outlet_with v3) [] refl (put _ (e5 port) 0) (
-      0,
       x4,
-      commands None p4,
-      inr (put _ x4 0, refl),
+      [],
+      commands [] p4,
+      inr (put _ x4 0, refl, refl),
       (λ e. absurd (cc)),
       (slot_of key, omega arith, refl, refl, refl, refl),
+      tt,
       (refl, refl),
       refl,
+      goes-alone,
+      omega arith,
       posts v2 (plain 0 1 set),
       refl,
     ) (put _ (e6 port) 0) (down-in {J = J} (ends port v2 d2) (w port (u5 port) v2 d2 0) _ refl ([], refl)) (omega arith),
@@ -96,7 +99,7 @@ module _ {C J : Type 0} (port : C) where
             refl,
             refl,
             refl,
-            (link 1 (wire 1 [] [] false) [], sending, refl, (Ok tt, refl, (λ e. absurd (cc)), (refl, (refl, refl), refl)), refl),
+            (link 1 (wire 1 [] [] false) [], sending, refl, omega arith, (Ok tt, refl, (λ e. absurd (cc)), (refl, (refl, refl), refl)), refl),
             refl,
           ) (refl, (refl, tt)) refl ([], refl) refl,
           (
@@ -151,10 +154,10 @@ module _ {C J : Type 0} (port : C) where
                     (
                       left,
                       done,
-                      ok,
-                      Executed (ticket 0) set ok,
+                      ok ∷ [],
+                      did 0 set ok ∷ [],
                       refl,
-                      inr (inl ([], ticket 0, set, told.Reply ok, refl, refl, does-late, refl, refl, refl)),
+                      inr (inl ([], (ticket 0, set) ∷ [], told.Reply ok ∷ [], refl, refl, does-late, (refl, tt), refl, refl)),
                       refl,
                       refl,
                     ),

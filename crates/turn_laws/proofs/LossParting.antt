@@ -7,7 +7,6 @@ use Rattle.std.specs.Ordering.{nat_cmp}
 use Rattle.std.specs.Cmp.{nat_cmp_total}
 use Rattle.resp_wire.specs.LimitsModel.{full}
 use Rattle.resp_wire.specs.Laws.{FrontIsWhole}
-use Rattle.key_split.specs.Requests.{Slots}
 use Rattle.slot_map.specs.declared.fault.MapFault.TheVariants as map_fault
 use Rattle.node_link.specs.LinkModel.{LinkModel}
 use Rattle.node_link.specs.declared.link.Due.TheVariants as due
@@ -25,14 +24,14 @@ use Rattle.session_order.specs.SessionModel.{SessionModel}
 use Rattle.session_order.specs.Life.{fresh}
 use Rattle.session_order.specs.Turn.{IsWaiting}
 use Rattle.session_order.specs.declared.closing.Closing.TheVariants.{Quit}
-use Rattle.turn_laws.specs.Wire.{Wire, new_wire, Nothing}
+use Rattle.turn_laws.specs.Wire.{Wire, Lists, new_wire}
 use Rattle.turn_laws.specs.System.{System}
 use Rattle.turn_laws.specs.Steps.{SystemStep}
 use Rattle.turn_laws.specs.Scripts as script
 use Rattle.turn_laws.specs.Scripts.{ticket, ok, Happens, story_of_loss}
 use Rattle.turn_laws.proofs.Rings.{takes, outlet_with, inlet_with}
 use Rattle.turn_laws.proofs.Scenes.{scene, and-then, put, at-worker, at-client, at-carrier, past-failure, breaking, down-in}
-use Rattle.turn_laws.proofs.ScriptStates.{getting, wire, link, backend, pending, newcomer}
+use Rattle.turn_laws.proofs.ScriptStates.{wire, link, backend, pending, newcomer}
 use Rattle.turn_laws.proofs.ScriptAsking.{doors}
 use Rattle.turn_laws.proofs.ScriptSetting.{idle}
 use Rattle.turn_laws.proofs.LossStates.{j1, v3, d3, m7, e10, e11, e12, e13, u10, u11, u12, u13, gone, log4}
@@ -41,7 +40,7 @@ use Rattle.turn_laws.proofs.LossBreaking.{done, r5, r6, breaks, loses}
 
 -- the first backend, which is asked for the slots, and what it answers
 abbrev asked : Backend Wire
-asked = record idle { link = Some (link 0 (wire 0 (Slots ∷ []) [] false) (due.Slots ∷ [])); asked = true }
+asked = record idle { link = Some (link 0 (wire 0 (Lists ∷ []) [] false) (due.Slots ∷ [])); asked = true }
 
 abbrev answered : Backend Wire
 answered = record idle { link = Some (link 0 (wire 0 [] (ok ∷ []) false) (due.Slots ∷ [])); asked = true }
@@ -75,6 +74,8 @@ hangs = record {
   none_owed = (refl, omega arith, refl);
   all_owed = refl;
   awaited = λ ticket. ((λ h. h), (λ h. h));
+  first = refl;
+  places = λ i slot. ((λ h. h), (λ h. h));
 }
 
 abbrev other : SessionModel
@@ -88,6 +89,8 @@ hangs-other = record {
   none_owed = (refl, omega arith, refl);
   all_owed = refl;
   awaited = λ ticket. ((λ h. h), (λ h. h));
+  first = refl;
+  places = λ i slot. ((λ h. h), (λ h. h));
 }
 
 -- what stands under another number is not changed
@@ -122,21 +125,21 @@ module _ {C J : Type 0} (port : C) where
       to_ask,
       asked,
       refl,
-      (link 0 (wire 0 [] [] false) [], link 0 (wire 0 (Slots ∷ []) [] false) (due.Slots ∷ []), refl, refl, refl, (Ok tt, refl, (λ e. absurd (cc)), (refl, (refl, refl), refl)), refl),
+      (link 0 (wire 0 [] [] false) [], link 0 (wire 0 (Lists ∷ []) [] false) (due.Slots ∷ []), refl, refl, refl, (Ok tt, refl, (λ e. absurd (cc)), (refl, (refl, refl), refl)), refl),
       refl,
     ) (refl, (refl, tt)) refl ([], refl) refl,
     (
       at (answered ∷ new_backend ∷ []) (done ∷ []),
       (
         asked,
-        link 0 (wire 0 (Slots ∷ []) [] false) (due.Slots ∷ []),
+        link 0 (wire 0 (Lists ∷ []) [] false) (due.Slots ∷ []),
         wire 0 [] (ok ∷ []) false,
-        ok,
-        Nothing,
+        ok ∷ [],
+        [],
         refl,
         refl,
         refl,
-        inr (inr ([], refl, refl, refl, refl)),
+        inr (inr ([], ok, refl, refl, refl, refl, refl)),
         refl,
         refl,
       ),
@@ -234,7 +237,7 @@ module _ {C J : Type 0} (port : C) where
           (put _ (e12 port) 0) (down-in {J = J} (ends port v3 d3) (w port (u11 port) v3 d3 0) _ refl ([], refl)) tt,
       (
         of (w port (u13 port) v3 d3 (one_more 0)),
-        at-client {J = J} (ends port v3 d3) 0 (e12 port) (e13 port) (outlet_with v3) [] refl (put _ (e12 port) 0) (refl, getting, refl, refl, refl)
+        at-client {J = J} (ends port v3 d3) 0 (e12 port) (e13 port) (outlet_with v3) [] refl (put _ (e12 port) 0) (refl, (λ e. absurd (cc)), refl, refl)
             (put _ (e13 port) 0) (down-in {J = J} (ends port v3 d3) (w port (u12 port) v3 d3 0) _ refl ([], refl)) tt,
         (
           of (with-doors (u14 port) doors2),

@@ -4,8 +4,7 @@ use Rattle.std.specs.List.{FoldsTo}
 use Rattle.std.specs.FinMap.{FinMap, empty}
 use Rattle.std.specs.Ordering.{nat_cmp}
 use Rattle.resp_wire.specs.Laws.{FrontIsWhole}
-use Rattle.key_split.specs.Requests.{Command}
-use Rattle.key_split.specs.declared.travel.Batch.{Batch}
+use Rattle.key_split.specs.Runs.{RunModel}
 use Rattle.key_split.specs.declared.travel.Told.TheVariants as told
 use Rattle.slot_hash.specs.Slot.{slot_of}
 use Rattle.slot_map.specs.declared.ops.MapOp.{MapOp}
@@ -15,12 +14,12 @@ use Rattle.proxy_lanes.specs.declared.ends.lane_ends.LaneEnds.{LaneEnds}
 use Rattle.proxy_lanes.specs.declared.ring.Numbered.{Numbered}
 use Rattle.proxy_turns.specs.declared.newcomer.Newcomer.{Newcomer}
 use Rattle.proxy_turns.specs.declared.backend.Backend.{Backend}
-use Rattle.proxy_turns.specs.declared.pending_batch.PendingBatch.{PendingBatch}
+use Rattle.proxy_turns.specs.declared.pending_run.PendingRun.{PendingRun}
 use Rattle.proxy_turns.specs.Backend.{new_backend, new_pending_told}
 use Rattle.proxy_turns.specs.ClientModel.{ClientModel}
 use Rattle.proxy_turns.specs.WorkerModel.{WorkerModel}
 use Rattle.proxy_turns.specs.CarrierModel.{CarrierModel}
-use Rattle.turn_laws.specs.Wire.{Wire, Nothing}
+use Rattle.turn_laws.specs.Wire.{Wire, Runs}
 use Rattle.turn_laws.specs.System.{System}
 use Rattle.turn_laws.specs.Steps.{SystemStep}
 use Rattle.turn_laws.specs.Refines.{IsStart}
@@ -28,6 +27,7 @@ use Rattle.turn_laws.specs.Scripts as script
 use Rattle.turn_laws.specs.Scripts.{key, set, ticket, plain}
 use Rattle.turn_laws.proofs.Rings.{posts, takes, outlet_with}
 use Rattle.turn_laws.proofs.Scenes.{scene, put, at-worker, at-client, at-carrier, down-in}
+use Rattle.turn_laws.proofs.ScriptFacts.{fresh-alone, goes-alone}
 use Rattle.turn_laws.proofs.ScriptStates.{Pair, commands, setting, wire, link, backend, pending, lane, carrier, worker}
 use Rattle.turn_laws.proofs.ScriptOpening.{starts-in}
 use Rattle.turn_laws.proofs.ScriptOpening as opening
@@ -52,13 +52,13 @@ abbrev pub op : List MapOp
 op = SetSlot 1 1 ∷ []
 
 module _ {C J : Type 0} (port : C) where
-  abbrev pub ends : List (Numbered Batch) → List (Numbered Pair) → LaneEnds (Newcomer C J)
+  abbrev pub ends : List (Numbered RunModel) → List (Numbered Pair) → LaneEnds (Newcomer C J)
   ends = lane port
 
-  abbrev pub c : LaneEnds (Newcomer C J) → List PendingBatch → List (Backend Wire) → ℕ → List MapOp → CarrierModel (Newcomer C J) Wire
-  c l batches backends failures ops = record (carrier l batches backends false) { failures = failures; published = ops }
+  abbrev pub c : LaneEnds (Newcomer C J) → List PendingRun → List (Backend Wire) → ℕ → List MapOp → CarrierModel (Newcomer C J) Wire
+  c l runs backends failures ops = record (carrier l runs backends false) { failures = failures; published = ops }
 
-  abbrev pub w : FinMap nat_cmp (ClientModel C) → List (Numbered Batch) → List (Numbered Pair) → ℕ → WorkerModel C J
+  abbrev pub w : FinMap nat_cmp (ClientModel C) → List (Numbered RunModel) → List (Numbered Pair) → ℕ → WorkerModel C J
   w clients ups downs answered = worker clients (Some 0) (doors port) ups downs answered
 
   abbrev pub r0 : System C J
@@ -119,14 +119,17 @@ module _ {C J : Type 0} (port : C) where
     (
       scene (w (u2 port) v1 [] 0) (c (ends [] []) (pending None ∷ []) (new_backend ∷ new_backend ∷ []) 2 []) [] 0 j0 log2,
       at-client (ends [] []) 0 (e1 port) (e2 port) (outlet_with v1) [] refl (put _ (e1 port) 0) (
-        0,
         setting,
-        commands None empty,
-        inl (refl, refl, refl),
+        [],
+        commands [] empty,
+        inl (refl, fresh-alone setting refl, refl),
         (λ e. absurd (cc)),
         (slot_of key, omega arith, refl, refl, refl, refl),
+        tt,
         (Ok None, (([], refl), refl), refl),
         refl,
+        goes-alone,
+        omega arith,
         posts [] (plain 0 0 set),
         refl,
       ) (put _ (e2 port) 0) (down-in (ends [] []) (w (u1 port) [] [] 0) _ refl ([], refl)) (omega arith),
@@ -141,7 +144,7 @@ module _ {C J : Type 0} (port : C) where
           refl,
         ) (refl, (refl, tt)) refl ([], refl) refl,
         (
-          scene (w (u2 port) v1 [] 0) (c (ends v1 []) (record { batch = None; refused = Some (ticket 0) } ∷ []) (new_backend ∷ new_backend ∷ []) 3 []) [] 0 j0 log2,
+          scene (w (u2 port) v1 [] 0) (c (ends v1 []) (record { run = None; refused = ticket 0 ∷ [] } ∷ []) (new_backend ∷ new_backend ∷ []) 3 []) [] 0 j0 log2,
           at-carrier (ends v1 []) (
             0,
             pending (Some (plain 0 0 set)),
@@ -151,18 +154,17 @@ module _ {C J : Type 0} (port : C) where
             refl,
             refl,
             refl,
-            refl,
-            inl (omega arith),
+            inl (refl, inl (omega arith)),
             refl,
           ) (refl, (refl, tt)) refl ([], refl) refl,
           (
             scene (w (u2 port) v1 [] 0) (c (ends v1 d1) (pending None ∷ []) (new_backend ∷ new_backend ∷ []) 3 []) [] 0 j0 log2,
             at-carrier (ends v1 d1) (
               0,
-              record { batch = None; refused = Some (ticket 0) },
+              record { run = None; refused = ticket 0 ∷ [] },
               pending None,
               refl,
-              (ticket 0, refl, inl (ends v1 [], ends v1 d1, refl, refl, (refl, (_, refl, posts [] (ticket 0, told.Unsent)))), refl),
+              (ticket 0, [], refl, inl (ends v1 [], ends v1 d1, refl, refl, (refl, (_, refl, posts [] (ticket 0, told.Unsent)))), refl),
               refl,
             ) (refl, (refl, tt)) refl ([], refl) refl,
             (
@@ -188,14 +190,17 @@ module _ {C J : Type 0} (port : C) where
   moves-on = (
     scene (w (u4 port) v2 d1 0) (c (ends v1 d1) (pending None ∷ []) (new_backend ∷ new_backend ∷ []) 3 []) [] 0 j0 log2,
     at-client (ends v1 d1) 0 (e3 port) (e4 port) (outlet_with v2) [] refl (put _ (e3 port) 0) (
-      0,
       x2,
-      commands None p2,
-      inr (put p1 x2 0, refl),
+      [],
+      commands [] p2,
+      inr (put p1 x2 0, refl, refl),
       (λ e. absurd (cc)),
       (slot_of key, omega arith, refl, refl, refl, refl),
+      tt,
       (Ok None, (([], refl), refl), refl),
       refl,
+      goes-alone,
+      omega arith,
       posts v1 (plain 0 0 set),
       refl,
     ) (put _ (e4 port) 0) (down-in (ends v1 d1) (w (u3 port) v1 d1 0) _ refl ([], refl)) (omega arith),
@@ -233,21 +238,21 @@ module _ {C J : Type 0} (port : C) where
             refl,
             refl,
             refl,
-            (link 0 (wire 0 [] [] false) [], link 0 (wire 0 (Command (ticket 0) set ∷ []) [] false) (due.Command (ticket 0) ∷ []), refl, (Ok tt, refl, (λ e. absurd (cc)), (refl, (refl, refl), refl)), refl),
+            (link 0 (wire 0 [] [] false) [], link 0 (wire 0 (Runs ((ticket 0, set) ∷ []) ∷ []) [] false) (due.Command (ticket 0) ∷ []), refl, omega arith, (Ok tt, refl, (λ e. absurd (cc)), (refl, (refl, refl), refl)), refl),
             refl,
           ) (refl, (refl, tt)) refl ([], refl) refl,
           (
             scene (w (u4 port) v2 d1 0) (c (ends v2 d1) (pending None ∷ []) (refused ∷ new_backend ∷ []) 3 []) [] 1 j0 log2,
             (
               sent,
-              link 0 (wire 0 (Command (ticket 0) set ∷ []) [] false) (due.Command (ticket 0) ∷ []),
+              link 0 (wire 0 (Runs ((ticket 0, set) ∷ []) ∷ []) [] false) (due.Command (ticket 0) ∷ []),
               wire 0 [] (moved ∷ []) false,
-              moved,
-              Nothing,
+              moved ∷ [],
+              [],
               refl,
               refl,
               refl,
-              inr (inl ([], ticket 0, set, told.Moved 1 1, refl, refl, does-moved, told-moved, refl, refl)),
+              inr (inl ([], (ticket 0, set) ∷ [], told.Moved 1 1 ∷ [], refl, refl, does-moved, (told-moved, tt), refl, refl)),
               refl,
               refl,
             ),

@@ -1,5 +1,5 @@
 -- What the parts of the system are between the steps of the script in which a command is lost.
-use Rattle.std.proofs.Common.{◌≡◌, ℕ, zero, suc, ◌*◌, ◌<◌, true, false, List, [], ◌∷◌, ◌++◌, Some, None, refl, sym, ap, subst, arith, length}
+use Rattle.std.proofs.Common.{◌≡◌, ℕ, zero, suc, ◌*◌, ◌<◌, true, false, List, [], ◌∷◌, ◌++◌, None, refl, sym, ap, subst, arith, length}
 use Rattle.std.specs.Prelude.{codes, replicate, slice_index_or}
 use Rattle.std.specs.FinMap.{FinMap, insert, remove, empty, get-empty}
 use Rattle.std.specs.Ordering.{nat_cmp}
@@ -8,7 +8,7 @@ use Rattle.resp_wire.specs.declared.value.Value.{Value}
 use Rattle.resp_wire.specs.declared.value.Value.TheVariants.{Error}
 use Rattle.key_split.specs.declared.planned.Joining.TheVariants.{One}
 use Rattle.key_split.specs.PartModel.{keys_of}
-use Rattle.key_split.specs.declared.travel.Batch.{Batch}
+use Rattle.key_split.specs.Runs.{RunModel}
 use Rattle.key_split.specs.declared.travel.Ended.TheVariants as ended
 use Rattle.key_split.specs.declared.travel.Told.TheVariants as told
 use Rattle.slot_hash.specs.Slot.{slot_of}
@@ -17,6 +17,7 @@ use Rattle.node_link.specs.Telling.{told_by}
 use Rattle.node_model.specs.Nodes.{ClusterModel, at, role_of, store_at, with_store}
 use Rattle.node_model.specs.Standings.{settled_at}
 use Rattle.node_model.specs.declared.standing.Phase.TheVariants.{Settled}
+use Rattle.node_model.specs.Runs.{deed_for, DoesRun}
 use Rattle.node_model.specs.Serving.{deed_at, deed_of, held_of, NodeDoes}
 use Rattle.node_model.specs.declared.role.Verdict.TheVariants.{Plain}
 use Rattle.node_model.specs.declared.role.Deed.TheVariants.{Executes, Says}
@@ -31,8 +32,8 @@ use Rattle.world_laws.specs.Headline.{IsNew}
 use Rattle.turn_laws.specs.System.{Mark}
 use Rattle.turn_laws.specs.System as seen
 use Rattle.turn_laws.specs.Scripts as script
-use Rattle.turn_laws.specs.Scripts.{key, set, ok, ticket, plain}
-use Rattle.turn_laws.proofs.ScriptFacts.{slot-is, none, held, table}
+use Rattle.turn_laws.specs.Scripts.{key, set, ok, ticket, plain, did}
+use Rattle.turn_laws.proofs.ScriptFacts.{slot-is, none, held, table, alone}
 use Rattle.turn_laws.proofs.ScriptStates.{Pair, Posted, session, one, commands, awaits, setting, getting, client}
 use Rattle.turn_laws.proofs.ScriptAsking.{log2, t6}
 use Rattle.turn_laws.proofs.ScriptSetting.{below-one, n4, n6}
@@ -67,24 +68,24 @@ told-moved = refl
 refuses : deed_at j0 0 false set Plain ≡ Says (told.Moved 1 1)
 refuses = ap (λ n. deed_of Plain (role_of j0 0 n) false (held_of (store_at j0 0) (keys_of set)) true n) slot-is
 
-pub does-moved : NodeDoes (deed_at j0 0 false set Plain) j0 0 set (told.Moved 1 1) j0
-does-moved = subst (λ d. NodeDoes d j0 0 set (told.Moved 1 1) j0) (sym refuses) (refl, refl)
+pub does-moved : DoesRun (deed_for j0 0 false (set ∷ []) Plain) j0 0 (set ∷ []) (told.Moved 1 1 ∷ []) j0
+does-moved = alone j0 j0 0 false set (told.Moved 1 1) (subst (λ d. NodeDoes d j0 0 set (told.Moved 1 1) j0) (sym refuses) (refl, refl))
 
 executes : deed_at j0 1 false set Plain ≡ Executes
 executes = ap (λ n. deed_of Plain (role_of j0 1 n) false (held_of (store_at j0 1) (keys_of set)) true n) slot-is
 
-pub does-late : NodeDoes (deed_at j0 1 false set Plain) j0 1 set (told.Reply ok) j1
-does-late = subst (λ d. NodeDoes d j0 1 set (told.Reply ok) j1) (sym executes) (refl, refl)
+pub does-late : DoesRun (deed_for j0 1 false (set ∷ []) Plain) j0 1 (set ∷ []) (told.Reply ok ∷ []) j1
+does-late = alone j0 j1 1 false set (told.Reply ok) (subst (λ d. NodeDoes d j0 1 set (told.Reply ok) j1) (sym executes) (refl, refl))
 
 -- ---- the lanes' items
 
-abbrev pub v1 : List (Numbered Batch)
+abbrev pub v1 : List (Numbered RunModel)
 v1 = numbered 0 (plain 0 0 set) ∷ []
 
-abbrev pub v2 : List (Numbered Batch)
+abbrev pub v2 : List (Numbered RunModel)
 v2 = numbered 0 (plain 0 0 set) ∷ numbered 1 (plain 0 0 set) ∷ []
 
-abbrev pub v3 : List (Numbered Batch)
+abbrev pub v3 : List (Numbered RunModel)
 v3 = numbered 0 (plain 0 0 set) ∷ numbered 1 (plain 0 0 set) ∷ numbered 2 (plain 0 1 set) ∷ []
 
 abbrev pub d1 : List (Numbered Pair)
@@ -168,7 +169,7 @@ drains = record {
 -- ---- what is seen
 
 abbrev pub log3 : List Mark
-log3 = log2 ++ seen.Executed (ticket 0) set ok ∷ []
+log3 = log2 ++ seen.Executed (did 0 set ok ∷ []) ∷ []
 
 abbrev pub log4 : List Mark
 log4 = log3 ++ seen.Answered (ticket 0) ended.Lost ∷ []
@@ -180,43 +181,43 @@ gone held = record held { gone = true; session = record held.session { closing =
 
 module _ {C : Type 0} (port : C) where
   abbrev pub e1 : ClientModel C
-  e1 = client port n4 (commands (Some setting) empty) [] []
+  e1 = client port n4 (commands (setting ∷ []) empty) [] []
 
   abbrev pub e2 : ClientModel C
-  e2 = client port n4 (commands None p1) [] []
+  e2 = client port n4 (commands [] p1) [] []
 
   abbrev pub e3 : ClientModel C
-  e3 = client port n4 (commands None p2) [] []
+  e3 = client port n4 (commands [] p2) [] []
 
   abbrev pub e4 : ClientModel C
-  e4 = client port n4 (commands None p3) [] []
+  e4 = client port n4 (commands [] p3) [] []
 
   abbrev pub e5 : ClientModel C
-  e5 = client port n4 (commands None p4) [] []
+  e5 = client port n4 (commands [] p4) [] []
 
   abbrev pub e6 : ClientModel C
-  e6 = client port n4 (commands None p5) [] []
+  e6 = client port n4 (commands [] p5) [] []
 
   abbrev pub e7 : ClientModel C
-  e7 = client port n4 (commands None p6) [] []
+  e7 = client port n4 (commands [] p6) [] []
 
   abbrev pub e8 : ClientModel C
-  e8 = client port m5 (commands None p7) [] []
+  e8 = client port m5 (commands [] p7) [] []
 
   abbrev pub e9 : ClientModel C
-  e9 = client port n6 (commands None p7) [] line
+  e9 = client port n6 (commands [] p7) [] line
 
   abbrev pub e10 : ClientModel C
-  e10 = client port n6 (commands None p7) [] []
+  e10 = client port n6 (commands [] p7) [] []
 
   abbrev pub e11 : ClientModel C
-  e11 = client port m7 (commands (Some getting) p7) [] []
+  e11 = client port m7 (commands (getting ∷ []) p7) [] []
 
   abbrev pub e12 : ClientModel C
   e12 = gone e11
 
   abbrev pub e13 : ClientModel C
-  e13 = record e12 { commands = commands None p7 }
+  e13 = record e12 { commands = commands [] p7 }
 
   abbrev pub u1 : FinMap nat_cmp (ClientModel C)
   u1 = insert (t6 port) 0 e1

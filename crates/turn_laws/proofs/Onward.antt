@@ -25,7 +25,7 @@ use Rattle.turn_laws.proofs.AtLanes.{ListShadow}
 use Rattle.turn_laws.proofs.AtWorkers.{rings-same}
 use Rattle.turn_laws.proofs.Carriers.{refusals, debts}
 use Rattle.turn_laws.proofs.Clients.{held-in, put-holds, put-none, put-apart}
-use Rattle.turn_laws.proofs.Standing.{GoesOn, still-stands, turn-set}
+use Rattle.turn_laws.proofs.Standing.{GoesOn, still-stands, order-set}
 use Rattle.turn_laws.proofs.Telling.{count-set}
 use Rattle.turn_laws.proofs.Told.{Fitting, AreOwn, PartsStay, links-told}
 
@@ -37,7 +37,7 @@ others-set {C} downs worker number client arrivals j x y at on ne h = record {
   housed = h.housed;
   all = λ here. count-set (λ (c : Arrival). c.command.ticket.client == number) arrivals j x y at (ap (λ (t : Ticket). t.client == number) on.0) ∙ h.all here;
   read = λ here part lt. still-stands arrivals j x y at on.0 (ticket_at client.session part) (h.read here part lt);
-  stands = λ t out. let was = h.stands t out in (still-stands arrivals j x y at on.0 t was.0, turn-set arrivals j x y at on t was.1);
+  stands = λ t out. let was = h.stands t out in (still-stands arrivals j x y at on.0 t was.0, order-set client.session arrivals j x y at on t was.1);
   homes = λ i c e n. ⊎_elim
       (λ (z : (i ≡ j) × (c ≡ y)). absurd (other c z.1 n))
       (λ (z : (i ≢ j) × (slice_get arrivals i ≡ Some c)). h.homes i c z.1 n)
@@ -123,15 +123,15 @@ module _ {C J : Type 0} where
   pub worker-goes : (s : System C J) (w : WorldModel) → IsShadow s w → (k : ℕ) (model model' : WorkerModel C J) → slice_get s.workers k ≡ Some model
       → (log' : List Mark) (commands' : List Arrival) (ups' : List Posted) (answers' : List Answer) (moment' : ℕ)
       → seat_of model' ≡ seat_of model → model'.inlet ≡ model.inlet
-      → ((lane : LaneEnds (Newcomer C J)) → slice_get s.carrier.lanes k ≡ Some lane → IsInStep model'.outlet lane.up × ListShadow (record w { commands = commands'; ups = ups' }) k (ups_in model' lane (slice_get s.carrier.pending_batches k)))
-      → ((j : ℕ) (batches : _) → j ≢ k → ListShadow w j batches → ListShadow (record w { commands = commands'; ups = ups' }) j batches)
+      → ((lane : LaneEnds (Newcomer C J)) → slice_get s.carrier.lanes k ≡ Some lane → IsInStep model'.outlet lane.up × ListShadow (record w { commands = commands'; ups = ups' }) k (ups_in model' lane (slice_get s.carrier.pending_runs k)))
+      → ((j : ℕ) (runs : _) → j ≢ k → ListShadow w j runs → ListShadow (record w { commands = commands'; ups = ups' }) j runs)
       → PartsStay w.commands commands'
       → Fitting (slice_set s.workers k model') (length s.carrier.lanes) w.workers (downs_of s) commands'
       → LogShadow log' (record w { commands = commands'; ups = ups'; answers = answers'; moment = moment' })
       → IsShadow (record s { workers = slice_set s.workers k model'; log = log' }) (record w { commands = commands'; ups = ups'; answers = answers'; moment = moment' })
   worker-goes s w h k model model' at log' commands' ups' answers' moment' worker inlet lane-goes lanes-stay parts fit log = record {
     workers = set-size s.workers k model' ∙ h.workers;
-    alone = h.alone;
+    limit = h.limit;
     cluster = h.cluster;
     apart = h.apart;
     numbered = λ j f p. ⊎_elim
@@ -151,9 +151,9 @@ module _ {C J : Type 0} where
     told = h.told;
     lanes = λ j f lane p q. ⊎_elim
         (λ (z : (j ≡ k) × (f ≡ model')).
-        subst (λ (n : ℕ). ListShadow (record w { commands = commands'; ups = ups' }) n (ups_in f lane (slice_get s.carrier.pending_batches n))) (sym z.0)
-        (subst (λ (x : WorkerModel C J). ListShadow (record w { commands = commands'; ups = ups' }) k (ups_in x lane (slice_get s.carrier.pending_batches k))) (sym z.1) (lane-goes lane (sym (ap (slice_get s.carrier.lanes) z.0) ∙ q)).1))
-        (λ (z : (j ≢ k) × (slice_get s.workers j ≡ Some f)). lanes-stay j (ups_in f lane (slice_get s.carrier.pending_batches j)) z.0 (h.lanes j f lane z.1 q))
+        subst (λ (n : ℕ). ListShadow (record w { commands = commands'; ups = ups' }) n (ups_in f lane (slice_get s.carrier.pending_runs n))) (sym z.0)
+        (subst (λ (x : WorkerModel C J). ListShadow (record w { commands = commands'; ups = ups' }) k (ups_in x lane (slice_get s.carrier.pending_runs k))) (sym z.1) (lane-goes lane (sym (ap (slice_get s.carrier.lanes) z.0) ∙ q)).1))
+        (λ (z : (j ≢ k) × (slice_get s.workers j ≡ Some f)). lanes-stay j (ups_in f lane (slice_get s.carrier.pending_runs j)) z.0 (h.lanes j f lane z.1 q))
         (at-set s.workers k model' j f p);
     links = links-told s.carrier s.closed s.opened w (record w { commands = commands'; ups = ups'; answers = answers'; moment = moment' }) refl parts h.links;
     clients = fits.clients;
@@ -176,7 +176,7 @@ module _ {C J : Type 0} where
           (at-set s.workers k model' j f p)
 
       same : downs_of (record s { workers = slice_set s.workers k model'; log = log' }) ≡ downs_of s
-      same = ap (λ ps. ps ++ refusals s.carrier.pending_batches ++ debts s.carrier.backends) (rings-same s.workers s.carrier.lanes k model model' at (λ o. ap (down_in o) inlet))
+      same = ap (λ ps. ps ++ refusals s.carrier.pending_runs ++ debts s.carrier.backends) (rings-same s.workers s.carrier.lanes k model model' at (λ o. ap (down_in o) inlet))
 
       fits : Fitting (slice_set s.workers k model') (length s.carrier.lanes) w.workers (downs_of (record s { workers = slice_set s.workers k model'; log = log' })) commands'
       fits = subst (λ ps. Fitting (slice_set s.workers k model') (length s.carrier.lanes) w.workers ps commands') (sym same) fit

@@ -45,7 +45,7 @@ pub record OpensAt {C J : Type 0} (s s' : System C J) : Type 0 where
   pub linked : backend'.link ≡ Some (fresh_link port k)
   pub owes : backend'.pending_told ≡ backend.pending_told
   pub lanes : s'.carrier.lanes ≡ s.carrier.lanes
-  pub pending_batches : s'.carrier.pending_batches ≡ s.carrier.pending_batches
+  pub pending_runs : s'.carrier.pending_runs ≡ s.carrier.pending_runs
   pub opened : s'.opened ≡ suc s.opened
 
 module _ {C J : Type 0} (event : CarrierEvent) (s s' : System C J) (w : WorldModel) (h : IsShadow s w) (on : CarrierStep s event s') (o : OpensAt s s') where
@@ -152,7 +152,7 @@ module _ {C J : Type 0} (event : CarrierEvent) (s s' : System C J) (w : WorldMod
         bag-parts f s,
         bag-parts f s',
         rings,
-        ap (λ hs. total f (refusals hs)) o.pending_batches,
+        ap (λ hs. total f (refusals hs)) o.pending_runs,
         ap (λ ls. total f (debts ls)) backends,
         total-set-flat f (λ (backend : Backend Wire). told_in backend.pending_told ++ lost_in backend.link) s.carrier.backends k backend o.backend' o.here,
         (let e : total f (told_in o.backend'.pending_told ++ lost_in o.backend'.link) ≡ total f (told_in backend.pending_told ++ lost_in (Some (fresh_link o.port k))) = λ i. total f (told_in (o.owes i) ++ lost_in (o.linked i)) in e),
@@ -161,10 +161,10 @@ module _ {C J : Type 0} (event : CarrierEvent) (s s' : System C J) (w : WorldMod
 
   pub opens : IsShadow s' w
   opens =
-      carrier-frame event s s' w h on links' (same-seats s s' (ap length o.lanes) o.pending_batches)
+      carrier-frame event s s' w h on links' (same-seats s s' (ap length o.lanes) o.pending_runs)
       (λ j model lane p q. down-fits s w h j model lane p (sym (ap (λ xs. slice_get xs j) o.lanes) ∙ q))
       bag
-      (λ j model lane p q. subst (LaneShadow w j model lane) (sym (ap (λ xs. slice_get xs j) o.pending_batches)) (h.lanes j model lane p (sym (ap (λ xs. slice_get xs j) o.lanes) ∙ q)))
+      (λ j model lane p q. subst (LaneShadow w j model lane) (sym (ap (λ xs. slice_get xs j) o.pending_runs)) (h.lanes j model lane p (sym (ap (λ xs. slice_get xs j) o.lanes) ∙ q)))
 
 module _ {C J : Type 0} (s s' : System C J) where
   abbrev CarriedTo : Type 0
@@ -187,7 +187,7 @@ module _ {C J : Type 0} (s s' : System C J) where
         linked = refl;
         owes = refl;
         lanes = ap (λ (c : CarriedTo). c.lanes) d.8;
-        pending_batches = ap (λ (c : CarriedTo). c.pending_batches) d.8;
+        pending_runs = ap (λ (c : CarriedTo). c.pending_runs) d.8;
         opened = ap (λ (x : System C J). x.opened) on.leaves;
       })
 
@@ -209,6 +209,6 @@ module _ {C J : Type 0} (s s' : System C J) where
         linked = refl;
         owes = refl;
         lanes = ap (λ (c : CarriedTo). c.lanes) d.9;
-        pending_batches = ap (λ (c : CarriedTo). c.pending_batches) d.9;
+        pending_runs = ap (λ (c : CarriedTo). c.pending_runs) d.9;
         opened = ap (λ (x : System C J). x.opened) on.leaves;
       })

@@ -1,10 +1,10 @@
 -- A backend over ports of any kind: what its steps do, they do over the wire for which its port stands.
-use Rattle.std.proofs.Common.{◌≡◌, ◌⊎◌, inl, inr, ⊎_elim, ℕ, Bool, true, false, List, Some, None, Result, Ok, Err, refl, sym, ap, ◌∙◌, subst}
+use Rattle.std.proofs.Common.{◌≡◌, ◌≤◌, ◌⊎◌, inl, inr, ⊎_elim, ℕ, Bool, true, false, List, Some, None, Result, Ok, Err, refl, sym, ap, ◌∙◌, subst, arith}
 use Rattle.std.specs.Prelude.{Option}
 use Rattle.resp_wire.specs.declared.value.Value.{Value}
 use Rattle.resp_wire.specs.declared.fault.NoMemory.{NoMemory}
-use Rattle.key_split.specs.declared.travel.Batch.{Batch}
-use Rattle.key_split.specs.Requests.{Request, requests_of}
+use Rattle.key_split.specs.Requests.{Request}
+use Rattle.key_split.specs.Runs.{RunModel, count_in, requests_of_run}
 use Rattle.slot_map.specs.Table.{Endpoint}
 use Rattle.node_link.specs.LinkModel.{LinkModel}
 use Rattle.node_link.specs.LinkCalls.{Sends, Receives}
@@ -15,8 +15,8 @@ use Rattle.node_link.specs.declared.link.LinkFault.TheVariants as fault
 use Rattle.proxy_turns.specs.declared.backend.Backend.{Backend}
 use Rattle.proxy_turns.specs.declared.backend_step.BackendStep.{BackendStep}
 use Rattle.proxy_turns.specs.declared.backend_step.BackendStep.TheVariants.{Idle, Waited, Broke, Fetched, Answered, GaveUp, Closed, Published, Asked, Spared, Read, Unread, Renewed}
-use Rattle.proxy_turns.specs.Backend.{BackendContext, BackendDoes, Fetches, IsUnreadable, Starves, has_failed, is_open}
-use Rattle.proxy_turns.specs.Sending.{SendOutcome}
+use Rattle.proxy_turns.specs.Backend.{BackendContext, BackendDoes, Fetches, GoesOut, IsUnreadable, Starves, has_failed, is_open}
+use Rattle.proxy_turns.specs.Sending.{IsRefused, IsTooLong, IsUnreached, SendOutcome}
 use Rattle.turn_laws.specs.Wire.{Wire, Exchanges}
 use Rattle.turn_laws.specs.Steps.{any_failures, any_garbled, any_none}
 use Rattle.turn_laws.specs.AnyPort.{StandsFor, IsWired, over_link, link_over, over_backend}
@@ -37,6 +37,12 @@ failed-over (Some link) wire = refl
 unreadable-over : {P : Type 0} (o : Option (LinkModel P)) (wire : Wire) (value : Value) (nodes : List Endpoint) → IsUnreadable o value nodes → IsUnreadable (link_over o wire) value nodes
 unreadable-over None wire value nodes x = x
 unreadable-over (Some link) wire value nodes x = x
+
+-- the run goes out, over an open link whose port takes one as long
+abbrev pub RunGoes : {P : Type 0} → (P → ℕ) → (P → Type 0) → (P → List Request → List Value → P → Type 0) → (P → ℕ) → Backend P → RunModel → Backend P → Type 0
+RunGoes {P} failures is_garbled exchange longest old run new =
+    (link : LinkModel P) × (link' : LinkModel P) × (old.link ≡ Some link) × (count_in run ≤ longest link.port)
+    × GoesOut failures is_garbled exchange link (requests_of_run run) link' × (new ≡ record old { link = Some link' })
 
 module _ {P : Type 0} (wired : P → Wire → Type 0) (failures : P → ℕ) (is_garbled : P → Type 0) (exchange : P → List Request → List Value → P → Type 0)
     (stands : StandsFor wired exchange) where
@@ -116,14 +122,28 @@ module _ {P : Type 0} (wired : P → Wire → Type 0) (failures : P → ℕ) (is
         went link link' port (inl y) = let r = receives-over wired failures is_garbled exchange stands link link' wire port old.nodes (Err fault.NoMemory) new.nodes y in (r.0, r.1, inl r.2)
         went link link' port (inr y) = let r = sends-over wired failures is_garbled exchange stands link link' wire port y.0.0 (Err fault.NoMemory) y.0.1 in (r.0, r.1, inr ((y.0.0, r.2), y.1))
 
-  -- a batch goes out
-  module _ (old new : Backend P) (wire : Wire) (on : IsWired wired old.link wire) (batch : Batch) where
-    pub sent-over : (given : Result Bool NoMemory) → SendOutcome failures is_garbled exchange old batch given new
-        → Over new.link (λ w. SendOutcome any_failures any_garbled Exchanges (over_backend old wire) batch given (over_backend new w))
-    sent-over (Ok true) x =
-        let r = goes-out wired failures is_garbled exchange stands x.0 x.1 wire (port-of old.link x.0 wire x.2 on) (requests_of batch) x.3 in
+  -- a run goes out
+  module _ (longest : P → ℕ) (old new : Backend P) (wire : Wire) (on : IsWired wired old.link wire) (run : RunModel) where
+    pub sent-over : RunGoes failures is_garbled exchange longest old run new
+        → Over new.link (λ w. RunGoes any_failures any_garbled Exchanges (λ _. count_in run) (over_backend old wire) run (over_backend new w))
+    sent-over x =
+        let r = goes-out wired failures is_garbled exchange stands x.0 x.1 wire (port-of old.link x.0 wire x.2 on) (requests_of_run run) x.4 in
+        (r.0, subst (λ (b : Backend P). IsWired wired b.link r.0) (sym x.5) r.1, (over_link x.0 wire, over_link x.1 r.0, linked old.link x.0 wire x.2, omega arith, r.2, λ i. over_backend (x.5 i) r.0))
+
+    pub starved-over : (e : NoMemory) → SendOutcome failures is_garbled exchange longest old run (Err e) new
+        → Over new.link (λ w. SendOutcome any_failures any_garbled Exchanges (λ _. 0) (over_backend old wire) run (Err e) (over_backend new w))
+    starved-over e x =
+        let r = sends-over wired failures is_garbled exchange stands x.0 x.1 wire (port-of old.link x.0 wire x.2 on) (requests_of_run run) (Err fault.NoMemory) x.3 in
         (r.0, subst (λ (b : Backend P). IsWired wired b.link r.0) (sym x.4) r.1, (over_link x.0 wire, over_link x.1 r.0, linked old.link x.0 wire x.2, r.2, λ i. over_backend (x.4 i) r.0))
-    sent-over (Ok false) x = (wire, subst (λ (b : Backend P). IsWired wired b.link wire) (sym x.0) on, ((λ i. over_backend (x.0 i) wire), open-over old.link wire ∙ x.1))
-    sent-over (Err e) x =
-        let r = sends-over wired failures is_garbled exchange stands x.0 x.1 wire (port-of old.link x.0 wire x.2 on) (requests_of batch) (Err fault.NoMemory) x.3 in
-        (r.0, subst (λ (b : Backend P). IsWired wired b.link r.0) (sym x.4) r.1, (over_link x.0 wire, over_link x.1 r.0, linked old.link x.0 wire x.2, r.2, λ i. over_backend (x.4 i) r.0))
+
+-- nothing of a run can be sent: each is longer than none
+too-long : {P : Type 0} (longest : P → ℕ) (run : RunModel) (o : Option (LinkModel P)) (wire : Wire) → IsTooLong longest run o → IsTooLong (λ (w : Wire). 0) run (link_over o wire)
+too-long longest run None wire x = x
+too-long longest run (Some link) wire x = (x.0, omega arith, x.2)
+
+pub refused-over : {P : Type 0} (longest : P → ℕ) (run : RunModel) (o : Option (LinkModel P)) (wire : Wire) (nodes before now : ℕ) → IsRefused longest run o nodes before now
+    → IsRefused (λ (w : Wire). 0) run (link_over o wire) nodes before now
+refused-over longest run o wire nodes before now x = ⊎_elim
+    (λ (y : (o ≡ None) × IsUnreached run.first.node nodes before now). inl (ap (λ z. link_over z wire) y.0, y.1))
+    (λ (y : IsTooLong longest run o × (now ≡ before)). inr (too-long longest run o wire y.0, y.1))
+    x

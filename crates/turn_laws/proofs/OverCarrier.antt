@@ -1,21 +1,22 @@
 -- The carrier over ports of any kind: each of its events is, over the wires of its ports, one that a step of the system may have.
-use Rattle.std.proofs.Common.{◌≡◌, inl, inr, ⊎_elim, ℕ, zero, suc, ◌||◌, ◌&&◌, Bool, true, false, List, [], ◌∷◌, ◌++◌, Some, None, Ok, Err, refl, sym, ap, ◌∙◌, subst, length}
+use Rattle.std.proofs.Common.{◌≡◌, inl, inr, ⊎_elim, ℕ, zero, suc, ◌||◌, ◌&&◌, Bool, true, false, List, [], ◌∷◌, ◌++◌, Some, None, refl, sym, ap, ◌∙◌, subst, length}
 use Rattle.std.specs.Prelude.{slice_get, slice_set}
 use Rattle.std.specs.List.{list_any}
 use Rattle.resp_wire.specs.declared.value.Value.{Value}
 use Rattle.key_split.specs.Requests.{Request}
+use Rattle.key_split.specs.Runs.{count_in}
 use Rattle.slot_map.specs.Table.{Endpoint}
 use Rattle.proxy_lanes.specs.declared.ends.lane_ends.LaneEnds.{LaneEnds}
 use Rattle.proxy_turns.specs.declared.backend.Backend.{Backend}
 use Rattle.proxy_turns.specs.Backend.{BackendContext, BackendDoes, Starves, fresh_link, has_open_link, is_unanswered, new_backend}
-use Rattle.proxy_turns.specs.PendingBatch.{GiveOutcome}
+use Rattle.proxy_turns.specs.PendingRun.{GiveOutcome}
 use Rattle.proxy_turns.specs.Resting.{HasFailedLink}
 use Rattle.proxy_turns.specs.Sending.{IsUnreached}
 use Rattle.proxy_turns.specs.CarrierModel.{CarrierModel, CarrierEvent, AtBackend, Starved, WorkerAdded, BackendAdded, Looked, Took, Opened, Refused, Missed, SeedReached, Sought, Reached, NotFound, Sent, Gave, GaveUnsent, CarrierDoes, ChangesBackend, context_of}
 use Rattle.turn_laws.specs.Wire.{Wire, Exchanges, Dials, new_wire}
 use Rattle.turn_laws.specs.Steps.{any_failures, any_garbled, any_none}
 use Rattle.turn_laws.specs.AnyPort.{StandsFor, OpensWires, IsWired, AreWired, AnyPorts, link_over, over_backend, over_backends, over_wires}
-use Rattle.turn_laws.proofs.OverBackends.{over_context, open-over, failed-over, does-over, starves-over, sent-over}
+use Rattle.turn_laws.proofs.OverBackends.{over_context, open-over, failed-over, does-over, starves-over, sent-over, starved-over, refused-over}
 
 module _ {P : Type 0} (wired : P → Wire → Type 0) where
   -- the wire of a backend
@@ -75,11 +76,15 @@ give-over : {H P : Type 0} (backend backend' : Backend P) (wire : Wire) (lanes l
 give-over backend backend' wire lanes lanes' true x = (ap (λ (b : Backend _). b.link) x.4, (x.0, x.1, x.2, x.3, λ i. over_backend (x.4 i) wire))
 give-over backend backend' wire lanes lanes' false x = (ap (λ (b : Backend _). b.link) x.0, ((λ i. over_backend (x.0 i) wire), x.1))
 
-module _ {H P : Type 0} (wired : P → Wire → Type 0) (failures : P → ℕ) (is_garbled : P → Type 0) (exchange : P → List Request → List Value → P → Type 0) (gives_none : P → Type 0) (opens : Endpoint → P → Type 0)
+module _ {H P : Type 0} (wired : P → Wire → Type 0) (failures : P → ℕ) (is_garbled : P → Type 0) (exchange : P → List Request → List Value → P → Type 0) (gives_none : P → Type 0) (opens : Endpoint → P → Type 0) (longest : P → ℕ)
     (stands : StandsFor wired exchange) where
   module _ (old new : CarrierModel H P) (wires : List Wire) (opened : ℕ) (on : AreWired wired old.backends wires) (dials : OpensWires wired old.nodes opened opens) where
     abbrev Done : CarrierEvent → Type 0
-    Done event = (wires' : List Wire) × AreWired wired new.backends wires' × CarrierDoes any_failures any_garbled Exchanges any_none (Dials old.nodes opened) (over_wires old wires) event (over_wires new wires')
+    Done event = (wires' : List Wire) × AreWired wired new.backends wires' × (far : Wire → ℕ) × CarrierDoes any_failures any_garbled Exchanges any_none (Dials old.nodes opened) far (over_wires old wires) event (over_wires new wires')
+
+    -- how long a run may be, where none goes out
+    abbrev none : Wire → ℕ
+    none wire = 0
 
     -- the backends stay
     stays : new.backends ≡ old.backends → AreWired wired new.backends wires
@@ -111,16 +116,17 @@ module _ {H P : Type 0} (wired : P → Wire → Type 0) (failures : P → ℕ) (
           ),
         )
 
-    starved : CarrierDoes failures is_garbled exchange gives_none opens old Starved new → Done Starved
+    starved : CarrierDoes failures is_garbled exchange gives_none opens longest old Starved new → Done Starved
     starved (inl x) =
         let r = changed (Starves failures is_garbled exchange) (Starves any_failures any_garbled Exchanges)
         (λ backend backend' wire is y. starves-over wired failures is_garbled exchange stands (context_of old backend) (context_of new backend') wire is y) x in
-        (r.0, r.1, inl r.2)
+        (r.0, r.1, none, inl r.2)
     starved (inr x) =
         let here = wire-at wired old.backends wires on x.0 x.1 x.5 in
-        let r = sent-over wired failures is_garbled exchange stands x.1 x.2 here.0 here.1 x.3 (Err x.4) x.6 in (
+        let r = starved-over wired failures is_garbled exchange stands longest x.1 x.2 here.0 here.1 x.3 x.4 x.6 in (
           slice_set wires x.0 r.0,
           changes x.0 x.2 r.0 (ap (λ (c : CarrierModel H P). c.backends) x.7) r.1,
+          none,
           inr (
             x.0,
             over_backend x.1 here.0,
@@ -133,10 +139,11 @@ module _ {H P : Type 0} (wired : P → Wire → Type 0) (failures : P → ℕ) (
           ),
         )
 
-    looked : CarrierDoes failures is_garbled exchange gives_none opens old Looked new → Done Looked
+    looked : CarrierDoes failures is_garbled exchange gives_none opens longest old Looked new → Done Looked
     looked x = (
       wires,
       stays (ap (λ (c : CarrierModel H P). c.backends) x.0),
+      none,
       (
         (λ i. over_wires (x.0 i) wires),
         ⊎_elim
@@ -148,13 +155,14 @@ module _ {H P : Type 0} (wired : P → Wire → Type 0) (failures : P → ℕ) (
       ),
     )
 
-    gave : CarrierDoes failures is_garbled exchange gives_none opens old Gave new → Done Gave
+    gave : CarrierDoes failures is_garbled exchange gives_none opens longest old Gave new → Done Gave
     gave x =
         let here = wire-at wired old.backends wires on x.0 x.1 x.3 in
         let g = give-over x.1 x.2 here.0 old.lanes new.lanes true x.4 in
         let is : IsWired wired (x.2).link here.0 = subst (λ o. IsWired wired o here.0) (sym g.0) here.1 in (
           slice_set wires x.0 here.0,
           changes x.0 x.2 here.0 (ap (λ (c : CarrierModel H P). c.backends) x.5) is,
+          none,
           (
             x.0,
             over_backend x.1 here.0,
@@ -165,13 +173,14 @@ module _ {H P : Type 0} (wired : P → Wire → Type 0) (failures : P → ℕ) (
           ),
         )
 
-    opened-at : CarrierDoes failures is_garbled exchange gives_none opens old Opened new → Done Opened
+    opened-at : CarrierDoes failures is_garbled exchange gives_none opens longest old Opened new → Done Opened
     opened-at x =
         let here = wire-at wired old.backends wires on x.0 x.1 x.4 in
         let wire : Wire = new_wire opened x.0 in
         let backend' : Backend P = record x.1 { link = Some (fresh_link x.3 x.0); asked = false } in (
           slice_set wires x.0 wire,
           changes x.0 backend' wire (ap (λ (c : CarrierModel H P). c.backends) x.8) (dials x.0 x.2 x.3 x.6 x.7),
+          none,
           (
             x.0,
             over_backend x.1 here.0,
@@ -185,13 +194,14 @@ module _ {H P : Type 0} (wired : P → Wire → Type 0) (failures : P → ℕ) (
           ),
         )
 
-    reached-at : CarrierDoes failures is_garbled exchange gives_none opens old Reached new → Done Reached
+    reached-at : CarrierDoes failures is_garbled exchange gives_none opens longest old Reached new → Done Reached
     reached-at x =
         let here = wire-at wired old.backends wires on x.0 x.1 x.4 in
         let wire : Wire = new_wire opened x.0 in
         let backend' : Backend P = record x.1 { link = Some (fresh_link x.3 x.0); to_ask = true; asked = false } in (
           slice_set wires x.0 wire,
           changes x.0 backend' wire (ap (λ (c : CarrierModel H P). c.backends) x.9) (dials x.0 x.2 x.3 x.7 x.8),
+          none,
           (
             x.0,
             over_backend x.1 here.0,
@@ -206,12 +216,13 @@ module _ {H P : Type 0} (wired : P → Wire → Type 0) (failures : P → ℕ) (
           ),
         )
 
-    sent-at : CarrierDoes failures is_garbled exchange gives_none opens old Sent new → Done Sent
+    sent-at : CarrierDoes failures is_garbled exchange gives_none opens longest old Sent new → Done Sent
     sent-at x =
-        let here = wire-at wired old.backends wires on (x.2).node x.3 x.7 in
-        let r = sent-over wired failures is_garbled exchange stands x.3 x.4 here.0 here.1 x.2 (Ok true) x.8 in (
-          slice_set wires (x.2).node r.0,
-          changes (x.2).node x.4 r.0 (ap (λ (c : CarrierModel H P). c.backends) x.9) r.1,
+        let here = wire-at wired old.backends wires on (x.2).first.node x.3 x.7 in
+        let r = sent-over wired failures is_garbled exchange stands longest x.3 x.4 here.0 here.1 x.2 x.8 in (
+          slice_set wires (x.2).first.node r.0,
+          changes (x.2).first.node x.4 r.0 (ap (λ (c : CarrierModel H P). c.backends) x.9) r.1,
+          (λ _. count_in x.2),
           (
             x.0,
             x.1,
@@ -222,38 +233,46 @@ module _ {H P : Type 0} (wired : P → Wire → Type 0) (failures : P → ℕ) (
             x.6,
             here.3,
             r.2,
-            (λ i. over_wires (x.9 i) (slice_set wires (x.2).node r.0))
-                ∙ (λ i. record (over_wires old wires) { pending_batches = slice_set old.pending_batches x.0 (record x.1 { batch = None }); backends = set-at (x.2).node x.4 r.0 i }),
+            (λ i. over_wires (x.9 i) (slice_set wires (x.2).first.node r.0))
+                ∙ (λ i. record (over_wires old wires) { pending_runs = slice_set old.pending_runs x.0 (record x.1 { run = None }); backends = set-at (x.2).first.node x.4 r.0 i }),
           ),
         )
 
-    pub does-so : (event : CarrierEvent) → CarrierDoes failures is_garbled exchange gives_none opens old event new → Done event
-    does-so (AtBackend step) x = changed
+    pub does-so : (event : CarrierEvent) → CarrierDoes failures is_garbled exchange gives_none opens longest old event new → Done event
+    does-so (AtBackend step) x =
+        let r = changed
         (λ context context'. BackendDoes failures is_garbled exchange gives_none (list_any is_unanswered old.backends) context step context')
         (λ context context'. BackendDoes any_failures any_garbled Exchanges any_none (list_any is_unanswered (over_backends old.backends wires)) context step context')
         (λ backend backend' wire is y.
         let r = does-over wired failures is_garbled exchange stands (context_of old backend) (context_of new backend') wire is gives_none (list_any is_unanswered old.backends) step y in
-        (r.0, r.1, subst (λ b. BackendDoes any_failures any_garbled Exchanges any_none b (over_context (context_of old backend) wire) step (over_context (context_of new backend') r.0)) (sym (unanswered-any wired old.backends wires on)) r.2)) x
+        (r.0, r.1, subst (λ b. BackendDoes any_failures any_garbled Exchanges any_none b (over_context (context_of old backend) wire) step (over_context (context_of new backend') r.0)) (sym (unanswered-any wired old.backends wires on)) r.2)) x in
+        (r.0, r.1, none, r.2)
     does-so Starved x = starved x
-    does-so WorkerAdded x = (wires, stays (ap (λ (c : CarrierModel H P). c.backends) x), λ i. over_wires (x i) wires)
+    does-so WorkerAdded x = (wires, stays (ap (λ (c : CarrierModel H P). c.backends) x), none, λ i. over_wires (x i) wires)
     does-so BackendAdded x =
         let wire : Wire = new_wire 0 0 in (
           wires ++ wire ∷ [],
           subst (λ bs. AreWired wired bs (wires ++ wire ∷ [])) (sym (ap (λ (c : CarrierModel H P). c.backends) x)) (more-wired wired old.backends wires wire on),
+          none,
           (λ i. over_wires (x i) (wires ++ wire ∷ [])) ∙ (λ i. record (over_wires old wires) { backends = more-over wired old.backends wires wire on i }),
         )
     does-so Looked x = looked x
-    does-so Took x = (wires, stays (ap (λ (c : CarrierModel H P). c.backends) x.5), (x.0, x.1, x.2, x.3, x.4, λ i. over_wires (x.5 i) wires))
+    does-so Took x = (wires, stays (ap (λ (c : CarrierModel H P). c.backends) x.5), none, (x.0, x.1, x.2, x.3, x.4, λ i. over_wires (x.5 i) wires))
     does-so Opened x = opened-at x
     does-so Refused x =
-        let here = wire-at wired old.backends wires on (x.2).node x.3 x.7 in
-        (wires, stays (ap (λ (c : CarrierModel H P). c.backends) x.10), (x.0, x.1, x.2, over_backend x.3 here.0, x.4, x.5, x.6, here.3, ap (λ o. link_over o here.0) x.8, x.9, λ i. over_wires (x.10 i) wires))
-    does-so Missed x = (wires, stays (ap (λ (c : CarrierModel H P). c.backends) x.2), (x.0, x.1, λ i. over_wires (x.2 i) wires))
+        let here = wire-at wired old.backends wires on (x.2).first.node x.3 x.7 in (
+          wires,
+          stays (ap (λ (c : CarrierModel H P). c.backends) x.9),
+          none,
+          (x.0, x.1, x.2, over_backend x.3 here.0, x.4, x.5, x.6, here.3, refused-over longest x.2 (x.3).link here.0 (length old.nodes) old.failures new.failures x.8, λ i. over_wires (x.9 i) wires),
+        )
+    does-so Missed x = (wires, stays (ap (λ (c : CarrierModel H P). c.backends) x.2), none, (x.0, x.1, λ i. over_wires (x.2 i) wires))
     does-so SeedReached x =
         let here = wire-at wired old.backends wires on 0 x.0 x.2 in
         let backend' : Backend P = record x.0 { to_ask = true } in (
           slice_set wires 0 here.0,
           changes 0 backend' here.0 (ap (λ (c : CarrierModel H P). c.backends) x.3) here.1,
+          none,
           (
             over_backend x.0 here.0,
             x.1,
@@ -266,6 +285,7 @@ module _ {H P : Type 0} (wired : P → Wire → Type 0) (failures : P → ℕ) (
         let backend' : Backend P = record x.1 { to_ask = true } in (
           slice_set wires x.0 here.0,
           changes x.0 backend' here.0 (ap (λ (c : CarrierModel H P). c.backends) x.5) here.1,
+          none,
           (
             x.0,
             over_backend x.1 here.0,
@@ -279,6 +299,7 @@ module _ {H P : Type 0} (wired : P → Wire → Type 0) (failures : P → ℕ) (
     does-so NotFound x = (
       wires,
       stays (ap (λ (c : CarrierModel H P). c.backends) x.2),
+      none,
       (
         x.0,
         open-any wired old.backends wires on ∙ x.1,
@@ -292,9 +313,9 @@ module _ {H P : Type 0} (wired : P → Wire → Type 0) (failures : P → ℕ) (
     )
     does-so Sent x = sent-at x
     does-so Gave x = gave x
-    does-so GaveUnsent x = (wires, stays (ap (λ (c : CarrierModel H P). c.backends) x.5), (x.0, x.1, x.2, x.3, x.4, λ i. over_wires (x.5 i) wires))
+    does-so GaveUnsent x = (wires, stays (ap (λ (c : CarrierModel H P). c.backends) x.5), none, (x.0, x.1, x.2, x.3, x.4, λ i. over_wires (x.5 i) wires))
 
-module _ {H P : Type 0} (wired : P → Wire → Type 0) (failures : P → ℕ) (is_garbled : P → Type 0) (exchange : P → List Request → List Value → P → Type 0) (gives_none : P → Type 0) (opens : Endpoint → P → Type 0)
+module _ {H P : Type 0} (wired : P → Wire → Type 0) (failures : P → ℕ) (is_garbled : P → Type 0) (exchange : P → List Request → List Value → P → Type 0) (gives_none : P → Type 0) (opens : Endpoint → P → Type 0) (longest : P → ℕ)
     (stands : StandsFor wired exchange) where
-  pub any-ports : AnyPorts wired H failures is_garbled exchange gives_none opens
-  any-ports event old new wires opened on dials x = does-so wired failures is_garbled exchange gives_none opens stands old new wires opened on dials event x
+  pub any-ports : AnyPorts wired H failures is_garbled exchange gives_none opens longest
+  any-ports event old new wires opened on dials x = does-so wired failures is_garbled exchange gives_none opens longest stands old new wires opened on dials event x

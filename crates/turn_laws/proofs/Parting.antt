@@ -23,6 +23,7 @@ use Rattle.turn_laws.specs.Refines.{Simulates}
 use Rattle.turn_laws.proofs.Clients.{unseen-step, one-client}
 use Rattle.turn_laws.proofs.Downs.{Pair}
 use Rattle.turn_laws.proofs.Ending.{one-item}
+use Rattle.turn_laws.proofs.Standing.{order-on}
 use Rattle.turn_laws.proofs.Told.{fitting}
 use Rattle.turn_laws.proofs.Walks.{walked-sound}
 
@@ -61,10 +62,10 @@ module _ {C : Type 0} (downs : List Pair) (worker number : ℕ) (client : Client
           → slice_get client.session.stages (c.command.ticket.part - client.session.first) ≡ Some stage → StageShadow downs client.gone client.commands stage end c → PartShadow downs client2 c
       by le open' (Waiting part) end at x = let-go (Waiting part) at (λ slot. out-waits slot part)
       by le open' (Out slot) end at x =
-          let now = (hangs.awaited c.command.ticket).1 (slot, le, at, home, mine) in
           let i : ℕ = c.command.ticket.part - new.first in
-          let lost : slice_get new.ends i ≡ Some Lost = ap (λ es. slice_get es i) hangs.none_owed.2 ∙ each-same Lost (length new.stages) i (slice_get_within new.stages i (Out now.0) now.2) in
-          inl (inr (now.1, open', (Out now.0, Lost, now.2, lost, ((λ here. absurd (false≢true (sym here))), ⊎_elim (λ y. inl y) (λ y. inr (refl, y.1, y.2)) x.1))))
+          let now : slice_get new.stages i ≡ Some (Out slot) = ap (λ n. slice_get new.stages (c.command.ticket.part - n)) hangs.first ∙ (hangs.places (c.command.ticket.part - client.session.first) slot).1 at in
+          let lost : slice_get new.ends i ≡ Some Lost = ap (λ es. slice_get es i) hangs.none_owed.2 ∙ each-same Lost (length new.stages) i (slice_get_within new.stages i (Out slot) now) in
+          inl (inr (subst (λ n. n ≤ c.command.ticket.part) (sym hangs.first) le, open', (Out slot, Lost, now, lost, (x.0, ⊎_elim (λ y. inl y) (λ y. inr (refl, y.1, y.2)) x.1))))
       by le open' Done end at x = let-go Done at out-done
 
   pub parted-shadow : ClientShadow downs worker number client2 arrivals
@@ -73,7 +74,7 @@ module _ {C : Type 0} (downs : List Pair) (worker number : ℕ) (client : Client
     housed = hangs.owner.0 ∙ old.housed;
     all = λ here. absurd (false≢true (sym here));
     read = λ here part lt. absurd (false≢true (sym here));
-    stands = λ t out. old.stands t ((hangs.awaited t).0 out);
+    stands = λ t out. let was = old.stands t ((hangs.awaited t).0 out) in (was.0, order-on client.session new arrivals (λ j d e o. inr ((hangs.awaited d.command.ticket).1 o)) t was.1);
     homes = old.homes;
     parts = λ j c p q. ⊎_elim
         (λ (x : KeptShadow downs client c). kept2 c (old.homes j c p q ∙ sym old.housed) (q ∙ sym old.numbered) x)
@@ -82,6 +83,7 @@ module _ {C : Type 0} (downs : List Pair) (worker number : ℕ) (client : Client
     commands = record {
       posted = λ m c e. let was = (old.commands).posted m c e in (was.0, (hangs.awaited c.ticket).1 was.1);
       fresh = λ c e. let was = (old.commands).fresh c e in ((hangs.awaited c.ticket).1 was.0, was.1, was.2);
+      apart = (old.commands).apart;
     };
     owed = hangs.all_owed;
     ends = ap length hangs.none_owed.2 ∙ length-replicate (length new.stages) Lost;

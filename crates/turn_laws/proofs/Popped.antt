@@ -3,7 +3,7 @@ use Rattle.std.proofs.Common.{◌≡◌, ◌≢◌, inl, ⊎_elim, ℕ, ◌+◌,
 use Rattle.std.specs.Prelude.{slice_get, slice_set, map}
 use Rattle.std.specs.FinMap.{get, insert}
 use Rattle.std.proofs.lemmas.List.{append-nil, map-append}
-use Rattle.key_split.specs.declared.travel.Batch.{Batch}
+use Rattle.key_split.specs.Runs.{RunModel}
 use Rattle.key_split.specs.declared.travel.Ticket.{Ticket}
 use Rattle.key_split.specs.declared.travel.Ended.{Ended}
 use Rattle.command_future.specs.declared.stage.Stage.TheVariants.{Over}
@@ -121,17 +121,17 @@ module _ {C J : Type 0} (s : System C J) (w : WorldModel) (h : IsShadow s w) (wa
       (λ part c e awaits'. e)
       still-awaits
 
-  own-lane : (lane : LaneEnds (Newcomer C J)) → slice_get s.carrier.lanes k ≡ Some lane → IsInStep model2.outlet lane.up × ListShadow (record w { commands = commands'; ups = w.ups }) k (ups_in model2 lane (slice_get s.carrier.pending_batches k))
+  own-lane : (lane : LaneEnds (Newcomer C J)) → slice_get s.carrier.lanes k ≡ Some lane → IsInStep model2.outlet lane.up × ListShadow (record w { commands = commands'; ups = w.ups }) k (ups_in model2 lane (slice_get s.carrier.pending_runs k))
   own-lane lane q =
-      let was : ListShadow w k (ups_in model lane (slice_get s.carrier.pending_batches k)) = h.lanes k model lane at q in
-      (h.up_steps k model lane at q, same-ups (slice_get s.carrier.pending_batches k) (was.0, lists-still w.commands commands' parts.parts k (ups_in model lane (slice_get s.carrier.pending_batches k)) was.1))
+      let was : ListShadow w k (ups_in model lane (slice_get s.carrier.pending_runs k)) = h.lanes k model lane at q in
+      (h.up_steps k model lane at q, same-ups (slice_get s.carrier.pending_runs k) (was.0, lists-still w.commands commands' parts.parts k (ups_in model lane (slice_get s.carrier.pending_runs k)) was.1))
     where
       same-ups : (o : _) → ListShadow (record w { commands = commands'; ups = w.ups }) k (ups_in model lane o) → ListShadow (record w { commands = commands'; ups = w.ups }) k (ups_in model2 lane o)
       same-ups None x = x
       same-ups (Some b) x = x
 
-  other-lanes : (i : ℕ) (batches : List Batch) → i ≢ k → ListShadow w i batches → ListShadow (record w { commands = commands'; ups = w.ups }) i batches
-  other-lanes i batches ne was = (was.0, lists-still w.commands commands' parts.parts i batches was.1)
+  other-lanes : (i : ℕ) (runs : List RunModel) → i ≢ k → ListShadow w i runs → ListShadow (record w { commands = commands'; ups = w.ups }) i runs
+  other-lanes i runs ne was = (was.0, lists-still w.commands commands' parts.parts i runs was.1)
 
   logged : LogShadow (s.log ++ mark ∷ []) w'
   logged = log-one s.log w w' mark (w.moment + 1) h.log (omega arith) (omega arith)

@@ -19,7 +19,7 @@ use Rattle.turn_laws.specs.Shadow.{ClientShadow, PartShadow, KeptShadow, IsLetGo
 use Rattle.turn_laws.proofs.Downs.{Pair}
 use Rattle.turn_laws.proofs.Ending.{one-item, out-done}
 use Rattle.turn_laws.proofs.Rising.{Rising}
-use Rattle.turn_laws.proofs.Standing.{GoesOn, still-stands, turn-set}
+use Rattle.turn_laws.proofs.Standing.{GoesOn, still-stands, order-set, order-on}
 use Rattle.turn_laws.proofs.Telling.{count-set}
 
 -- the session without its first part: of the requests no more is known than how many parts they have
@@ -166,7 +166,7 @@ module _ {C : Type 0} (downs : List Pair) (worker number : ℕ) (client : Client
       housed = old.housed;
       all = λ g. count-set (λ (a : Arrival). a.command.ticket.client == number) arrivals j x y at refl ∙ old.all g ∙ omega (arith, fewer);
       read = λ g part lt. still-stands arrivals j x y at refl (ticket_at held part) (old.read g part (omega (arith, lt, fewer)));
-      stands = λ t o. let was = old.stands t (was-out t o) in (still-stands arrivals j x y at refl t was.0, turn-set arrivals j x y at on t was.1);
+      stands = λ t o. let was = old.stands t (was-out t o) in (still-stands arrivals j x y at refl t was.0, order-on held (popped held) (slice_set arrivals j y) (λ i d e p. inr (still-out d.command.ticket p)) t (order-set held arrivals j x y at on t was.1));
       homes = λ i a e n. ⊎_elim
           (λ (z : (i ≡ j) × (a ≡ y)). ap (λ (u : Arrival). u.command.ticket.worker) z.1 ∙ old.homes j x at mine)
           (λ (z : (i ≢ j) × (slice_get arrivals i ≡ Some a)). old.homes i a z.1 n)
@@ -181,6 +181,7 @@ module _ {C : Type 0} (downs : List Pair) (worker number : ℕ) (client : Client
       commands = record {
         posted = λ m d e. let was = (old.commands).posted m d e in (was.0, still-out d.ticket was.1);
         fresh = λ d e. let was = (old.commands).fresh d e in (still-out d.ticket was.0, was.1, was.2);
+        apart = (old.commands).apart;
       };
       owed = omega arith;
       ends = (let a = one-fewer held.ends end has-end in omega (arith, a, fewer, old.ends));

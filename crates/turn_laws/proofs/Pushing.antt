@@ -24,7 +24,7 @@ use Rattle.turn_laws.specs.Shadow.{ClientShadow, PartShadow, KeptShadow, IsLetGo
 use Rattle.turn_laws.proofs.Downs.{Pair}
 use Rattle.turn_laws.proofs.Parting.{out-waits}
 use Rattle.turn_laws.proofs.Settling.{same_number}
-use Rattle.turn_laws.proofs.Standing.{stands-more, turn-more}
+use Rattle.turn_laws.proofs.Standing.{stands-more, order-more, order-on}
 
 -- the session with one part more: of the requests no more is known than how many parts they have
 abbrev pub pushed : SessionModel → PartModel → SessionModel
@@ -121,7 +121,7 @@ module _ {C : Type 0} (downs : List Pair) (worker number : ℕ) (client : Client
         (λ (z : p < held.first + length held.stages). stands-more arrivals y (ticket_at held p) (old.read g p z))
         (λ (z : p ≡ held.first + length held.stages). (length arrivals, y, last arrivals y, ticketed ∙ ap (ticket_at held) (sym z)))
         (below p (held.first + length held.stages) (omega (arith, lt, length-append held.stages (Waiting part ∷ []))));
-    stands = λ t o. let was = old.stands t (was-out t o) in (stands-more arrivals y t was.0, turn-more arrivals y t (none-out t (was-out t o)) was.1);
+    stands = λ t o. let was = old.stands t (was-out t o) in (stands-more arrivals y t was.0, order-on held (pushed held part) arrivals2 (λ i d e p. inr (still-out d.command.ticket p)) t (order-more held arrivals y t (none-out t (was-out t o)) was.1));
     homes = λ i a e n. ⊎_elim
         (λ (z : slice_get arrivals i ≡ Some a). old.homes i a z n)
         (λ (z : (i ≡ length arrivals) × (a ≡ y)). ap (λ (u : Arrival). u.command.ticket.worker) z.1 ∙ ap (λ (t : Ticket). t.worker) ticketed ∙ old.housed)
@@ -136,6 +136,7 @@ module _ {C : Type 0} (downs : List Pair) (worker number : ℕ) (client : Client
     commands = record {
       posted = λ m d e. let was = (old.commands).posted m d e in (was.0, still-out d.ticket was.1);
       fresh = λ d e. let was = (old.commands).fresh d e in (still-out d.ticket was.0, was.1, was.2);
+      apart = (old.commands).apart;
     };
     owed = omega (arith, length-append held.stages (Waiting part ∷ []));
     ends = omega (arith, length-append held.stages (Waiting part ∷ []), length-append held.ends (Lost ∷ []), old.ends);
@@ -153,7 +154,7 @@ others-more {C} downs worker number client arrivals y ne no' h = record {
   housed = h.housed;
   all = λ here. count-more (λ (c : Arrival). c.command.ticket.client == number) arrivals y 0 (ap (λ b. cond {A = ℕ} b 1 0) no') ∙ omega (arith, h.all here);
   read = λ here part lt. stands-more arrivals y (ticket_at client.session part) (h.read here part lt);
-  stands = λ t out. let was = h.stands t out in (stands-more arrivals y t was.0, turn-more arrivals y t (λ e. ne (ap (λ (u : Ticket). u.client) e ∙ out.4 ∙ h.numbered)) was.1);
+  stands = λ t out. let was = h.stands t out in (stands-more arrivals y t was.0, order-more client.session arrivals y t (λ e. ne (ap (λ (u : Ticket). u.client) e ∙ out.4 ∙ h.numbered)) was.1);
   homes = λ i a e n. ⊎_elim
       (λ (z : slice_get arrivals i ≡ Some a). h.homes i a z n)
       (λ (z : (i ≡ length arrivals) × (a ≡ y)). absurd (ne (ap (λ (u : Arrival). u.command.ticket.client) (sym z.1) ∙ n)))

@@ -5,7 +5,7 @@ use Rattle.std.specs.List.{FoldsTo}
 use Rattle.std.specs.FinMap.{FinMap, get, insert, get-insert}
 use Rattle.std.specs.Ordering.{nat_cmp, eq_by_cmp}
 use Rattle.std.specs.Cmp.{nat_cmp_total}
-use Rattle.key_split.specs.declared.travel.Batch.{Batch}
+use Rattle.key_split.specs.Runs.{RunModel}
 use Rattle.key_split.specs.declared.travel.Ticket.{Ticket}
 use Rattle.key_split.specs.declared.travel.Told.{Told}
 use Rattle.slot_map.specs.declared.ops.MapOp.{MapOp}
@@ -33,6 +33,10 @@ put m x k = get-insert nat_cmp_total m k x k
 pub and-then : {P A : Type 0} (R : P → A → P → Type 0) (p : P) (xs : List A) (j : P) (ys : List A) (q : P) → FoldsTo R p xs j → FoldsTo R j ys q → FoldsTo R p (xs ++ ys) q
 and-then R p [] j ys q e h = subst (λ x. FoldsTo R x ys q) (sym e) h
 and-then R p (x ∷ xs) j ys q first h = (first.0, first.1, and-then R first.0 xs j ys q first.2 h)
+
+-- how long a run may be
+abbrev pub some_length : Wire → ℕ
+some_length wire = 64
 
 -- ---- connections that did not fail
 
@@ -116,7 +120,7 @@ module _ {C J : Type 0} where
     }
 
     -- what happens to one client
-    pub at-client : {event : ClientEvent} (lane : LaneEnds (Newcomer C J)) (number : ℕ) (client client' : ClientModel C) (outlet : Outlet Batch) (view : List MapOp)
+    pub at-client : {event : ClientEvent} (lane : LaneEnds (Newcomer C J)) (number : ℕ) (client client' : ClientModel C) (outlet : Outlet RunModel) (view : List MapOp)
         → slice_get carrier.lanes 0 ≡ Some lane → get old.clients number ≡ Some client
         → ClientDoes any_moves (record { client = client; outlet = old.outlet; view = old.view }) event (record { client = client'; outlet = outlet; view = view })
         → get (insert old.clients number client') number ≡ Some client' → DownInStep lane old → PostsThere cluster (Did number event)
@@ -125,10 +129,11 @@ module _ {C J : Type 0} where
         at-worker lane (seen_at event client.session client'.session) at (client, client', is, does, refl) (client, client', is, put-in, refl) down there
 
   pub at-carrier : {worker : WorkerModel C J} {old new : CarrierModel (Newcomer C J) Wire} {closed : List Wire} {opened : ℕ} {cluster : ClusterModel} {log : List Mark} {event : CarrierEvent} (lane : LaneEnds (Newcomer C J))
-      → CarrierDoes any_failures any_garbled Exchanges any_none (Dials old.nodes opened) old event new
+      → CarrierDoes any_failures any_garbled Exchanges any_none (Dials old.nodes opened) some_length old event new
       → AllWork new.backends → new.lanes ≡ lane ∷ [] → IsInStep worker.outlet lane.up → new.nodes ≡ old.nodes
       → CarrierStep (scene worker old closed opened cluster log) event (scene worker new closed (opened_by event opened) cluster log)
   at-carrier {worker} {old} {new} {closed} {opened} {cluster} {log} {event} lane does work only up table = record {
+    longest = some_length;
     does = does;
     breaks = inl (refl, λ k link link' fails. no-failure fails.1.link link' (work-there new.backends work k fails.1 fails.2) fails.3 fails.4);
     leaves = refl;
@@ -138,10 +143,11 @@ module _ {C J : Type 0} where
 
   -- where a connection failed before
   pub past-failure : {worker : WorkerModel C J} {old new : CarrierModel (Newcomer C J) Wire} {closed : List Wire} {opened : ℕ} {cluster : ClusterModel} {log : List Mark} {event : CarrierEvent} (lane : LaneEnds (Newcomer C J))
-      → CarrierDoes any_failures any_garbled Exchanges any_none (Dials old.nodes opened) old event new
+      → CarrierDoes any_failures any_garbled Exchanges any_none (Dials old.nodes opened) some_length old event new
       → Steady old.backends new.backends → new.lanes ≡ lane ∷ [] → IsInStep worker.outlet lane.up → new.nodes ≡ old.nodes
       → CarrierStep (scene worker old closed opened cluster log) event (scene worker new closed (opened_by event opened) cluster log)
   past-failure {worker} {old} {new} {closed} {opened} {cluster} {log} {event} lane does steady only up table = record {
+    longest = some_length;
     does = does;
     breaks = inl (
       refl,
@@ -158,11 +164,12 @@ module _ {C J : Type 0} where
   -- where one fails
   pub breaking : {worker : WorkerModel C J} {old new : CarrierModel (Newcomer C J) Wire} {closed : List Wire} {opened : ℕ} {cluster : ClusterModel} {log : List Mark} {event : CarrierEvent} (lane : LaneEnds (Newcomer C J))
       (k : ℕ) (b b' : Backend Wire) (link link' : LinkModel Wire)
-      → CarrierDoes any_failures any_garbled Exchanges any_none (Dials old.nodes opened) old event new
+      → CarrierDoes any_failures any_garbled Exchanges any_none (Dials old.nodes opened) some_length old event new
       → slice_get old.backends k ≡ Some b → b.link ≡ Some link → link.failure ≡ None → slice_get new.backends k ≡ Some b' → b'.link ≡ Some link' → IsSome link'.failure
       → new.lanes ≡ lane ∷ [] → IsInStep worker.outlet lane.up → new.nodes ≡ old.nodes
       → CarrierStep (scene worker old closed opened cluster log) event (scene worker new (closed ++ record link'.port { values = [] } ∷ []) (opened_by event opened) cluster log)
   breaking {worker} {old} {new} {closed} {opened} {cluster} {log} {event} lane k b b' link link' does at is works there has failed only up table = record {
+    longest = some_length;
     does = does;
     breaks = inr (k, link, link', ((b, at, is, works), b', there, has, failed), refl);
     leaves = refl;

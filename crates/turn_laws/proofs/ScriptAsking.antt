@@ -1,5 +1,5 @@
 -- A client comes, and its two requests are read.
-use Rattle.std.proofs.Common.{◌≡◌, inl, inr, ℕ, List, [], ◌∷◌, Some, None, refl, ap, arith}
+use Rattle.std.proofs.Common.{◌≡◌, inl, inr, ℕ, List, [], ◌∷◌, Some, refl, ap, arith}
 use Rattle.std.specs.Prelude.{codes, slice_get}
 use Rattle.std.specs.List.{FoldsTo}
 use Rattle.std.specs.FinMap.{FinMap, insert, empty, get-empty}
@@ -49,19 +49,19 @@ log2 = Arrived (ticket 0) set ∷ Arrived (ticket 1) script.get ∷ []
 
 module _ {C : Type 0} (port : C) where
   abbrev pub a0 : ClientModel C
-  a0 = client port n0 (commands None empty) [] []
+  a0 = client port n0 (commands [] empty) [] []
 
   abbrev pub a1 : ClientModel C
-  a1 = client port n0 (commands None empty) asked []
+  a1 = client port n0 (commands [] empty) asked []
 
   abbrev pub a2 : ClientModel C
-  a2 = client port n1 (commands None empty) [] []
+  a2 = client port n1 (commands [] empty) [] []
 
   abbrev pub a3 : ClientModel C
-  a3 = client port n2 (commands None empty) [] []
+  a3 = client port n2 (commands [] empty) [] []
 
   abbrev pub a4 : ClientModel C
-  a4 = client port n3 (commands None empty) [] []
+  a4 = client port n3 (commands [] empty) [] []
 
   abbrev pub t1 : FinMap nat_cmp (ClientModel C)
   t1 = insert empty 0 a0

@@ -1,10 +1,11 @@
 -- What the requests of the script ask for, what its replies say, and how its nodes stand.
 use Rattle.std.proofs.Common.{◌≡◌, ℕ, zero, suc, ◌*◌, ◌^◌, ◌%◌, Bool, true, false, List, [], ◌∷◌, ◌++◌, Some, None, Ok, refl, sym, ap, ◌∙◌, subst, arith}
-use Rattle.std.specs.Prelude.{codes, replicate, slice_index_or, cond, Option, is_some, is_none, if◌then◌else◌}
+use Rattle.std.specs.Prelude.{All, codes, replicate, slice_index_or, cond, Option, is_some, is_none, if◌then◌else◌}
 use Rattle.std.specs.FinMap.{get, insert, remove, empty, get-empty, get-insert, get-remove}
 use Rattle.std.specs.Ordering.{nat_cmp, eq_by_cmp}
 use Rattle.std.specs.Cmp.Lexicographic.{slice_cmp, nat_list_cmp_total}
 use Rattle.std.proofs.lemmas.Fmt.{decimal_digit}
+use Rattle.std.proofs.lemmas.List.Elements.{All-cons, All-nil}
 use Rattle.slot_hash.specs.Slot.{slot_of, crc16_of, tag_of, message}
 use Rattle.slot_hash.specs.Division.{IsRemainder-remainder, one_remainder}
 use Rattle.slot_hash.specs.Polynomial.{IsRemainder}
@@ -28,14 +29,20 @@ use Rattle.node_model.specs.Nodes.{ClusterModel, at, role_of, store_at, with_sto
 use Rattle.node_model.specs.Standings.{SlotStandingModel, settled_at}
 use Rattle.node_model.specs.Moves.{import_done, migrate_done, forget_done, stay_done, own_done, release_done, move_key_done}
 use Rattle.node_model.specs.Store.{StoreModel, put, bulk_of}
+use Rattle.node_model.specs.Runs.{deed_for, DoesRun}
 use Rattle.node_model.specs.Serving.{deed_at, deed_of, held_of, NodeDoes}
 use Rattle.node_model.specs.declared.role.Verdict.TheVariants.{Plain}
 use Rattle.node_model.specs.declared.role.Deed.TheVariants.{Executes, Says}
 use Rattle.node_model.specs.declared.role.KeysHeld.{KeysHeld}
 use Rattle.node_model.specs.declared.role.KeysHeld.TheVariants.{AllHeld, SomeHeld, NoneHeld}
-use Rattle.key_split.specs.PartModel.{keys_of}
+use Rattle.key_split.specs.PartModel.{PartModel, keys_of}
+use Rattle.key_split.specs.Runs.{GoTogether, IsTogether}
+use Rattle.key_split.specs.declared.travel.Batch.{Batch}
+use Rattle.key_split.specs.declared.travel.Told.{Told}
+use Rattle.command_future.specs.CommandModel.{CommandModel, IsFresh}
 use Rattle.std.specs.List.{list_all}
 use Rattle.world_laws.specs.Headline.{IsNew}
+use Rattle.world_laws.proofs.Alone.{does_alone}
 use Rattle.turn_laws.specs.Scripts as script
 use Rattle.turn_laws.specs.Scripts.{key, set, ok, five}
 
@@ -261,12 +268,27 @@ none-held = ap by-look not-given
 all-held : held_of held (keys_of script.get) ≡ AllHeld
 all-held = ap by-look in-held
 
+-- a run of one is served as the command alone
+pub alone : (k k' : ClusterModel) (node : ℕ) (asking : Bool) (c : PartModel) (told : Told) → NodeDoes (deed_at k node asking c Plain) k node c told k'
+    → DoesRun (deed_for k node asking (c ∷ []) Plain) k node (c ∷ []) (told ∷ []) k'
+alone k k' node asking c told h =
+    let same = does_alone k k' node asking c Plain (deed_at k node asking c Plain) told in
+    subst (λ d. DoesRun d k node (c ∷ []) (told ∷ []) k') (sym same.0) (same.1.1 h)
+
+-- ---- commands that go alone
+
+pub fresh-alone : (c : CommandModel) → IsFresh c → All IsFresh (c ∷ [])
+fresh-alone c e = All-cons IsFresh c [] e (All-nil IsFresh)
+
+pub goes-alone : {batch : Batch} → IsTogether (record { first = batch; later = [] })
+goes-alone {batch} = All-nil (GoTogether batch)
+
 -- the first node owns the slot, and executes
 sets : deed_at k5 0 false set Plain ≡ Executes
 sets = ap (λ n. deed_of Plain (role_of k5 0 n) false (held_of (store_at k5 0) (keys_of set)) true n) slot-is
 
-pub does-set : NodeDoes (deed_at k5 0 false set Plain) k5 0 set (Reply ok) k6
-does-set = subst (λ d. NodeDoes d k5 0 set (Reply ok) k6) (sym sets) (refl, refl)
+pub does-set : DoesRun (deed_for k5 0 false (set ∷ []) Plain) k5 0 (set ∷ []) (Reply ok ∷ []) k6
+does-set = alone k5 k6 0 false set (Reply ok) (subst (λ d. NodeDoes d k5 0 set (Reply ok) k6) (sym sets) (refl, refl))
 
 -- it gave the key away, and sends to the second
 refuses : deed_at k8 0 false script.get Plain ≡ Says (Ask 1 1)
@@ -274,8 +296,8 @@ refuses =
     ap (λ n. deed_of Plain (role_of k8 0 n) false (held_of given (keys_of script.get)) true n) slot-is
     ∙ ap (λ h. deed_of Plain (role_of k8 0 1) false h true 1) none-held
 
-pub does-ask : NodeDoes (deed_at k8 0 false script.get Plain) k8 0 script.get (Ask 1 1) k8
-does-ask = subst (λ d. NodeDoes d k8 0 script.get (Ask 1 1) k8) (sym refuses) (refl, refl)
+pub does-ask : DoesRun (deed_for k8 0 false (script.get ∷ []) Plain) k8 0 (script.get ∷ []) (Ask 1 1 ∷ []) k8
+does-ask = alone k8 k8 0 false script.get (Ask 1 1) (subst (λ d. NodeDoes d k8 0 script.get (Ask 1 1) k8) (sym refuses) (refl, refl))
 
 -- the second executes behind ASKING
 gets : deed_at k8 1 true script.get Plain ≡ Executes
@@ -286,5 +308,5 @@ gets =
 abbrev store_read : Option (List ℕ) → ClusterModel
 store_read o = record { slots = k7.slots; stores = given ∷ put held key o ∷ [] }
 
-pub does-get : NodeDoes (deed_at k8 1 true script.get Plain) k8 1 script.get (Reply five) k9
-does-get = subst (λ d. NodeDoes d k8 1 script.get (Reply five) k9) (sym gets) (ap bulk_of (sym in-held), ap store_read (sym in-held))
+pub does-get : DoesRun (deed_for k8 1 true (script.get ∷ []) Plain) k8 1 (script.get ∷ []) (Reply five ∷ []) k9
+does-get = alone k8 k9 1 true script.get (Reply five) (subst (λ d. NodeDoes d k8 1 script.get (Reply five) k9) (sym gets) (ap bulk_of (sym in-held), ap store_read (sym in-held)))

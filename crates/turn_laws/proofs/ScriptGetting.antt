@@ -5,7 +5,6 @@ use Rattle.std.specs.List.{FoldsTo}
 use Rattle.std.specs.FinMap.{FinMap}
 use Rattle.std.specs.Ordering.{nat_cmp}
 use Rattle.resp_wire.specs.Laws.{FrontIsWhole}
-use Rattle.key_split.specs.Requests.{Asking, Command}
 use Rattle.key_split.specs.declared.travel.Told.TheVariants.{Ask, Reply}
 use Rattle.slot_hash.specs.Slot.{slot_of}
 use Rattle.command_future.specs.CommandModel.{progress_told}
@@ -13,19 +12,19 @@ use Rattle.node_link.specs.declared.link.Due.TheVariants as due
 use Rattle.proxy_lanes.specs.declared.ends.lane_ends.LaneEnds.{LaneEnds}
 use Rattle.proxy_turns.specs.declared.newcomer.Newcomer.{Newcomer}
 use Rattle.proxy_turns.specs.declared.backend.Backend.{Backend}
-use Rattle.proxy_turns.specs.declared.pending_batch.PendingBatch.{PendingBatch}
+use Rattle.proxy_turns.specs.declared.pending_run.PendingRun.{PendingRun}
 use Rattle.proxy_turns.specs.Backend.{new_backend, new_pending_told}
 use Rattle.proxy_turns.specs.ClientModel.{ClientModel}
 use Rattle.proxy_turns.specs.WorkerModel.{WorkerModel, one_more}
 use Rattle.proxy_turns.specs.CarrierModel.{CarrierModel}
-use Rattle.turn_laws.specs.Wire.{Wire, Executed, Nothing}
+use Rattle.turn_laws.specs.Wire.{Wire, Asks, Runs}
 use Rattle.turn_laws.specs.System.{System}
 use Rattle.turn_laws.specs.Steps.{SystemStep}
 use Rattle.turn_laws.specs.Scripts as script
-use Rattle.turn_laws.specs.Scripts.{key, five, ticket, plain, behind_asking, opening, moving, asking, setting as request_set, getting_key, refused as request_refused, followed, settling, story, Happens}
+use Rattle.turn_laws.specs.Scripts.{key, five, ticket, plain, behind_asking, did, opening, moving, asking, setting as request_set, getting_key, refused as request_refused, followed, settling, story, Happens}
 use Rattle.turn_laws.proofs.Rings.{posts, takes, outlet_with}
 use Rattle.turn_laws.proofs.Scenes.{scene, and-then, put, at-worker, at-client, at-carrier, down-in}
-use Rattle.turn_laws.proofs.ScriptFacts.{k7, k8, k9, k10, k11, slot-is, in-held, key-moved, given-none, ask, told-ask, does-ask, does-get}
+use Rattle.turn_laws.proofs.ScriptFacts.{k7, k8, k9, k10, k11, slot-is, in-held, key-moved, given-none, ask, told-ask, does-ask, does-get, fresh-alone, goes-alone}
 use Rattle.turn_laws.proofs.ScriptStates.{commands, awaits, getting, sent-on, posted3, posted4, posted5, posted6, wire, link, pending, lane, carrier, worker, up1, up2, up3, down1, down2, down3}
 use Rattle.turn_laws.proofs.ScriptOpening.{s0, s1, s2, starts, opens, moves}
 use Rattle.turn_laws.proofs.ScriptAsking.{doors, s3, asks}
@@ -45,8 +44,8 @@ module _ {C J : Type 0} (port : C) where
   abbrev l6 : LaneEnds (Newcomer C J)
   l6 = lane port up3 down3
 
-  abbrev c : LaneEnds (Newcomer C J) → PendingBatch → Backend Wire → Backend Wire → CarrierModel (Newcomer C J) Wire
-  c l batch a b = carrier l (batch ∷ []) (a ∷ b ∷ []) false
+  abbrev c : LaneEnds (Newcomer C J) → PendingRun → Backend Wire → Backend Wire → CarrierModel (Newcomer C J) Wire
+  c l run a b = carrier l (run ∷ []) (a ∷ b ∷ []) false
 
   -- after the second post, after ASK was taken, after the third post, and after the reply was taken
   abbrev w3 : FinMap nat_cmp (ClientModel C) → WorkerModel C J
@@ -91,14 +90,17 @@ module _ {C J : Type 0} (port : C) where
     (
       scene (w3 (t15 port)) (c (l2 port) (pending None) idle new_backend) [] 1 k8 log4,
       at-client (l2 port) 0 (a11 port) (a12 port) (outlet_with up2) [] refl (put _ (a11 port) 0) (
-        1,
         getting,
-        commands None posted3,
-        inl (refl, refl, refl),
+        [],
+        commands [] posted3,
+        inl (refl, fresh-alone getting refl, refl),
         (λ e. absurd (cc)),
         (slot_of key, omega arith, refl, refl, refl, refl),
+        tt,
         (Ok None, (([], refl), refl), refl),
         refl,
+        goes-alone,
+        omega arith,
         posts up1 (plain 1 0 script.get),
         refl,
       ) (put _ (a12 port) 0) (down-in {J = J} (l2 port) (w2 port (t14 port) 0) _ refl ([], refl)) (omega arith),
@@ -123,21 +125,21 @@ module _ {C J : Type 0} (port : C) where
             refl,
             refl,
             refl,
-            (link 0 (wire 0 [] [] false) [], link 0 (wire 0 (Command (ticket 1) script.get ∷ []) [] false) (due.Command (ticket 1) ∷ []), refl, (Ok tt, refl, (λ e. absurd (cc)), (refl, (refl, refl), refl)), refl),
+            (link 0 (wire 0 [] [] false) [], link 0 (wire 0 (Runs ((ticket 1, script.get) ∷ []) ∷ []) [] false) (due.Command (ticket 1) ∷ []), refl, omega arith, (Ok tt, refl, (λ e. absurd (cc)), (refl, (refl, refl), refl)), refl),
             refl,
           ) (refl, (refl, tt)) refl ([], refl) refl,
           (
             scene (w3 (t15 port)) (c l3 (pending None) refused new_backend) [] 1 k8 log4,
             (
               sent,
-              link 0 (wire 0 (Command (ticket 1) script.get ∷ []) [] false) (due.Command (ticket 1) ∷ []),
+              link 0 (wire 0 (Runs ((ticket 1, script.get) ∷ []) ∷ []) [] false) (due.Command (ticket 1) ∷ []),
               wire 0 [] (ask ∷ []) false,
-              ask,
-              Nothing,
+              ask ∷ [],
+              [],
               refl,
               refl,
               refl,
-              inr (inl ([], ticket 1, script.get, Ask 1 1, refl, refl, does-ask, told-ask, refl, refl)),
+              inr (inl ([], (ticket 1, script.get) ∷ [], Ask 1 1 ∷ [], refl, refl, does-ask, (told-ask, tt), refl, refl)),
               refl,
               refl,
             ),
@@ -194,14 +196,17 @@ module _ {C J : Type 0} (port : C) where
   follows = (
     scene (w5 (t17 port)) (c l4 (pending None) idle new_backend) [] 1 k8 log4,
     at-client l4 0 (a13 port) (a14 port) (outlet_with up3) [] refl (put _ (a13 port) 0) (
-      1,
       sent-on,
-      commands None posted5,
-      inr (put posted4 sent-on 1, refl),
+      [],
+      commands [] posted5,
+      inr (put posted4 sent-on 1, refl, refl),
       (λ e. absurd (cc)),
       (slot_of key, omega arith, refl, refl, refl, refl),
+      tt,
       (refl, refl),
       refl,
+      goes-alone,
+      omega arith,
       posts up2 (behind_asking 1 1 script.get),
       refl,
     ) (put _ (a14 port) 0) (down-in l4 (w4 (t16 port)) _ refl ([], refl)) (omega arith),
@@ -239,21 +244,21 @@ module _ {C J : Type 0} (port : C) where
             refl,
             refl,
             refl,
-            (link 1 (wire 1 [] [] false) [], link 1 (wire 1 (Asking ∷ Command (ticket 1) script.get ∷ []) [] false) (due.Asking ∷ due.Command (ticket 1) ∷ []), refl, (Ok tt, refl, (λ e. absurd (cc)), (refl, (refl, refl), refl)), refl),
+            (link 1 (wire 1 [] [] false) [], link 1 (wire 1 (Asks ∷ Runs ((ticket 1, script.get) ∷ []) ∷ []) [] false) (due.Asking ∷ due.Command (ticket 1) ∷ []), refl, omega arith, (Ok tt, refl, (λ e. absurd (cc)), (refl, (refl, refl), refl)), refl),
             refl,
           ) (refl, (refl, tt)) refl ([], refl) refl,
           (
             scene (w5 (t17 port)) (c l5 (pending None) idle welcomed) [] 2 k8 log4,
             (
               both-due,
-              link 1 (wire 1 (Asking ∷ Command (ticket 1) script.get ∷ []) [] false) (due.Asking ∷ due.Command (ticket 1) ∷ []),
-              wire 1 (Command (ticket 1) script.get ∷ []) (script.ok ∷ []) true,
-              script.ok,
-              Nothing,
+              link 1 (wire 1 (Asks ∷ Runs ((ticket 1, script.get) ∷ []) ∷ []) [] false) (due.Asking ∷ due.Command (ticket 1) ∷ []),
+              wire 1 (Runs ((ticket 1, script.get) ∷ []) ∷ []) (script.ok ∷ []) true,
+              script.ok ∷ [],
+              [],
               refl,
               refl,
               refl,
-              inl (Command (ticket 1) script.get ∷ [], refl, refl, refl, refl),
+              inl (Runs ((ticket 1, script.get) ∷ []) ∷ [], script.ok, refl, refl, refl, refl, refl),
               refl,
               refl,
             ),
@@ -261,14 +266,14 @@ module _ {C J : Type 0} (port : C) where
               scene (w5 (t17 port)) (c l5 (pending None) idle both-served) [] 2 k9 log5,
               (
                 welcomed,
-                link 1 (wire 1 (Command (ticket 1) script.get ∷ []) (script.ok ∷ []) true) (due.Asking ∷ due.Command (ticket 1) ∷ []),
+                link 1 (wire 1 (Runs ((ticket 1, script.get) ∷ []) ∷ []) (script.ok ∷ []) true) (due.Asking ∷ due.Command (ticket 1) ∷ []),
                 wire 1 [] (script.ok ∷ five ∷ []) false,
-                five,
-                Executed (ticket 1) script.get five,
+                five ∷ [],
+                did 1 script.get five ∷ [],
                 refl,
                 refl,
                 refl,
-                inr (inl ([], ticket 1, script.get, Reply five, refl, refl, does-get, refl, refl, refl)),
+                inr (inl ([], (ticket 1, script.get) ∷ [], Reply five ∷ [], refl, refl, does-get, (refl, tt), refl, refl)),
                 refl,
                 refl,
               ),

@@ -6,7 +6,6 @@ use Rattle.std.specs.FinMap.{empty, get-empty}
 use Rattle.std.specs.Ordering.{nat_cmp}
 use Rattle.std.specs.Cmp.Lexicographic.{slice_cmp}
 use Rattle.resp_wire.specs.declared.value.Value.TheVariants.{Array}
-use Rattle.key_split.specs.Requests.{Slots}
 use Rattle.slot_map.specs.Table.{Endpoint}
 use Rattle.node_model.specs.Nodes.{ClusterModel}
 use Rattle.world_laws.specs.Headline.{IsNew}
@@ -15,14 +14,14 @@ use Rattle.proxy_lanes.specs.declared.ends.lane_ends.LaneEnds.{LaneEnds}
 use Rattle.proxy_turns.specs.declared.newcomer.Newcomer.{Newcomer}
 use Rattle.proxy_turns.specs.declared.backend.Backend.{Backend}
 use Rattle.proxy_turns.specs.Backend.{new_backend}
-use Rattle.proxy_turns.specs.PendingBatch.{no_pending_batch}
+use Rattle.proxy_turns.specs.PendingRun.{no_pending_run}
 use Rattle.proxy_turns.specs.WorkerModel.{WorkerModel}
 use Rattle.proxy_turns.specs.CarrierModel.{CarrierModel}
 use Rattle.world_laws.specs.State.{WorldModel, slot_for}
 use Rattle.world_laws.specs.Places.{tally, asks}
 use Rattle.world_laws.specs.World.{NoneAsks}
 use Rattle.world_laws.specs.declared.state.Arrival.{Arrival}
-use Rattle.turn_laws.specs.Wire.{Wire, new_wire, Nothing}
+use Rattle.turn_laws.specs.Wire.{Wire, Lists, new_wire}
 use Rattle.turn_laws.specs.System.{System, IsInStep, between}
 use Rattle.turn_laws.specs.Shadow.{IsShadow, AreApart, DownInStep, arrived_in, down_in}
 use Rattle.turn_laws.specs.Steps.{SystemStep}
@@ -66,7 +65,7 @@ abbrev b2 : Backend Wire
 b2 = record b1 { to_ask = true }
 
 abbrev b3 : Backend Wire
-b3 = record b1 { link = Some (link 0 (wire 0 (Slots ∷ []) [] false) (due.Slots ∷ [])); asked = true }
+b3 = record b1 { link = Some (link 0 (wire 0 (Lists ∷ []) [] false) (due.Slots ∷ [])); asked = true }
 
 abbrev b4 : Backend Wire
 b4 = record b1 { link = Some (link 0 (wire 0 [] (Array [] ∷ []) false) (due.Slots ∷ [])); asked = true }
@@ -85,7 +84,7 @@ module _ {C J : Type 0} (port : C) where
   l0 = lane port [] []
 
   abbrev c0 : List (Backend Wire) → Bool → CarrierModel (Newcomer C J) Wire
-  c0 backends seed = carrier l0 (no_pending_batch ∷ []) backends seed
+  c0 backends seed = carrier l0 (no_pending_run ∷ []) backends seed
 
   abbrev pub s0 : System C J
   s0 = scene w0 (carrier l0 [] [] true) [] 0 k0 []
@@ -104,7 +103,7 @@ module _ {C J : Type 0} (port : C) where
         only-one (λ k model. DownInStep l model) w0
         (only-one (λ k l. DownInStep l w0) l0 (down-in l0 w0 _ refl ([], refl)) k l q) k model p;
     unfinished = only-one (λ k l. IsSome l.down) l0 refl;
-    pending_batches = refl;
+    pending_runs = refl;
     backends = refl;
     apart = apart;
     closed = refl;
@@ -143,10 +142,10 @@ module _ {C J : Type 0} (port : C) where
                 at-carrier l0 (b1, refl, refl, refl) (refl, (refl, tt)) refl ([], refl) refl,
                 (
                   scene w0 (c0 (b3 ∷ new_backend ∷ []) false) [] 1 k0 [],
-                  at-carrier l0 (0, b2, b3, refl, (link 0 (new_wire 0 0) [], link 0 (wire 0 (Slots ∷ []) [] false) (due.Slots ∷ []), refl, refl, refl, (Ok tt, refl, (λ e. absurd (cc)), (refl, (refl, refl), refl)), refl), refl) (refl, (refl, tt)) refl ([], refl) refl,
+                  at-carrier l0 (0, b2, b3, refl, (link 0 (new_wire 0 0) [], link 0 (wire 0 (Lists ∷ []) [] false) (due.Slots ∷ []), refl, refl, refl, (Ok tt, refl, (λ e. absurd (cc)), (refl, (refl, refl), refl)), refl), refl) (refl, (refl, tt)) refl ([], refl) refl,
                   (
                     scene w0 (c0 (b4 ∷ new_backend ∷ []) false) [] 1 k0 [],
-                    (b3, link 0 (wire 0 (Slots ∷ []) [] false) (due.Slots ∷ []), wire 0 [] (Array [] ∷ []) false, Array [], Nothing, refl, refl, refl, inr (inr ([], refl, refl, refl, refl)), refl, refl),
+                    (b3, link 0 (wire 0 (Lists ∷ []) [] false) (due.Slots ∷ []), wire 0 [] (Array [] ∷ []) false, Array [] ∷ [], [], refl, refl, refl, inr (inr ([], Array [], refl, refl, refl, refl, refl)), refl, refl),
                     (
                       scene w0 (c0 (b5 ∷ new_backend ∷ []) false) [] 1 k0 [],
                       at-carrier l0 (0, b4, b5, refl, (link 0 (wire 0 [] (Array [] ∷ []) false) (due.Slots ∷ []), link 0 (new_wire 0 0) [], Array [], refl, (refl, (refl, inr (refl, (refl, refl)), refl, refl, refl)), refl), refl) (refl, (refl, tt)) refl ([], refl) refl,

@@ -3,7 +3,6 @@ use Rattle.std.proofs.Common.{◌*◌, ◌<◌, true, false, List, [], ◌∷◌
 use Rattle.std.specs.Prelude.{codes}
 use Rattle.std.specs.FinMap.{FinMap, insert}
 use Rattle.std.specs.Ordering.{nat_cmp}
-use Rattle.key_split.specs.Requests.{Asking, Command}
 use Rattle.key_split.specs.declared.travel.Ended.TheVariants as ended
 use Rattle.key_split.specs.declared.travel.Told.TheVariants.{Ask, Reply}
 use Rattle.slot_hash.specs.Slot.{slot_of}
@@ -14,11 +13,11 @@ use Rattle.proxy_turns.specs.ClientModel.{ClientModel}
 use Rattle.session_order.specs.SessionModel.{SessionModel}
 use Rattle.session_order.specs.Replies.{Drains, bytes_of, first_replies}
 use Rattle.session_order.specs.declared.queue.PartStage.TheVariants.{Out, Done}
-use Rattle.turn_laws.specs.Wire.{Wire}
-use Rattle.turn_laws.specs.System.{System, Mark}
+use Rattle.turn_laws.specs.Wire.{Wire, Asks, Runs}
+use Rattle.turn_laws.specs.System.{Mark}
 use Rattle.turn_laws.specs.System as seen
 use Rattle.turn_laws.specs.Scripts as script
-use Rattle.turn_laws.specs.Scripts.{key, five, ticket, plain, behind_asking, opening, moving, asking, setting as request_set, getting_key, refused as request_refused, followed, settling, story, Happens}
+use Rattle.turn_laws.specs.Scripts.{key, five, ticket, did}
 use Rattle.turn_laws.proofs.ScriptFacts.{ask, written-five}
 use Rattle.turn_laws.proofs.ScriptStates.{session, one, commands, getting, posted3, posted4, posted5, posted6, posted7, posted8, wire, link, backend, client}
 use Rattle.turn_laws.proofs.ScriptSetting.{below-one, t13, log4}
@@ -47,28 +46,28 @@ drains = record {
 
 module _ {C : Type 0} (port : C) where
   abbrev pub a11 : ClientModel C
-  a11 = client port n7 (commands (Some getting) posted3) [] []
+  a11 = client port n7 (commands (getting ∷ []) posted3) [] []
 
   abbrev pub a12 : ClientModel C
-  a12 = client port n7 (commands None posted4) [] []
+  a12 = client port n7 (commands [] posted4) [] []
 
   abbrev pub a13 : ClientModel C
-  a13 = client port n7 (commands None posted5) [] []
+  a13 = client port n7 (commands [] posted5) [] []
 
   abbrev pub a14 : ClientModel C
-  a14 = client port n7 (commands None posted6) [] []
+  a14 = client port n7 (commands [] posted6) [] []
 
   abbrev pub a15 : ClientModel C
-  a15 = client port n7 (commands None posted7) [] []
+  a15 = client port n7 (commands [] posted7) [] []
 
   abbrev pub a16 : ClientModel C
-  a16 = client port n8 (commands None posted8) [] []
+  a16 = client port n8 (commands [] posted8) [] []
 
   abbrev pub a17 : ClientModel C
-  a17 = client port n9 (commands None posted8) [] (codes "$1\r\n5\r\n")
+  a17 = client port n9 (commands [] posted8) [] (codes "$1\r\n5\r\n")
 
   abbrev pub a18 : ClientModel C
-  a18 = client port n9 (commands None posted8) [] []
+  a18 = client port n9 (commands [] posted8) [] []
 
   abbrev pub t14 : FinMap nat_cmp (ClientModel C)
   t14 = insert (t13 port) 0 a11
@@ -96,7 +95,7 @@ module _ {C : Type 0} (port : C) where
 
 -- the first connection with the command, with its refusal, and with what its worker is told
 abbrev pub sent : Backend Wire
-sent = backend (Some (link 0 (wire 0 (Command (ticket 1) script.get ∷ []) [] false) (due.Command (ticket 1) ∷ []))) None
+sent = backend (Some (link 0 (wire 0 (Runs ((ticket 1, script.get) ∷ []) ∷ []) [] false) (due.Command (ticket 1) ∷ []))) None
 
 abbrev pub refused : Backend Wire
 refused = backend (Some (link 0 (wire 0 [] (ask ∷ []) false) (due.Command (ticket 1) ∷ []))) None
@@ -109,10 +108,10 @@ abbrev pub opened : Backend Wire
 opened = backend (Some (link 1 (wire 1 [] [] false) [])) None
 
 abbrev pub both-due : Backend Wire
-both-due = backend (Some (link 1 (wire 1 (Asking ∷ Command (ticket 1) script.get ∷ []) [] false) (due.Asking ∷ due.Command (ticket 1) ∷ []))) None
+both-due = backend (Some (link 1 (wire 1 (Asks ∷ Runs ((ticket 1, script.get) ∷ []) ∷ []) [] false) (due.Asking ∷ due.Command (ticket 1) ∷ []))) None
 
 abbrev pub welcomed : Backend Wire
-welcomed = backend (Some (link 1 (wire 1 (Command (ticket 1) script.get ∷ []) (script.ok ∷ []) true) (due.Asking ∷ due.Command (ticket 1) ∷ []))) None
+welcomed = backend (Some (link 1 (wire 1 (Runs ((ticket 1, script.get) ∷ []) ∷ []) (script.ok ∷ []) true) (due.Asking ∷ due.Command (ticket 1) ∷ []))) None
 
 abbrev pub both-served : Backend Wire
 both-served = backend (Some (link 1 (wire 1 [] (script.ok ∷ five ∷ []) false) (due.Asking ∷ due.Command (ticket 1) ∷ []))) None
@@ -124,7 +123,7 @@ abbrev pub fetched : Backend Wire
 fetched = backend (Some (link 1 (wire 1 [] [] false) [])) (Some (new_pending_told (ticket 1) (Reply five)))
 
 abbrev pub log5 : List Mark
-log5 = log4 ++ seen.Executed (ticket 1) script.get five ∷ []
+log5 = log4 ++ seen.Executed (did 1 script.get five ∷ []) ∷ []
 
 abbrev pub log6 : List Mark
 log6 = log5 ++ seen.Answered (ticket 1) (ended.Answered five) ∷ []

@@ -4,7 +4,6 @@ use Rattle.std.specs.Prelude.{codes}
 use Rattle.std.specs.List.{FoldsTo}
 use Rattle.std.specs.FinMap.{FinMap, insert, empty}
 use Rattle.std.specs.Ordering.{nat_cmp}
-use Rattle.key_split.specs.Requests.{Command}
 use Rattle.key_split.specs.declared.travel.Ended.TheVariants as ended
 use Rattle.key_split.specs.declared.travel.Told.TheVariants.{Reply}
 use Rattle.slot_hash.specs.Slot.{slot_of}
@@ -13,7 +12,7 @@ use Rattle.node_link.specs.declared.link.Due.TheVariants as due
 use Rattle.proxy_lanes.specs.declared.ends.lane_ends.LaneEnds.{LaneEnds}
 use Rattle.proxy_turns.specs.declared.newcomer.Newcomer.{Newcomer}
 use Rattle.proxy_turns.specs.declared.backend.Backend.{Backend}
-use Rattle.proxy_turns.specs.declared.pending_batch.PendingBatch.{PendingBatch}
+use Rattle.proxy_turns.specs.declared.pending_run.PendingRun.{PendingRun}
 use Rattle.proxy_turns.specs.Backend.{new_backend, new_pending_told}
 use Rattle.proxy_turns.specs.ClientModel.{ClientModel}
 use Rattle.proxy_turns.specs.WorkerModel.{WorkerModel, one_more}
@@ -21,15 +20,15 @@ use Rattle.proxy_turns.specs.CarrierModel.{CarrierModel}
 use Rattle.session_order.specs.SessionModel.{SessionModel}
 use Rattle.session_order.specs.Replies.{Drains, bytes_of, first_replies}
 use Rattle.session_order.specs.declared.queue.PartStage.TheVariants.{Waiting, Out, Done}
-use Rattle.turn_laws.specs.Wire.{Wire, Executed}
+use Rattle.turn_laws.specs.Wire.{Wire, Runs}
 use Rattle.turn_laws.specs.System.{System, Mark}
 use Rattle.turn_laws.specs.System as seen
 use Rattle.turn_laws.specs.Steps.{SystemStep}
 use Rattle.turn_laws.specs.Scripts as script
-use Rattle.turn_laws.specs.Scripts.{key, set, ok, ticket, plain}
+use Rattle.turn_laws.specs.Scripts.{key, set, ok, ticket, plain, did}
 use Rattle.turn_laws.proofs.Rings.{posts, takes, outlet_with}
 use Rattle.turn_laws.proofs.Scenes.{scene, put, at-worker, at-client, at-carrier, down-in}
-use Rattle.turn_laws.proofs.ScriptFacts.{k5, k6, does-set, written-ok}
+use Rattle.turn_laws.proofs.ScriptFacts.{k5, k6, does-set, written-ok, fresh-alone, goes-alone}
 use Rattle.turn_laws.proofs.ScriptStates.{session, one, commands, awaits, setting, posted1, posted2, posted3, wire, link, backend, pending, lane, carrier, worker, client, up1, down1}
 use Rattle.turn_laws.proofs.ScriptAsking.{a4, t6, s3, log2, doors}
 
@@ -63,22 +62,22 @@ drains = record {
 
 module _ {C : Type 0} (port : C) where
   abbrev pub a5 : ClientModel C
-  a5 = client port n4 (commands (Some setting) empty) [] []
+  a5 = client port n4 (commands (setting ∷ []) empty) [] []
 
   abbrev pub a6 : ClientModel C
-  a6 = client port n4 (commands None posted1) [] []
+  a6 = client port n4 (commands [] posted1) [] []
 
   abbrev pub a7 : ClientModel C
-  a7 = client port n4 (commands None posted2) [] []
+  a7 = client port n4 (commands [] posted2) [] []
 
   abbrev pub a8 : ClientModel C
-  a8 = client port n5 (commands None posted3) [] []
+  a8 = client port n5 (commands [] posted3) [] []
 
   abbrev pub a9 : ClientModel C
-  a9 = client port n6 (commands None posted3) [] (codes "+OK\r\n")
+  a9 = client port n6 (commands [] posted3) [] (codes "+OK\r\n")
 
   abbrev pub a10 : ClientModel C
-  a10 = client port n6 (commands None posted3) [] []
+  a10 = client port n6 (commands [] posted3) [] []
 
   abbrev pub t7 : FinMap nat_cmp (ClientModel C)
   t7 = insert (t6 port) 0 a5
@@ -106,7 +105,7 @@ abbrev pub idle : Backend Wire
 idle = backend (Some (link 0 (wire 0 [] [] false) [])) None
 
 abbrev pub sent : Backend Wire
-sent = backend (Some (link 0 (wire 0 (Command (ticket 0) set ∷ []) [] false) (due.Command (ticket 0) ∷ []))) None
+sent = backend (Some (link 0 (wire 0 (Runs ((ticket 0, set) ∷ []) ∷ []) [] false) (due.Command (ticket 0) ∷ []))) None
 
 abbrev served : Backend Wire
 served = backend (Some (link 0 (wire 0 [] (ok ∷ []) false) (due.Command (ticket 0) ∷ []))) None
@@ -115,7 +114,7 @@ abbrev got : Backend Wire
 got = backend (Some (link 0 (wire 0 [] [] false) [])) (Some (new_pending_told (ticket 0) (Reply ok)))
 
 abbrev pub log3 : List Mark
-log3 = log2 ++ seen.Executed (ticket 0) set ok ∷ []
+log3 = log2 ++ seen.Executed (did 0 set ok ∷ []) ∷ []
 
 abbrev pub log4 : List Mark
 log4 = log3 ++ seen.Answered (ticket 0) (ended.Answered ok) ∷ []
@@ -130,8 +129,8 @@ module _ {C J : Type 0} (port : C) where
   abbrev pub l2 : LaneEnds (Newcomer C J)
   l2 = lane port up1 down1
 
-  abbrev c : LaneEnds (Newcomer C J) → PendingBatch → Backend Wire → CarrierModel (Newcomer C J) Wire
-  c l batch b = carrier l (batch ∷ []) (b ∷ new_backend ∷ []) false
+  abbrev c : LaneEnds (Newcomer C J) → PendingRun → Backend Wire → CarrierModel (Newcomer C J) Wire
+  c l run b = carrier l (run ∷ []) (b ∷ new_backend ∷ []) false
 
   -- before and after the command was posted, and after its reply was taken
   abbrev w0 : FinMap nat_cmp (ClientModel C) → WorkerModel C J
@@ -162,14 +161,17 @@ module _ {C J : Type 0} (port : C) where
       (
         scene (w1 (t9 port)) (c l0 (pending None) idle) [] 1 k5 log2,
         at-client l0 0 (a5 port) (a6 port) (outlet_with up1) [] refl (put _ (a5 port) 0) (
-          0,
           setting,
-          commands None empty,
-          inl (refl, refl, refl),
+          [],
+          commands [] empty,
+          inl (refl, fresh-alone setting refl, refl),
           (λ e. absurd (cc)),
           (slot_of key, omega arith, refl, refl, refl, refl),
+          tt,
           (Ok None, (([], refl), refl), refl),
           refl,
+          goes-alone,
+          omega arith,
           posts [] (plain 0 0 set),
           refl,
         ) (put _ (a6 port) 0) (down-in l0 (w0 (t8 port)) _ refl ([], refl)) (omega arith),
@@ -194,21 +196,21 @@ module _ {C J : Type 0} (port : C) where
               refl,
               refl,
               refl,
-              (link 0 (wire 0 [] [] false) [], link 0 (wire 0 (Command (ticket 0) set ∷ []) [] false) (due.Command (ticket 0) ∷ []), refl, (Ok tt, refl, (λ e. absurd (cc)), (refl, (refl, refl), refl)), refl),
+              (link 0 (wire 0 [] [] false) [], link 0 (wire 0 (Runs ((ticket 0, set) ∷ []) ∷ []) [] false) (due.Command (ticket 0) ∷ []), refl, omega arith, (Ok tt, refl, (λ e. absurd (cc)), (refl, (refl, refl), refl)), refl),
               refl,
             ) (refl, (refl, tt)) refl ([], refl) refl,
             (
               scene (w1 (t9 port)) (c l1 (pending None) served) [] 1 k6 log3,
               (
                 sent,
-                link 0 (wire 0 (Command (ticket 0) set ∷ []) [] false) (due.Command (ticket 0) ∷ []),
+                link 0 (wire 0 (Runs ((ticket 0, set) ∷ []) ∷ []) [] false) (due.Command (ticket 0) ∷ []),
                 wire 0 [] (ok ∷ []) false,
-                ok,
-                Executed (ticket 0) set ok,
+                ok ∷ [],
+                did 0 set ok ∷ [],
                 refl,
                 refl,
                 refl,
-                inr (inl ([], ticket 0, set, Reply ok, refl, refl, does-set, refl, refl, refl)),
+                inr (inl ([], (ticket 0, set) ∷ [], Reply ok ∷ [], refl, refl, does-set, (refl, tt), refl, refl)),
                 refl,
                 refl,
               ),

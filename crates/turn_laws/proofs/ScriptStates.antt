@@ -5,8 +5,7 @@ use Rattle.std.specs.FinMap.{FinMap, insert, remove, empty}
 use Rattle.std.specs.Ordering.{nat_cmp}
 use Rattle.resp_wire.specs.LimitsModel.{full}
 use Rattle.resp_wire.specs.declared.value.Value.{Value}
-use Rattle.key_split.specs.Requests.{Request}
-use Rattle.key_split.specs.declared.travel.Batch.{Batch}
+use Rattle.key_split.specs.Runs.{RunModel}
 use Rattle.key_split.specs.declared.travel.Ticket.{Ticket}
 use Rattle.key_split.specs.declared.travel.Told.{Told}
 use Rattle.key_split.specs.declared.travel.Told.TheVariants.{Ask, Reply}
@@ -27,26 +26,26 @@ use Rattle.proxy_lanes.specs.Lane.{numbered}
 use Rattle.proxy_turns.specs.declared.newcomer.Newcomer.{Newcomer}
 use Rattle.proxy_turns.specs.declared.backend.Backend.{Backend}
 use Rattle.proxy_turns.specs.declared.backend.PendingTold.{PendingTold}
-use Rattle.proxy_turns.specs.declared.pending_batch.PendingBatch.{PendingBatch}
+use Rattle.proxy_turns.specs.declared.pending_run.PendingRun.{PendingRun}
 use Rattle.proxy_turns.specs.Commands.{CommandsModel}
 use Rattle.proxy_turns.specs.ClientModel.{ClientModel}
 use Rattle.proxy_turns.specs.WorkerModel.{WorkerModel}
 use Rattle.proxy_turns.specs.CarrierModel.{CarrierModel}
-use Rattle.turn_laws.specs.Wire.{Wire}
+use Rattle.turn_laws.specs.Wire.{Wire, Item}
 use Rattle.turn_laws.specs.Scripts as script
-use Rattle.turn_laws.specs.Scripts.{key, set, ok, five, ticket, plain, behind_asking}
+use Rattle.turn_laws.specs.Scripts.{set, ok, five, ticket, plain, behind_asking}
 use Rattle.turn_laws.proofs.Rings.{outlet_with, inlet_with}
 use Rattle.turn_laws.proofs.ScriptFacts.{table}
 
 -- ---- the lanes' items
 
-abbrev pub up1 : List (Numbered Batch)
+abbrev pub up1 : List (Numbered RunModel)
 up1 = numbered 0 (plain 0 0 set) ∷ []
 
-abbrev pub up2 : List (Numbered Batch)
+abbrev pub up2 : List (Numbered RunModel)
 up2 = numbered 0 (plain 0 0 set) ∷ numbered 1 (plain 1 0 script.get) ∷ []
 
-abbrev pub up3 : List (Numbered Batch)
+abbrev pub up3 : List (Numbered RunModel)
 up3 = numbered 0 (plain 0 0 set) ∷ numbered 1 (plain 1 0 script.get) ∷ numbered 2 (behind_asking 1 1 script.get) ∷ []
 
 abbrev pub Pair : Type 0
@@ -81,7 +80,7 @@ one = Parts One 1
 
 -- ---- its commands
 
-abbrev pub commands : Option CommandModel → FinMap nat_cmp CommandModel → CommandsModel
+abbrev pub commands : List CommandModel → FinMap nat_cmp CommandModel → CommandsModel
 commands first posted = record { fresh = first; posted = posted }
 
 abbrev pub awaits : CommandModel → CommandModel
@@ -126,8 +125,8 @@ posted8 = remove posted7 1
 
 -- ---- the connections
 
-abbrev pub wire : ℕ → List Request → List Value → Bool → Wire
-wire node requests values asking = record { id = node; node = node; requests = requests; values = values; asking = asking }
+abbrev pub wire : ℕ → List Item → List Value → Bool → Wire
+wire node items values asking = record { id = node; node = node; items = items; values = values; asking = asking }
 
 abbrev pub link : ℕ → Wire → List Due → LinkModel Wire
 link node port due = record { port = port; node = node; due = due; kept = None; failure = None }
@@ -135,8 +134,8 @@ link node port due = record { port = port; node = node; due = due; kept = None; 
 abbrev pub backend : Option (LinkModel Wire) → Option PendingTold → Backend Wire
 backend l told = record { link = l; pending_told = told; answer = None; changes = None; to_ask = false; asked = false }
 
-abbrev pub pending : Option Batch → PendingBatch
-pending batch = record { batch = batch; refused = None }
+abbrev pub pending : Option RunModel → PendingRun
+pending run = record { run = run; refused = [] }
 
 -- ---- the whole
 
@@ -145,13 +144,13 @@ module _ {C J : Type 0} where
   abbrev pub newcomer : C → Newcomer C J
   newcomer port = record { number = 0; port = port; front = None }
 
-  abbrev pub lane : C → List (Numbered Batch) → List (Numbered Pair) → LaneEnds (Newcomer C J)
+  abbrev pub lane : C → List (Numbered RunModel) → List (Numbered Pair) → LaneEnds (Newcomer C J)
   lane port ups downs = record { up = inlet_with ups; down = Some (outlet_with downs); door = outlet_with (numbered 0 (newcomer port) ∷ []) }
 
-  abbrev pub carrier : LaneEnds (Newcomer C J) → List PendingBatch → List (Backend Wire) → Bool → CarrierModel (Newcomer C J) Wire
-  carrier l batches backends seed = record { lanes = l ∷ []; pending_batches = batches; backends = backends; nodes = table; published = []; seed_to_dial = seed; failures = 0 }
+  abbrev pub carrier : LaneEnds (Newcomer C J) → List PendingRun → List (Backend Wire) → Bool → CarrierModel (Newcomer C J) Wire
+  carrier l runs backends seed = record { lanes = l ∷ []; pending_runs = runs; backends = backends; nodes = table; published = []; seed_to_dial = seed; failures = 0 }
 
-  abbrev pub worker : FinMap nat_cmp (ClientModel C) → Option ℕ → List (Numbered (Newcomer C J)) → List (Numbered Batch) → List (Numbered Pair) → ℕ → WorkerModel C J
+  abbrev pub worker : FinMap nat_cmp (ClientModel C) → Option ℕ → List (Numbered (Newcomer C J)) → List (Numbered RunModel) → List (Numbered Pair) → ℕ → WorkerModel C J
   worker clients newest doors ups downs answered = record {
     worker = 0;
     workers = 1;

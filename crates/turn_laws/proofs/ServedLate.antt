@@ -1,37 +1,39 @@
--- A node serves the next request of a connection that broke: the reply reaches nobody.
+-- A node serves what is next of a connection that broke: the replies reach nobody.
 use Rattle.std.proofs.Common.{◌≡◌, inl, inr, ⊎_elim, ℕ, ◌+◌, Bool, true, false, if◌then◌else◌, List, [], ◌∷◌, ◌++◌, Some, refl, sym, ap, ◌∙◌, subst, arith}
 use Rattle.std.specs.Prelude.{slice_get, slice_set, All}
 use Rattle.resp_wire.specs.declared.value.Value.{Value}
-use Rattle.key_split.specs.Requests.{Request, Asking, Command, Slots}
-use Rattle.key_split.specs.PartModel.{PartModel}
-use Rattle.key_split.specs.declared.travel.Ticket.{Ticket}
 use Rattle.key_split.specs.declared.travel.Told.{Told}
-use Rattle.node_model.specs.Serving.{deed_at, NodeDoes}
+use Rattle.node_model.specs.History.{EntryModel}
+use Rattle.node_model.specs.Runs.{deed_for, DoesRun}
 use Rattle.node_model.specs.declared.role.Verdict.{Verdict}
 use Rattle.node_model.specs.declared.role.Verdict.TheVariants.{Plain}
-use Rattle.world_laws.specs.State.{WorldModel, Link, replied}
+use Rattle.world_laws.specs.State.{WorldModel, Link, replied, all_replied, replies_of}
+use Rattle.world_laws.specs.declared.state.Arrival.{Arrival}
 use Rattle.world_laws.specs.declared.state.LinkRequest.{LinkRequest}
 use Rattle.world_laws.specs.declared.state.LinkReply.{LinkReply}
 use Rattle.world_laws.specs.declared.state.LinkRequest.TheVariants as asked
-use Rattle.world_laws.specs.declared.state.LinkReply.TheVariants.{Welcome, To}
-use Rattle.world_laws.specs.World.{WorldDoes, NamesNode, entry_of}
+use Rattle.world_laws.specs.declared.state.LinkReply.TheVariants.{Welcome}
+use Rattle.world_laws.specs.World.{WorldDoes, NamesNode}
 use Rattle.world_laws.specs.declared.event.Event.{Event}
 use Rattle.world_laws.specs.declared.event.Event.TheVariants.{Serve}
 use Rattle.world_laws.proofs.Nodes.{set-size}
 use Rattle.world_laws.proofs.Recorded.{set-same}
 use Rattle.turn_laws.specs.Walks.{Walk, IsWalked, ticked}
-use Rattle.turn_laws.specs.Wire.{Wire, ServesNext, Nothing, deed_for}
+use Rattle.turn_laws.specs.Wire.{Wire, Item, Part, Asks, Runs, Lists, ServesNext, executions, parts_in, tickets_for}
 use Rattle.turn_laws.specs.System.{System}
 use Rattle.turn_laws.specs.Shadow.{IsShadow, LinksShadow, LogShadow, WireShadow, ClosedShadow, IsKnown, IsUnnumbered, Numbers, requests_in}
 use Rattle.turn_laws.specs.Steps.{AtBroken, ServesLate, log_of}
 use Rattle.turn_laws.specs.Refines.{Simulates}
 use Rattle.turn_laws.proofs.Walks.{walked-sound}
 use Rattle.turn_laws.proofs.Throwing.{wire-changes, not-mine}
-use Rattle.turn_laws.proofs.Serving.{all-first, all-later, some-request, log-nothing, log-served, serves-one, node-frame}
+use Rattle.turn_laws.proofs.Serving.{all-first, all-later, some-request, log-nothing, log-served, entries_at, serves-run, node-frame}
 
 -- the machine's link, closed, after a reply
 replied-closed : (l : Link) (back : LinkReply) → l.is_open ≡ false → replied l back ≡ l
 replied-closed l back e = ap (λ b. if b then record l { backs = l.backs ++ back ∷ [] } else l) e
+
+all-closed : (l : Link) (run : List (Arrival × Told)) → l.is_open ≡ false → all_replied l run ≡ l
+all-closed l run e = ap (λ b. if b then record l { backs = l.backs ++ replies_of run } else l) e
 
 module _ {C J : Type 0} (s s' : System C J) (w : WorldModel) (h : IsShadow s w) (walked : IsWalked w) (j : ℕ) (verdict : Verdict) (on : ServesLate s j verdict s') where
   abbrev old : Wire
@@ -40,8 +42,8 @@ module _ {C J : Type 0} (s s' : System C J) (w : WorldModel) (h : IsShadow s w) 
   abbrev wire : Wire
   wire = on.1
 
-  abbrev value : Value
-  value = on.2
+  abbrev more : List Value
+  more = on.2
 
   abbrev closed' : List Wire
   closed' = slice_set s.closed j wire
@@ -50,8 +52,8 @@ module _ {C J : Type 0} (s s' : System C J) (w : WorldModel) (h : IsShadow s w) 
   Simulated = (events : List Event) × (w' : WorldModel) × Walk w events w' × IsShadow s' w'
 
   -- the first request of the wire is served, and the first of its link
-  module _ (rest : List Request) (first : LinkRequest) (asking : Bool) (is : wire ≡ record old { requests = rest; values = wire.values; asking = asking }) (requests : requests_in old.requests ≡ first ∷ requests_in rest)
-      (known : All (IsKnown w.commands) old.requests → All (IsKnown w.commands) rest) (i : ℕ) (l : Link) (numbers : Numbers (h.links).ids old.id i) (at : slice_get w.links i ≡ Some l) (closed : ClosedShadow w.commands old l) where
+  module _ (rest : List Item) (first : LinkRequest) (asking : Bool) (is : wire ≡ record old { items = rest; values = wire.values; asking = asking }) (requests : requests_in old.items ≡ first ∷ requests_in rest)
+      (known : All (IsKnown w.commands) old.items → All (IsKnown w.commands) rest) (i : ℕ) (l : Link) (numbers : Numbers (h.links).ids old.id i) (at : slice_get w.links i ≡ Some l) (closed : ClosedShadow w.commands old l) where
     -- what follows it
     abbrev pub later : List LinkRequest
     later = requests_in rest ++ (closed.requests).0
@@ -67,8 +69,8 @@ module _ {C J : Type 0} (s s' : System C J) (w : WorldModel) (h : IsShadow s w) 
       node = closed.node ∙ ap (λ (x : Wire). x.node) (sym is);
       is_open = closed.is_open;
       asking = ap (λ (x : Wire). x.asking) (sym is);
-      requests = ((closed.requests).0, ap (λ (x : Wire). requests_in x.requests ++ (closed.requests).0) is);
-      known = subst (All (IsKnown w.commands)) (ap (λ (x : Wire). x.requests) (sym is)) (known closed.known);
+      requests = ((closed.requests).0, ap (λ (x : Wire). requests_in x.items ++ (closed.requests).0) is);
+      known = subst (All (IsKnown w.commands)) (ap (λ (x : Wire). x.items) (sym is)) (known closed.known);
       backs = closed.backs;
     }
 
@@ -85,11 +87,11 @@ module _ {C J : Type 0} (s s' : System C J) (w : WorldModel) (h : IsShadow s w) 
   frame links' history' moment' links log = node-frame s s' w s'.cluster s.carrier.backends closed' (s.log ++ log_of on.3) links' history' moment' h on.7 links (λ f. refl) log
 
   -- ASKING
-  module _ (rest : List Request) (first : old.requests ≡ Asking ∷ rest) (cluster : s'.cluster ≡ s.cluster) (none : on.3 ≡ Nothing)
-      (is : wire ≡ record old { requests = rest; values = wire.values; asking = true }) where
+  module _ (rest : List Item) (first : old.items ≡ Asks ∷ rest) (cluster : s'.cluster ≡ s.cluster) (none : on.3 ≡ [])
+      (is : wire ≡ record old { items = rest; values = wire.values; asking = true }) where
     welcomed : (i : ℕ) (l : Link) → Numbers (h.links).ids old.id i → slice_get w.links i ≡ Some l → ClosedShadow w.commands old l → Simulated
     welcomed i l numbers at closed =
-        let known : All (IsKnown w.commands) old.requests → All (IsKnown w.commands) rest = λ all. all-later (IsKnown w.commands) Asking rest (subst (All (IsKnown w.commands)) first all) in
+        let known : All (IsKnown w.commands) old.items → All (IsKnown w.commands) rest = λ all. all-later (IsKnown w.commands) Asks rest (subst (All (IsKnown w.commands)) first all) in
         let l' : Link = link' rest asked.Asking true is (ap requests_in first) known i l numbers at closed in
         let links' : List Link = slice_set w.links i l' in
         let w' : WorldModel = record w { cluster = s'.cluster; links = links'; moment = w.moment + 1 } in
@@ -104,45 +106,46 @@ module _ {C J : Type 0} (s s' : System C J) (w : WorldModel) (h : IsShadow s w) 
     pub welcomes : Simulated
     welcomes = ⊎_elim
         (λ (x : (n : ℕ) × (l : Link) × Numbers (h.links).ids old.id n × (slice_get w.links n ≡ Some l) × ClosedShadow w.commands old l). welcomed x.0 x.1 x.2 x.3 x.4)
-        (λ (x : IsUnnumbered (h.links).ids old.id × (requests_in old.requests ≡ [])). absurd (some-request asked.Asking (requests_in rest) (sym (ap requests_in first) ∙ x.1)))
+        (λ (x : IsUnnumbered (h.links).ids old.id × (requests_in old.items ≡ [])). absurd (some-request asked.Asking (requests_in rest) (sym (ap requests_in first) ∙ x.1)))
         ((h.links).wires j old on.4).1
 
-  -- a command
-  module _ (rest : List Request) (ticket : Ticket) (part : PartModel) (told : Told) (first : old.requests ≡ Command ticket part ∷ rest) (names : NamesNode s.cluster verdict)
-      (does : NodeDoes (deed_at s.cluster old.node old.asking part verdict) s.cluster old.node part told s'.cluster) (deed : on.3 ≡ deed_for ticket part told)
-      (is : wire ≡ record old { requests = rest; values = wire.values; asking = false }) where
+  -- a run
+  module _ (rest : List Item) (parts : List Part) (tolds : List Told) (first : old.items ≡ Runs parts ∷ rest) (names : NamesNode s.cluster verdict)
+      (does : DoesRun (deed_for s.cluster old.node old.asking (parts_in parts) verdict) s.cluster old.node (parts_in parts) tolds s'.cluster) (done : on.3 ≡ executions parts tolds)
+      (is : wire ≡ record old { items = rest; values = wire.values; asking = false }) where
     executed : (i : ℕ) (l : Link) → Numbers (h.links).ids old.id i → slice_get w.links i ≡ Some l → ClosedShadow w.commands old l → Simulated
     executed i l numbers at closed =
-        let known : All (IsKnown w.commands) old.requests → All (IsKnown w.commands) rest = λ all. all-later (IsKnown w.commands) (Command ticket part) rest (subst (All (IsKnown w.commands)) first all) in
-        let l' : Link = link' rest (asked.Runs (ticket ∷ [])) false is (ap requests_in first) known i l numbers at closed in
+        let known : All (IsKnown w.commands) old.items → All (IsKnown w.commands) rest = λ all. all-later (IsKnown w.commands) (Runs parts) rest (subst (All (IsKnown w.commands)) first all) in
+        let l' : Link = link' rest (asked.Runs (tickets_for parts)) false is (ap requests_in first) known i l numbers at closed in
         let links' : List Link = slice_set w.links i l' in
-        let r = serves-one w (walked-sound w walked).placed s.cluster s'.cluster i l old.node old.asking ticket part verdict told
-        (later rest (asked.Runs (ticket ∷ [])) false is (ap requests_in first) known i l numbers at closed) at h.cluster closed.node closed.asking
-        (front rest (asked.Runs (ticket ∷ [])) false is (ap requests_in first) known i l numbers at closed)
-        (all-first (IsKnown w.commands) (Command ticket part) rest (subst (All (IsKnown w.commands)) first closed.known)) names does in
-        let w' : WorldModel = record w { cluster = s'.cluster; links = links'; history = w.history ++ entry_of (w.moment + 1) r.0 told; moment = w.moment + 1 } in
+        let r = serves-run w (walked-sound w walked).placed s.cluster s'.cluster i l old.node old.asking parts verdict tolds
+        (later rest (asked.Runs (tickets_for parts)) false is (ap requests_in first) known i l numbers at closed) at h.cluster closed.node closed.asking
+        (front rest (asked.Runs (tickets_for parts)) false is (ap requests_in first) known i l numbers at closed)
+        (all-first (IsKnown w.commands) (Runs parts) rest (subst (All (IsKnown w.commands)) first closed.known)) names does in
+        let history' : List EntryModel = w.history ++ entries_at (w.moment + 1) (executions parts tolds) in
+        let w' : WorldModel = record w { cluster = s'.cluster; links = links'; history = history'; moment = w.moment + 1 } in
         let event : WorldDoes (ticked w) (Serve i verdict) w' =
-        subst (λ (x : Link). WorldDoes (ticked w) (Serve i verdict) (record (ticked w) { cluster = s'.cluster; links = slice_set w.links i x; history = w.history ++ entry_of (w.moment + 1) r.0 told })) (replied-closed l' (To ticket told) closed.is_open) r.3 in
-        let log : LogShadow (s.log ++ log_of (deed_for (r.0).command.ticket (r.0).command.part told)) w' = log-served s.log w w' r.0 told h.log refl refl refl refl in (
+        subst (λ (x : Link). WorldDoes (ticked w) (Serve i verdict) (record (ticked w) { cluster = s'.cluster; links = slice_set w.links i x; history = history' })) (all-closed l' (r.0).run closed.is_open) r.1 in
+        let log : LogShadow (s.log ++ log_of (executions parts tolds)) w' = log-served s.log w w' (executions parts tolds) h.log refl refl refl refl in (
           Serve i verdict ∷ [],
           w',
           (w', event, refl),
-          frame links' (w.history ++ entry_of (w.moment + 1) r.0 told) (w.moment + 1)
-              (links-after rest (asked.Runs (ticket ∷ [])) false is (ap requests_in first) known i l numbers at closed)
-              (subst (λ d. LogShadow (s.log ++ log_of d) w') (sym (deed ∙ (λ j. deed_for (sym r.1 j) (sym r.2 j) told))) log),
+          frame links' history' (w.moment + 1)
+              (links-after rest (asked.Runs (tickets_for parts)) false is (ap requests_in first) known i l numbers at closed)
+              (subst (λ d. LogShadow (s.log ++ log_of d) w') (sym done) log),
         )
 
     pub executes : Simulated
     executes = ⊎_elim
         (λ (x : (n : ℕ) × (l : Link) × Numbers (h.links).ids old.id n × (slice_get w.links n ≡ Some l) × ClosedShadow w.commands old l). executed x.0 x.1 x.2 x.3 x.4)
-        (λ (x : IsUnnumbered (h.links).ids old.id × (requests_in old.requests ≡ [])). absurd (some-request (asked.Runs (ticket ∷ [])) (requests_in rest) (sym (ap requests_in first) ∙ x.1)))
+        (λ (x : IsUnnumbered (h.links).ids old.id × (requests_in old.items ≡ [])). absurd (some-request (asked.Runs (tickets_for parts)) (requests_in rest) (sym (ap requests_in first) ∙ x.1)))
         ((h.links).wires j old on.4).1
 
   -- CLUSTER SLOTS: the machine does nothing
-  lists : (rest : List Request) → old.requests ≡ Slots ∷ rest → s'.cluster ≡ s.cluster → on.3 ≡ Nothing → wire ≡ record old { requests = rest; values = wire.values } → Simulated
+  lists : (rest : List Item) → old.items ≡ Lists ∷ rest → s'.cluster ≡ s.cluster → on.3 ≡ [] → wire ≡ record old { items = rest; values = wire.values } → Simulated
   lists rest first cluster none is =
       let id : wire.id ≡ old.id = ap (λ (x : Wire). x.id) is in
-      let same : requests_in wire.requests ≡ requests_in old.requests = ap (λ (x : Wire). requests_in x.requests) is ∙ ap requests_in (sym first) in
+      let same : requests_in wire.items ≡ requests_in old.items = ap (λ (x : Wire). requests_in x.items) is ∙ ap requests_in (sym first) in
       let shows : WireShadow w (h.links).ids wire = ⊎_elim
       (λ (x : (n : ℕ) × (l : Link) × Numbers (h.links).ids old.id n × (slice_get w.links n ≡ Some l) × ClosedShadow w.commands old l).
       let z = x.4 in
@@ -156,11 +159,11 @@ module _ {C J : Type 0} (s s' : System C J) (w : WorldModel) (h : IsShadow s w) 
           is_open = z.is_open;
           asking = z.asking ∙ ap (λ (x : Wire). x.asking) (sym is);
           requests = ((z.requests).0, ap (λ rs. rs ++ (z.requests).0) same ∙ (z.requests).1);
-          known = subst (All (IsKnown w.commands)) (ap (λ (x : Wire). x.requests) (sym is)) (all-later (IsKnown w.commands) Slots rest (subst (All (IsKnown w.commands)) first z.known));
+          known = subst (All (IsKnown w.commands)) (ap (λ (x : Wire). x.items) (sym is)) (all-later (IsKnown w.commands) Lists rest (subst (All (IsKnown w.commands)) first z.known));
           backs = z.backs;
         },
       ))
-      (λ (x : IsUnnumbered (h.links).ids old.id × (requests_in old.requests ≡ [])). inr (subst (IsUnnumbered (h.links).ids) (sym id) x.0, same ∙ x.1))
+      (λ (x : IsUnnumbered (h.links).ids old.id × (requests_in old.items ≡ [])). inr (subst (IsUnnumbered (h.links).ids) (sym id) x.0, same ∙ x.1))
       ((h.links).wires j old on.4).1 in
       let links : LinksShadow s.carrier closed' s.opened w = wire-changes s.carrier s.closed s.opened w h.links w.links w.moment j old wire on.4 id refl shows (λ i other m p ne e. e) in
       let w' : WorldModel = record w { cluster = s'.cluster } in
@@ -170,10 +173,10 @@ module _ {C J : Type 0} (s s' : System C J) (w : WorldModel) (h : IsShadow s w) 
   pub serves : Simulated
   serves = cases on.5
     where
-      cases : ServesNext s.carrier.nodes s.cluster old verdict s'.cluster wire value on.3 → Simulated
-      cases (inl x) = welcomes x.0 x.1 x.2 x.3 x.4
-      cases (inr (inl x)) = executes x.0 x.1 x.2 x.3 x.4 x.5 x.6 x.8 x.9
-      cases (inr (inr x)) = lists x.0 x.1 x.2 x.3 x.4
+      cases : ServesNext s.carrier.nodes s.cluster old verdict s'.cluster wire more on.3 → Simulated
+      cases (inl x) = welcomes x.0 x.2 x.4 x.5 x.6
+      cases (inr (inl x)) = executes x.0 x.1 x.2 x.3 x.4 x.5 x.7 x.8
+      cases (inr (inr x)) = lists x.0 x.2 x.4 x.5 x.6
 
 module _ (C J : Type 0) where
   pub served-late : (j : ℕ) (verdict : Verdict) → Simulates C J (AtBroken j verdict)

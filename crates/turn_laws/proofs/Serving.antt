@@ -1,32 +1,33 @@
--- A node serves the next request of a connection: the machine's nodes, its history and the log.
-use Rattle.std.proofs.Common.{◌≡◌, inr, ℕ, suc, ◌+◌, ◌≤◌, Bool, false, List, [], ◌∷◌, ◌++◌, Some, refl, sym, ap, ◌∙◌, subst, arith}
+-- A node serves what is next of a connection: the machine's nodes, its history and the log.
+use Rattle.std.proofs.Common.{◌≡◌, inr, ℕ, suc, ◌+◌, ◌≤◌, Bool, false, List, [], ◌∷◌, ◌++◌, Some, refl, sym, ap, ◌∙◌, subst, arith, length}
 use Rattle.std.specs.Prelude.{All, slice_get, slice_set, map}
-use Rattle.std.proofs.lemmas.List.{append-nil}
+use Rattle.std.proofs.lemmas.List.{append-nil, map-append}
 use Rattle.key_split.specs.PartModel.{PartModel}
 use Rattle.key_split.specs.Same.{same_ticket-Decides}
 use Rattle.key_split.specs.declared.travel.Ticket.{Ticket}
 use Rattle.key_split.specs.declared.travel.Told.{Told}
 use Rattle.key_split.specs.declared.travel.Told.TheVariants.{Reply, Moved, Ask, TryAgain, ClusterDown, Unclear, Lost, Unsent}
 use Rattle.node_model.specs.Nodes.{ClusterModel}
-use Rattle.node_model.specs.Serving.{deed_at, NodeDoes}
+use Rattle.node_model.specs.Runs.{deed_for, AllTold, AreReplies, DoesRun}
+use Rattle.node_model.specs.Store.{StoreModel, store_after}
+use Rattle.node_model.specs.declared.role.Deed.{Deed as NodeDeed}
+use Rattle.node_model.specs.declared.role.Deed.TheVariants.{Executes, Says}
 use Rattle.node_model.specs.History.{EntryModel}
 use Rattle.node_model.specs.declared.role.Verdict.{Verdict}
 use Rattle.proxy_turns.specs.declared.backend.Backend.{Backend}
-use Rattle.world_laws.specs.State.{WorldModel, Link, replied}
+use Rattle.world_laws.specs.State.{WorldModel, Link, all_replied, parts_told, tickets_told, tolds_of}
 use Rattle.world_laws.specs.declared.state.LinkRequest.{LinkRequest}
 use Rattle.world_laws.specs.declared.state.LinkRequest.TheVariants.{Runs}
-use Rattle.world_laws.specs.declared.state.LinkReply.TheVariants.{To}
 use Rattle.world_laws.specs.declared.state.Arrival.{Arrival}
-use Rattle.world_laws.specs.World.{WorldDoes, IsOf, NamesNode, entry_of}
+use Rattle.world_laws.specs.World.{WorldDoes, AreOf, IsOf, NamesNode, entry_of, entries_of}
 use Rattle.world_laws.specs.declared.event.Event.TheVariants.{Serve}
 use Rattle.world_laws.specs.Places.{is}
 use Rattle.world_laws.proofs.Placed.{Placed}
 use Rattle.world_laws.proofs.Allowed.{found}
-use Rattle.world_laws.proofs.Alone.{serves_alone}
 use Rattle.turn_laws.specs.Walks.{ticked}
-use Rattle.turn_laws.specs.Wire.{Wire, Deed, Nothing, deed_for}
+use Rattle.turn_laws.specs.Wire.{Wire, Part, Execution, executed, executions, parts_in, tickets_for}
 use Rattle.turn_laws.specs.System.{System, Mark}
-use Rattle.turn_laws.specs.Shadow.{IsShadow, LinksShadow, LogShadow, HasPart, downs_of}
+use Rattle.turn_laws.specs.Shadow.{IsShadow, LinksShadow, LogShadow, HasPart, downs_of, entry_at}
 use Rattle.turn_laws.specs.Steps.{log_of}
 use Rattle.turn_laws.proofs.Downs.{Pair, SameBag, bag-has}
 use Rattle.turn_laws.proofs.Frames.{client-same, log-later}
@@ -42,25 +43,24 @@ pub some-request : (r : LinkRequest) (rs : List LinkRequest) → r ∷ rs ≡ []
 some-request r rs e = cc
 
 -- the log, after an event that it does not say
-pub log-nothing : (log : List Mark) (w w' : WorldModel) (deed : Deed) → deed ≡ Nothing → w'.commands ≡ w.commands → w'.history ≡ w.history → w'.answers ≡ w.answers → w.moment ≤ w'.moment
-    → LogShadow log w → LogShadow (log ++ log_of deed) w'
-log-nothing log w w' deed none commands history answers later h =
+pub log-nothing : (log : List Mark) (w w' : WorldModel) (done : List Execution) → done ≡ [] → w'.commands ≡ w.commands → w'.history ≡ w.history → w'.answers ≡ w.answers → w.moment ≤ w'.moment
+    → LogShadow log w → LogShadow (log ++ log_of done) w'
+log-nothing log w w' done none commands history answers later h =
     subst (λ d. LogShadow (log ++ log_of d) w') (sym none) (subst (λ l. LogShadow l w') (sym (append-nil log)) (log-later log w w' commands history answers later h))
 
--- the log, after a node served a command: where it replied, it executed it
-pub log-served : (log : List Mark) (w w' : WorldModel) (c : Arrival) (told : Told) → LogShadow log w → w'.commands ≡ w.commands → w'.answers ≡ w.answers → w'.moment ≡ w.moment + 1
-    → w'.history ≡ w.history ++ entry_of (w.moment + 1) c told → LogShadow (log ++ log_of (deed_for c.command.ticket c.command.part told)) w'
-log-served log w w' c (Reply value) h commands answers moment history =
+-- the entries of what was executed at once
+abbrev pub entries_at : ℕ → List Execution → List EntryModel
+entries_at moment done = map (entry_at moment) done
+
+-- the log, after a node served a run: what it executed
+pub log-served : (log : List Mark) (w w' : WorldModel) (done : List Execution) → LogShadow log w → w'.commands ≡ w.commands → w'.answers ≡ w.answers → w'.moment ≡ w.moment + 1
+    → w'.history ≡ w.history ++ entries_at (w.moment + 1) done → LogShadow (log ++ log_of done) w'
+log-served log w w' [] h commands answers moment history = log-nothing log w w' [] refl commands (history ∙ append-nil w.history) answers (omega (arith, moment)) h
+log-served log w w' (one ∷ later) h commands answers moment history =
     log-one log w w' _ (w.moment + 1) h (omega arith) (omega (arith, moment))
-    (ap (map (λ (c : Arrival). (c.command.ticket, c.command.part, c.arrived))) commands ∙ sym (append-nil _)) history
+    (ap (map (λ (c : Arrival). (c.command.ticket, c.command.part, c.arrived))) commands ∙ sym (append-nil _))
+    (history ∙ ap (λ es. w.history ++ es) (sym (append-nil (entries_at (w.moment + 1) (one ∷ later)))))
     (ap (map (λ (a : _). (a.ticket, a.ended, a.answered))) answers ∙ sym (append-nil _))
-log-served log w w' c (Moved slot node) h commands answers moment history = log-nothing log w w' Nothing refl commands (history ∙ append-nil w.history) answers (omega (arith, moment)) h
-log-served log w w' c (Ask slot node) h commands answers moment history = log-nothing log w w' Nothing refl commands (history ∙ append-nil w.history) answers (omega (arith, moment)) h
-log-served log w w' c TryAgain h commands answers moment history = log-nothing log w w' Nothing refl commands (history ∙ append-nil w.history) answers (omega (arith, moment)) h
-log-served log w w' c ClusterDown h commands answers moment history = log-nothing log w w' Nothing refl commands (history ∙ append-nil w.history) answers (omega (arith, moment)) h
-log-served log w w' c Unclear h commands answers moment history = log-nothing log w w' Nothing refl commands (history ∙ append-nil w.history) answers (omega (arith, moment)) h
-log-served log w w' c Lost h commands answers moment history = log-nothing log w w' Nothing refl commands (history ∙ append-nil w.history) answers (omega (arith, moment)) h
-log-served log w w' c Unsent h commands answers moment history = log-nothing log w w' Nothing refl commands (history ∙ append-nil w.history) answers (omega (arith, moment)) h
 
 -- the command of a ticket, as the machine finds it
 pub of-part : (w : WorldModel) → Placed w → (ticket : Ticket) (part : PartModel) → HasPart w.commands ticket part
@@ -69,35 +69,89 @@ of-part w placed ticket part h =
     let f = found w placed (h.1).command.ticket h.0 h.1 h.2 ((same_ticket-Decides (h.1).command.ticket (h.1).command.ticket).1 refl) in
     (f.0, h.1, f.1, h.4, h.3)
 
--- a command is served: the machine's event
-pub serves-one : (w : WorldModel) → Placed w → (k k' : ClusterModel) (i : ℕ) (l : Link) (node : ℕ) (asking : Bool) (ticket : Ticket) (part : PartModel) (verdict : Verdict) (told : Told) (rest : List LinkRequest)
-    → slice_get w.links i ≡ Some l → w.cluster ≡ k → l.node ≡ node → l.asking ≡ asking → l.requests ≡ Runs (ticket ∷ []) ∷ rest → HasPart w.commands ticket part → NamesNode k verdict
-    → NodeDoes (deed_at k node asking part verdict) k node part told k'
-    → (c : Arrival) × (c.command.ticket ≡ ticket) × (c.command.part ≡ part)
-    × WorldDoes (ticked w) (Serve i verdict)
-    (record (ticked w) { cluster = k'; links = slice_set w.links i (replied (record l { requests = rest; asking = false }) (To ticket told)); history = w.history ++ entry_of (w.moment + 1) c told })
-serves-one w placed k k' i l node asking ticket part verdict told rest at cluster on asked requests has names does =
-    let p = of-part w placed ticket part has in
+-- ---- a run is served
+
+-- what a command was told, as the machine's entries and the log's marks have it
+entry-is : (moment : ℕ) (c : Arrival) (told : Told) → entry_of moment c told ≡ entries_at moment (executed (c.command.ticket, c.command.part) told)
+entry-is moment c (Reply value) = refl
+entry-is moment c (Moved slot node) = refl
+entry-is moment c (Ask slot node) = refl
+entry-is moment c TryAgain = refl
+entry-is moment c ClusterDown = refl
+entry-is moment c Unclear = refl
+entry-is moment c Lost = refl
+entry-is moment c Unsent = refl
+
+-- The commands of a run, as the machine has them, with what they were told.
+pub record MachineRun (commands : List Arrival) (parts : List Part) (tolds : List Told) : Type 0 where
+  pub run : List (Arrival × Told)
+  pub tickets : tickets_told run ≡ tickets_for parts
+  pub parts_are : parts_told run ≡ parts_in parts
+  pub tolds_are : tolds_of run ≡ tolds
+  pub are_of : AreOf run commands
+  pub entries : (moment : ℕ) → entries_of moment run ≡ entries_at moment (executions parts tolds)
+
+one-replies : (p : List PartModel) (store : StoreModel) (ts : List Told) → AreReplies store p ts → length p ≡ length ts
+one-replies [] store [] h = refl
+one-replies [] store (t ∷ ts) h = absurd h
+one-replies (c ∷ p) store [] h = absurd h
+one-replies (c ∷ p) store (t ∷ ts) h = ap suc (one-replies p (store_after store c) ts h.1)
+
+one-said : (said : Told) (p : List PartModel) (ts : List Told) → AllTold said p ts → length p ≡ length ts
+one-said said [] [] h = refl
+one-said said [] (t ∷ ts) h = absurd h
+one-said said (c ∷ p) [] h = absurd h
+one-said said (c ∷ p) (t ∷ ts) h = ap suc (one-said said p ts h.1)
+
+-- each command of a run is told something
+pub each-told : (deed : NodeDeed) (k : ClusterModel) (node : ℕ) (p : List PartModel) (ts : List Told) (k' : ClusterModel) → DoesRun deed k node p ts k' → length p ≡ length ts
+each-told Executes k node p ts k' h = one-replies p _ ts h.0
+each-told (Says said) k node p ts k' h = one-said said p ts h.0
+
+machine-run : (w : WorldModel) → Placed w → (parts : List Part) (tolds : List Told) → length (parts_in parts) ≡ length tolds → All (λ (part : Part). HasPart w.commands part.0 part.1) parts → MachineRun w.commands parts tolds
+machine-run w placed [] [] e known = record { run = []; tickets = refl; parts_are = refl; tolds_are = refl; are_of = tt; entries = λ moment. refl }
+machine-run w placed [] (told ∷ tolds) e known = absurd (omega (arith, e))
+machine-run w placed (part ∷ parts) [] e known = absurd (omega (arith, e))
+machine-run w placed (part ∷ parts) (told ∷ tolds) e known =
+    let p = of-part w placed part.0 part.1 (known 0 part (omega arith)) in
     let c : Arrival = p.1 in
-    let w' : WorldModel = record (ticked w) { cluster = k'; links = slice_set w.links i (replied (record l { requests = rest; asking = false }) (To ticket told)); history = w.history ++ entry_of (w.moment + 1) c told } in (
-      c,
-      p.3,
-      p.4,
+    let rest = machine-run w placed parts tolds (omega (arith, e)) (λ n d lt. known (suc n) d (omega (arith, lt))) in
+    record {
+      run = (c, told) ∷ rest.run;
+      tickets = (λ i. p.3 i ∷ rest.tickets i);
+      parts_are = (λ i. p.4 i ∷ rest.parts_are i);
+      tolds_are = ap (λ ts. told ∷ ts) rest.tolds_are;
+      are_of = ((p.0, p.2), rest.are_of);
+      entries = λ moment.
+          (λ i. entry-is moment c told i ++ rest.entries moment i)
+          ∙ (λ i. entries_at moment (executed (p.3 i, p.4 i) told) ++ entries_at moment (executions parts tolds))
+          ∙ sym (map-append (entry_at moment) (executed part told) (executions parts tolds));
+    }
+
+-- a run is served: the machine's event
+pub serves-run : (w : WorldModel) → Placed w → (k k' : ClusterModel) (i : ℕ) (l : Link) (node : ℕ) (asking : Bool) (parts : List Part) (verdict : Verdict) (tolds : List Told) (rest : List LinkRequest)
+    → slice_get w.links i ≡ Some l → w.cluster ≡ k → l.node ≡ node → l.asking ≡ asking → l.requests ≡ Runs (tickets_for parts) ∷ rest
+    → All (λ (part : Part). HasPart w.commands part.0 part.1) parts → NamesNode k verdict
+    → DoesRun (deed_for k node asking (parts_in parts) verdict) k node (parts_in parts) tolds k'
+    → (m : MachineRun w.commands parts tolds)
+    × WorldDoes (ticked w) (Serve i verdict)
+    (record (ticked w) { cluster = k'; links = slice_set w.links i (all_replied (record l { requests = rest; asking = false }) m.run); history = w.history ++ entries_at (w.moment + 1) (executions parts tolds) })
+serves-run w placed k k' i l node asking parts verdict tolds rest at cluster on asked requests known names does =
+    let m = machine-run w placed parts tolds (each-told (deed_for k node asking (parts_in parts) verdict) k node (parts_in parts) tolds k' does) known in (
+      m,
       (
         l,
         at,
-        inr ((serves_alone (ticked w) w' i l verdict ticket rest requests).1 (
+        inr (
           rest,
-          p.0,
-          c,
-          told,
+          m.run,
           k',
-          requests ∙ ap (λ t. Runs (t ∷ []) ∷ rest) (sym p.3),
-          p.2,
-          subst (λ m. NamesNode m verdict) (sym cluster) names,
-          subst (λ (x : ClusterModel × ℕ × Bool × PartModel). NodeDoes (deed_at x.0 x.1 x.2 x.3 verdict) x.0 x.1 x.3 told k') (λ j. (sym cluster j, sym on j, sym asked j, sym p.4 j)) does,
-          λ j. record (ticked w) { cluster = k'; links = slice_set w.links i (replied (record l { requests = rest; asking = false }) (To (sym p.3 j) told)); history = w.history ++ entry_of (w.moment + 1) c told },
-        )),
+          requests ∙ ap (λ ts. Runs ts ∷ rest) (sym m.tickets),
+          m.are_of,
+          subst (λ x. NamesNode x verdict) (sym cluster) names,
+          subst (λ (x : ClusterModel × ℕ × Bool × List PartModel × List Told). DoesRun (deed_for x.0 x.1 x.2 x.3 verdict) x.0 x.1 x.3 x.4 k') (λ j. (sym cluster j, sym on j, sym asked j, sym m.parts_are j, sym m.tolds_are j)) does,
+          (λ j. record (ticked w) { cluster = k'; links = slice_set w.links i (all_replied (record l { requests = rest; asking = false }) m.run); history = w.history ++ sym (m.entries (w.moment + 1)) j }),
+        ),
       ),
     )
 
@@ -116,7 +170,7 @@ module _ {C J : Type 0} where
       let back : SameBag (downs_of next) (downs_of s) = λ f. sym (bag f) in
       subst (λ x. IsShadow x w') (sym eq) (record {
         workers = h.workers;
-        alone = h.alone;
+        limit = h.limit;
         cluster = refl;
         apart = h.apart;
         numbered = h.numbered;

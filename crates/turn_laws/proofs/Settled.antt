@@ -78,7 +78,7 @@ module _ {C J : Type 0} where
       fitting-same s.workers n w.workers (downs_of s ++ pairs) (downs_of s') commands' bag (tell-all s.workers n w.workers pairs (downs_of s) w.commands commands' (fitting s w placed h) tells) in
       record {
         workers = ap length workers ∙ h.workers;
-        alone = h.alone;
+        limit = h.limit;
         cluster = h.cluster ∙ sym cluster;
         apart = subst AreApart (sym step.table) h.apart;
         numbered = λ k model e. h.numbered k model (at k model e);

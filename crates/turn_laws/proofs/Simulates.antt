@@ -4,7 +4,7 @@ use Rattle.world_laws.specs.State.{WorldModel}
 use Rattle.proxy_turns.specs.declared.backend_step.BackendStep.{BackendStep}
 use Rattle.proxy_turns.specs.declared.backend_step.BackendStep.TheVariants as backend
 use Rattle.proxy_turns.specs.CarrierModel.{CarrierEvent, AtBackend, Starved, WorkerAdded, BackendAdded, Looked, Took, Opened, Refused, Missed, SeedReached, Sought, Reached, NotFound, Sent, Gave, GaveUnsent}
-use Rattle.proxy_turns.specs.ClientTurn.{ClientEvent, Pulled, Fed, Read, HandedOut, Looked as LookedUp, CameBack, Posted, Drained, Pushed, Tried, Parted, Dropped}
+use Rattle.proxy_turns.specs.ClientTurn.{ClientEvent, Pulled, Fed, Read, HandedOut, Followed, Looked as LookedUp, CameBack, Posted, Drained, Pushed, Tried, Parted, Dropped}
 use Rattle.proxy_turns.specs.WorkerModel.{WorkerEvent, Did, Finished, Took as TookPair, FoundNone, Came, TurnedAway, FoundNobody, Left}
 use Rattle.turn_laws.specs.System.{System}
 use Rattle.turn_laws.specs.Shadow.{IsShadow}
@@ -25,7 +25,7 @@ use Rattle.turn_laws.proofs.Refused.{refused}
 use Rattle.turn_laws.proofs.Broke.{broke}
 use Rattle.turn_laws.proofs.Asked.{asked}
 use Rattle.turn_laws.proofs.Sent.{sent-on}
-use Rattle.turn_laws.proofs.Begun.{handed-out}
+use Rattle.turn_laws.proofs.Begun.{handed-out, followed}
 use Rattle.turn_laws.proofs.Ending.{dropped, finished}
 use Rattle.turn_laws.proofs.Parting.{parted}
 use Rattle.turn_laws.proofs.Came.{came}
@@ -81,14 +81,15 @@ module _ (C J : Type 0) where
     client-step k number (Fed result) = unseen-at k (Did number (Fed result)) (at-worker.fed-in k number result)
     client-step k number (Read result) = read C J plain k number result
     client-step k number (HandedOut ticket part) = handed-out C J k number ticket part
+    client-step k number (Followed ticket part) = followed C J k number ticket part
     client-step k number (LookedUp slot) = unseen-at k (Did number (LookedUp slot)) (at-worker.looked k number slot)
-    client-step k number (CameBack batch) = unseen-at k (Did number (CameBack batch)) (at-worker.came-back k number batch)
-    client-step k number (Posted batch) = posted C J k number batch
+    client-step k number (CameBack run) = unseen-at k (Did number (CameBack run)) (at-worker.came-back k number run)
+    client-step k number (Posted run) = posted C J k number run
     client-step k number (Drained n) = drained C J k number n
     client-step k number (Pushed bytes) = unseen-at k (Did number (Pushed bytes)) (at-worker.pushed k number bytes)
     client-step k number Tried = unseen-at k (Did number Tried) (at-worker.tried k number)
     client-step k number Parted = parted C J k number
-    client-step k number (Dropped ticket) = dropped C J k number ticket
+    client-step k number (Dropped tickets) = dropped C J k number tickets
 
     pub worker-step : (k : ℕ) (event : WorkerEvent) → Simulates C J (AtWorker k event)
     worker-step k (Did number event) = client-step k number event

@@ -5,8 +5,9 @@ use Rattle.std.specs.FinMap.{get, empty, get-empty}
 use Rattle.std.specs.Ordering.{nat_cmp}
 use Rattle.proxy_lanes.specs.declared.ends.lane_ends.LaneEnds.{LaneEnds}
 use Rattle.proxy_turns.specs.declared.newcomer.Newcomer.{Newcomer}
-use Rattle.proxy_turns.specs.declared.pending_batch.PendingBatch.{PendingBatch}
+use Rattle.proxy_turns.specs.declared.pending_run.PendingRun.{PendingRun}
 use Rattle.proxy_turns.specs.ClientModel.{ClientModel}
+use Rattle.proxy_turns.specs.Commands.{most_together}
 use Rattle.proxy_turns.specs.WorkerModel.{WorkerModel}
 use Rattle.world_laws.specs.State.{WorldModel, start}
 use Rattle.world_laws.specs.Places.{total, is}
@@ -40,14 +41,14 @@ module _ {C J : Type 0} where
 
   module _ (s : System C J) (h : IsStart s) where
     abbrev pub first : WorldModel
-    first = start (length s.workers) 1 s.cluster
+    first = start (length s.workers) most_together s.cluster
 
     no-downs : (f : Pair → ℕ) → total f (downs_of s) ≡ 0
     no-downs f = omega (
       arith,
       bag-parts f s,
       no-rings f s.workers s.carrier.lanes (λ k model lane p q. (h.ups k model lane p q).1),
-      ap (λ hs. total f (refusals hs)) h.pending_batches,
+      ap (λ hs. total f (refusals hs)) h.pending_runs,
       ap (λ ls. total f (debts ls)) h.backends,
     )
 
@@ -77,12 +78,12 @@ module _ {C J : Type 0} where
     pub shadow : IsShadow s first
     shadow = record {
       workers = refl;
-      alone = omega arith;
+      limit = omega arith;
       cluster = refl;
       apart = h.apart;
       numbered = λ k model p. (h.idle k model p).0;
       sides = h.sides;
-      seated = λ k b batch e. absurd (no-item s.carrier.pending_batches k b h.pending_batches e);
+      seated = λ k b run e. absurd (no-item s.carrier.pending_runs k b h.pending_runs e);
       up_steps = h.up_steps;
       down_steps = h.down_steps;
       unfinished = h.unfinished;
@@ -90,8 +91,8 @@ module _ {C J : Type 0} where
       to_worker = λ k model lane p q. subst (All (λ (pair : Pair). pair.0.worker ≡ k)) (sym (h.ups k model lane p q).1) (λ i x lt. absurd (omega arith));
       told = refl;
       lanes = λ k model lane p q.
-          let none : slice_get s.carrier.pending_batches k ≡ None = ap (λ (hs : List PendingBatch). slice_get hs k) h.pending_batches in
-          let empty : ups_in model lane (slice_get s.carrier.pending_batches k) ≡ [] = ap (ups_in model lane) none ∙ (h.ups k model lane p q).0 in
+          let none : slice_get s.carrier.pending_runs k ≡ None = ap (λ (hs : List PendingRun). slice_get hs k) h.pending_runs in
+          let empty : ups_in model lane (slice_get s.carrier.pending_runs k) ≡ [] = ap (ups_in model lane) none ∙ (h.ups k model lane p q).0 in
           subst (ListShadow first k) (sym empty) (refl, λ j d lt. absurd (omega arith));
       links = no-links;
       clients = λ k model number client p q. absurd (no-client model.clients number client (h.idle k model p).1 q);
@@ -106,7 +107,7 @@ module _ {C J : Type 0} where
         no-pair i pair e = omega (arith, total-one (λ (p : Pair). 1) (downs_of s) i pair e, no-downs (λ (p : Pair). 1))
 
     pub walked : IsWalked first
-    walked = (length s.workers, 1, s.cluster, [], h.new, refl)
+    walked = (length s.workers, most_together, s.cluster, [], h.new, refl)
 
 module _ (C J : Type 0) where
   pub start-shadow : (s : System C J) → IsStart s → (w : WorldModel) × IsWalked w × IsShadow s w

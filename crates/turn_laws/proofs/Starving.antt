@@ -1,11 +1,11 @@
 -- Memory ran out at a backend: nothing was sent, or a value is kept, which still counts among those that come.
 use Rattle.std.proofs.Common.{◌≡◌, inl, ⊎_elim, ℕ, List, [], ◌++◌, Some, None, refl, sym, ap, ◌∙◌, subst, length}
-use Rattle.std.specs.Prelude.{slice_get, slice_set, All, map}
+use Rattle.std.specs.Prelude.{slice_get, slice_set, All}
 use Rattle.std.proofs.lemmas.List.{append-nil}
 use Rattle.resp_wire.specs.declared.value.Value.{Value}
 use Rattle.slot_map.specs.Table.{Endpoint}
 use Rattle.node_link.specs.LinkModel.{LinkModel}
-use Rattle.node_link.specs.LinkCalls.{Comes, due_of}
+use Rattle.node_link.specs.LinkCalls.{Comes}
 use Rattle.node_link.specs.declared.link.Due.TheVariants as due
 use Rattle.proxy_turns.specs.declared.newcomer.Newcomer.{Newcomer}
 use Rattle.proxy_turns.specs.declared.backend.Backend.{Backend}
@@ -15,7 +15,7 @@ use Rattle.world_laws.specs.State.{WorldModel, Link}
 use Rattle.world_laws.specs.declared.state.Arrival.{Arrival}
 use Rattle.turn_laws.specs.Wire.{Wire, Exchanges}
 use Rattle.turn_laws.specs.System.{System}
-use Rattle.turn_laws.specs.Shadow.{IsShadow, IsWorking, LinksShadow, LaneShadow, OpenShadow, IsIdle, IsKnown, coming, coming_of, requests_in, backs_in, told_in}
+use Rattle.turn_laws.specs.Shadow.{IsShadow, IsWorking, LinksShadow, LaneShadow, OpenShadow, IsIdle, IsKnown, coming, coming_of, requests_in, dues_in, backs_in, told_in}
 use Rattle.turn_laws.specs.Steps.{CarrierStep, any_failures, any_garbled}
 use Rattle.turn_laws.proofs.Frames.{same-seats, down-fits, carrier-frame}
 use Rattle.turn_laws.proofs.Carriers.{backend-stutter}
@@ -27,7 +27,7 @@ use Rattle.turn_laws.proofs.Answering.{quiet-backend}
 -- nothing went over the port
 pub nothing-went : (link link' : LinkModel Wire) → Exchanges link.port [] [] link'.port → link' ≡ record link { port = link'.port } → link' ≡ link
 nothing-went link link' x e =
-    let port : link'.port ≡ link.port = x.1 ∙ (λ i. record (link.port) { requests = append-nil link.port.requests i; values = sym x.0 i }) in
+    let port : link'.port ≡ link.port = x.1 ∙ (λ i. record (link.port) { items = append-nil link.port.items i; values = sym x.0 i }) in
     e ∙ (λ i. record link { port = port i })
 
 -- a value is kept
@@ -38,7 +38,7 @@ kept-open table commands link link' l value comes e h =
     let c = comes-first link link'.port value comes in
     let node : link'.node ≡ link.node = ap (λ (x : LinkModel Wire). x.node) e in
     let same : coming link' ≡ coming link = ap (λ o. coming_of o link'.port.values) (ap (λ (x : LinkModel Wire). x.kept) e) ∙ sym c.0 in
-    let requests : link'.port.requests ≡ link.port.requests = ap (λ (x : Wire). x.requests) c.1 in
+    let requests : link'.port.items ≡ link.port.items = ap (λ (x : Wire). x.items) c.1 in
     record {
       node = h.node ∙ sym node;
       wired = ap (λ (x : Wire). x.node) c.1 ∙ h.wired ∙ sym node;
@@ -47,7 +47,7 @@ kept-open table commands link link' l value comes e h =
       requests = h.requests ∙ ap requests_in (sym requests);
       known = subst (All (IsKnown commands)) (sym requests) h.known;
       answered = h.answered;
-      due = ap (λ (x : LinkModel Wire). x.due) e ∙ h.due ∙ ap (λ rs. h.answered ++ map due_of rs) (sym requests);
+      due = ap (λ (x : LinkModel Wire). x.due) e ∙ h.due ∙ ap (λ rs. h.answered ++ dues_in rs) (sym requests);
       matched = h.matched ∙ ap length (sym same);
       backs = h.backs ∙ (λ i. backs_in table (sym node i) h.answered (sym same i));
     }
@@ -58,7 +58,7 @@ kept-idle : (link link' : LinkModel Wire) (value : Value)
 kept-idle link link' value comes e h =
     let c = comes-first link link'.port value comes in
     let same : coming link' ≡ coming link = ap (λ o. coming_of o link'.port.values) (ap (λ (x : LinkModel Wire). x.kept) e) ∙ sym c.0 in
-    let requests : link'.port.requests ≡ link.port.requests = ap (λ (x : Wire). x.requests) c.1 in
+    let requests : link'.port.items ≡ link.port.items = ap (λ (x : Wire). x.items) c.1 in
     let dues : link'.due ≡ link.due = ap (λ (x : LinkModel Wire). x.due) e in
     record {
       wired = ap (λ (x : Wire). x.node) c.1 ∙ h.wired ∙ sym (ap (λ (x : LinkModel Wire). x.node) e);
@@ -66,13 +66,13 @@ kept-idle link link' value comes e h =
       asking = ap (λ (x : Wire). x.asking) c.1 ∙ h.asking;
       requests = ap requests_in requests ∙ h.requests;
       answered = h.answered;
-      due = dues ∙ h.due ∙ ap (λ rs. h.answered ++ map due_of rs) (sym requests);
+      due = dues ∙ h.due ∙ ap (λ rs. h.answered ++ dues_in rs) (sym requests);
       matched = h.matched ∙ ap length (sym same);
     }
 
 module _ {C J : Type 0} (s s' : System C J) (w : WorldModel) (h : IsShadow s w) (on : CarrierStep s Starved s') where
   abbrev Lines : ℕ → Backend Wire → Type 0
-  Lines k backend' = (s'.carrier.backends ≡ slice_set s.carrier.backends k backend') × (s'.carrier.lanes ≡ s.carrier.lanes) × (s'.carrier.pending_batches ≡ s.carrier.pending_batches)
+  Lines k backend' = (s'.carrier.backends ≡ slice_set s.carrier.backends k backend') × (s'.carrier.lanes ≡ s.carrier.lanes) × (s'.carrier.pending_runs ≡ s.carrier.pending_runs)
 
   same-link : (k : ℕ) (backend backend' : Backend Wire) → slice_get s.carrier.backends k ≡ Some backend → Lines k backend' → backend'.link ≡ backend.link → backend'.pending_told ≡ backend.pending_told → IsShadow s' w
   same-link k backend backend' at e link pending_told = backend-stutter Starved s s' w k backend backend' h on refl at e.0 e.1 e.2 (inl link) (same-owing backend backend' link (ap told_in pending_told))
@@ -104,7 +104,7 @@ module _ {C J : Type 0} (s s' : System C J) (w : WorldModel) (h : IsShadow s w) 
       let k : ℕ = d.0 in
       let backend : Backend Wire = d.1 in
       let backend' : Backend Wire = d.2 in
-      let e : Lines k backend' = (ap (λ (c : CarrierModel (Newcomer C J) Wire). c.backends) d.5, ap (λ (c : CarrierModel (Newcomer C J) Wire). c.lanes) d.5, ap (λ (c : CarrierModel (Newcomer C J) Wire). c.pending_batches) d.5) in
+      let e : Lines k backend' = (ap (λ (c : CarrierModel (Newcomer C J) Wire). c.backends) d.5, ap (λ (c : CarrierModel (Newcomer C J) Wire). c.lanes) d.5, ap (λ (c : CarrierModel (Newcomer C J) Wire). c.pending_runs) d.5) in
       ⊎_elim
       (λ (x : context_of s'.carrier backend' ≡ context_of s.carrier backend). same-link k backend backend' d.3 e (ap (λ (u : BackendContext Wire). u.backend.link) x) (ap (λ (u : BackendContext Wire). u.backend.pending_told) x))
       (λ x.
@@ -123,7 +123,7 @@ module _ {C J : Type 0} (s s' : System C J) (w : WorldModel) (h : IsShadow s w) 
   starved = ⊎_elim at-context
       (λ x.
       let backend' : Backend Wire = x.2 in
-      let e : Lines x.0 backend' = (ap (λ (c : CarrierModel (Newcomer C J) Wire). c.backends) x.7, ap (λ (c : CarrierModel (Newcomer C J) Wire). c.lanes) x.7, ap (λ (c : CarrierModel (Newcomer C J) Wire). c.pending_batches) x.7) in
+      let e : Lines x.0 backend' = (ap (λ (c : CarrierModel (Newcomer C J) Wire). c.backends) x.7, ap (λ (c : CarrierModel (Newcomer C J) Wire). c.lanes) x.7, ap (λ (c : CarrierModel (Newcomer C J) Wire). c.pending_runs) x.7) in
       let y = x.6 in
       same-link x.0 x.1 backend' x.5 e
       (ap (λ (u : Backend Wire). u.link) y.4 ∙ ap Some (nothing-went y.0 y.1 y.3.1 y.3.2) ∙ sym y.2)

@@ -19,7 +19,7 @@ use Rattle.world_laws.specs.Places.{total, is}
 use Rattle.world_laws.proofs.Recorded.{at-set}
 use Rattle.session_order.specs.Steps.{IsHandedOut}
 use Rattle.turn_laws.specs.Shadow.{ClientShadow, PartShadow, KeptShadow, IsLetGo, StageShadow, HasCommand, ToldFrom, ticket_at}
-use Rattle.turn_laws.proofs.Standing.{still-stands, turn-set}
+use Rattle.turn_laws.proofs.Standing.{still-stands, order-set}
 use Rattle.turn_laws.proofs.Downs.{Pair, OneMore, more-has, more-keeps, is-other}
 
 no-await : (s : Life) → s ≡ Awaits → (next : Life) → s ≡ next → (next ≡ Awaits → ⊥) → ⊥
@@ -140,7 +140,7 @@ module _ (downs downs' : List Pair) (t : Ticket) (told : Told) (more : OneMore d
     read = λ here part lt. still-stands commands j c (after_told c told) at refl (ticket_at client.session part) (h.read here part lt);
     stands = λ u out.
         let was = h.stands u out in
-        (still-stands commands j c (after_told c told) at refl u was.0, turn-set commands j c (after_told c told) at (refl, refl, λ x. absurd (over-no x.0 (sym x.1 ∙ awaits))) u was.1);
+        (still-stands commands j c (after_told c told) at refl u was.0, order-set client.session commands j c (after_told c told) at (refl, refl, λ x. absurd (over-no x.0 (sym x.1 ∙ awaits))) u was.1);
     homes = λ i x e n. ⊎_elim
         (λ (z : (i ≡ j) × (x ≡ after_told c told)). ap (λ (u : Arrival). u.command.ticket.worker) z.1 ∙ h.homes j c at (ap (λ (u : Arrival). u.command.ticket.client) (sym z.1) ∙ n))
         (λ (z : (i ≢ j) × (slice_get commands i ≡ Some x)). h.homes i x z.1 n)

@@ -1,4 +1,4 @@
--- The requests of a broken connection are thrown away.
+-- What a broken connection still has is thrown away.
 use Rattle.std.proofs.Common.{◌≡◌, ◌≢◌, inl, inr, ⊎_elim, ℕ, ◌<◌, ◌≤◌, ◌==◌, true, false, List, [], Some, refl, sym, ap, ◌∙◌, subst, arith, length}
 use Rattle.std.specs.Prelude.{slice_get, slice_set}
 use Rattle.std.proofs.lemmas.Bool.Decides.{eqb_tells}
@@ -83,7 +83,7 @@ module _ {C J : Type 0} where
       → LinksShadow s.carrier closed' s.opened (linked w links moment) → IsShadow s' (linked w links moment)
   broken-frame s s' w closed' links moment later h e shadow = subst (λ x. IsShadow x (linked w links moment)) (sym e) (record {
     workers = h.workers;
-    alone = h.alone;
+    limit = h.limit;
     cluster = h.cluster;
     apart = h.apart;
     numbered = h.numbered;
@@ -110,7 +110,7 @@ module _ {C J : Type 0} (s s' : System C J) (w : WorldModel) (h : IsShadow s w) 
   wire = on.0
 
   abbrev wire' : Wire
-  wire' = record wire { requests = [] }
+  wire' = record wire { items = [] }
 
   abbrev pub Simulated : Type 0
   Simulated = (events : List Event) × (w' : WorldModel) × Walk w events w' × IsShadow s' w'
@@ -130,7 +130,7 @@ module _ {C J : Type 0} (s s' : System C J) (w : WorldModel) (h : IsShadow s w) 
       (λ (x : (n : ℕ) × (l : Link) × Numbers (h.links).ids wire.id n × (slice_get w.links n ≡ Some l) × ClosedShadow w.commands wire l).
       let shadow = x.4 in
       still (inl (x.0, x.1, x.2, x.3, record { node = shadow.node; is_open = shadow.is_open; asking = shadow.asking; requests = ((x.1).requests, refl); known = λ i d lt. absurd (omega arith); backs = shadow.backs })))
-      (λ (x : IsUnnumbered (h.links).ids wire.id × (requests_in wire.requests ≡ [])). still (inr (x.0, refl)))
+      (λ (x : IsUnnumbered (h.links).ids wire.id × (requests_in wire.items ≡ [])). still (inr (x.0, refl)))
       ((h.links).wires j wire on.1).1
 
 module _ (C J : Type 0) where

@@ -6,8 +6,7 @@ use Rattle.std.proofs.lemmas.List.{append_assoc, append-nil}
 use Rattle.std.proofs.lemmas.Bool.Decides.{eqb_tells}
 use Rattle.key_split.specs.Same.{same_ticket, same_ticket-Decides}
 use Rattle.key_split.specs.PartModel.{PartModel}
-use Rattle.key_split.specs.Requests.{Request, Asking, Command, Slots}
-use Rattle.key_split.specs.declared.travel.Batch.{Batch}
+use Rattle.key_split.specs.Runs.{RunModel}
 use Rattle.key_split.specs.declared.travel.Ticket.{Ticket}
 use Rattle.command_future.specs.CommandModel.{CommandModel}
 use Rattle.command_future.specs.declared.stage.Stage.TheVariants.{Awaits}
@@ -23,10 +22,10 @@ use Rattle.world_laws.proofs.Tally.{total-append, total-found, total-one}
 use Rattle.world_laws.proofs.Placed.{Placed}
 use Rattle.world_laws.proofs.Lives.{same_place}
 use Rattle.world_laws.proofs.Recorded.{at-set, set-same, set-other}
-use Rattle.turn_laws.specs.Wire.{Wire}
+use Rattle.turn_laws.specs.Wire.{Wire, Item, Asks, Runs, Lists}
 use Rattle.turn_laws.specs.System.{System}
 use Rattle.turn_laws.specs.Settling.{Tells, TellsAll}
-use Rattle.turn_laws.specs.Shadow.{IsShadow, LinksShadow, OpenShadow, ClosedShadow, IsKnown, HasPart, IsUnnumbered, Numbers, IsIdle, ClientShadow, Holds, downs_of}
+use Rattle.turn_laws.specs.Shadow.{IsShadow, LinksShadow, OpenShadow, ClosedShadow, IsKnown, HasPart, RunShadow, IsUnnumbered, Numbers, IsIdle, ClientShadow, Holds, downs_of}
 use Rattle.turn_laws.proofs.Downs.{Pair, SameBag, OneMore, one_for, pair-is, pair-itself, bag-has, is-other}
 use Rattle.turn_laws.proofs.Frames.{client-same}
 use Rattle.turn_laws.proofs.AtLanes.{short}
@@ -220,13 +219,13 @@ parts-told (pair ∷ pairs) commands commands' t =
 abbrev pub PartsStay : List Arrival → List Arrival → Type 0
 PartsStay old new = (t : Ticket) (part : PartModel) → HasPart old t part → HasPart new t part
 
-known-still : (old new : List Arrival) → PartsStay old new → (requests : List Request) → All (IsKnown old) requests → All (IsKnown new) requests
-known-still old new same requests h i r lt = one _ (h i r lt)
+known-still : (old new : List Arrival) → PartsStay old new → (items : List Item) → All (IsKnown old) items → All (IsKnown new) items
+known-still old new same items h i r lt = one _ (h i r lt)
   where
-    one : (r : Request) → IsKnown old r → IsKnown new r
-    one Asking x = x
-    one (Command t p) x = same t p x
-    one Slots x = x
+    one : (r : Item) → IsKnown old r → IsKnown new r
+    one Asks x = x
+    one (Runs parts) x = λ n part lt. same _ _ (x n part lt)
+    one Lists x = x
 
 pub open-still : (table : List Endpoint) (old new : List Arrival) → PartsStay old new → (link : LinkModel Wire) (l : Link) → OpenShadow table old link l → OpenShadow table new link l
 open-still table old new same link l h = record {
@@ -235,7 +234,7 @@ open-still table old new same link l h = record {
   is_open = h.is_open;
   asking = h.asking;
   requests = h.requests;
-  known = known-still old new same link.port.requests h.known;
+  known = known-still old new same link.port.items h.known;
   answered = h.answered;
   due = h.due;
   matched = h.matched;
@@ -248,13 +247,14 @@ closed-still old new same wire l h = record {
   is_open = h.is_open;
   asking = h.asking;
   requests = h.requests;
-  known = known-still old new same wire.requests h.known;
+  known = known-still old new same wire.items h.known;
   backs = h.backs;
 }
 
-pub lists-still : (old new : List Arrival) → PartsStay old new → (k : ℕ) (batches : List Batch)
-    → All (λ (b : Batch). HasPart old b.ticket b.part × (b.ticket.worker ≡ k)) batches → All (λ (b : Batch). HasPart new b.ticket b.part × (b.ticket.worker ≡ k)) batches
-lists-still old new same k batches h i b lt = let x = h i b lt in (same _ _ x.0, x.1)
+pub lists-still : (old new : List Arrival) → PartsStay old new → (k : ℕ) (runs : List RunModel) → All (RunShadow old k) runs → All (RunShadow new k) runs
+lists-still old new same k runs h i run lt =
+    let x = h i run lt in
+    (x.0, λ n batch within. let b = x.1 n batch within in (same _ _ b.0, b.1))
 
 -- the links' shadow, as the machine's commands go on
 pub links-told : {H : Type 0} (carrier : CarrierModel H Wire) (closed : List Wire) (opened : ℕ) (w w' : WorldModel) → w'.links ≡ w.links → PartsStay w.commands w'.commands

@@ -28,7 +28,7 @@ use Rattle.world_laws.proofs.Tally.{total-append, total-one}
 use Rattle.world_laws.proofs.Kept.{is-refl}
 use Rattle.world_laws.proofs.Recorded.{at-set}
 use Rattle.turn_laws.specs.System.{System}
-use Rattle.turn_laws.specs.Shadow.{IsShadow, ClientShadow, KeptShadow, IsLetGo, StageShadow, HasCommand, HasPosted, Holds, ToldFrom, downs_of, downs_in, down_in, seat_of}
+use Rattle.turn_laws.specs.Shadow.{IsShadow, ClientShadow, KeptShadow, IsLetGo, StageShadow, HasCommand, IsAtFirst, HasPosted, Holds, ToldFrom, downs_of, downs_in, down_in, seat_of}
 use Rattle.turn_laws.specs.Steps.{AtWorker, WorkerStep}
 use Rattle.turn_laws.specs.Refines.{Simulates}
 use Rattle.turn_laws.proofs.Downs.{Pair, OneMore, more-has, more-keeps}
@@ -118,7 +118,7 @@ module _ (downs downs' : List Pair) (t : Ticket) (told : Told) (more : OneMore d
     where
       other : (d : CommandModel) (part : ℕ) → HasCommand client.commands part d → d.ticket ≡ t → ⊥
       other d part has same =
-          let out = ⊎_elim (λ (z : (client.commands.fresh ≡ Some d) × (d.ticket.part ≡ part)). ((h.commands).fresh d z.0).0) (λ (z : get client.commands.posted part ≡ Some d). ((h.commands).posted part d z).1) has in
+          let out = ⊎_elim (λ (z : IsAtFirst client.commands d × (d.ticket.part ≡ part)). ((h.commands).fresh d z.0).0) (λ (z : get client.commands.posted part ≡ Some d). ((h.commands).posted part d z).1) has in
           ne (sym h.numbered ∙ sym out.4 ∙ ap (λ (u : Ticket). u.client) same)
 
   -- the client that is told
@@ -148,6 +148,7 @@ module _ (downs downs' : List Pair) (t : Ticket) (told : Told) (more : OneMore d
           let was = (h.commands).fresh c e in
           let ne : c.ticket.part ≢ t.part = λ same. none-some (get client.commands.posted t.part) f (ap (get client.commands.posted) (sym same) ∙ was.2) has in
           (was.0, was.1, put-other client.commands.posted t.part c.ticket.part (progress_told f told) ne ∙ was.2);
+      apart = (h.commands).apart;
     };
     owed = h.owed;
     ends = h.ends;
@@ -156,7 +157,7 @@ module _ (downs downs' : List Pair) (t : Ticket) (told : Told) (more : OneMore d
     where
       other-part : (d : CommandModel) (part : ℕ) → HasCommand client.commands part d → part ≢ t.part → d.ticket ≡ t → ⊥
       other-part d part hd ne same =
-          let here : d.ticket.part ≡ part = ⊎_elim (λ (z : (client.commands.fresh ≡ Some d) × (d.ticket.part ≡ part)). z.1) (λ (z : get client.commands.posted part ≡ Some d). ((h.commands).posted part d z).0) hd in
+          let here : d.ticket.part ≡ part = ⊎_elim (λ (z : IsAtFirst client.commands d × (d.ticket.part ≡ part)). z.1) (λ (z : get client.commands.posted part ≡ Some d). ((h.commands).posted part d z).0) hd in
           ne (sym here ∙ ap (λ (u : Ticket). u.part) same)
 
       still : (c : Arrival) → c.command.ticket.part ≢ t.part → (st : PartStage) (end : Ended) → StageShadow downs' client.gone client.commands st end c → StageShadow downs' client.gone (told_commands client.commands t.part f told) st end c
@@ -177,7 +178,7 @@ module _ (downs downs' : List Pair) (t : Ticket) (told : Told) (more : OneMore d
             (λ (y : (d : CommandModel) × HasCommand client.commands c.command.ticket.part d × ToldFrom downs d c.command).
             let here : get client.commands.posted c.command.ticket.part ≡ Some f = ap (get client.commands.posted) at ∙ has in
             let same : y.0 ≡ f = ⊎_elim
-            (λ (z : (client.commands.fresh ≡ Some y.0) × ((y.0).ticket.part ≡ c.command.ticket.part)). absurd (none-some (get client.commands.posted c.command.ticket.part) f (ap (get client.commands.posted) (sym z.1) ∙ ((h.commands).fresh y.0 z.0).2) here))
+            (λ (z : IsAtFirst client.commands y.0 × ((y.0).ticket.part ≡ c.command.ticket.part)). absurd (none-some (get client.commands.posted c.command.ticket.part) f (ap (get client.commands.posted) (sym z.1) ∙ ((h.commands).fresh y.0 z.0).2) here))
             (λ (z : get client.commands.posted c.command.ticket.part ≡ Some y.0). one-of (get client.commands.posted c.command.ticket.part) y.0 f z here) y.1 in
             let so : c.command ≡ progress_told f told = told-from y.0 c.command (ap (λ (d : CommandModel). d.ticket) same ∙ one) y.2 ∙ ap (λ d. progress_told d told) same in
             inl (
@@ -248,10 +249,10 @@ module _ {C J : Type 0} where
     more : OneMore (downs_of s2) pair (downs_of s)
     more f = omega (
       arith,
-      total-append f (downs_in s.workers s.carrier.lanes ++ refusals s.carrier.pending_batches) (debts s.carrier.backends),
-      total-append f (downs_in s.workers s.carrier.lanes) (refusals s.carrier.pending_batches),
-      total-append f (downs_in (slice_set s.workers k model') s.carrier.lanes ++ refusals s.carrier.pending_batches) (debts s.carrier.backends),
-      total-append f (downs_in (slice_set s.workers k model') s.carrier.lanes) (refusals s.carrier.pending_batches),
+      total-append f (downs_in s.workers s.carrier.lanes ++ refusals s.carrier.pending_runs) (debts s.carrier.backends),
+      total-append f (downs_in s.workers s.carrier.lanes) (refusals s.carrier.pending_runs),
+      total-append f (downs_in (slice_set s.workers k model') s.carrier.lanes ++ refusals s.carrier.pending_runs) (debts s.carrier.backends),
+      total-append f (downs_in (slice_set s.workers k model') s.carrier.lanes) (refusals s.carrier.pending_runs),
       rings-take f s.workers s.carrier.lanes k model model' lane on.at on.beside,
       ap (total f) first,
     )

@@ -70,8 +70,8 @@ module _ {C J : Type 0} where
     same-opened = still-opened event s s' on quiet
 
     -- what is on its way down stays
-    pub same-bag : s'.carrier.lanes ≡ s.carrier.lanes → s'.carrier.pending_batches ≡ s.carrier.pending_batches → backend'.pending_told ≡ backend.pending_told → SameBag (downs_of s) (downs_of s')
-    same-bag lanes pending_batches pending_told f =
+    pub same-bag : s'.carrier.lanes ≡ s.carrier.lanes → s'.carrier.pending_runs ≡ s.carrier.pending_runs → backend'.pending_told ≡ backend.pending_told → SameBag (downs_of s) (downs_of s')
+    same-bag lanes pending_runs pending_told f =
         let fl : s'.workers ≡ s.workers = ap (λ (x : System C J). x.workers) on.leaves in
         let rings : total f (downs_in s'.workers s'.carrier.lanes) ≡ total f (downs_in s.workers s.carrier.lanes) = λ i. total f (downs_in (fl i) (lanes i)) in
         omega (
@@ -79,7 +79,7 @@ module _ {C J : Type 0} where
           bag-parts f s,
           bag-parts f s',
           rings,
-          ap (λ hs. total f (refusals hs)) pending_batches,
+          ap (λ hs. total f (refusals hs)) pending_runs,
           ap (λ ls. total f (debts ls)) backends,
           total-set-flat f (λ (backend : Backend Wire). told_in backend.pending_told ++ lost_in backend.link) s.carrier.backends k backend backend' at,
           (let e : total f (told_in backend'.pending_told ++ lost_in backend'.link) ≡ total f (told_in backend.pending_told ++ lost_in (Some link')) = λ i. total f (told_in (pending_told i) ++ lost_in (is i)) in e),
@@ -113,8 +113,8 @@ module _ {C J : Type 0} (s s' : System C J) (w : WorldModel) (h : IsShadow s w) 
   lanes : s'.carrier.lanes ≡ s.carrier.lanes
   lanes = ap (λ (c : CarrierModel (Newcomer C J) Wire). c.lanes) on.does.5
 
-  pending_batches : s'.carrier.pending_batches ≡ s.carrier.pending_batches
-  pending_batches = ap (λ (c : CarrierModel (Newcomer C J) Wire). c.pending_batches) on.does.5
+  pending_runs : s'.carrier.pending_runs ≡ s.carrier.pending_runs
+  pending_runs = ap (λ (c : CarrierModel (Newcomer C J) Wire). c.pending_runs) on.does.5
 
   was : backend.link ≡ Some link
   was = on.does.4.2.0
@@ -131,10 +131,10 @@ module _ {C J : Type 0} (s s' : System C J) (w : WorldModel) (h : IsShadow s w) 
   -- the port gave none
   nothing : Comes any_failures any_garbled Exchanges link None link'.port → link' ≡ record link { port = link'.port } → IsShadow s' w
   nothing comes e =
-      let port : link'.port ≡ link.port = comes.1.1 ∙ (λ i. record (link.port) { requests = append-nil link.port.requests i; values = sym comes.1.0 i }) in
+      let port : link'.port ≡ link.port = comes.1.1 ∙ (λ i. record (link.port) { items = append-nil link.port.items i; values = sym comes.1.0 i }) in
       let same : link' ≡ link = e ∙ (λ i. record link { port = port i }) in
       let stays : backend'.link ≡ backend.link = is ∙ ap Some same ∙ sym was in
-      backend-stutter (AtBackend Waited) s s' w k backend backend' h on refl on.does.3 backends lanes pending_batches (inl stays) (same-owing backend backend' stays (ap told_in pending_told))
+      backend-stutter (AtBackend Waited) s s' w k backend backend' h on refl on.does.3 backends lanes pending_runs (inl stays) (same-owing backend backend' stays (ap told_in pending_told))
 
   -- the reply to ASKING came: the machine fetches it
   module _ (value : Value) (comes : Comes any_failures any_garbled Exchanges link (Some value) link'.port) (dues : link.due ≡ due.Asking ∷ link'.due)
@@ -172,10 +172,10 @@ module _ {C J : Type 0} (s s' : System C J) (w : WorldModel) (h : IsShadow s w) 
           (l, at, open'.is_open, inl (f.0, f.1, refl)),
           link-frame (AtBackend Waited) s s' w links' (w.moment + 1) (omega arith) h on
               (subst (λ xs. LinksShadow s'.carrier xs s'.opened w') (sym closed) (subst (λ n. LinksShadow s'.carrier s.closed n w') (sym opened) shadow))
-              (same-seats s s' (ap length lanes) pending_batches)
+              (same-seats s s' (ap length lanes) pending_runs)
               (λ j model lane p q. down-fits s w h j model lane p (sym (ap (λ xs. slice_get xs j) lanes) ∙ q))
-              (same-bag (AtBackend Waited) s s' on refl k backend backend' link link' on.does.3 backends was is worked works lanes pending_batches pending_told)
-              (λ j model lane p q. subst (LaneShadow w j model lane) (sym (ap (λ xs. slice_get xs j) pending_batches)) (h.lanes j model lane p (sym (ap (λ xs. slice_get xs j) lanes) ∙ q))),
+              (same-bag (AtBackend Waited) s s' on refl k backend backend' link link' on.does.3 backends was is worked works lanes pending_runs pending_told)
+              (λ j model lane p q. subst (LaneShadow w j model lane) (sym (ap (λ xs. slice_get xs j) pending_runs)) (h.lanes j model lane p (sym (ap (λ xs. slice_get xs j) lanes) ∙ q))),
         )
       where
         same-id : (value : Value) → Comes any_failures any_garbled Exchanges link (Some value) link'.port → link'.port.id ≡ link.port.id

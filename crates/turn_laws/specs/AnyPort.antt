@@ -56,7 +56,7 @@ over_backends (backend ∷ backends) (wire ∷ wires) = over_backend backend wir
 abbrev pub over_wires : {H P : Type 0} → CarrierModel H P → List Wire → CarrierModel H Wire
 over_wires carrier wires = record {
   lanes = carrier.lanes;
-  pending_batches = carrier.pending_batches;
+  pending_runs = carrier.pending_runs;
   backends = over_backends carrier.backends wires;
   nodes = carrier.nodes;
   published = carrier.published;
@@ -85,13 +85,13 @@ module _ {P : Type 0} (wired : P → Wire → Type 0) where
   AreWired (backend ∷ backends) [] = ⊥
   AreWired (backend ∷ backends) (wire ∷ wires) = IsWired backend.link wire × AreWired backends wires
 
-  module _ (H : Type 0) (failures : P → ℕ) (is_garbled : P → Type 0) (exchange : P → List Request → List Value → P → Type 0) (gives_none : P → Type 0) (opens : Endpoint → P → Type 0) where
+  module _ (H : Type 0) (failures : P → ℕ) (is_garbled : P → Type 0) (exchange : P → List Request → List Value → P → Type 0) (gives_none : P → Type 0) (opens : Endpoint → P → Type 0) (longest : P → ℕ) where
     -- each event of the carrier's turn is, over the wires of its ports, one that a step of the system may have
     abbrev pub AnyPorts : Type 0
     AnyPorts = (event : CarrierEvent) (old new : CarrierModel H P) (wires : List Wire) (opened : ℕ) → AreWired old.backends wires → OpensWires old.nodes opened opens
-        → CarrierDoes failures is_garbled exchange gives_none opens old event new
-        → (wires' : List Wire) × AreWired new.backends wires'
-        × CarrierDoes any_failures any_garbled Exchanges any_none (Dials old.nodes opened) (over_wires old wires) event (over_wires new wires')
+        → CarrierDoes failures is_garbled exchange gives_none opens longest old event new
+        → (wires' : List Wire) × AreWired new.backends wires' × (longest' : Wire → ℕ)
+        × CarrierDoes any_failures any_garbled Exchanges any_none (Dials old.nodes opened) longest' (over_wires old wires) event (over_wires new wires')
 
 -- What is asked of ports can be had: a wire stands for itself, and one that is dialled at a node's endpoint is new and leads there.
 pub record WiresStand : Type 0 where

@@ -25,7 +25,7 @@ pub record IsStart {C J : Type 0} (s : System C J) : Type 0 where
   pub down_steps : (k : ℕ) (model : WorkerModel C J) (lane : LaneEnds (Newcomer C J)) → slice_get s.workers k ≡ Some model → slice_get s.carrier.lanes k ≡ Some lane → DownInStep lane model
   -- no lane to a worker is finished
   pub unfinished : (k : ℕ) (lane : LaneEnds (Newcomer C J)) → slice_get s.carrier.lanes k ≡ Some lane → IsSome lane.down
-  pub pending_batches : s.carrier.pending_batches ≡ []
+  pub pending_runs : s.carrier.pending_runs ≡ []
   pub backends : s.carrier.backends ≡ []
   -- the table has no endpoint twice
   pub apart : AreApart s.carrier.nodes

@@ -1,15 +1,16 @@
 -- Lists of steps that a system can make from a start, so that the law speaks of something: its premises hold together in them.
 -- One worker serves, there are two nodes, and one key. In the first a slot moves, in the second a command is lost: each kind of step
--- stands in one of them, and each event of a worker, of the carrier and of a backend, but for a batch that a full lane gives back.
--- That one stands in the third, from a start whose lane had carried 1,024 batches.
+-- stands in one of them, and each event of a worker, of the carrier and of a backend, but for a run that a full lane gives back.
+-- That one stands in the third, from a start whose lane had carried 1,024 runs. In the fourth two commands go together.
 -- Memory runs out there only where nothing had come, and lanes are looked at only where nothing waits for them.
-use Rattle.std.specs.Prelude.{◌≡◌, ℕ, List, [], ◌∷◌, ◌++◌, true, false, Ok, codes, length}
+use Rattle.std.specs.Prelude.{◌≡◌, ℕ, List, [], ◌∷◌, ◌++◌, Bool, true, false, Ok, codes, length}
 use Rattle.std.specs.List.{FoldsTo}
 use Rattle.resp_wire.specs.declared.value.Value.{Value}
 use Rattle.resp_wire.specs.declared.value.Value.TheVariants.{Simple, Bulk}
 use Rattle.key_split.specs.PartModel.{PartModel}
 use Rattle.key_split.specs.declared.part.Op.TheVariants as op
 use Rattle.key_split.specs.declared.part.Mode.TheVariants.{Always}
+use Rattle.key_split.specs.Runs.{RunModel}
 use Rattle.key_split.specs.declared.travel.Batch.{Batch}
 use Rattle.key_split.specs.declared.travel.Ticket.{Ticket}
 use Rattle.key_split.specs.declared.travel.Told.TheVariants.{Ask, Reply, Unsent}
@@ -17,11 +18,12 @@ use Rattle.key_split.specs.declared.travel.Told.TheVariants as told
 use Rattle.key_split.specs.declared.travel.Ended.TheVariants as ended
 use Rattle.node_model.specs.declared.role.Verdict.TheVariants.{Plain}
 use Rattle.proxy_turns.specs.declared.backend_step.BackendStep.TheVariants as backend
-use Rattle.proxy_turns.specs.ClientTurn.{Pulled, Fed, Read, HandedOut, Looked, CameBack, Posted, Drained, Pushed, Tried, Parted, Dropped}
+use Rattle.proxy_turns.specs.ClientTurn.{Pulled, Fed, Read, HandedOut, Followed, Looked, CameBack, Posted, Drained, Pushed, Tried, Parted, Dropped}
 use Rattle.proxy_turns.specs.WorkerModel.{Did, Finished, Took, FoundNone, Came, TurnedAway, FoundNobody, Left}
-use Rattle.proxy_turns.specs.CarrierModel.{CarrierEvent, AtBackend}
+use Rattle.proxy_turns.specs.CarrierModel.{AtBackend}
 use Rattle.proxy_turns.specs.CarrierModel as carrier
 use Rattle.world_laws.specs.declared.event.Event.TheVariants.{Import, Migrate, MoveKey, Own, Release, Forget, Stay}
+use Rattle.turn_laws.specs.Wire.{Execution}
 use Rattle.turn_laws.specs.System.{System, Mark, Arrived, Executed, Answered}
 use Rattle.turn_laws.specs.Steps.{SystemEvent, AtWorker, AtCarrier, AtNode, AtBroken, Thrown, Moved, SystemStep}
 use Rattle.turn_laws.specs.Refines.{IsStart}
@@ -55,11 +57,19 @@ abbrev pub five : Value
 five = Bulk (codes "5")
 
 -- the command of this part, on its way to a node
-abbrev pub plain : ℕ → ℕ → PartModel → Batch
-plain part node what = record { ticket = ticket part; node = node; asking = false; part = what }
+abbrev pub on_its_way : ℕ → ℕ → Bool → PartModel → Batch
+on_its_way part node asking what = record { ticket = ticket part; node = node; asking = asking; part = what }
 
-abbrev pub behind_asking : ℕ → ℕ → PartModel → Batch
-behind_asking part node what = record { ticket = ticket part; node = node; asking = true; part = what }
+-- it goes alone
+abbrev pub plain : ℕ → ℕ → PartModel → RunModel
+plain part node what = record { first = on_its_way part node false what; later = [] }
+
+abbrev pub behind_asking : ℕ → ℕ → PartModel → RunModel
+behind_asking part node what = record { first = on_its_way part node true what; later = [] }
+
+-- the command of this part was executed, with this reply
+abbrev pub did : ℕ → PartModel → Value → Execution
+did part what value = record { ticket = ticket part; part = what; value = value }
 
 -- ---- a slot moves
 
@@ -164,9 +174,9 @@ abbrev pub story : List Mark
 story =
     Arrived (ticket 0) set
     ∷ Arrived (ticket 1) get
-    ∷ Executed (ticket 0) set ok
+    ∷ Executed (did 0 set ok ∷ [])
     ∷ Answered (ticket 0) (ended.Answered ok)
-    ∷ Executed (ticket 1) get five
+    ∷ Executed (did 1 get five ∷ [])
     ∷ Answered (ticket 1) (ended.Answered five)
     ∷ []
 
@@ -251,7 +261,7 @@ abbrev pub parting : List SystemEvent
 parting =
     AtWorker 0 (Did 0 (HandedOut (ticket 1) get))
     ∷ AtWorker 0 (Did 0 Parted)
-    ∷ AtWorker 0 (Did 0 (Dropped (ticket 1)))
+    ∷ AtWorker 0 (Did 0 (Dropped (ticket 1 ∷ [])))
     ∷ AtWorker 0 (Came 1)
     ∷ AtWorker 0 (TurnedAway 1)
     ∷ AtWorker 0 (Did 1 Parted)
@@ -266,15 +276,54 @@ abbrev pub story_of_loss : List Mark
 story_of_loss =
     Arrived (ticket 0) set
     ∷ Arrived (ticket 1) get
-    ∷ Executed (ticket 0) set ok
+    ∷ Executed (did 0 set ok ∷ [])
     ∷ Answered (ticket 0) ended.Lost
     ∷ []
 
 -- ---- a lane is full
 
--- a batch comes back from a lane through which 1,024 went
+-- a run comes back from a lane through which 1,024 went
 abbrev pub full : List SystemEvent
 full = AtWorker 0 (Came 0) ∷ AtWorker 0 (Did 0 (CameBack (plain 0 0 set))) ∷ []
+
+-- ---- commands go together
+
+-- both commands go out together: the second follows the first
+abbrev pub both : RunModel
+both = record { first = on_its_way 0 0 false set; later = on_its_way 1 0 false get ∷ [] }
+
+abbrev pub going_together : List SystemEvent
+going_together =
+    AtWorker 0 (Did 0 (HandedOut (ticket 0) set))
+    ∷ AtWorker 0 (Did 0 (Followed (ticket 1) get))
+    ∷ AtWorker 0 (Did 0 (Posted both))
+    ∷ AtCarrier carrier.Took
+    ∷ AtCarrier carrier.Sent
+    ∷ []
+
+-- the node executes both at once, and each is told its reply
+abbrev pub answered_together : List SystemEvent
+answered_together =
+    AtNode 0 Plain
+    ∷ AtCarrier (AtBackend backend.Fetched)
+    ∷ AtCarrier carrier.Gave
+    ∷ AtCarrier (AtBackend backend.Fetched)
+    ∷ AtCarrier carrier.Gave
+    ∷ AtWorker 0 (Took (ticket 0) (Reply ok))
+    ∷ AtWorker 0 (Took (ticket 1) (Reply five))
+    ∷ AtWorker 0 (Finished 0 (ticket 0) (ended.Answered ok))
+    ∷ AtWorker 0 (Finished 0 (ticket 1) (ended.Answered five))
+    ∷ []
+
+abbrev pub pairs : List SystemEvent
+pairs = opening ++ (asking ++ (going_together ++ answered_together))
+
+abbrev pub story_of_pair : List Mark
+story_of_pair =
+    Arrived (ticket 0) set
+    ∷ Arrived (ticket 1) get
+    ∷ Executed (did 0 set ok ∷ did 1 get five ∷ [])
+    ∷ []
 
 -- from some start these steps can be made, one after another, and this is seen of them
 pub record Happens (C J : Type 0) (events : List SystemEvent) (marks : List Mark) : Type 0 where
@@ -292,6 +341,10 @@ MovesUnderUse C J = C → Happens C J moves story
 abbrev pub LosesCommands : Type 0 → Type 0 → Type 0
 LosesCommands C J = C → Happens C J breaks story_of_loss
 
--- a batch is given back, where the lane had carried others before the start
+-- a run is given back, where the lane had carried others before the start
 abbrev pub GivesBack : Type 0 → Type 0 → Type 0
 GivesBack C J = C → Happens C J full []
+
+-- two commands of a client go together, and the second reads what the first wrote
+abbrev pub PairsCommands : Type 0 → Type 0 → Type 0
+PairsCommands C J = C → Happens C J pairs story_of_pair

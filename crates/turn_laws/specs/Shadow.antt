@@ -5,7 +5,7 @@ use Rattle.std.specs.FinMap.{get}
 use mathlib.Core.List.{IsPrefix}
 use Rattle.resp_wire.specs.declared.value.Value.{Value}
 use Rattle.key_split.specs.PartModel.{PartModel}
-use Rattle.key_split.specs.Requests.{Request, Asking, Command, Slots}
+use Rattle.key_split.specs.Runs.{RunModel, IsTogether, batches_in}
 use Rattle.key_split.specs.declared.travel.Batch.{Batch}
 use Rattle.key_split.specs.declared.travel.Ticket.{Ticket}
 use Rattle.key_split.specs.declared.travel.Told.{Told}
@@ -15,7 +15,7 @@ use Rattle.command_future.specs.CommandModel.{CommandModel, fresh as new_command
 use Rattle.command_future.specs.declared.stage.Stage.TheVariants.{Awaits, Over}
 use Rattle.slot_map.specs.Table.{Endpoint}
 use Rattle.node_link.specs.LinkModel.{LinkModel}
-use Rattle.node_link.specs.LinkCalls.{due_of, tickets_of}
+use Rattle.node_link.specs.LinkCalls.{tickets_of}
 use Rattle.node_link.specs.Telling.{told_by}
 use Rattle.node_link.specs.declared.link.Due.{Due}
 use Rattle.node_link.specs.declared.link.Due.TheVariants as due
@@ -30,10 +30,10 @@ use Rattle.proxy_lanes.specs.declared.ring.Outlet.{Outlet}
 use Rattle.proxy_lanes.specs.declared.ring.Inlet.{Inlet}
 use Rattle.proxy_lanes.specs.declared.ends.lane_ends.LaneEnds.{LaneEnds}
 use Rattle.proxy_turns.specs.declared.newcomer.Newcomer.{Newcomer}
-use Rattle.proxy_turns.specs.declared.pending_batch.PendingBatch.{PendingBatch}
+use Rattle.proxy_turns.specs.declared.pending_run.PendingRun.{PendingRun}
 use Rattle.proxy_turns.specs.declared.backend.Backend.{Backend}
 use Rattle.proxy_turns.specs.declared.backend.PendingTold.{PendingTold}
-use Rattle.proxy_turns.specs.Commands.{CommandsModel}
+use Rattle.proxy_turns.specs.Commands.{CommandsModel, most_together}
 use Rattle.proxy_turns.specs.ClientModel.{ClientModel}
 use Rattle.proxy_turns.specs.WorkerModel.{WorkerModel, IsAbove}
 use Rattle.proxy_turns.specs.CarrierModel.{CarrierModel}
@@ -49,17 +49,26 @@ use Rattle.node_model.specs.History.{EntryModel}
 use Rattle.resp_wire.specs.Seen.{data_of}
 use Rattle.world_laws.specs.World.{SameTurn, lies_in}
 use Rattle.world_laws.specs.Places.{total, is}
-use Rattle.turn_laws.specs.Wire.{Wire}
+use Rattle.turn_laws.specs.Wire.{Wire, Item, Part, Asks, Runs, Lists, tickets_for, Execution}
 use Rattle.turn_laws.specs.System.{System, Mark, Arrived, Executed, Answered, between, IsInStep}
 
 -- ---- links
 
--- the machine's requests: each command is a run of one, and CLUSTER SLOTS is none
-abbrev pub requests_in : List Request → List LinkRequest
+-- the machine's requests: CLUSTER SLOTS is none
+abbrev pub requests_in : List Item → List LinkRequest
 requests_in [] = []
-requests_in (Asking ∷ rs) = asked.Asking ∷ requests_in rs
-requests_in (Command ticket part ∷ rs) = asked.Runs (ticket ∷ []) ∷ requests_in rs
-requests_in (Slots ∷ rs) = requests_in rs
+requests_in (Asks ∷ items) = asked.Asking ∷ requests_in items
+requests_in (Runs parts ∷ items) = asked.Runs (tickets_for parts) ∷ requests_in items
+requests_in (Lists ∷ items) = requests_in items
+
+-- who waits for what a node says
+abbrev pub dues_of : Item → List Due
+dues_of Asks = due.Asking ∷ []
+dues_of (Runs parts) = map (λ (part : Part). due.Command part.0) parts
+dues_of Lists = due.Slots ∷ []
+
+abbrev pub dues_in : List Item → List Due
+dues_in items = flat_map dues_of items
 
 -- what values say to those who wait for them
 abbrev pub back_of : List Endpoint → ℕ → Due → Value → List LinkReply
@@ -80,14 +89,15 @@ coming_of (Some value) values = value ∷ values
 abbrev pub coming : LinkModel Wire → List Value
 coming link = coming_of link.kept link.port.values
 
--- the part of a request is that of its command
+-- the part of a ticket is that of its command
 abbrev pub HasPart : List Arrival → Ticket → PartModel → Type 0
 HasPart commands ticket part = (j : ℕ) × (c : Arrival) × (slice_get commands j ≡ Some c) × (c.command.part ≡ part) × (c.command.ticket ≡ ticket)
 
-abbrev pub IsKnown : List Arrival → Request → Type 0
-IsKnown commands Asking = Unit {0}
-IsKnown commands (Command ticket part) = HasPart commands ticket part
-IsKnown commands Slots = Unit {0}
+-- and so is each of a run
+abbrev pub IsKnown : List Arrival → Item → Type 0
+IsKnown commands Asks = Unit {0}
+IsKnown commands (Runs parts) = All (λ (part : Part). HasPart commands part.0 part.1) parts
+IsKnown commands Lists = Unit {0}
 
 -- an open link of the machine stands for a connection that works
 pub record OpenShadow (table : List Endpoint) (commands : List Arrival) (link : LinkModel Wire) (l : Link) : Type 0 where
@@ -95,11 +105,11 @@ pub record OpenShadow (table : List Endpoint) (commands : List Arrival) (link : 
   pub wired : link.port.node ≡ link.node
   pub is_open : l.is_open ≡ true
   pub asking : l.asking ≡ link.port.asking
-  pub requests : l.requests ≡ requests_in link.port.requests
-  pub known : All (IsKnown commands) link.port.requests
+  pub requests : l.requests ≡ requests_in link.port.items
+  pub known : All (IsKnown commands) link.port.items
   -- who waits: first those whose values came, then those whose requests were not served
   pub answered : List Due
-  pub due : link.due ≡ answered ++ map due_of link.port.requests
+  pub due : link.due ≡ answered ++ dues_in link.port.items
   pub matched : length answered ≡ length (coming link)
   pub backs : l.backs ≡ backs_in table link.node answered (coming link)
 
@@ -109,21 +119,21 @@ pub record ClosedShadow (commands : List Arrival) (wire : Wire) (l : Link) : Typ
   pub node : l.node ≡ wire.node
   pub is_open : l.is_open ≡ false
   pub asking : l.asking ≡ wire.asking
-  pub requests : IsPrefix (requests_in wire.requests) l.requests
-  pub known : All (IsKnown commands) wire.requests
+  pub requests : IsPrefix (requests_in wire.items) l.requests
+  pub known : All (IsKnown commands) wire.items
   pub backs : l.backs ≡ []
 
--- no batch went over it: the machine has no link for it
+-- no run went over it: the machine has no link for it
 pub record IsIdle (link : LinkModel Wire) : Type 0 where
   pub wired : link.port.node ≡ link.node
   pub none : All (λ d. d ≡ due.Slots) link.due
   pub asking : link.port.asking ≡ false
-  pub requests : requests_in link.port.requests ≡ []
+  pub requests : requests_in link.port.items ≡ []
   pub answered : List Due
-  pub due : link.due ≡ answered ++ map due_of link.port.requests
+  pub due : link.due ≡ answered ++ dues_in link.port.items
   pub matched : length answered ≡ length (coming link)
 
--- The number of a connection in the machine: its place among those over which a batch went, in that order.
+-- The number of a connection in the machine: its place among those over which a run went, in that order.
 abbrev pub Numbers : List ℕ → ℕ → ℕ → Type 0
 Numbers ids id i = slice_get ids i ≡ Some id
 
@@ -139,7 +149,7 @@ BackendShadow table w ids link =
 abbrev pub WireShadow : WorldModel → List ℕ → Wire → Type 0
 WireShadow w ids wire =
     ((i : ℕ) × (l : Link) × Numbers ids wire.id i × (slice_get w.links i ≡ Some l) × ClosedShadow w.commands wire l)
-    ⊎ (IsUnnumbered ids wire.id × (requests_in wire.requests ≡ []))
+    ⊎ (IsUnnumbered ids wire.id × (requests_in wire.items ≡ []))
 
 -- this backend's connection works
 abbrev pub IsWorking : {H : Type 0} → CarrierModel H Wire → ℕ → LinkModel Wire → Type 0
@@ -159,31 +169,43 @@ pub record LinksShadow {H : Type 0} (carrier : CarrierModel H Wire) (closed : Li
 
 -- ---- lanes
 
-abbrev pub batch_in : Option Batch → List Batch
-batch_in None = []
-batch_in (Some batch) = batch ∷ []
+abbrev pub run_in : Option RunModel → List RunModel
+run_in None = []
+run_in (Some run) = run ∷ []
 
 -- what a worker posted and the carrier did not send or refuse: first what it holds
-abbrev pub ups_in : {C J : Type 0} → WorkerModel C J → LaneEnds (Newcomer C J) → Option PendingBatch → List Batch
+abbrev pub ups_in : {C J : Type 0} → WorkerModel C J → LaneEnds (Newcomer C J) → Option PendingRun → List RunModel
 ups_in model lane None = between model.outlet lane.up
-ups_in model lane (Some pending_batch) = batch_in pending_batch.batch ++ between model.outlet lane.up
+ups_in model lane (Some pending_run) = run_in pending_run.run ++ between model.outlet lane.up
 
--- a batch is a run of one
-abbrev pub lying : Batch → Posted
-lying b = record { tickets = b.ticket ∷ []; node = b.node; asking = b.asking }
+-- the tickets of a run
+abbrev pub tickets_in : RunModel → List Ticket
+tickets_in run = map (λ (batch : Batch). batch.ticket) (batches_in run)
+
+-- a run, as it lies in the machine's lane
+abbrev pub lying : RunModel → Posted
+lying run = record { tickets = tickets_in run; node = run.first.node; asking = run.first.asking }
+
+-- this worker's command, on its way to a node
+abbrev pub IsUnderWay : List Arrival → ℕ → Batch → Type 0
+IsUnderWay commands k batch = HasPart commands batch.ticket batch.part × (batch.ticket.worker ≡ k)
+
+-- this worker's commands that go together
+abbrev pub RunShadow : List Arrival → ℕ → RunModel → Type 0
+RunShadow commands k run = IsTogether run × All (IsUnderWay commands k) (batches_in run)
 
 abbrev pub lane_of : ℕ → WorldModel → List Posted
 lane_of k w = filter (lies_in k) w.ups
 
-abbrev pub LaneShadow : {C J : Type 0} → WorldModel → ℕ → WorkerModel C J → LaneEnds (Newcomer C J) → Option PendingBatch → Type 0
-LaneShadow w k model lane pending_batch =
-    (lane_of k w ≡ map lying (ups_in model lane pending_batch))
-    × All (λ (b : Batch). HasPart w.commands b.ticket b.part × (b.ticket.worker ≡ k)) (ups_in model lane pending_batch)
+abbrev pub LaneShadow : {C J : Type 0} → WorldModel → ℕ → WorkerModel C J → LaneEnds (Newcomer C J) → Option PendingRun → Type 0
+LaneShadow w k model lane pending_run =
+    (lane_of k w ≡ map lying (ups_in model lane pending_run))
+    × All (RunShadow w.commands k) (ups_in model lane pending_run)
 
 abbrev pub UpsShadow : {C J : Type 0} → List (WorkerModel C J) → CarrierModel (Newcomer C J) Wire → WorldModel → Type 0
 UpsShadow {C} {J} workers carrier w =
     (k : ℕ) (model : WorkerModel C J) (lane : LaneEnds (Newcomer C J)) → slice_get workers k ≡ Some model → slice_get carrier.lanes k ≡ Some lane
-    → LaneShadow w k model lane (slice_get carrier.pending_batches k)
+    → LaneShadow w k model lane (slice_get carrier.pending_runs k)
 
 -- ---- what is on its way down
 
@@ -196,9 +218,8 @@ downs_in [] lanes = []
 downs_in (model ∷ workers) [] = []
 downs_in (model ∷ workers) (lane ∷ lanes) = down_in lane.down model.inlet ++ downs_in workers lanes
 
-abbrev pub refused_in : Option Ticket → List (Ticket × Told)
-refused_in None = []
-refused_in (Some ticket) = (ticket, Unsent) ∷ []
+abbrev pub refused_in : List Ticket → List (Ticket × Told)
+refused_in tickets = map (λ t. (t, Unsent)) tickets
 
 abbrev pub told_in : Option PendingTold → List (Ticket × Told)
 told_in None = []
@@ -215,7 +236,7 @@ lost_in (Some link) = lost_by link.failure link.due
 
 abbrev pub downs_of : {C J : Type 0} → System C J → List (Ticket × Told)
 downs_of s =
-    downs_in s.workers s.carrier.lanes ++ flat_map (λ (pending_batch : PendingBatch). refused_in pending_batch.refused) s.carrier.pending_batches
+    downs_in s.workers s.carrier.lanes ++ flat_map (λ (pending_run : PendingRun). refused_in pending_run.refused) s.carrier.pending_runs
     ++ flat_map (λ (backend : Backend Wire). told_in backend.pending_told ++ lost_in backend.link) s.carrier.backends
 
 -- what a worker took was put into its lane
@@ -230,14 +251,19 @@ ToldFrom downs d c =
     ((c ≡ d) × (total (λ (p : Ticket × Told). is d.ticket p.0) downs ≡ 0))
     ⊎ ((told : Told) × (i : ℕ) × (slice_get downs i ≡ Some (d.ticket, told)) × (c ≡ progress_told d told))
 
+-- it was not posted yet
+abbrev pub IsAtFirst : CommandsModel → CommandModel → Type 0
+IsAtFirst commands c = (i : ℕ) × (slice_get commands.fresh i ≡ Some c)
+
 -- the command of this number that a client has, posted or not
 abbrev pub HasCommand : CommandsModel → ℕ → CommandModel → Type 0
-HasCommand commands number c = ((commands.fresh ≡ Some c) × (c.ticket.part ≡ number)) ⊎ (get commands.posted number ≡ Some c)
+HasCommand commands number c = (IsAtFirst commands c × (c.ticket.part ≡ number)) ⊎ (get commands.posted number ≡ Some c)
 
--- each command is of a part that was handed out, and no two are of one part; the one that was not posted is as it began
+-- each command is of a part that was handed out, and no two are of one part; those that were not posted are as they began
 pub record CommandsShadow (session : SessionModel) (commands : CommandsModel) : Type 0 where
   pub posted : (number : ℕ) (c : CommandModel) → get commands.posted number ≡ Some c → (c.ticket.part ≡ number) × IsHandedOut session c.ticket
-  pub fresh : (c : CommandModel) → commands.fresh ≡ Some c → IsHandedOut session c.ticket × (c ≡ new_command c.ticket c.part) × (get commands.posted c.ticket.part ≡ None)
+  pub fresh : (c : CommandModel) → IsAtFirst commands c → IsHandedOut session c.ticket × (c ≡ new_command c.ticket c.part) × (get commands.posted c.ticket.part ≡ None)
+  pub apart : (i j : ℕ) (c d : CommandModel) → slice_get commands.fresh i ≡ Some c → slice_get commands.fresh j ≡ Some d → c.ticket.part ≡ d.ticket.part → i ≡ j
 
 -- a part that was read and not drained
 abbrev pub StageShadow : List (Ticket × Told) → Bool → CommandsModel → PartStage → Ended → Arrival → Type 0
@@ -245,7 +271,7 @@ abbrev pub StageShadow : List (Ticket × Told) → Bool → CommandsModel → Pa
 StageShadow downs gone commands (Waiting part) end c = c.command ≡ new_command c.command.ticket part
 -- its command is on its way, or was dropped with its client before it was posted
 StageShadow downs gone commands (Out slot) end c =
-    (gone ≡ false → slot ≡ slot_for c.command.part)
+    (slot ≡ slot_for c.command.part)
     × (((d : CommandModel) × HasCommand commands c.command.ticket.part d × ToldFrom downs d c.command)
     ⊎ ((gone ≡ true) × (c.command ≡ new_command c.command.ticket c.command.part) × (get commands.posted c.command.ticket.part ≡ None)))
 -- it has ended, and its end stands in the session
@@ -272,10 +298,11 @@ PartShadow downs client c = KeptShadow downs client c ⊎ IsLetGo client c.comma
 abbrev pub StandsAt : List Arrival → Ticket → Type 0
 StandsAt arrivals ticket = (j : ℕ) × (c : Arrival) × (slice_get arrivals j ≡ Some c) × (c.command.ticket ≡ ticket)
 
--- all earlier commands of its client for its slot have ended
-abbrev pub HasTurn : List Arrival → Ticket → Type 0
-HasTurn arrivals ticket =
-    (i j : ℕ) (c d : Arrival) → slice_get arrivals i ≡ Some c → slice_get arrivals j ≡ Some d → j < i → c.command.ticket ≡ ticket → SameTurn c d → HasEnded d
+-- all earlier commands of its client for its slot have ended, or are awaited as it is
+abbrev pub IsInOrder : SessionModel → List Arrival → Ticket → Type 0
+IsInOrder session arrivals ticket =
+    (i j : ℕ) (c d : Arrival) → slice_get arrivals i ≡ Some c → slice_get arrivals j ≡ Some d → j < i → c.command.ticket ≡ ticket → SameTurn c d
+    → HasEnded d ⊎ IsHandedOut session d.command.ticket
 
 -- the ticket of a session's part
 abbrev pub ticket_at : SessionModel → ℕ → Ticket
@@ -287,8 +314,8 @@ pub record ClientShadow {C : Type 0} (downs : List (Ticket × Told)) (worker num
   -- the machine's commands of a client that is there are the parts that were read,
   pub all : client.gone ≡ false → count_by (λ (c : Arrival). c.command.ticket.client == number) arrivals ≡ client.session.first + length client.session.stages
   pub read : client.gone ≡ false → (part : ℕ) → part < client.session.first + length client.session.stages → StandsAt arrivals (ticket_at client.session part)
-  -- each that is awaited stands there, in its turn,
-  pub stands : (ticket : Ticket) → IsHandedOut client.session ticket → StandsAt arrivals ticket × HasTurn arrivals ticket
+  -- each that is awaited stands there, in order,
+  pub stands : (ticket : Ticket) → IsHandedOut client.session ticket → StandsAt arrivals ticket × IsInOrder client.session arrivals ticket
   -- each has this worker,
   pub homes : (j : ℕ) (c : Arrival) → slice_get arrivals j ≡ Some c → c.command.ticket.client ≡ number → c.command.ticket.worker ≡ worker
   -- and is as far as the session and the commands say
@@ -302,24 +329,29 @@ pub record ClientShadow {C : Type 0} (downs : List (Ticket × Told)) (worker num
 
 -- ---- what can be seen
 
+-- the entry of a command that was executed at this moment
+abbrev pub entry_at : ℕ → Execution → EntryModel
+entry_at moment one = record { ticket = one.ticket; part = one.part; reply = data_of one.value; moment = moment }
+
 -- the marks of each kind, each with the moment that the clock gives its place
 module _ (clock : ℕ → ℕ) where
   abbrev pub arrived_in : ℕ → List Mark → List (Ticket × PartModel × ℕ)
   arrived_in n [] = []
   arrived_in n (Arrived ticket part ∷ marks) = (ticket, part, clock n) ∷ arrived_in (suc n) marks
-  arrived_in n (Executed ticket part value ∷ marks) = arrived_in (suc n) marks
+  arrived_in n (Executed done ∷ marks) = arrived_in (suc n) marks
   arrived_in n (Answered ticket ended ∷ marks) = arrived_in (suc n) marks
 
+  -- what was executed at once has one moment
   abbrev pub executed_in : ℕ → List Mark → List EntryModel
   executed_in n [] = []
   executed_in n (Arrived ticket part ∷ marks) = executed_in (suc n) marks
-  executed_in n (Executed ticket part value ∷ marks) = record { ticket = ticket; part = part; reply = data_of value; moment = clock n } ∷ executed_in (suc n) marks
+  executed_in n (Executed done ∷ marks) = map (entry_at (clock n)) done ++ executed_in (suc n) marks
   executed_in n (Answered ticket ended ∷ marks) = executed_in (suc n) marks
 
   abbrev pub answered_in : ℕ → List Mark → List (Ticket × Ended × ℕ)
   answered_in n [] = []
   answered_in n (Arrived ticket part ∷ marks) = answered_in (suc n) marks
-  answered_in n (Executed ticket part value ∷ marks) = answered_in (suc n) marks
+  answered_in n (Executed done ∷ marks) = answered_in (suc n) marks
   answered_in n (Answered ticket ended ∷ marks) = (ticket, ended, clock n) ∷ answered_in (suc n) marks
 
 -- The log and the machine tell one story: a clock that rises gives each mark the moment of its event.
@@ -345,9 +377,9 @@ Holds {C} {J} workers ticket c = (k : ℕ) × (model : WorkerModel C J) × (slic
 abbrev pub AreApart : List Endpoint → Type 0
 AreApart nodes = (i j : ℕ) (at : Endpoint) → slice_get nodes i ≡ Some at → slice_get nodes j ≡ Some at → i ≡ j
 
--- a batch that is pending came from a lane that there is
+-- a run that is pending came from a lane that there is
 abbrev pub AreSeated : {H P : Type 0} → CarrierModel H P → Type 0
-AreSeated carrier = (k : ℕ) (pending_batch : PendingBatch) (batch : Batch) → slice_get carrier.pending_batches k ≡ Some pending_batch → pending_batch.batch ≡ Some batch → k < length carrier.lanes
+AreSeated carrier = (k : ℕ) (pending_run : PendingRun) (run : RunModel) → slice_get carrier.pending_runs k ≡ Some pending_run → pending_run.run ≡ Some run → k < length carrier.lanes
 
 -- which worker it is, and of how many
 abbrev pub seat_of : {C J : Type 0} → WorkerModel C J → ℕ × ℕ
@@ -355,8 +387,8 @@ seat_of model = (model.worker, model.workers)
 
 pub record IsShadow {C J : Type 0} (s : System C J) (w : WorldModel) : Type 0 where
   pub workers : length s.workers ≡ w.workers
-  -- a run has one command at least
-  pub alone : 1 ≤ w.run_limit
+  -- the machine's runs may be as long as those that workers post
+  pub limit : most_together ≤ w.run_limit
   pub cluster : w.cluster ≡ s.cluster
   pub apart : AreApart s.carrier.nodes
   pub numbered : (k : ℕ) (model : WorkerModel C J) → slice_get s.workers k ≡ Some model → seat_of model ≡ (k, w.workers)

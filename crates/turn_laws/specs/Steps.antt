@@ -1,5 +1,5 @@
--- What may happen in a system: an event of a worker's turn, an event of the carrier's turn, a node serves the next request of a
--- connection, the requests of a broken one are thrown away, a slot moves one step.
+-- What may happen in a system: an event of a worker's turn, an event of the carrier's turn, a node serves what is next of a
+-- connection, what a broken one still has is thrown away, a slot moves one step.
 use Rattle.std.specs.Prelude.{◌≡◌, ◌⊎◌, ◌+◌, ◌-◌, ◌^◌, ℕ, suc, List, [], ◌∷◌, ◌++◌, Some, None, IsSome, length, take, drop, slice_get, slice_set}
 use Rattle.std.specs.FinMap.{get}
 use Rattle.resp_wire.specs.declared.value.Value.{Value}
@@ -18,16 +18,15 @@ use Rattle.proxy_turns.specs.declared.newcomer.Newcomer.{Newcomer}
 use Rattle.proxy_turns.specs.declared.backend.Backend.{Backend}
 use Rattle.proxy_turns.specs.Port.{Moves}
 use Rattle.proxy_turns.specs.ClientModel.{ClientModel}
-use Rattle.proxy_turns.specs.ClientTurn.{ClientEvent, Pulled, Fed, Read, HandedOut, Looked, CameBack, Posted, Drained, Pushed, Tried, Parted, Dropped}
+use Rattle.proxy_turns.specs.ClientTurn.{ClientEvent, Pulled, Fed, Read, HandedOut, Followed, Looked, CameBack, Posted, Drained, Pushed, Tried, Parted, Dropped}
 use Rattle.proxy_turns.specs.WorkerModel.{WorkerModel, WorkerEvent, Did, Finished, Took, FoundNone, Came, TurnedAway, FoundNobody, Left, WorkerDoes}
 use Rattle.proxy_turns.specs.CarrierModel.{CarrierEvent, Opened as OpenedLink, Reached, CarrierDoes as CarrierDoes}
 use Rattle.world_laws.specs.State.{WorldModel}
 use Rattle.world_laws.specs.World.{IsNode, NoneAsks}
 use Rattle.world_laws.specs.declared.event.Event.{Event}
 use Rattle.world_laws.specs.declared.event.Event.TheVariants as core
-use Rattle.turn_laws.specs.Wire.{Wire, Exchanges, Dials, ServesNext, Deed, Nothing, Executed}
-use Rattle.turn_laws.specs.System.{System, Mark, Arrived, Answered, IsInStep}
-use Rattle.turn_laws.specs.System as seen
+use Rattle.turn_laws.specs.Wire.{Wire, Exchanges, Dials, ServesNext, Execution}
+use Rattle.turn_laws.specs.System.{System, Mark, Arrived, Executed, Answered, IsInStep}
 use Rattle.turn_laws.specs.Shadow.{IsShadow, IsWorking, DownInStep}
 
 -- ---- what is seen of a step
@@ -53,19 +52,21 @@ seen_at (Drained n) old new = answers old old.first (take (new.first - old.first
 seen_at (Pulled bytes) old new = []
 seen_at (Fed result) old new = []
 seen_at (HandedOut ticket part) old new = []
+seen_at (Followed ticket part) old new = []
 seen_at (Looked slot) old new = []
-seen_at (CameBack batch) old new = []
-seen_at (Posted batch) old new = []
+seen_at (CameBack run) old new = []
+seen_at (Posted run) old new = []
 seen_at (Pushed bytes) old new = []
 seen_at Tried old new = []
 seen_at Parted old new = []
-seen_at (Dropped ticket) old new = []
+seen_at (Dropped tickets) old new = []
 
-abbrev pub log_of : Deed → List Mark
-log_of Nothing = []
-log_of (Executed ticket part value) = seen.Executed ticket part value ∷ []
+-- what was executed at once is one mark
+abbrev pub log_of : List Execution → List Mark
+log_of [] = []
+log_of (one ∷ later) = Executed (one ∷ later) ∷ []
 
--- Ports may move, fail, be garbled and give no value in any way: this allows what each port does.
+-- Ports may move, fail, be garbled, give no value and take runs of any length: this allows what each port does.
 abbrev pub any_moves : {C : Type 0} → Moves C
 any_moves {C} old pulled pushed noted new = Unit {0}
 
@@ -78,9 +79,9 @@ any_garbled wire = Unit {0}
 abbrev pub any_none : Wire → Type 0
 any_none wire = Unit {0}
 
--- a batch goes to a node that there is
+-- a run goes to a node that there is
 abbrev pub PostsThere : ClusterModel → WorkerEvent → Type 0
-PostsThere cluster (Did number (Posted batch)) = IsNode cluster batch.node
+PostsThere cluster (Did number (Posted run)) = IsNode cluster run.first.node
 PostsThere cluster event = Unit {0}
 
 -- how many connections were opened, after an event of the carrier
@@ -146,7 +147,8 @@ module _ {C J : Type 0} where
 
   -- What happens at the carrier: an event of its turn, as its contract says, and what the clauses below leave open.
   pub record CarrierStep (s : System C J) (event : CarrierEvent) (s' : System C J) : Type 0 where
-    pub does : CarrierDoes any_failures any_garbled Exchanges any_none (Opens s) s.carrier event s'.carrier
+    pub longest : Wire → ℕ
+    pub does : CarrierDoes any_failures any_garbled Exchanges any_none (Opens s) longest s.carrier event s'.carrier
     pub breaks : Breaks s s'
     pub leaves : s' ≡ record s { carrier = s'.carrier; closed = s'.closed; opened = opened_by event s.opened }
     -- A premise: a lane is in order between its two ends (as above).
@@ -156,32 +158,32 @@ module _ {C J : Type 0} where
 
   -- ---- the nodes
 
-  -- the node serves the next request of a connection that works
+  -- the node serves what is next of a connection that works
   abbrev pub Serves : System C J → ℕ → Verdict → System C J → Type 0
   Serves s k verdict s' =
-      (backend : Backend Wire) × (link : LinkModel Wire) × (wire : Wire) × (value : Value) × (deed : Deed)
+      (backend : Backend Wire) × (link : LinkModel Wire) × (wire : Wire) × (values : List Value) × (done : List Execution)
       × (slice_get s.carrier.backends k ≡ Some backend) × (backend.link ≡ Some link) × (link.failure ≡ None)
-      × ServesNext s.carrier.nodes s.cluster link.port verdict s'.cluster wire value deed
-      × (wire.values ≡ link.port.values ++ value ∷ [])
+      × ServesNext s.carrier.nodes s.cluster link.port verdict s'.cluster wire values done
+      × (wire.values ≡ link.port.values ++ values)
       × (s' ≡ record s {
         cluster = s'.cluster;
         carrier = record s.carrier { backends = slice_set s.carrier.backends k (record backend { link = Some (record link { port = wire }) }) };
-        log = s.log ++ log_of deed;
+        log = s.log ++ log_of done;
       })
 
-  -- the node serves the next request of a broken connection, to nobody
+  -- the node serves what is next of a broken connection, to nobody
   abbrev pub ServesLate : System C J → ℕ → Verdict → System C J → Type 0
   ServesLate s j verdict s' =
-      (old : Wire) × (wire : Wire) × (value : Value) × (deed : Deed)
+      (old : Wire) × (wire : Wire) × (values : List Value) × (done : List Execution)
       × (slice_get s.closed j ≡ Some old)
-      × ServesNext s.carrier.nodes s.cluster old verdict s'.cluster wire value deed
+      × ServesNext s.carrier.nodes s.cluster old verdict s'.cluster wire values done
       × (wire.values ≡ [])
-      × (s' ≡ record s { cluster = s'.cluster; closed = slice_set s.closed j wire; log = s.log ++ log_of deed })
+      × (s' ≡ record s { cluster = s'.cluster; closed = slice_set s.closed j wire; log = s.log ++ log_of done })
 
   -- the requests of a broken connection are thrown away
   abbrev pub Discards : System C J → ℕ → System C J → Type 0
   Discards s j s' = (old : Wire) × (slice_get s.closed j ≡ Some old)
-      × (s' ≡ record s { closed = slice_set s.closed j (record old { requests = [] }) })
+      × (s' ≡ record s { closed = slice_set s.closed j (record old { items = [] }) })
 
   -- one step of a move; a slot is imported only where no command that ASK sent is on its way, in each world that the system stands for
   abbrev pub MovesOn : System C J → Event → ClusterModel → Type 0

@@ -1,7 +1,6 @@
 -- The workers, the carrier, the lanes between them, the connections and the nodes.
 use Rattle.std.specs.Prelude.{ℕ, List, length, drop, map}
 use mathlib.Core.List.{IsPrefix}
-use Rattle.resp_wire.specs.declared.value.Value.{Value}
 use Rattle.key_split.specs.PartModel.{PartModel}
 use Rattle.key_split.specs.declared.travel.Ticket.{Ticket}
 use Rattle.key_split.specs.declared.travel.Ended.{Ended}
@@ -13,12 +12,12 @@ use Rattle.proxy_lanes.specs.Lane.{posted, taken}
 use Rattle.proxy_turns.specs.declared.newcomer.Newcomer.{Newcomer}
 use Rattle.proxy_turns.specs.WorkerModel.{WorkerModel}
 use Rattle.proxy_turns.specs.CarrierModel.{CarrierModel}
-use Rattle.turn_laws.specs.Wire.{Wire}
+use Rattle.turn_laws.specs.Wire.{Wire, Execution}
 
--- what can be seen of a run, in order: a part arrived, a node executed it, its end was written to its client
+-- what can be seen, in order: a part arrived, a node executed these at once and in this order, a part's end was written to its client
 pub data Mark : Type 0 where
   Arrived : Ticket → PartModel → Mark
-  Executed : Ticket → PartModel → Value → Mark
+  Executed : List Execution → Mark
   Answered : Ticket → Ended → Mark
 
 pub record System (C J : Type 0) : Type 0 where

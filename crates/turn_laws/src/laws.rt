@@ -3,7 +3,7 @@
 ghost use Rattle.turn_laws.specs.Walks.{EveryWalk};
 ghost use Rattle.turn_laws.specs.Settling.{Settling, SettlingAfter};
 ghost use Rattle.turn_laws.specs.AnyPort.{AnyClients, AnyClientTurns, AnyPorts, WiresStand};
-ghost use Rattle.turn_laws.specs.Scripts.{GivesBack, LosesCommands, MovesUnderUse};
+ghost use Rattle.turn_laws.specs.Scripts.{GivesBack, LosesCommands, MovesUnderUse, PairsCommands};
 ghost use Rattle.turn_laws.specs.Refines.{CarrierRefines, MovesRefine, NodesRefine, Refines, StartsRefine, ThrownRefine, WorkersRefine};
 
 use crate::wired_port::WiredPort;
@@ -33,8 +33,8 @@ pub fn carrier_refines<C: Drop, J: Naming>()
     ensures { CarrierRefines C J }
 {}
 
-/// Each event of a worker is some events of the machine: a request that is read is an arrival for each of its parts, a command that is
-/// posted is a run of one, and replies that are drained are an answer for each of their parts. It does not see the other events.
+/// Each event of a worker is some events of the machine: a request that is read is an arrival for each of its parts, a run that is
+/// posted is that run, and replies that are drained are an answer for each of their parts. It does not see the other events.
 pub fn workers_refine<C: Drop, J: Naming>()
     ensures { WorkersRefine C J }
 {
@@ -60,7 +60,7 @@ pub fn any_client<C: ClientPort + Drop, J: Naming>()
 
 /// What a carrier does over ports that stand for wires is, over these wires, what the carrier of the system may do.
 pub fn any_port<H: Drop, P: WiredPort, D: Dial<Port = P>>()
-    ensures { AnyPorts P.wired H P.failures P.is_garbled P.exchange P.gives_none D.opens }
+    ensures { AnyPorts P.wired H P.failures P.is_garbled P.exchange P.gives_none D.opens P.longest }
 {}
 
 /// What `any_port` asks of ports can be had.
@@ -80,6 +80,7 @@ pub fn steps_happen<C: Drop, J: Naming>()
     ensures moves { MovesUnderUse C J }
     ensures loses { LosesCommands C J }
     ensures gives_back { GivesBack C J }
+    ensures pairs { PairsCommands C J }
 {
     front_is_whole();
 }

@@ -3,10 +3,10 @@
 ghost use Rattle.turn_laws.specs.AnyPort.{StandsFor};
 ghost use Rattle.turn_laws.specs.Wire.{Wire};
 
-use node_link::NodePort;
+use node_link::RunPort;
 
 /// A connection to a node that stands for a wire. That a socket does is what a reader has to believe of the network.
-pub trait WiredPort: NodePort {
+pub trait WiredPort: RunPort {
     /// The wires for which it may stand.
     ghost wired: { Self → Wire → Type 0 };
 

@@ -1,12 +1,12 @@
 //! The carrier's ends of one worker's lanes.
 
 use crate::ring::{Inlet, Note, Outlet};
-use key_split::{Batch, Ticket, Told};
+use key_split::{Run, Ticket, Told};
 
 /// The carrier's ends of one worker's lanes.
 #[derive(Drop)]
 pub struct LaneEnds<H: Drop> {
-    up: Inlet<Batch>,
+    up: Inlet<Run>,
     // `None` once it is finished.
     down: Option<Outlet<(Ticket, Told)>>,
     door: Outlet<H>,
@@ -17,11 +17,7 @@ impl<H: Drop> LaneEnds<H> {
     ghost use Rattle.proxy_lanes.specs.Ends.{FinishesDown, GivesDown, HandsOver, SettlesUp, TakesUp};
     ghost use Rattle.proxy_lanes.specs.Lane.{IsNoteOf};
 
-    pub(crate) fn new(
-        up: Inlet<Batch>,
-        down: Outlet<(Ticket, Told)>,
-        door: Outlet<H>,
-    ) -> LaneEnds<H>
+    pub(crate) fn new(up: Inlet<Run>, down: Outlet<(Ticket, Told)>, door: Outlet<H>) -> LaneEnds<H>
         ensures { result ≡ record { up = up; down = Some down; door = door } }
     {
         LaneEnds {
@@ -31,13 +27,13 @@ impl<H: Drop> LaneEnds<H> {
         }
     }
 
-    pub(crate) fn take(&mut self) -> Option<Batch>
+    pub(crate) fn take(&mut self) -> Option<Run>
         ensures { TakesUp self.old self.new result }
     {
         self.up.take()
     }
 
-    pub(crate) fn settle(&mut self, note: Note<Batch>) -> usize
+    pub(crate) fn settle(&mut self, note: Note<Run>) -> usize
         requires { IsNoteOf note self.old.up }
         ensures { SettlesUp self.old self.new note result }
     {

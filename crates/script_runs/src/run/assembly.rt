@@ -9,9 +9,9 @@ use super::mover::{MoverFault, make_moves};
 use super::stop::{Signals, StopGate};
 use super::worker_thread::run_worker;
 use crate::record::{ClientRecord, RunRecord};
-use key_split::{Batch, Ticket, Told};
+use key_split::{Run, Ticket, Told};
 use local_cluster::{LockedCluster, MoveStep, node_table};
-use node_link::NodePort;
+use node_link::RunPort;
 use proxy_lanes::{Inlet, MapView, Naming, Newcomers, Opened, Outlet, WorkerEnds, lanes};
 use proxy_runtime::{Host, ThreadsFault, run_threads};
 use proxy_turns::{Carrier, Dial, Gate, Newcomer, Script, WorkerEnd, WorkerOutcome};
@@ -36,7 +36,7 @@ struct WorkerSetup<N, O, I, V> {
 // A worker over scripts that is to be started.
 type ScriptWorkerSetup<J> = WorkerSetup<
     Newcomers<Newcomer<Script, J>>,
-    Outlet<Batch>,
+    Outlet<Run>,
     Inlet<(Ticket, Told)>,
     MapView<J>,
 >;
@@ -72,7 +72,7 @@ where
     J: Naming + Send + Sync,
     C: LockedCluster,
     D: Dial<Port = P> + Drop,
-    P: NodePort + Drop,
+    P: RunPort + Drop,
     R: Host,
     G: Gate + Sync,
     requires name { book_of opened ≡ J.book }

@@ -2,7 +2,7 @@
 
 use super::client_queue::ClientQueue;
 use super::stop::Signals;
-use node_link::NodePort;
+use node_link::RunPort;
 use proxy_lanes::{Naming, Publisher};
 use proxy_turns::{Carrier, Dial, Newcomer};
 use resp_wire::NoMemory;
@@ -20,7 +20,7 @@ where
     C: Drop,
     J: Naming,
     R: Wait,
-    P: NodePort + Drop,
+    P: RunPort + Drop,
     D: Dial<Port = P> + Drop,
 {
     let mut carrier = carrier;
@@ -50,7 +50,7 @@ where
     C: Drop,
     J: Naming,
     R: Wait + Drop,
-    P: NodePort + Drop,
+    P: RunPort + Drop,
     D: Dial<Port = P> + Drop,
 {
     let handed = hand_clients(carrier, queues);
@@ -67,7 +67,7 @@ where
     C: Drop,
     J: Naming,
     R: Wait + Drop,
-    P: NodePort + Drop,
+    P: RunPort + Drop,
     D: Dial<Port = P> + Drop,
 {
     let mut handed = false;

@@ -1,6 +1,7 @@
 use Rattle.turn_laws.proofs.FullLane.{given-back}
 use Rattle.turn_laws.proofs.LossParting as loss
 use Rattle.turn_laws.proofs.ScriptGetting as move
+use Rattle.turn_laws.proofs.ScriptPair as pair
 use Rattle.turn_laws.proofs.laws.steps_happen.Goals as goal
 
 pub returns-clause-moves : goal.returns-clause-moves
@@ -11,3 +12,6 @@ returns-clause-loses g c = λ port. loss.happens port c.front_is_whole.ensures
 
 pub returns-clause-gives_back : goal.returns-clause-gives_back
 returns-clause-gives_back g c = λ port. given-back port
+
+pub returns-clause-pairs : goal.returns-clause-pairs
+returns-clause-pairs g c = λ port. pair.happens port c.front_is_whole.ensures

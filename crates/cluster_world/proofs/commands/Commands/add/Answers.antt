@@ -1,11 +1,9 @@
-use Rattle.std.proofs.Common.{◌≡◌, ◌<◌, ◌≤◌, ◌+◌, ◌^◌, ◌++◌, ◌∷◌, [], ℕ, length, List, rules, refl, arith, sym, ap, ◌∙◌, subst, false}
-use Rattle.std.specs.Vec.{vec_len, vec_capacity}
-use Rattle.world_laws.specs.State.{slot_for}
-use Rattle.command_future.specs.CommandModel.{CommandModel, fresh}
+use Rattle.std.proofs.Common.{◌≡◌, ◌<◌, ◌^◌, ◌++◌, ◌∷◌, [], ℕ, length, List, rules, arith, sym, ap, ◌∙◌, subst, false}
+use Rattle.std.specs.Vec.{vec_len}
+use Rattle.command_future.specs.CommandModel.{fresh}
 use Rattle.world_laws.specs.declared.state.Arrival.{Arrival}
 use Rattle.cluster_world.specs.declared.tables.TurnKey.{TurnKey}
-use Rattle.cluster_world.specs.declared.tables.Tables.{Tables}
-use Rattle.cluster_world.specs.Tables.{client_in, turn_in, turn_key_of, Noted}
+use Rattle.cluster_world.specs.Tables.{turn_key_of, Noted}
 use Rattle.cluster_world.specs.Commands.{count_for, Find}
 use Rattle.cluster_world.proofs.Found.{find-same, find-noted, client-fits, turn-fits}
 use Rattle.cluster_world.proofs.commands.Commands.add.Goals as goal

@@ -1,10 +1,9 @@
-use Rattle.std.proofs.Common.{◌≡◌, ◌<◌, ℕ, length, List, Some, true, rules, refl, arith, sym, ap, ◌∙◌, subst}
+use Rattle.std.proofs.Common.{◌≡◌, length, List, Some, rules, refl, arith, ap, ◌∙◌}
 use Rattle.std.specs.Prelude.{slice_get}
 use Rattle.std.specs.Vec.{vec_len}
-use Rattle.std.proofs.lemmas.Option.{slice_get_within}
 use Rattle.world_laws.specs.declared.state.Arrival.{Arrival}
 use Rattle.cluster_world.specs.Commands.{unanswered_for, once_answered}
-use Rattle.cluster_world.proofs.Lookups.{at-place, place-within}
+use Rattle.cluster_world.proofs.Lookups.{at-place}
 use Rattle.cluster_world.proofs.Found.{becomes, find-answered, answered-within, unanswered-here}
 use Rattle.cluster_world.proofs.commands.Commands.answered.Goals as goal
 

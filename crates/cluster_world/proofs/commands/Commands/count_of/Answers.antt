@@ -1,6 +1,5 @@
-use Rattle.std.proofs.Common.{◌≡◌, List, sym, ap, ◌∙◌, subst, rules}
+use Rattle.std.proofs.Common.{◌≡◌, List, ap, ◌∙◌}
 use Rattle.world_laws.specs.declared.state.Arrival.{Arrival}
-use Rattle.cluster_world.specs.Rows.{row_at}
 use Rattle.cluster_world.specs.Tables.{client_in}
 use Rattle.cluster_world.specs.declared.rows.Row.{Row}
 use Rattle.cluster_world.specs.Commands.{count_for}

@@ -1,4 +1,4 @@
-use Rattle.std.proofs.Common.{◌≡◌, List, ℕ, sym, ap, ◌∙◌, subst, rules}
+use Rattle.std.proofs.Common.{◌≡◌, List, ℕ, ap, ◌∙◌, subst}
 use Rattle.world_laws.specs.declared.state.Arrival.{Arrival}
 use Rattle.cluster_world.specs.declared.rows.Row.{Row}
 use Rattle.cluster_world.specs.Tables.{client_in}

@@ -1,4 +1,4 @@
-use Rattle.std.proofs.Common.{◌≡◌, ◌<◌, length, List, Option, Some, None, true, false, ℕ, rules, arith, sym, ap, ◌∙◌, subst, refl}
+use Rattle.std.proofs.Common.{◌≡◌, length, List, Some, None, true, false, rules, arith, sym, ap, ◌∙◌}
 use Rattle.std.specs.Prelude.{slice_get}
 use Rattle.std.specs.Vec.{vec_len}
 use Rattle.std.proofs.lemmas.Option.{slice_get_within}

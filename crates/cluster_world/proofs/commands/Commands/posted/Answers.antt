@@ -1,11 +1,11 @@
-use Rattle.std.proofs.Common.{◌≡◌, ◌<◌, ℕ, length, List, Some, true, rules, refl, arith, sym, ap, ◌∙◌, subst}
+use Rattle.std.proofs.Common.{◌≡◌, length, List, Some, rules, arith, sym, subst}
 use Rattle.std.specs.Prelude.{slice_get}
 use Rattle.std.specs.Vec.{vec_len}
 use Rattle.std.proofs.lemmas.Option.{slice_get_within}
 use Rattle.world_laws.specs.declared.state.Arrival.{Arrival}
 use Rattle.command_future.specs.CommandModel.{MayPostTo}
 use Rattle.world_laws.specs.State.{awaiting}
-use Rattle.cluster_world.specs.Commands.{HasTurn, MayPostAt}
+use Rattle.cluster_world.specs.Commands.{MayPostAt}
 use Rattle.cluster_world.proofs.Lookups.{at-place, same-item}
 use Rattle.cluster_world.proofs.Found.{becomes, find-posted}
 use Rattle.cluster_world.proofs.commands.Commands.posted.Goals as goal
@@ -33,7 +33,7 @@ invariant_of-self c =
     let same : may.0 ≡ now = same-item xs c.args.place may.0 now may.1 at in
     let y : Arrival = record { command = c.posted.new.self; arrived = now.arrived; answered = now.answered } in
     let is : y ≡ awaiting now = λ i. record { command = c.posted.ensures.progress i; arrived = now.arrived; answered = now.answered } in
-    find-posted xs c.self.inside.tables c.self.invariant c.args.place now at y c.args.node is (subst (λ (x : Arrival). MayPostTo x.command.stage c.args.node) same may.2) (subst (HasTurn xs c.args.place) same may.3)
+    find-posted xs c.self.inside.tables c.self.invariant c.args.place now at y c.args.node is (subst (λ (x : Arrival). MayPostTo x.command.stage c.args.node) same may.2)
 
 pub returns : goal.returns
 returns c =

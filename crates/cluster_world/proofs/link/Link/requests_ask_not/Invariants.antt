@@ -1,11 +1,11 @@
 use Rattle.std.proofs.Common.{◌≡◌, length}
-use Rattle.cluster_world.specs.Alone.{in_sent}
+use Rattle.world_laws.specs.Places.{in_requests}
 use Rattle.cluster_world.specs.Rests.{asked}
 use Rattle.cluster_world.proofs.link.Link.requests_ask_not.Given as goal
 
 -- those before asked nothing
 abbrev pub invariant-loop-rest : goal.invariant-loop-rest
-invariant-loop-rest l = in_sent (asked l.node) l.self.is_open l.self.node l.asking l.rest ≡ in_sent (asked l.node) l.self.is_open l.self.node l.self.asking l.self.requests
+invariant-loop-rest l = in_requests (asked l.node) l.self.is_open l.self.node l.asking l.rest ≡ in_requests (asked l.node) l.self.is_open l.self.node l.self.asking l.self.requests
 
 abbrev pub decreases-loop-rest : goal.decreases-loop-rest
 decreases-loop-rest l = length l.rest

@@ -7,8 +7,6 @@ use Rattle.cluster_world.specs.Kept.{LinkModel, shown, IsBelow, KeepsBelow}
 use Rattle.cluster_world.specs.Links.{LinksModel, linked, Carries, GoesOver}
 use Rattle.cluster_world.specs.declared.fault.WorldFault.{WorldFault}
 use Rattle.cluster_world.specs.declared.fault.WorldFault.TheVariants.{NoMemory}
-use Rattle.cluster_world.specs.Alone.{as_run}
-use Rattle.cluster_world.proofs.AsRuns.{all-sent}
 use Rattle.cluster_world.proofs.Lookups.{at-place, same-item}
 use Rattle.cluster_world.proofs.Shown.{at-shown, set-shown, set-same, shown-length}
 use Rattle.std.proofs.lemmas.List.Elements.{All-push}
@@ -37,7 +35,7 @@ returns-then-not-leads_to c =
     let l : LinkModel = c.index_mut-link.result.now in
     let lt : c.args.at < length ls = omega (arith, c.len.ensures, c.len-2.ensures) in
     let at : slice_get ls c.args.at ≡ Some l = at-place ls c.args.at l lt c.index_mut-link.ensures.value in (
-      refused ls h c.args.self.now c.args.at (as_run c.args.posted) l c.self.view_is lt at (λ p. let no : false ≡ true = c.if-not-leads_to.ensures.1 p in absurd (cc)),
+      refused ls h c.args.self.now c.args.at c.args.posted.now l c.self.view_is lt at (λ p. let no : false ≡ true = c.if-not-leads_to.ensures.1 p in absurd (cc)),
       set-same ls h c.args.at l l at refl ∙ c.self.view_is,
     )
 
@@ -59,7 +57,7 @@ returns-in_err-send c =
     let h : List EntryModel = c.self.inside.history.items in
     let len : c.args.at ≡ length ls = search rules in
     let is : c.from_residual.result ≡ Err NoMemory = search rules in
-    subst (λ (r : Result Unit WorldFault). Carries c.args.self.now c.args.at (as_run c.args.posted) r c.args.self.now) (sym is) (can-new ls h c.args.self.now c.args.at (as_run c.args.posted) c.self.view_is len, refl)
+    subst (λ (r : Result Unit WorldFault). Carries c.args.self.now c.args.at c.args.posted.now r c.args.self.now) (sym is) (can-new ls h c.args.self.now c.args.at c.args.posted.now c.self.view_is len, refl)
 
 pub returns-in_err-reserve : goal.returns-in_err-reserve
 returns-in_err-reserve c =
@@ -67,8 +65,8 @@ returns-in_err-reserve c =
     let h : List EntryModel = c.self.inside.history.items in
     let len : c.args.at ≡ length ls = search rules in
     let is : c.from_residual-in_err-reserve.result ≡ Err NoMemory = search rules in
-    subst (λ (r : Result Unit WorldFault). Carries c.args.self.now c.args.at (as_run c.args.posted) r (linked c.reserve.new.self.items h)) (sym is)
-    (can-new ls h c.args.self.now c.args.at (as_run c.args.posted) c.self.view_is len, ap (λ (x : List LinkModel). linked x h) c.in_err-reserve.ensures.items ∙ c.self.view_is)
+    subst (λ (r : Result Unit WorldFault). Carries c.args.self.now c.args.at c.args.posted.now r (linked c.reserve.new.self.items h)) (sym is)
+    (can-new ls h c.args.self.now c.args.at c.args.posted.now c.self.view_is len, ap (λ (x : List LinkModel). linked x h) c.in_err-reserve.ensures.items ∙ c.self.view_is)
 
 pub invariant_of-self-then-at-len-2 : goal.invariant_of-self-then-at-len-2
 invariant_of-self-then-at-len-2 c =
@@ -85,10 +83,10 @@ returns-in_err-send-2 c =
     let l : LinkModel = c.index_mut-link.result.now in
     let lt : c.args.at < length ls = omega (arith, c.len.ensures, c.len-2.ensures) in
     let at : slice_get ls c.args.at ≡ Some l = at-place ls c.args.at l lt c.index_mut-link.ensures.value in
-    let leads : (l.is_open ≡ true) × (l.node ≡ c.args.posted.node) = c.if-not-leads_to.ensures.0 refl in
+    let leads : (l.is_open ≡ true) × (l.node ≡ c.args.posted.now.node) = c.if-not-leads_to.ensures.0 refl in
     let is : c.from_residual-in_err-send-2.result ≡ Err NoMemory = search rules in
-    subst (λ (r : Result Unit WorldFault). Carries c.args.self.now c.args.at (as_run c.args.posted) r (linked (slice_set ls c.args.at c.send-2.new.self) h)) (sym is)
-    (can ls h c.args.self.now c.args.at (as_run c.args.posted) l c.self.view_is at leads.0 leads.1, set-same ls h c.args.at l c.send-2.new.self at (ap (shown h) c.in_err-send-2.ensures.err) ∙ c.self.view_is)
+    subst (λ (r : Result Unit WorldFault). Carries c.args.self.now c.args.at c.args.posted.now r (linked (slice_set ls c.args.at c.send-2.new.self) h)) (sym is)
+    (can ls h c.args.self.now c.args.at c.args.posted.now l c.self.view_is at leads.0 leads.1, set-same ls h c.args.at l c.send-2.new.self at (ap (shown h) c.in_err-send-2.ensures.err) ∙ c.self.view_is)
 
 pub returns : goal.returns
 returns c =
@@ -97,5 +95,5 @@ returns c =
     let l : LinkModel = c.index_mut-link.result.now in
     let lt : c.args.at < length ls = omega (arith, c.len.ensures, c.len-2.ensures) in
     let at : slice_get ls c.args.at ≡ Some l = at-place ls c.args.at l lt c.index_mut-link.ensures.value in
-    let leads : (l.is_open ≡ true) × (l.node ≡ c.args.posted.node) = c.if-not-leads_to.ensures.0 refl in
-    taken ls h c.args.self.now c.args.at (as_run c.args.posted) l c.send-2.new.self c.self.view_is at leads.0 leads.1 (ap (shown h) c.in_ok-send-2.ensures.ok ∙ ap (λ rs. record (shown h l) { requests = rs }) (all-sent l.requests c.args.posted))
+    let leads : (l.is_open ≡ true) × (l.node ≡ c.args.posted.now.node) = c.if-not-leads_to.ensures.0 refl in
+    taken ls h c.args.self.now c.args.at c.args.posted.now l c.send-2.new.self c.self.view_is at leads.0 leads.1 (ap (shown h) c.in_ok-send-2.ensures.ok)

@@ -3,13 +3,12 @@ use Rattle.std.specs.Prelude.{slice_get, slice_set, Result}
 use Rattle.key_split.specs.declared.travel.Ticket.{Ticket}
 use Rattle.key_split.specs.declared.travel.Told.{Told}
 use Rattle.node_model.specs.History.{EntryModel}
-use Rattle.world_laws.specs.State.{Link, waiting}
+use Rattle.world_laws.specs.State.{Link, sent_of, waiting}
 use Rattle.cluster_world.specs.Kept.{LinkModel, shown}
 use Rattle.cluster_world.specs.Links.{LinksModel, linked, with_link, Closes, IsOpen}
 use Rattle.cluster_world.specs.declared.fault.WorldFault.{WorldFault}
 use Rattle.cluster_world.specs.declared.fault.WorldFault.TheVariants.{NoMemory}
 use Rattle.cluster_world.specs.Lost.{each_lost}
-use Rattle.cluster_world.proofs.AsRuns.{sent-alone}
 use Rattle.cluster_world.proofs.Lookups.{at-place}
 use Rattle.cluster_world.proofs.Shown.{there, none-there, set-linked, set-same, answered-shown}
 use Rattle.cluster_world.proofs.links.Links.close.Goals as goal
@@ -57,5 +56,5 @@ returns c =
     IsOpen x × (linked (slice_set ls c.args.at c.close.new.self) h ≡ with_link k c.args.at (record x { is_open = false; backs = [] })) × (c.append.new.self.items ≡ downs ++ each_lost (waiting x))) (
       sym c.if-not-is_open.ensures,
       set-linked ls h c.args.at c.close.new.self ∙ ap (λ (x : LinkModel). with_link (linked ls h) c.args.at (shown h x)) c.close.ensures,
-      c.in_ok-append.ensures.items ∙ ap (λ (ds : List (Ticket × Told)). downs ++ ds) (c.in_ok-lost.ensures ∙ (λ i. each_lost (sym (answered-shown h l.backs) i ++ sym (sent-alone l.requests) i))),
+      c.in_ok-append.ensures.items ∙ ap (λ (ds : List (Ticket × Told)). downs ++ ds) (c.in_ok-lost.ensures ∙ (λ i. each_lost (sym (answered-shown h l.backs) i ++ sent_of l.requests))),
     )

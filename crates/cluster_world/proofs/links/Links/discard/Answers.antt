@@ -1,11 +1,9 @@
-use Rattle.std.proofs.Common.{◌≡◌, List, [], map, Some, true, false, refl, ap, ◌∙◌}
+use Rattle.std.proofs.Common.{◌≡◌, List, [], Some, true, false, refl, ap, ◌∙◌}
 use Rattle.std.specs.Prelude.{slice_get, slice_set}
 use Rattle.node_model.specs.History.{EntryModel}
 use Rattle.cluster_world.specs.Kept.{LinkModel}
 use Rattle.cluster_world.specs.Links.{LinksModel, linked, with_link, HasRests}
 use Rattle.world_laws.specs.State.{Link}
-use Rattle.cluster_world.specs.Alone.{as_request}
-use Rattle.cluster_world.proofs.AsRuns.{none-sent}
 use Rattle.cluster_world.proofs.Lookups.{at-place}
 use Rattle.cluster_world.proofs.Shown.{there, none-there, set-linked, set-same}
 use Rattle.cluster_world.proofs.links.Links.discard.Goals as goal
@@ -16,7 +14,7 @@ returns-then-not-can_discard c =
     let h : List EntryModel = c.self.inside.history.items in
     let l : LinkModel = c.in-Some.link.now in
     let at : slice_get ls c.args.at ≡ Some l = at-place ls c.args.at l c.in-Some.ensures.item.3.0 c.in-Some.ensures.value in (
-      none-there ls h c.args.self.now c.self.view_is c.args.at l at HasRests (λ p. let no : false ≡ true = c.if-not-can_discard.ensures.1 (p.0, λ e. p.1 (ap (map as_request) e)) in absurd (cc)),
+      none-there ls h c.args.self.now c.self.view_is c.args.at l at HasRests (λ p. let no : false ≡ true = c.if-not-can_discard.ensures.1 p in absurd (cc)),
       set-same ls h c.args.at l l at refl ∙ c.self.view_is,
     )
 
@@ -28,4 +26,4 @@ returns c =
     let at : slice_get ls c.args.at ≡ Some l = at-place ls c.args.at l c.in-Some.ensures.item.3.0 c.in-Some.ensures.value in
     let rests = c.if-not-can_discard.ensures.0 refl in
     there ls h c.args.self.now c.self.view_is c.args.at l at (λ (k : LinksModel) (x : Link). HasRests x × (linked (slice_set ls c.args.at c.discard.new.self) h ≡ with_link k c.args.at (record x { requests = [] })))
-    ((rests.0, λ e. rests.1 (none-sent l.requests e)), ap (λ (x : LinkModel). linked (slice_set ls c.args.at x) h) c.discard.ensures ∙ set-linked ls h c.args.at (record l { requests = [] }))
+    (rests, ap (λ (x : LinkModel). linked (slice_set ls c.args.at x) h) c.discard.ensures ∙ set-linked ls h c.args.at (record l { requests = [] }))

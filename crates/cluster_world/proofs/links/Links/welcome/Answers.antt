@@ -1,12 +1,11 @@
-use Rattle.std.proofs.Common.{rules, ◌≡◌, ◌<◌, List, ◌∷◌, length, map, Some, Err, true, sym, ap, ◌∙◌, subst}
+use Rattle.std.proofs.Common.{rules, ◌≡◌, ◌<◌, List, ◌∷◌, length, Some, Err, true, sym, ap, ◌∙◌, subst}
 use Rattle.std.specs.Prelude.{slice_get, slice_set, Result}
 use Rattle.std.proofs.lemmas.List.Elements.{All-set}
 use Rattle.node_model.specs.History.{EntryModel}
 use Rattle.world_laws.specs.State.{Link, replied}
 use Rattle.world_laws.specs.declared.state.LinkRequest.{LinkRequest}
 use Rattle.world_laws.specs.declared.state.LinkRequest.TheVariants as request
-use Rattle.cluster_world.specs.Alone.{as_request}
-use Rattle.cluster_world.specs.declared.alone.RequestAlone.TheVariants.{Asking}
+use Rattle.world_laws.specs.declared.state.LinkRequest.TheVariants.{Asking}
 use Rattle.world_laws.specs.declared.state.LinkReply.TheVariants as back
 use Rattle.cluster_world.specs.Kept.{LinkModel, KeepsBelow, shown}
 use Rattle.cluster_world.specs.Links.{LinksModel, linked, with_link, Begins, Welcomes}
@@ -14,7 +13,7 @@ use Rattle.cluster_world.specs.declared.link.Kept.TheVariants.{Welcome}
 use Rattle.cluster_world.specs.declared.fault.WorldFault.{WorldFault}
 use Rattle.cluster_world.specs.declared.fault.WorldFault.TheVariants.{NoMemory}
 use Rattle.cluster_world.proofs.Lookups.{at-place}
-use Rattle.cluster_world.proofs.Shown.{there, here, there-within, set-linked, set-same, line-at, behind, some-request, done-shown, done-below}
+use Rattle.cluster_world.proofs.Shown.{there, here, there-within, set-linked, set-same, line-at, tails, some-request, done-shown, done-below}
 use Rattle.cluster_world.proofs.links.Links.welcome.Goals as goal
 
 pub returns-in_err-reserve : goal.returns-in_err-reserve
@@ -61,8 +60,8 @@ returns c =
     there ls h c.args.self.now c.self.view_is c.args.at l at
     (λ (k : LinksModel) (x : Link).
     (rest : List LinkRequest) × (x.requests ≡ request.Asking ∷ rest) × (linked (slice_set ls c.args.at c.keep.new.self) h ≡ with_link k c.args.at (replied (record x { requests = rest; asking = true }) back.Welcome))) (
-      map as_request c.take_request.new.self.requests,
-      behind l.requests c.take_request.new.self.requests first.0 request.Asking c.take_request.result first.1 requests,
+      c.take_request.new.self.requests,
+      tails l.requests first.0 c.take_request.new.self.requests request.Asking c.take_request.result first.1 requests,
       set-linked ls h c.args.at c.keep.new.self
           ∙ ap (with_link (linked ls h) c.args.at) (done-shown l c.reserve.new.self c.take_request.new.self c.keep.new.self true Welcome c.in_ok-reserve.ensures.same c.take_request.ensures.rest c.keep.ensures h),
     )

@@ -1,4 +1,4 @@
-use Rattle.std.proofs.Common.{◌≡◌, Err, true, false, rules, refl, sym, ap, ◌∙◌}
+use Rattle.std.proofs.Common.{◌≡◌, Err, rules, refl}
 use Rattle.world_laws.specs.State.{WorldModel}
 use Rattle.world_laws.specs.declared.event.Event.TheVariants as event
 use Rattle.cluster_world.specs.Machine.{state_of}

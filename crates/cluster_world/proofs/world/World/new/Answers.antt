@@ -4,7 +4,7 @@ use Rattle.slot_map.specs.declared.ops.MapOp.{MapOp}
 use Rattle.node_model.specs.Nodes.{Opens}
 use Rattle.world_laws.specs.Headline.{IsReached}
 use Rattle.world_laws.specs.State.{WorldModel}
-use Rattle.cluster_world.specs.Alone.{run_limit}
+use Rattle.cluster_world.specs.Machine.{run_limit}
 use Rattle.cluster_world.proofs.Taking.{opens-new, opens-same, starts-fault}
 use Rattle.cluster_world.proofs.world.World.new.Goals as goal
 

@@ -1,14 +1,24 @@
-use Rattle.std.proofs.Common.{rules, ◌≡◌, ℕ, ◌-◌, ◌<◌, length, sym, ap, ◌∙◌, subst}
+use Rattle.std.proofs.Common.{rules, ◌≡◌, ℕ, ◌+◌, ◌-◌, ◌<◌, length, refl, sym, ap, ◌∙◌, subst}
 use Rattle.world_laws.specs.Headline.{IsReached}
 use Rattle.world_laws.specs.State.{WorldModel}
 use Rattle.world_laws.specs.World.{WorldStep, last_moment}
 use Rattle.cluster_world.specs.Machine.{state_of}
 use Rattle.cluster_world.specs.Steps.{RefusedFor}
-use Rattle.cluster_world.proofs.Stepping.{undone, refused-for}
+use Rattle.cluster_world.proofs.Stepping.{fits-so, undone, refused-for}
 use Rattle.cluster_world.proofs.world.World.step.Goals as goal
 
 pub happen-requires-clause-links : goal.happen-requires-clause-links
 happen-requires-clause-links c = c.links_lead_to_nodes.ensures (state_of c.self.inside.machine) c.self.invariant.reached
+
+pub happen-requires-clause-slots : goal.happen-requires-clause-slots
+happen-requires-clause-slots c = λ link l tickets rest at first. c.runs_have_one_slot.ensures (state_of c.self.inside.machine) link l tickets rest c.self.invariant.reached at first
+
+pub happen-requires-clause-serves : goal.happen-requires-clause-serves
+happen-requires-clause-serves c = λ link verdict l first rest at is fits. (
+    let w : WorldModel = state_of c.self.inside.machine in
+    let lt : w.moment < last_moment = search rules in
+    let a = c.nothing_is_stuck.ensures.serve w link verdict l first rest c.self.invariant.reached lt at is (fits-so (record w { moment = w.moment + 1 }) w verdict first refl fits) in
+    (a.0, a.1.1))
 
 pub invariant_of-self : goal.invariant_of-self
 invariant_of-self c =

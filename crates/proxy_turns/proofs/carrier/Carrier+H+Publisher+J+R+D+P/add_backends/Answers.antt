@@ -8,22 +8,22 @@ use Rattle.proxy_turns.proofs.Carrying.{stays, goes_by, goes_then}
 use Rattle.proxy_turns.proofs.carrier.Carrier+H+Publisher+J+R+D+P.add_backends.Goals as goal
 
 pub loop-next-init : goal.loop-next-init
-loop-next-init g c = record { goes = stays g.P.NodePort.failures g.P.NodePort.is_garbled g.P.NodePort.exchange g.P.NodePort.gives_none g.D.Dial.opens adds_backend (carrier_model g.D.Dial.failures c.args.self.now); count = omega (arith, c.len-next.ensures) }
+loop-next-init g c = record { goes = stays g.P.NodePort.failures g.P.NodePort.is_garbled g.P.NodePort.exchange g.P.NodePort.gives_none g.D.Dial.opens g.P.RunPort.longest adds_backend (carrier_model g.D.Dial.failures c.args.self.now); count = omega (arith, c.len-next.ensures) }
 
 pub loop-next-preserved : goal.loop-next-preserved
 loop-next-preserved g c =
     let mid : CarrierModel g.row.H.Denot g.row.P.Denot = carrier_model g.D.Dial.failures c.loop-next.self in
     let new : CarrierModel g.row.H.Denot g.row.P.Denot = carrier_model g.D.Dial.failures c.add_backend.new.self in
     record {
-      goes = goes_then g.P.NodePort.failures g.P.NodePort.is_garbled g.P.NodePort.exchange g.P.NodePort.gives_none g.D.Dial.opens adds_backend (carrier_model g.D.Dial.failures c.args.self.now) false mid false new c.loop-next.invariant.goes (goes_by g.P.NodePort.failures g.P.NodePort.is_garbled g.P.NodePort.exchange g.P.NodePort.gives_none g.D.Dial.opens adds_backend mid BackendAdded new refl c.in_ok-add_backend.ensures);
+      goes = goes_then g.P.NodePort.failures g.P.NodePort.is_garbled g.P.NodePort.exchange g.P.NodePort.gives_none g.D.Dial.opens g.P.RunPort.longest adds_backend (carrier_model g.D.Dial.failures c.args.self.now) false mid false new c.loop-next.invariant.goes (goes_by g.P.NodePort.failures g.P.NodePort.is_garbled g.P.NodePort.exchange g.P.NodePort.gives_none g.D.Dial.opens g.P.RunPort.longest adds_backend mid BackendAdded new refl c.in_ok-add_backend.ensures);
       count = omega (arith, c.loop-next.invariant.count, ap (λ (m : CarrierModel g.row.H.Denot g.row.P.Denot). length m.backends) c.in_ok-add_backend.ensures, length-append mid.backends (new_backend ∷ []));
     }
 
 pub returns-in_err-add_backend : goal.returns-in_err-add_backend
 returns-in_err-add_backend g c =
     let new : CarrierModel g.row.H.Denot g.row.P.Denot = carrier_model g.D.Dial.failures c.add_backend.new.self in
-    let Q : Result (Unit {0}) NoMemory → Type 0 = λ r. AddsBackends g.P.NodePort.failures g.P.NodePort.is_garbled g.P.NodePort.exchange g.P.NodePort.gives_none g.D.Dial.opens c.args.node (carrier_model g.D.Dial.failures c.args.self.now) r new in
-    let R : CarrierModel g.row.H.Denot g.row.P.Denot → Type 0 = λ m. CarrierGoesBy g.P.NodePort.failures g.P.NodePort.is_garbled g.P.NodePort.exchange g.P.NodePort.gives_none g.D.Dial.opens adds_backend (carrier_model g.D.Dial.failures c.args.self.now) false m in
+    let Q : Result (Unit {0}) NoMemory → Type 0 = λ r. AddsBackends g.P.NodePort.failures g.P.NodePort.is_garbled g.P.NodePort.exchange g.P.NodePort.gives_none g.D.Dial.opens g.P.RunPort.longest c.args.node (carrier_model g.D.Dial.failures c.args.self.now) r new in
+    let R : CarrierModel g.row.H.Denot g.row.P.Denot → Type 0 = λ m. CarrierGoesBy g.P.NodePort.failures g.P.NodePort.is_garbled g.P.NodePort.exchange g.P.NodePort.gives_none g.D.Dial.opens g.P.RunPort.longest adds_backend (carrier_model g.D.Dial.failures c.args.self.now) false m in
     subst Q (sym (err_from_is_err_and c.from_residual.result c.from_residual.ensures.1).1) (false, subst R (sym c.in_err-add_backend.ensures) c.loop-next.invariant.goes)
 
 pub returns : goal.returns

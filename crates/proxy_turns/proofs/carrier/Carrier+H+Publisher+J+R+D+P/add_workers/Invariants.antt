@@ -5,7 +5,7 @@ use Rattle.proxy_turns.proofs.carrier.Carrier+H+Publisher+J+R+D+P.add_workers.Gi
 
 abbrev pub invariant-loop-next : goal.invariant-loop-next
 invariant-loop-next g l = record {
-  goes : CarrierGoesBy g.P.NodePort.failures g.P.NodePort.is_garbled g.P.NodePort.exchange g.P.NodePort.gives_none g.D.Dial.opens adds_worker (carrier_model g.D.Dial.failures l.initial.self) false (carrier_model g.D.Dial.failures l.self);
-  count : l._next ≡ length l.self.pending_batches.items;
+  goes : CarrierGoesBy g.P.NodePort.failures g.P.NodePort.is_garbled g.P.NodePort.exchange g.P.NodePort.gives_none g.D.Dial.opens g.P.RunPort.longest adds_worker (carrier_model g.D.Dial.failures l.initial.self) false (carrier_model g.D.Dial.failures l.self);
+  count : l._next ≡ length l.self.pending_runs.items;
   lanes : lanes_of l.self.ends ≡ lanes_of l.initial.self.ends;
 }

@@ -7,47 +7,47 @@ use Rattle.proxy_turns.proofs.Resting.{put_there}
 use Rattle.std.proofs.lemmas.Result.{err_from_is_err_and}
 use Rattle.proxy_turns.specs.CarrierModel.{carrier_model, dials_node}
 use Rattle.proxy_turns.proofs.Carrying.{at-place, same-item, opened, present, undialled, refused, stays}
-use Rattle.proxy_turns.specs.PendingBatch.{target_of}
-use Rattle.proxy_turns.specs.declared.pending_batch.PendingBatch.{PendingBatch}
+use Rattle.proxy_turns.specs.PendingRun.{target_of}
+use Rattle.proxy_turns.specs.declared.pending_run.PendingRun.{PendingRun}
 use Rattle.proxy_turns.proofs.carrier.Carrier+H+Publisher+J+R+D+P.dial_for.Goals as goal
 
 pub returns-then-worker-len : goal.returns-then-worker-len
 returns-then-worker-len g c =
-    let le : length c.args.self.now.pending_batches.items ≤ c.args.worker = omega (arith, c.len.ensures, c.if-worker-len.true) in
-    (stays g.P.NodePort.failures g.P.NodePort.is_garbled g.P.NodePort.exchange g.P.NodePort.gives_none g.D.Dial.opens dials_node (carrier_model g.D.Dial.failures c.args.self.now), λ still. past _ c.args.self.now.pending_batches.items c.args.worker le)
+    let le : length c.args.self.now.pending_runs.items ≤ c.args.worker = omega (arith, c.len.ensures, c.if-worker-len.true) in
+    (stays g.P.NodePort.failures g.P.NodePort.is_garbled g.P.NodePort.exchange g.P.NodePort.gives_none g.D.Dial.opens g.P.RunPort.longest dials_node (carrier_model g.D.Dial.failures c.args.self.now), λ still. past _ c.args.self.now.pending_runs.items c.args.worker le)
 
 pub returns-in_default : goal.returns-in_default
 returns-in_default g c =
-    let within : c.args.worker < length c.args.self.now.pending_batches.items = omega (arith, c.len.ensures, c.if-worker-len.false) in
-    let one : slice_get c.args.self.now.pending_batches.items c.args.worker ≡ Some c.index.result.now = at-place c.args.self.now.pending_batches.items c.args.worker c.index.result.now within c.index.ensures in (
-      stays g.P.NodePort.failures g.P.NodePort.is_garbled g.P.NodePort.exchange g.P.NodePort.gives_none g.D.Dial.opens dials_node (carrier_model g.D.Dial.failures c.args.self.now),
-      λ still. at_one (λ pending. ForSome (target_of pending.refused pending.batch) (λ node. HasLink c.args.self.now.backends.items node ⊎ (length c.args.self.now.backends.items ≤ node)))
-          c.args.self.now.pending_batches.items c.args.worker c.index.result.now one (none_there _ (target_of c.index.result.now.refused c.index.result.now.batch) (sym c.target.ensures ∙ c.in_default.is)),
+    let within : c.args.worker < length c.args.self.now.pending_runs.items = omega (arith, c.len.ensures, c.if-worker-len.false) in
+    let one : slice_get c.args.self.now.pending_runs.items c.args.worker ≡ Some c.index.result.now = at-place c.args.self.now.pending_runs.items c.args.worker c.index.result.now within c.index.ensures in (
+      stays g.P.NodePort.failures g.P.NodePort.is_garbled g.P.NodePort.exchange g.P.NodePort.gives_none g.D.Dial.opens g.P.RunPort.longest dials_node (carrier_model g.D.Dial.failures c.args.self.now),
+      λ still. at_one (λ pending. ForSome (target_of pending.refused pending.run) (λ node. HasLink c.args.self.now.backends.items node ⊎ (length c.args.self.now.backends.items ≤ node)))
+          c.args.self.now.pending_runs.items c.args.worker c.index.result.now one (none_there _ (target_of c.index.result.now.refused c.index.result.now.run) (sym c.target.ensures ∙ c.in_default.is)),
     )
 
 pub returns-then-at-len : goal.returns-then-at-len
 returns-then-at-len g c =
-    let within : c.args.worker < length c.args.self.now.pending_batches.items = omega (arith, c.len.ensures, c.if-worker-len.false) in
-    let one : slice_get c.args.self.now.pending_batches.items c.args.worker ≡ Some c.index.result.now = at-place c.args.self.now.pending_batches.items c.args.worker c.index.result.now within c.index.ensures in
+    let within : c.args.worker < length c.args.self.now.pending_runs.items = omega (arith, c.len.ensures, c.if-worker-len.false) in
+    let one : slice_get c.args.self.now.pending_runs.items c.args.worker ≡ Some c.index.result.now = at-place c.args.self.now.pending_runs.items c.args.worker c.index.result.now within c.index.ensures in
     let le : length c.args.self.now.backends.items ≤ c.in-Some.node = omega (arith, c.len-2.ensures, c.if-at-len.true, c.place_of-at.ensures.value) in (
-      stays g.P.NodePort.failures g.P.NodePort.is_garbled g.P.NodePort.exchange g.P.NodePort.gives_none g.D.Dial.opens dials_node (carrier_model g.D.Dial.failures c.args.self.now),
-      λ still. at_one (λ pending. ForSome (target_of pending.refused pending.batch) (λ node. HasLink c.args.self.now.backends.items node ⊎ (length c.args.self.now.backends.items ≤ node)))
-          c.args.self.now.pending_batches.items c.args.worker c.index.result.now one
-          (one_there _ (target_of c.index.result.now.refused c.index.result.now.batch) c.in-Some.node (sym c.target.ensures ∙ c.in-Some.is) (inr le)),
+      stays g.P.NodePort.failures g.P.NodePort.is_garbled g.P.NodePort.exchange g.P.NodePort.gives_none g.D.Dial.opens g.P.RunPort.longest dials_node (carrier_model g.D.Dial.failures c.args.self.now),
+      λ still. at_one (λ pending. ForSome (target_of pending.refused pending.run) (λ node. HasLink c.args.self.now.backends.items node ⊎ (length c.args.self.now.backends.items ≤ node)))
+          c.args.self.now.pending_runs.items c.args.worker c.index.result.now one
+          (one_there _ (target_of c.index.result.now.refused c.index.result.now.run) c.in-Some.node (sym c.target.ensures ∙ c.in-Some.is) (inr le)),
     )
 
 pub returns-in-Present : goal.returns-in-Present
 returns-in-Present g c =
     let lt : c.place_of-at.result < length c.args.self.now.backends.items = omega (arith, c.len-2.ensures, c.if-at-len.false) in
     let there : slice_get c.args.self.now.backends.items c.place_of-at.result ≡ Some c.index_mut.result.now = at-place c.args.self.now.backends.items c.place_of-at.result c.index_mut.result.now lt c.index_mut.ensures.value in
-    let within : c.args.worker < length c.args.self.now.pending_batches.items = omega (arith, c.len.ensures, c.if-worker-len.false) in
-    let one : slice_get c.args.self.now.pending_batches.items c.args.worker ≡ Some c.index.result.now = at-place c.args.self.now.pending_batches.items c.args.worker c.index.result.now within c.index.ensures in
+    let within : c.args.worker < length c.args.self.now.pending_runs.items = omega (arith, c.len.ensures, c.if-worker-len.false) in
+    let one : slice_get c.args.self.now.pending_runs.items c.args.worker ≡ Some c.index.result.now = at-place c.args.self.now.pending_runs.items c.args.worker c.index.result.now within c.index.ensures in
     let says = rw c.in-Present.is at c.in_ok-open.ensures in
     let new = slice_set c.args.self.now.backends.items c.place_of-at.result c.open.new.self in (
-      present g.P.NodePort.failures g.P.NodePort.is_garbled g.P.NodePort.exchange g.P.NodePort.gives_none g.D.Dial.opens dials_node (carrier_model g.D.Dial.failures c.args.self.now) c.place_of-at.result c.in-Some.node c.index_mut.result.now c.open.new.self _ there says,
-      λ still. at_one (λ pending. ForSome (target_of pending.refused pending.batch) (λ node. HasLink new node ⊎ (length new ≤ node)))
-          c.args.self.now.pending_batches.items c.args.worker c.index.result.now one
-          (one_there _ (target_of c.index.result.now.refused c.index.result.now.batch) c.in-Some.node (sym c.target.ensures ∙ c.in-Some.is)
+      present g.P.NodePort.failures g.P.NodePort.is_garbled g.P.NodePort.exchange g.P.NodePort.gives_none g.D.Dial.opens g.P.RunPort.longest dials_node (carrier_model g.D.Dial.failures c.args.self.now) c.place_of-at.result c.in-Some.node c.index_mut.result.now c.open.new.self _ there says,
+      λ still. at_one (λ pending. ForSome (target_of pending.refused pending.run) (λ node. HasLink new node ⊎ (length new ≤ node)))
+          c.args.self.now.pending_runs.items c.args.worker c.index.result.now one
+          (one_there _ (target_of c.index.result.now.refused c.index.result.now.run) c.in-Some.node (sym c.target.ensures ∙ c.in-Some.is)
           (inl (put_there c.args.self.now.backends.items c.place_of-at.result c.in-Some.node c.index_mut.result.now c.open.new.self c.place_of-at.ensures.value there says.0 says.1))),
     )
 
@@ -55,22 +55,22 @@ pub returns-in_err-open : goal.returns-in_err-open
 returns-in_err-open g c =
     let lt : c.place_of-at.result < length c.args.self.now.backends.items = omega (arith, c.len-2.ensures, c.if-at-len.false) in
     let there : slice_get c.args.self.now.backends.items c.place_of-at.result ≡ Some c.index_mut.result.now = at-place c.args.self.now.backends.items c.place_of-at.result c.index_mut.result.now lt c.index_mut.ensures.value in
-    undialled g.P.NodePort.failures g.P.NodePort.is_garbled g.P.NodePort.exchange g.P.NodePort.gives_none g.D.Dial.opens dials_node _ (carrier_model g.D.Dial.failures c.args.self.now) c.place_of-at.result c.index_mut.result.now c.open.new.self _ _ c.from_residual.result there c.in_err-open.ensures (err_from_is_err_and c.from_residual.result c.from_residual.ensures.1).1
+    undialled g.P.NodePort.failures g.P.NodePort.is_garbled g.P.NodePort.exchange g.P.NodePort.gives_none g.D.Dial.opens g.P.RunPort.longest dials_node _ (carrier_model g.D.Dial.failures c.args.self.now) c.place_of-at.result c.index_mut.result.now c.open.new.self _ _ c.from_residual.result there c.in_err-open.ensures (err_from_is_err_and c.from_residual.result c.from_residual.ensures.1).1
 
 pub returns-in-Opened : goal.returns-in-Opened
 returns-in-Opened g c =
     let lt : c.place_of-at.result < length c.args.self.now.backends.items = omega (arith, c.len-2.ensures, c.if-at-len.false) in
     let there : slice_get c.args.self.now.backends.items c.place_of-at.result ≡ Some c.index_mut.result.now = at-place c.args.self.now.backends.items c.place_of-at.result c.index_mut.result.now lt c.index_mut.ensures.value in
-    (opened g.P.NodePort.failures g.P.NodePort.is_garbled g.P.NodePort.exchange g.P.NodePort.gives_none g.D.Dial.opens dials_node refl (carrier_model g.D.Dial.failures c.args.self.now) c.place_of-at.result c.in-Some.node c.index_mut.result.now c.open.new.self _ there c.place_of-at.ensures.value (rw c.in-Opened.is at c.in_ok-open.ensures), λ still. absurd (cc))
+    (opened g.P.NodePort.failures g.P.NodePort.is_garbled g.P.NodePort.exchange g.P.NodePort.gives_none g.D.Dial.opens g.P.RunPort.longest dials_node refl (carrier_model g.D.Dial.failures c.args.self.now) c.place_of-at.result c.in-Some.node c.index_mut.result.now c.open.new.self _ there c.place_of-at.ensures.value (rw c.in-Opened.is at c.in_ok-open.ensures), λ still. absurd (cc))
 
 pub returns-in-Unreached : goal.returns-in-Unreached
 returns-in-Unreached g c =
     let lt : c.place_of-at.result < length c.args.self.now.backends.items = omega (arith, c.len-2.ensures, c.if-at-len.false) in
     let there : slice_get c.args.self.now.backends.items c.place_of-at.result ≡ Some c.index_mut.result.now = at-place c.args.self.now.backends.items c.place_of-at.result c.index_mut.result.now lt c.index_mut.ensures.value in
-    let within : c.args.worker < length c.args.self.now.pending_batches.items = omega (arith, c.len.ensures, c.if-worker-len.false) in
-    let one : slice_get c.args.self.now.pending_batches.items c.args.worker ≡ Some c.index.result.now = at-place c.args.self.now.pending_batches.items c.args.worker c.index.result.now within c.index.ensures in
-    let two : slice_get c.args.self.now.pending_batches.items c.args.worker ≡ Some c.index_mut-in-Unreached.result.now = at-place c.args.self.now.pending_batches.items c.args.worker c.index_mut-in-Unreached.result.now within c.index_mut-in-Unreached.ensures.value in
-    let same : c.index.result.now ≡ c.index_mut-in-Unreached.result.now = same-item c.args.self.now.pending_batches.items c.args.worker c.index.result.now c.index_mut-in-Unreached.result.now one two in
-    let goes : target_of c.index.result.now.refused c.index.result.now.batch ≡ Some c.in-Some.node = sym c.target.ensures ∙ c.in-Some.is in
-    let Q : PendingBatch → Type 0 = λ pending_batch. target_of pending_batch.refused pending_batch.batch ≡ Some c.in-Some.node in
-    (refused g.P.NodePort.failures g.P.NodePort.is_garbled g.P.NodePort.exchange g.P.NodePort.gives_none g.D.Dial.opens dials_node refl (carrier_model g.D.Dial.failures c.args.self.now) c.args.worker c.place_of-at.result c.in-Some.node c.index_mut-in-Unreached.result.now c.refuse.new.self c.index_mut.result.now c.open.new.self _ two (subst Q same goes) there c.place_of-at.ensures.value (rw c.in-Unreached.is at c.in_ok-open.ensures) c.refuse.ensures, λ still. absurd (cc))
+    let within : c.args.worker < length c.args.self.now.pending_runs.items = omega (arith, c.len.ensures, c.if-worker-len.false) in
+    let one : slice_get c.args.self.now.pending_runs.items c.args.worker ≡ Some c.index.result.now = at-place c.args.self.now.pending_runs.items c.args.worker c.index.result.now within c.index.ensures in
+    let two : slice_get c.args.self.now.pending_runs.items c.args.worker ≡ Some c.index_mut-in-Unreached.result.now = at-place c.args.self.now.pending_runs.items c.args.worker c.index_mut-in-Unreached.result.now within c.index_mut-in-Unreached.ensures.value in
+    let same : c.index.result.now ≡ c.index_mut-in-Unreached.result.now = same-item c.args.self.now.pending_runs.items c.args.worker c.index.result.now c.index_mut-in-Unreached.result.now one two in
+    let goes : target_of c.index.result.now.refused c.index.result.now.run ≡ Some c.in-Some.node = sym c.target.ensures ∙ c.in-Some.is in
+    let Q : PendingRun → Type 0 = λ pending_run. target_of pending_run.refused pending_run.run ≡ Some c.in-Some.node in
+    (refused g.P.NodePort.failures g.P.NodePort.is_garbled g.P.NodePort.exchange g.P.NodePort.gives_none g.D.Dial.opens g.P.RunPort.longest dials_node refl (carrier_model g.D.Dial.failures c.args.self.now) c.args.worker c.place_of-at.result c.in-Some.node c.index_mut-in-Unreached.result.now c.refuse.new.self c.index_mut.result.now c.open.new.self _ two (subst Q same goes) there c.place_of-at.ensures.value (rw c.in-Unreached.is at c.in_ok-open.ensures) c.refuse.ensures, λ still. absurd (cc))

@@ -6,31 +6,31 @@ use Rattle.proxy_turns.proofs.Carrying.{at-place, opened, undialled, connected, 
 use Rattle.proxy_turns.proofs.carrier.Carrier+H+Publisher+J+R+D+P.dial_seed.Goals as goal
 
 pub returns-then-not-self : goal.returns-then-not-self
-returns-then-not-self g c = (stays g.P.NodePort.failures g.P.NodePort.is_garbled g.P.NodePort.exchange g.P.NodePort.gives_none g.D.Dial.opens dials_seed (carrier_model g.D.Dial.failures c.args.self.now), λ still. inl c.if-not-self.true)
+returns-then-not-self g c = (stays g.P.NodePort.failures g.P.NodePort.is_garbled g.P.NodePort.exchange g.P.NodePort.gives_none g.D.Dial.opens g.P.RunPort.longest dials_seed (carrier_model g.D.Dial.failures c.args.self.now), λ still. inl c.if-not-self.true)
 
 pub returns-then-at-len : goal.returns-then-at-len
-returns-then-at-len g c = (stays g.P.NodePort.failures g.P.NodePort.is_garbled g.P.NodePort.exchange g.P.NodePort.gives_none g.D.Dial.opens dials_seed (carrier_model g.D.Dial.failures c.args.self.now), λ still. inr (omega (arith, c.len.ensures, c.if-at-len.true, c.place_of-at.ensures.value, c.requires)))
+returns-then-at-len g c = (stays g.P.NodePort.failures g.P.NodePort.is_garbled g.P.NodePort.exchange g.P.NodePort.gives_none g.D.Dial.opens g.P.RunPort.longest dials_seed (carrier_model g.D.Dial.failures c.args.self.now), λ still. inr (omega (arith, c.len.ensures, c.if-at-len.true, c.place_of-at.ensures.value, c.requires)))
 
 pub returns-in_err-open : goal.returns-in_err-open
 returns-in_err-open g c =
     let lt : c.place_of-at.result < length c.args.self.now.backends.items = omega (arith, c.len.ensures, c.if-at-len.false) in
     let there : slice_get c.args.self.now.backends.items c.place_of-at.result ≡ Some c.index_mut-backend.result.now = at-place c.args.self.now.backends.items c.place_of-at.result c.index_mut-backend.result.now lt c.index_mut-backend.ensures.value in
-    undialled g.P.NodePort.failures g.P.NodePort.is_garbled g.P.NodePort.exchange g.P.NodePort.gives_none g.D.Dial.opens dials_seed _ (carrier_model g.D.Dial.failures c.args.self.now) c.place_of-at.result c.index_mut-backend.result.now c.open.new.self _ _ c.from_residual.result there c.in_err-open.ensures (err_from_is_err_and c.from_residual.result c.from_residual.ensures.1).1
+    undialled g.P.NodePort.failures g.P.NodePort.is_garbled g.P.NodePort.exchange g.P.NodePort.gives_none g.D.Dial.opens g.P.RunPort.longest dials_seed _ (carrier_model g.D.Dial.failures c.args.self.now) c.place_of-at.result c.index_mut-backend.result.now c.open.new.self _ _ c.from_residual.result there c.in_err-open.ensures (err_from_is_err_and c.from_residual.result c.from_residual.ensures.1).1
 
 pub returns-in-Opened : goal.returns-in-Opened
 returns-in-Opened g c =
     let lt : c.place_of-at.result < length c.args.self.now.backends.items = omega (arith, c.len.ensures, c.if-at-len.false) in
     let there : slice_get c.args.self.now.backends.items c.place_of-at.result ≡ Some c.index_mut-backend.result.now = at-place c.args.self.now.backends.items c.place_of-at.result c.index_mut-backend.result.now lt c.index_mut-backend.ensures.value in
-    (opened g.P.NodePort.failures g.P.NodePort.is_garbled g.P.NodePort.exchange g.P.NodePort.gives_none g.D.Dial.opens dials_seed refl (carrier_model g.D.Dial.failures c.args.self.now) c.place_of-at.result c.args.seed c.index_mut-backend.result.now c.open.new.self _ there c.place_of-at.ensures.value (rw c.in-Opened.is at c.in_ok-open.ensures), λ still. absurd (cc))
+    (opened g.P.NodePort.failures g.P.NodePort.is_garbled g.P.NodePort.exchange g.P.NodePort.gives_none g.D.Dial.opens g.P.RunPort.longest dials_seed refl (carrier_model g.D.Dial.failures c.args.self.now) c.place_of-at.result c.args.seed c.index_mut-backend.result.now c.open.new.self _ there c.place_of-at.ensures.value (rw c.in-Opened.is at c.in_ok-open.ensures), λ still. absurd (cc))
 
 pub returns-in-Present : goal.returns-in-Present
 returns-in-Present g c =
     let lt : c.place_of-at.result < length c.args.self.now.backends.items = omega (arith, c.len.ensures, c.if-at-len.false) in
     let there : slice_get c.args.self.now.backends.items c.place_of-at.result ≡ Some c.index_mut-backend.result.now = at-place c.args.self.now.backends.items c.place_of-at.result c.index_mut-backend.result.now lt c.index_mut-backend.ensures.value in
-    (connected g.P.NodePort.failures g.P.NodePort.is_garbled g.P.NodePort.exchange g.P.NodePort.gives_none g.D.Dial.opens dials_seed refl (carrier_model g.D.Dial.failures c.args.self.now) c.place_of-at.result c.args.seed c.index_mut-backend.result.now c.open.new.self _ c.if-not-self.false there (c.place_of-at.ensures.value ∙ c.requires) (rw c.in-Present.is at c.in_ok-open.ensures), λ still. absurd (cc))
+    (connected g.P.NodePort.failures g.P.NodePort.is_garbled g.P.NodePort.exchange g.P.NodePort.gives_none g.D.Dial.opens g.P.RunPort.longest dials_seed refl (carrier_model g.D.Dial.failures c.args.self.now) c.place_of-at.result c.args.seed c.index_mut-backend.result.now c.open.new.self _ c.if-not-self.false there (c.place_of-at.ensures.value ∙ c.requires) (rw c.in-Present.is at c.in_ok-open.ensures), λ still. absurd (cc))
 
 pub returns-in-Unreached : goal.returns-in-Unreached
 returns-in-Unreached g c =
     let lt : c.place_of-at.result < length c.args.self.now.backends.items = omega (arith, c.len.ensures, c.if-at-len.false) in
     let there : slice_get c.args.self.now.backends.items c.place_of-at.result ≡ Some c.index_mut-backend.result.now = at-place c.args.self.now.backends.items c.place_of-at.result c.index_mut-backend.result.now lt c.index_mut-backend.ensures.value in
-    (missed g.P.NodePort.failures g.P.NodePort.is_garbled g.P.NodePort.exchange g.P.NodePort.gives_none g.D.Dial.opens dials_seed refl (carrier_model g.D.Dial.failures c.args.self.now) c.place_of-at.result c.args.seed c.index_mut-backend.result.now c.open.new.self _ c.if-not-self.false there c.requires (rw c.in-Unreached.is at c.in_ok-open.ensures), λ still. absurd (cc))
+    (missed g.P.NodePort.failures g.P.NodePort.is_garbled g.P.NodePort.exchange g.P.NodePort.gives_none g.D.Dial.opens g.P.RunPort.longest dials_seed refl (carrier_model g.D.Dial.failures c.args.self.now) c.place_of-at.result c.args.seed c.index_mut-backend.result.now c.open.new.self _ c.if-not-self.false there c.requires (rw c.in-Unreached.is at c.in_ok-open.ensures), λ still. absurd (cc))

@@ -6,7 +6,7 @@ use Rattle.proxy_turns.proofs.ClientResting.{drain_none, undrained}
 use Rattle.proxy_turns.proofs.client_parts.ClientParts.drain.Goals as goal
 
 pub invariant_of-self-2 : goal.invariant_of-self-2
-invariant_of-self-2 g c = sound_kept c.self.inside.session c.drain.new.session c.self.inside.commands c.drain.ensures.kept c.self.invariant
+invariant_of-self-2 g c = sound_kept c.self.inside.session c.drain.new.session c.self.inside.commands c.drain.ensures.order c.drain.ensures.parts c.self.invariant
 
 pub returns-clause-drains : goal.returns-clause-drains
 returns-clause-drains g c = λ outlet view.

@@ -10,7 +10,7 @@ pub invariant_of-self : goal.invariant_of-self
 invariant_of-self g c = sound_drops c.self.inside.session c.self.inside.commands c.drop_fresh.new.self c.drop_fresh.result c.drop_fresh.ensures c.self.invariant
 
 pub returns-clause-drops : goal.returns-clause-drops
-returns-clause-drops g c = λ outlet view. rw (← c.self.view_is) (drops g.C.ClientPort.moves is_drop _ outlet view (λ ticket. refl) _ _ c.if-not-self.false c.drop_fresh.ensures)
+returns-clause-drops g c = λ outlet view. rw (← c.self.view_is) (drops g.C.ClientPort.moves is_drop _ outlet view (λ tickets. refl) _ _ c.if-not-self.false c.drop_fresh.ensures)
 
 pub returns-clause-none : goal.returns-clause-none
 returns-clause-none g c = λ not_so gone. rw (← c.self.view_is) (drop_none _ _ _ c.drop_fresh.ensures not_so)

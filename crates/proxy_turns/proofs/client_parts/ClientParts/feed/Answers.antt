@@ -6,7 +6,7 @@ use Rattle.proxy_turns.proofs.ClientResting.{fed_still, feed_fault, unfed_none}
 use Rattle.proxy_turns.proofs.client_parts.ClientParts.feed.Goals as goal
 
 pub invariant_of-self : goal.invariant_of-self
-invariant_of-self g c = sound_kept c.self.inside.session c.feed.new.self c.self.inside.commands c.feed.ensures.kept c.self.invariant
+invariant_of-self g c = sound_kept c.self.inside.session c.feed.new.self c.self.inside.commands c.feed.ensures.order c.feed.ensures.parts c.self.invariant
 
 pub returns-in-Ok-clause-feeds : goal.returns-in-Ok-clause-feeds
 returns-in-Ok-clause-feeds g c = λ outlet view.

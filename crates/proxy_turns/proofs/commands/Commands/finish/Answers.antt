@@ -18,5 +18,5 @@ pub returns : goal.returns
 returns c =
     rw (← c.self.view_is) (
       (c.take_at.result, c.take_at.ensures.held, sym c.in-Ok.ensures.progress.0, c.in-Ok.ensures.progress.1),
-      λ i. record { fresh = c.self.inside.fresh; posted = c.take_at.ensures.left i },
+      λ i. record { fresh = c.self.inside.fresh.items; posted = c.take_at.ensures.left i },
     )

@@ -19,34 +19,34 @@ pub returns-then-is_held-clause-settles : goal.returns-then-is_held-clause-settl
 returns-then-is_held-clause-settles g c = all_then g.C.ClientPort.moves settles _ _ _ _ _ c.loop-ticket.invariant.goes (rw (← c.is_move-moved.ensures) at c.in_ok-settled.ensures.settles)
 
 pub returns-in_err-settled-clause-ended : goal.returns-in_err-settled-clause-ended
-returns-in_err-settled-clause-ended g c = ap (λ d. d.ended) c.settle_one.ensures.due ∙ c.loop-ticket.invariant.ended
+returns-in_err-settled-clause-ended g c = ap (λ d. d.ended) c.post_one.ensures.due ∙ c.loop-ticket.invariant.ended
 
 pub returns-then-is_held-clause-ended : goal.returns-then-is_held-clause-ended
-returns-then-is_held-clause-ended g c = ap (λ d. d.ended) c.settle_one.ensures.due ∙ c.loop-ticket.invariant.ended
+returns-then-is_held-clause-ended g c = ap (λ d. d.ended) c.post_one.ensures.due ∙ c.loop-ticket.invariant.ended
 
 pub returns-then-is_held-clause-none : goal.returns-then-is_held-clause-none
-returns-then-is_held-clause-none g c = inr (held_full c.in_ok-settled.settled _ c.settle_one.new.self.outlet (c.is_held.ensures.0 c.if-is_held.true) c.in_ok-settled.ensures.settled)
+returns-then-is_held-clause-none g c = inr (held_full c.in_ok-settled.settled _ c.post_one.new.self.outlet (c.is_held.ensures.0 c.if-is_held.true) c.in_ok-settled.ensures.settled)
 
 pub invariant_of-self : goal.invariant_of-self
 invariant_of-self g c =
     let ticket = c.in-Some.ticket in
-    let clients = clients_in c.settle_one.new.self.clients.entries in
-    let first : c.settle_one.new.self.due.due.items ≡ ticket ∷ c.in-Some.ensures.0 = ap (λ d. d.due.items) c.settle_one.ensures.due ∙ c.in-Some.ensures.1 in
+    let clients = clients_in c.post_one.new.self.clients.entries in
+    let first : c.post_one.new.self.due.due.items ≡ ticket ∷ c.in-Some.ensures.0 = ap (λ d. d.due.items) c.post_one.ensures.due ∙ c.in-Some.ensures.1 in
     record {
-      ports_fit = c.settle_one.new.self.ports_fit;
-      due_known = due_dropped clients c.settle_one.new.self.due c.drop_due.new.self ticket c.in-Some.ensures.0 first c.drop_due.ensures.due c.drop_due.ensures.kept
-          (left_none c.in_ok-settled.settled (IsToSettleAt clients ticket.client ticket.part) c.settle_one.new.self.outlet (λ held. false≢true (sym c.if-is_held.false ∙ c.is_held.ensures.1 held)) c.in_ok-settled.ensures.settled)
-          c.settle_one.new.self.due_known;
+      ports_fit = c.post_one.new.self.ports_fit;
+      due_known = due_dropped clients c.post_one.new.self.due c.drop_due.new.self ticket c.in-Some.ensures.0 first c.drop_due.ensures.due c.drop_due.ensures.kept
+          (left_none c.in_ok-settled.settled (IsToSettleAt clients ticket.client ticket.part) c.post_one.new.self.outlet (λ held. false≢true (sym c.if-is_held.false ∙ c.is_held.ensures.1 held)) c.in_ok-settled.ensures.settled)
+          c.post_one.new.self.due_known;
     }
 
 pub loop-ticket-smaller : goal.loop-ticket-smaller
 loop-ticket-smaller g c =
-    shorter c.loop-ticket.self.due.due.items c.drop_due.new.self.due.items c.in-Some.ticket c.in-Some.ensures.0 c.in-Some.ensures.1 (c.drop_due.ensures.due ∙ ap (λ d. drop 1 d.due.items) c.settle_one.ensures.due)
+    shorter c.loop-ticket.self.due.due.items c.drop_due.new.self.due.items c.in-Some.ticket c.in-Some.ensures.0 c.in-Some.ensures.1 (c.drop_due.ensures.due ∙ ap (λ d. drop 1 d.due.items) c.post_one.ensures.due)
 
 pub loop-ticket-preserved : goal.loop-ticket-preserved
 loop-ticket-preserved g c = record {
   goes = all_then g.C.ClientPort.moves settles _ _ _ _ _ c.loop-ticket.invariant.goes (rw (← c.is_move-moved.ensures) at c.in_ok-settled.ensures.settles);
-  ended = c.drop_due.ensures.kept.0 ∙ ap (λ d. d.ended) c.settle_one.ensures.due ∙ c.loop-ticket.invariant.ended;
+  ended = c.drop_due.ensures.kept.0 ∙ ap (λ d. d.ended) c.post_one.ensures.due ∙ c.loop-ticket.invariant.ended;
 }
 
 pub returns-clause-settles : goal.returns-clause-settles

@@ -44,9 +44,9 @@ invariant_of-self-2 g c =
     let new = clients_in c.tell_client.new.clients.entries in
     record {
       ports_fit = omega (arith, c.tell_client.ensures.len, c.args.self.now.ports_fit);
-      due_known = told_noted old new c.in-Some.ticket c.in-Some.told c.args.self.now.due c.note.new.self c.pause_before_post-pause.result
+      due_known = told_noted old new c.in-Some.ticket c.in-Some.told c.args.self.now.due c.note_step.new.due
           (subst (λ heard. Tells old c.in-Some.ticket c.in-Some.told heard new) c.if-not-tell_client.false c.tell_client.ensures.tells)
-          (keeps_then c.args.self.now.due c.reserve_one.new.self c.note.new.self c.reserve_one.ensures.kept c.note.ensures.kept) c.pause_before_post-pause.ensures c.note.ensures.noted c.args.self.now.due_known;
+          (keeps_then c.args.self.now.due c.reserve_one.new.self c.note_step.new.due c.reserve_one.ensures.kept c.note_step.ensures.kept) c.note_step.ensures.noted c.args.self.now.due_known;
     }
 
 pub returns-clause-takes : goal.returns-clause-takes

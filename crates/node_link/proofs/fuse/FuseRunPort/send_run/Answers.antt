@@ -1,0 +1,6 @@
+use Rattle.node_link.proofs.Blowing.{counts}
+use Rattle.node_link.proofs.fuse.FuseRunPort.send_run.Goals as goal
+
+pub returns-then-not-passes-clause-count : goal.returns-then-not-passes-clause-count
+returns-then-not-passes-clause-count g c =
+    counts g.P.NodePort.failures c.args.self.now c.passes.new.self c.if-not-passes.ensures

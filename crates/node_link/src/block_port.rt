@@ -1,0 +1,254 @@
+//! A port over a stream of bytes that sends runs as blocks.
+
+ghost use Rattle.std.specs.Prelude.{◌≡◌, ◌≤◌, ◌<◌, ◌∷◌, [], None, OnOk, false, length, map};
+ghost use Rattle.key_split.specs.Requests.{Slots, requests_of};
+ghost use Rattle.key_split.specs.Runs.{IsTogether, count_in, requests_of_run};
+ghost use Rattle.node_link.specs.Blocks.{Block, BlockExchanges, BlockGivesNone, GoesAs, IsBlockGarbled, Plain, items_of, longest_at, spelled_block};
+ghost use Rattle.node_link.specs.Bytes.{OffersFirst, spelled};
+ghost use Rattle.node_link.specs.Collecting.{DraftOutcome, await_each};
+ghost use Rattle.node_link.specs.Port.{SendOutcome, NextOutcome};
+ghost use Rattle.node_link.specs.Waiting.{GaveNone};
+ghost use Rattle.node_link.specs.declared.replies.Awaited.TheVariants as awaited;
+
+use crate::inbox::Inbox;
+use crate::outbox::Outbox;
+use crate::port::{NodePort, PortFault};
+use crate::replies::{Awaited, Replies};
+use crate::run_port::RunPort;
+use crate::spelling::{push_batch, push_block, push_slots};
+use crate::stream::{Gone, Stream};
+use key_split::{Batch, Run};
+use resp_wire::{Limits, NoMemory, Value};
+use std::alloc::Global;
+use std::marker::Model;
+
+/// A block has so many commands at most.
+const LONGEST_BLOCK: usize = 64;
+
+/// A port over a stream that does not block. A run of several commands goes as a block: MULTI, the commands, EXEC. Nothing is told
+/// before EXEC is answered. It writes and reads as `BytePort` does.
+#[derive(Drop)]
+pub struct BlockPort<S> {
+    stream: S,
+    /// The stream left some of the bytes that it was offered last.
+    refused: bool,
+    outbox: Outbox,
+    inbox: Inbox,
+    replies: Replies,
+    /// Whether runs may go as blocks.
+    takes_blocks: bool,
+}
+
+impl<S> Model for BlockPort<S> {
+    ghost use Rattle.std.specs.Prelude.{◌≡◌, []};
+    ghost use Rattle.std.specs.Coded.{codes};
+    ghost use Rattle.resp_wire.specs.Stored.{coded_data};
+    ghost use Rattle.node_link.specs.Blocks.{BlockPortModel};
+    ghost use Rattle.node_link.specs.Bytes.{input_of};
+
+    ghost Value = { BlockPortModel S };
+
+    ghost coded = { Prim.hlevel (codes, coded_data) };
+
+    ghost view = { λ a. record {
+      bytes = record { stream = a.stream; unsent = a.outbox.unsent; refused = a.refused; input = input_of a.inbox };
+      replies = a.replies;
+      takes_blocks = a.takes_blocks;
+    } };
+
+    ghost invariant = { λ a. a.outbox.draft ≡ [] };
+}
+
+impl<S> BlockPort<S> {
+    /// A port over a stream of which nothing was read or written. `takes_blocks` is whether its node does: where it does not, the
+    /// port takes runs of one.
+    pub fn new(alloc: Global, stream: S, limits: Limits, takes_blocks: bool) -> Self
+        ensures { result ≡ record {
+          bytes = record { stream = stream; unsent = []; refused = false; input = record { bounds = limits; unread = []; fault = None } };
+          replies = record { awaited = []; came = []; told = [] };
+          takes_blocks = takes_blocks;
+        } }
+    {
+        BlockPort {
+            stream,
+            refused: false,
+            outbox: Outbox::new(alloc),
+            inbox: Inbox::new(alloc, limits),
+            replies: Replies::new(alloc),
+            takes_blocks,
+        }
+    }
+
+    pub fn stream(&self) -> &S
+        ensures { result.now ≡ self.now.bytes.stream }
+    {
+        &self.stream
+    }
+}
+
+impl<S: Stream> NodePort for BlockPort<S> {
+    ghost use Rattle.std.proofs.lemmas.List.{append-nil};
+    ghost use Rattle.std.specs.Prelude.{refl};
+    ghost use Rattle.node_link.specs.Blocks.{BlockPortModel, still_settles};
+
+    ghost failures = { λ p. S.failures p.bytes.stream };
+
+    ghost is_garbled = { IsBlockGarbled };
+
+    ghost exchange = { BlockExchanges S.moved };
+
+    ghost gives_none = { BlockGivesNone S.asked };
+
+    ghost still = { λ p. ([], [], refl, ([], [], S.still p.bytes.stream, append-nil p.bytes.unsent, append-nil p.bytes.input.unread, refl), still_settles p.replies, refl) };
+
+    fn send(&mut self, batch: &Batch) -> Result<(), PortFault>
+        ensures does { SendOutcome (λ (p : BlockPortModel S). S.failures p.bytes.stream) IsBlockGarbled (BlockExchanges S.moved) self.old (requests_of batch.now) result self.new }
+        ensures goes { OnOk result (GoesAs S.moved self.old (map Plain (requests_of batch.now)) self.new) }
+        ensures count { S.failures self.old.bytes.stream ≤ S.failures self.new.bytes.stream }
+        ensures offers { OffersFirst S.asked S.offered self.old.bytes self.new.bytes }
+    {
+        if let Err(Gone) = self
+            .outbox
+            .flush_before_send(&mut self.stream, &mut self.refused)
+        {
+            return Err(PortFault::Failed);
+        }
+        match draft_batch(&mut self.outbox, &mut self.replies, batch) {
+            Ok(()) => {
+                self.outbox.finish();
+                Ok(())
+            }
+            Err(NoMemory) => {
+                self.outbox.discard();
+                Err(PortFault::NoMemory)
+            }
+        }
+    }
+
+    fn ask_slots(&mut self) -> Result<(), PortFault>
+        ensures does { SendOutcome (λ (p : BlockPortModel S). S.failures p.bytes.stream) IsBlockGarbled (BlockExchanges S.moved) self.old (Slots ∷ []) result self.new }
+        ensures count { S.failures self.old.bytes.stream ≤ S.failures self.new.bytes.stream }
+        ensures offers { OffersFirst S.asked S.offered self.old.bytes self.new.bytes }
+    {
+        if let Err(Gone) = self
+            .outbox
+            .flush_before_send(&mut self.stream, &mut self.refused)
+        {
+            return Err(PortFault::Failed);
+        }
+        match draft_slots(&mut self.outbox, &mut self.replies) {
+            Ok(()) => {
+                self.outbox.finish();
+                Ok(())
+            }
+            Err(NoMemory) => {
+                self.outbox.discard();
+                Err(PortFault::NoMemory)
+            }
+        }
+    }
+
+    fn next(&mut self) -> Result<Option<Value>, PortFault>
+        ensures does { NextOutcome (λ (p : BlockPortModel S). S.failures p.bytes.stream) IsBlockGarbled (BlockExchanges S.moved) self.old result self.new }
+        ensures count { S.failures self.old.bytes.stream ≤ S.failures self.new.bytes.stream }
+        ensures offers { OffersFirst S.asked S.offered self.old.bytes self.new.bytes }
+        ensures none { GaveNone result → BlockGivesNone S.asked self.new }
+    {
+        let flushed = self
+            .outbox
+            .flush_before_read(&mut self.stream, &mut self.refused);
+        match self.replies.take(&mut self.inbox) {
+            Ok(Some(value)) => return Ok(Some(value)), // it came before the stream failed
+            Ok(None) => {}
+            Err(fault) => return Err(fault),
+        }
+        if let Err(Gone) = flushed {
+            return Err(PortFault::Failed);
+        }
+        if let Err(NoMemory) = self.inbox.make_room() {
+            return Err(PortFault::NoMemory);
+        }
+        self.outbox.count_read();
+        if let Err(Gone) = self.inbox.fill(&mut self.stream) {
+            return Err(PortFault::Failed);
+        }
+        self.replies.take(&mut self.inbox)
+    }
+}
+
+impl<S: Stream> RunPort for BlockPort<S> {
+    ghost use Rattle.node_link.specs.Blocks.{BlockPortModel};
+
+    ghost longest = { longest_at };
+
+    fn longest_run(&self) -> usize {
+        if self.takes_blocks { LONGEST_BLOCK } else { 1 }
+    }
+
+    fn send_run(&mut self, run: &Run) -> Result<(), PortFault>
+        requires { count_in run.now ≤ longest_at self.old }
+        ensures does { SendOutcome (λ (p : BlockPortModel S). S.failures p.bytes.stream) IsBlockGarbled (BlockExchanges S.moved) self.old (requests_of_run run.now) result self.new }
+        ensures goes { OnOk result (GoesAs S.moved self.old (items_of run.now) self.new) }
+        ensures count { S.failures self.old.bytes.stream ≤ S.failures self.new.bytes.stream }
+        ensures offers { OffersFirst S.asked S.offered self.old.bytes self.new.bytes }
+    {
+        if run.later().is_empty() {
+            return self.send(run.first());
+        }
+        self.send_block(run)
+    }
+}
+
+impl<S: Stream> BlockPort<S> {
+    ghost use Rattle.node_link.specs.Blocks.{BlockPortModel};
+
+    // Sends the commands of a run as a block.
+    fn send_block(&mut self, run: &Run) -> Result<(), PortFault>
+        requires together { IsTogether run.now }
+        requires several { 0 < length run.now.later }
+        requires few { count_in run.now ≤ 64 }
+        ensures does { SendOutcome (λ (p : BlockPortModel S). S.failures p.bytes.stream) IsBlockGarbled (BlockExchanges S.moved) self.old (requests_of_run run.now) result self.new }
+        ensures goes { OnOk result (GoesAs S.moved self.old (Block (requests_of_run run.now) ∷ []) self.new) }
+        ensures count { S.failures self.old.bytes.stream ≤ S.failures self.new.bytes.stream }
+        ensures offers { OffersFirst S.asked S.offered self.old.bytes self.new.bytes }
+    {
+        if let Err(Gone) = self
+            .outbox
+            .flush_before_send(&mut self.stream, &mut self.refused)
+        {
+            return Err(PortFault::Failed);
+        }
+        match draft_block(&mut self.outbox, &mut self.replies, run) {
+            Ok(()) => {
+                self.outbox.finish();
+                Ok(())
+            }
+            Err(NoMemory) => {
+                self.outbox.discard();
+                Err(PortFault::NoMemory)
+            }
+        }
+    }
+}
+
+fn draft_batch(out: &mut Outbox, replies: &mut Replies, batch: &Batch) -> Result<(), NoMemory>
+    ensures { DraftOutcome (spelled (requests_of batch.now)) (await_each (requests_of batch.now)) out.old replies.old result out.new replies.new }
+{
+    push_batch(out, batch)?;
+    replies.expect_batch(batch)
+}
+
+fn draft_slots(out: &mut Outbox, replies: &mut Replies) -> Result<(), NoMemory>
+    ensures { DraftOutcome (spelled (Slots ∷ [])) (await_each (Slots ∷ [])) out.old replies.old result out.new replies.new }
+{
+    push_slots(out)?;
+    replies.expect(Awaited::Reply)
+}
+
+fn draft_block(out: &mut Outbox, replies: &mut Replies, run: &Run) -> Result<(), NoMemory>
+    requires { count_in run.now ≤ 64 }
+    ensures { DraftOutcome (spelled_block (requests_of_run run.now)) (awaited.Block (count_in run.now) ∷ []) out.old replies.old result out.new replies.new }
+{
+    push_block(out, run)?;
+    replies.expect(Awaited::Block(run.len() as u8))
+}

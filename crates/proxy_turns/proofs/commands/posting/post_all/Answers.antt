@@ -1,0 +1,43 @@
+use Rattle.std.proofs.Common.{◌≡◌, ◌∙◌, ◌∷◌, [], List, Err, ap, inl, refl, rules, subst, sym}
+use Rattle.std.specs.Prelude.{All}
+use Rattle.command_future.specs.CommandModel.{CommandModel, MayPostTo}
+use Rattle.proxy_turns.specs.Commands.{AreOneRun, in_table, with_posted}
+use Rattle.proxy_turns.proofs.Tables.{same_look-ups}
+use Rattle.proxy_turns.proofs.Posting.{front_item, may_all, none_back, none_made, posts_all, same_commands}
+use Rattle.proxy_turns.proofs.commands.posting.post_all.Goals as goal
+
+pub returns-in_default-clause-posts : goal.returns-in_default-clause-posts
+returns-in_default-clause-posts g c =
+    let same = same_look-ups c.args.posted.now.entries c.reserve.new.self.entries c.reserve.ensures.entries.2 in
+    (same_commands c.args.fresh.now.items _ _ same, 0, (inl refl, inl refl))
+
+pub run_of-requires-clause-later : goal.run_of-requires-clause-later
+run_of-requires-clause-later g c =
+    let whole = sym c.as_slice.ensures.value ∙ front_item c.as_slice.result.now c.first-item.result c.in-len1-up.len_at_least c.first-item.is in
+    (subst AreOneRun whole c.requires).1
+
+pub returns-in_err-run-clause-posts : goal.returns-in_err-run-clause-posts
+returns-in_err-run-clause-posts g c =
+    let same = same_look-ups c.args.posted.now.entries c.reserve.new.self.entries c.reserve.ensures.entries.2 in
+    let whole = sym c.as_slice.ensures.value ∙ front_item c.as_slice.result.now c.first-item.result c.in-len1-up.len_at_least c.first-item.is in
+    let is : c.from_residual-in_err-run.result ≡ Err c.in_err-run.field-0.0 = search rules in
+    rw is (none_made c.args.fresh.now.items c.first-item.result _ whole c.args.posted.now.entries c.reserve.new.self.entries same c.args.outlet.now c.args.outlet.now c.args.view.now c.aim.new.view c.in-Some.node c.in-Some.ensures.aims)
+
+pub returns-then-not-post_run-clause-posts : goal.returns-then-not-post_run-clause-posts
+returns-then-not-post_run-clause-posts g c =
+    let same = same_look-ups c.args.posted.now.entries c.reserve.new.self.entries c.reserve.ensures.entries.2 in
+    let whole = sym c.as_slice.ensures.value ∙ front_item c.as_slice.result.now c.first-item.result c.in-len1-up.len_at_least c.first-item.is in
+    none_back c.args.fresh.now.items c.first-item.result _ whole c.args.posted.now.entries c.reserve.new.self.entries same c.args.outlet.now c.post_run.new.outlet c.args.view.now c.aim.new.view c.in-Some.node c.in-Some.ensures.aims
+    c.in_ok-run.run' (rw c.if-not-post_run.true at c.post_run.ensures)
+
+pub keep_posted-requires-clause-may : goal.keep_posted-requires-clause-may
+keep_posted-requires-clause-may g c =
+    subst (All (λ (d : CommandModel). MayPostTo d.stage c.in-Some.node)) (ap (λ v. v.items) (sym c.replace.ensures.value)) (may_all c.args.fresh.now.items c.in-Some.node c.requires)
+
+pub returns-clause-posts : goal.returns-clause-posts
+returns-clause-posts g c =
+    let same = same_look-ups c.args.posted.now.entries c.reserve.new.self.entries c.reserve.ensures.entries.2 in
+    let whole = sym c.as_slice.ensures.value ∙ front_item c.as_slice.result.now c.first-item.result c.in-len1-up.len_at_least c.first-item.is in
+    posts_all c.args.fresh.now.items c.first-item.result _ whole c.args.posted.now.entries c.reserve.new.self.entries same c.args.outlet.now c.post_run.new.outlet c.args.view.now c.aim.new.view c.in-Some.node c.in-Some.ensures.aims
+    c.in_ok-run.run' c.in_ok-run.ensures (rw c.if-not-post_run.false at c.post_run.ensures) c.replace.new.dest.items (ap (λ v. v.items) c.replace.ensures.after ∙ c.new.ensures.items) c.keep_posted.new.posted.entries
+    (c.keep_posted.ensures ∙ ap (λ v. with_posted (in_table c.reserve.new.self.entries) v.items) c.replace.ensures.value)

@@ -1,0 +1,180 @@
+//! How commands are posted: those that were not posted yet together, and a posted one alone.
+
+ghost use Rattle.std.specs.Prelude.{◌≡◌, ◌≢◌, ◌<◌, ◌≤◌, ◌++◌, [], ◌∷◌, ℕ, List, Option, Result, All, IfOk, IfSome, MatchOption, OnErr, OnOk, false, length, ⊤};
+ghost use Rattle.std.specs.FinMap as map;
+ghost use Rattle.std.specs.HashMap.{spare};
+ghost use Rattle.slot_hash.specs.Slot.{slot_of};
+ghost use Rattle.key_split.specs.Runs.{GoTogether};
+ghost use Rattle.command_future.specs.CommandModel.{CommandModel, IsFresh, MayPostTo, WantsPost};
+ghost use Rattle.proxy_lanes.specs.declared.map_view.NotEntered.{NotEntered};
+ghost use Rattle.proxy_turns.specs.ClientRest.{HasNoPlace, IfStill};
+ghost use Rattle.proxy_turns.specs.Commands.{AreOneRun, GoesTo, GoesWith, Looks, PostOutcome, PostsAtResult, PostsFreshResult, PostsRun, WantsPostAt, commanded, in_table, node_looked_up, run_of, with_posted};
+
+use command_future::{Command, Want};
+use key_split::{Batch, Run};
+use proxy_lanes::{MapView, Naming, Outlet};
+use resp_wire::NoMemory;
+use slot_hash::Slot;
+use slot_map::NodeId;
+use std::alloc::{AllocFailed, Global};
+use std::collections::HashMap;
+use std::mem;
+
+// Posts the commands that were not posted yet, and puts them among the others. True where they were posted.
+pub(super) fn post_all<J: Naming>(
+    alloc: Global,
+    fresh: &mut Vec<Command>,
+    posted: &mut HashMap<u64, Command>,
+    outlet: &mut Outlet<Run>,
+    view: &mut MapView<J>,
+) -> Result<bool, NoMemory>
+    requires { AreOneRun fresh.old.items }
+    ensures posts { PostsFreshResult (commanded fresh.old.items posted.old.entries) outlet.old view.old result (commanded fresh.new.items posted.new.entries) outlet.new view.new }
+    ensures full { IfStill result (fresh.old.items ≢ [] → HasNoPlace outlet.new) }
+{
+    posted.reserve(fresh.len())?;
+    let [first, later @ ..] = fresh.as_slice() else {
+        return Ok(false);
+    };
+    let Some(node) = aim(first, view) else {
+        return Ok(false);
+    };
+    let run = run_of(alloc, first, later, node)?;
+    if !post_run(outlet, run) {
+        return Ok(false);
+    }
+    keep_posted(mem::replace(fresh, Vec::new(alloc)), posted, node);
+    Ok(true)
+}
+
+// The commands, on their way to this node together.
+fn run_of(alloc: Global, first: &Command, later: &[Command], node: NodeId) -> Result<Run, NoMemory>
+    requires first { IsFresh first.now }
+    requires later { All (GoesWith first.now) later.now }
+    ensures { IfOk result (λ run. run ≡ run_of first.now later.now node) }
+{
+    let mut run = Run::one(alloc, first.batch(alloc, node)?);
+    let mut rest = later;
+    while let [next, more @ ..] = rest {
+        let batch = next.batch(alloc, node)?;
+        push_to(&mut run, batch)?;
+        rest = more;
+    }
+    Ok(run)
+}
+
+fn push_to(run: &mut Run, batch: Batch) -> Result<(), NoMemory>
+    requires { GoTogether run.old.first batch }
+    ensures { OnOk result (run.new ≡ record run.old { later = run.old.later ++ batch ∷ [] }) }
+{
+    match run.push(batch) {
+        Ok(()) => Ok(()),
+        Err(_) => Err(NoMemory),
+    }
+}
+
+// Puts the commands, which were posted at this node, among the others. There is room for them.
+fn keep_posted(commands: Vec<Command>, posted: &mut HashMap<u64, Command>, node: NodeId)
+    requires room { length commands.items ≤ spare posted.old }
+    requires may { All (λ c. MayPostTo c.stage node) commands.items }
+    ensures { in_table posted.new.entries ≡ with_posted (in_table posted.old.entries) commands.items }
+{
+    for command in commands {
+        keep_one(command, posted, node);
+    }
+}
+
+// The same for one of them.
+fn keep_one(command: Command, posted: &mut HashMap<u64, Command>, node: NodeId)
+    requires room { 0 < spare posted.old }
+    requires may { MayPostTo command.stage node }
+    ensures put { in_table posted.new.entries ≡ with_posted (in_table posted.old.entries) (command ∷ []) }
+    ensures room { (n : ℕ) → n < spare posted.old → n ≤ spare posted.new }
+{
+    let mut command = command;
+    command.posted(node);
+    let number = command.ticket().part;
+    let put: Result<Option<Command>, AllocFailed<(u64, Command)>> = posted.insert(number, command);
+    put.unwrap();
+}
+
+// Posts the command for the part of this number alone, where it wants that. True where it was posted.
+pub(super) fn post_at<J: Naming>(
+    alloc: Global,
+    posted: &mut HashMap<u64, Command>,
+    number: u64,
+    outlet: &mut Outlet<Run>,
+    view: &mut MapView<J>,
+) -> Result<bool, NoMemory>
+    ensures posts { (fresh : List CommandModel) → PostsAtResult (commanded fresh posted.old.entries) number outlet.old view.old result (commanded fresh posted.new.entries) outlet.new view.new }
+    ensures full { IfStill result ((fresh : List CommandModel) → WantsPostAt (commanded fresh posted.old.entries) number → HasNoPlace outlet.new) }
+{
+    let Some(command) = posted.get_mut(&number) else {
+        return Ok(false);
+    };
+    post_command(alloc, command, outlet, view)
+}
+
+// Posts the command alone, where it wants that. True where it was posted.
+fn post_command<J: Naming>(
+    alloc: Global,
+    command: &mut Command,
+    outlet: &mut Outlet<Run>,
+    view: &mut MapView<J>,
+) -> Result<bool, NoMemory>
+    ensures ok { IfOk result (λ moved. PostOutcome command.old outlet.old view.old moved command.new outlet.new view.new) }
+    ensures err { OnErr result (PostOutcome command.old outlet.old view.old false command.new outlet.new view.new) }
+    ensures full { IfStill result (WantsPost command.old.stage → HasNoPlace outlet.new) }
+{
+    let Some(node) = aim(command, view) else {
+        return Ok(false);
+    };
+    let batch = command.batch(alloc, node)?;
+    if !post_run(outlet, Run::one(alloc, batch)) {
+        return Ok(false);
+    }
+    command.posted(node);
+    Ok(true)
+}
+
+// The node at which the command wants to be posted.
+fn aim<J: Naming>(command: &Command, view: &mut MapView<J>) -> Option<NodeId>
+    ensures aims { MatchOption result (view.new ≡ view.old) (λ node. GoesTo command.now.stage (slot_of command.now.part.key) view.old node view.new) }
+    ensures may { IfSome result (λ node. MayPostTo command.now.stage node) }
+    ensures none { MatchOption result (WantsPost command.now.stage → ⊥) (λ _. ⊤) }
+{
+    match command.want() {
+        Want::Post(_, Some(node)) => Some(node),
+        Want::Post(_, None) => Some(node_by_map(view, command.slot())),
+        Want::Await => None,
+        Want::Finished => None,
+    }
+}
+
+// Posts the run. False where it came back.
+fn post_run(outlet: &mut Outlet<Run>, run: Run) -> bool
+    ensures { PostsRun outlet.old run result outlet.new }
+{
+    match outlet.post(run) {
+        Ok(()) => true,
+        Err(_) => false,
+    }
+}
+
+// The node of the slot by the map, or the seed.
+fn node_by_map<J: Naming>(view: &mut MapView<J>, slot: Slot) -> NodeId
+    ensures { (answer : Result (Option ℕ) NotEntered) × Looks view.old slot answer view.new × (result ≡ node_looked_up answer) }
+{
+    match view.node_of(slot) {
+        Ok(Some(node)) => node,
+        Ok(None) => seed(),
+        Err(_) => seed(),
+    }
+}
+
+// The first node of the table.
+fn seed() -> NodeId
+    ensures { result ≡ 0 }
+{
+    NodeId::new(0).unwrap()
+}
