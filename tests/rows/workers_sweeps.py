@@ -4,10 +4,11 @@ import os
 import random
 import re
 import sys
-from binascii import crc_hqx
 
 sys.path.append(os.path.join(os.path.dirname(os.path.abspath(__file__)), "..", "program"))
 
+from answers import Fitting, one_of, slot_of, spelled
+from orders import ten_thousand_orders_of_turns
 from store import Store
 from table import Row, quoted, request
 
@@ -28,24 +29,6 @@ AT_FIRST = 16
 
 # Nanoseconds that a turn may take that moves nothing, on a machine that does much else.
 MOST = 1_000_000
-
-
-class Fitting(str):
-    """A wanted answer for which any answer will do that passes a test."""
-
-    def __new__(cls, text, test):
-        self = super().__new__(cls, text)
-        self.test = test
-        return self
-
-    def __eq__(self, answer):
-        return self.test(answer)
-
-    __hash__ = str.__hash__
-
-
-def one_of(*answers):
-    return Fitting(" or ".join(answers), lambda answer: str(answer) in answers)
 
 
 def number_of(client):
@@ -101,25 +84,9 @@ class Counting(Store):
         return super().incr(key)
 
 
-def spelled(reply):
-    """The bytes of a reply of the store."""
-    kind, _, rest = reply.partition(" ")
-    if kind == "array":
-        items = rest.split(" | ")
-        return b"*%d\r\n" % len(items) + b"".join(map(spelled, items))
-    if kind == "bulk":
-        return b"$%d\r\n%s\r\n" % (len(rest), rest.encode())
-    return {"simple": b"+", "error": b"-", "integer": b":", "null": b"$-1"}[kind] + rest.encode() + b"\r\n"
-
-
 def replies_of_one_store(requests):
     store = Counting()
     return b"".join(spelled(store.apply(words)) for words in requests)
-
-
-def slot_of(key):
-    tag = re.search("{(.+?)}", key)
-    return crc_hqx((tag.group(1) if tag else key).encode(), 0) % 16384
 
 
 def moved_key(number):
@@ -208,4 +175,9 @@ def a_turn_that_moves_nothing_is_cheap():
 
 
 def rows():
-    return [each_client_is_served_as_by_one_store(), a_client_that_is_gone_drops_what_was_not_posted(), a_turn_that_moves_nothing_is_cheap()]
+    return [
+        each_client_is_served_as_by_one_store(),
+        ten_thousand_orders_of_turns(),
+        a_client_that_is_gone_drops_what_was_not_posted(),
+        a_turn_that_moves_nothing_is_cheap(),
+    ]

@@ -1,0 +1,143 @@
+"""Ten thousand orders of turns: workers, the carrier, the steps of moves and connections that break, each order at random.
+
+Two workers serve three clients in one thread. An order says what comes next: a worker's turn, the carrier's, or the next step of
+a slot that moves. Then all are turned to the end. Ten orders follow one another over the same nodes, with new clients and keys.
+In every other ten connections stand so many calls alone, so that commands are lost.
+"""
+
+import random
+import re
+
+from answers import Fitting, one_of, slot_of, spelled
+from store import Store
+from table import Row, quoted, request
+
+ORDERS, TOGETHER = 10_000, 10
+# So many things happen in an order at random, and so many turns of all take it to its end.
+STEPS, TO_THE_END = 40, 100
+# The numbers of the first order's clients, with their workers, and how far the next one's are from them: there are four workers to
+# which clients are dealt by their numbers.
+CLIENTS, NEXT_CLIENTS = [(0, 0), (1, 1), (4, 0)], 8
+LOST = "-ERR proxy: connection lost, outcome unknown"
+# What a command over keys at two nodes is told in the end: no time passes here, so its tries follow one another.
+GAVE_UP = b"-ERR proxy: gave up, not executed\r\n"
+
+# What each client asks for on keys of its own, where no connection breaks.
+OWN = [
+    "SET {p}a 1,INCR {p}a,GET {p}a,APPEND {p}a x,GET {p}a,DEL {p}a,GET {p}a",
+    "MSET {q}x 1 {q}y 2,INCR {q}x,MGET {q}x {q}y,SET b 1,GET b,MGET {q}y b",
+    "INCR c,SET d 5,INCR c,MGET c d,DEL c d,EXISTS c d",
+]
+# What each asks for on keys that all share.
+SHARED = ["INCR {p}a," * 4 + "INCR {p}a", "INCR {p}a,INCR {q}n," * 2 + "INCR {p}a", "INCR {q}n," * 3 + "INCR {q}n"]
+
+
+def script_of(text, order):
+    """The commands of a script, on keys that no other order has."""
+    named = re.sub(r"(?<=[ ,])(\{?)([a-z])", rf"\g<1>{order}\g<2>", text)
+    return [line.split() for line in named.split(",")]
+
+
+def steps_of_moves(chance, order):
+    """The steps by which the slots of two tags move from the last node, each slot's in their order."""
+    slots = [(slot_of(f"{{{order}{tag}}}"), to) for tag, to in (("p", 0), ("q", 1))]
+    lanes = [[f"import {slot} {to}", f"migrate {slot}", *3 * [f"movekey {slot}"], f"own {slot}", f"release {slot}"] for slot, to in slots]
+    steps = []
+    while any(lanes):
+        steps.append(chance.choice([it for it in lanes if it]).pop(0))
+    return steps
+
+
+def clients_of(order):
+    """The numbers of an order's clients, with their workers."""
+    return [(number + order % TOGETHER * NEXT_CLIENTS, worker) for number, worker in CLIENTS]
+
+
+def add_order(row, chance, order, scripts):
+    """Clients come, then workers, carrier and moves take turns as chance has it; then all go on to the end."""
+    steps = steps_of_moves(chance, order)
+    for (number, worker), script in zip(clients_of(order), scripts):
+        data = b"".join(request(*(word.encode() for word in each)) for each in script)
+        row.call(f"turns client {worker} {number} {quoted(data)}")
+    for _ in range(STEPS):
+        what = chance.choice(["worker 0", "worker 1", "carrier", "carrier", "move"])
+        if what != "move":
+            row.call(f"turns {what}", one_of("moved", "rests"))
+        elif steps:
+            row.call(f"nodes {steps.pop(0)}", one_of("ok", "NotNow"))
+    row.call(f"turns all {TO_THE_END}", one_of("moved", "rests"))
+    row.call("turns all 4", "rests")
+
+
+def is_of_one_store(script, answer):
+    """Whether the replies to a client's commands are those of one store, which did not execute what was given up."""
+    store, rest = Store(), answer[1:]
+    for each in script:
+        reply = quoted(GAVE_UP)[1:-1]
+        if not rest.startswith(reply):
+            reply = quoted(spelled(store.apply(each)))[1:-1]
+        if not rest.startswith(reply):
+            return False
+        rest = rest.removeprefix(reply)
+    return rest.startswith('" ')
+
+
+def add_whole_order(row, chance, order):
+    """No connection breaks, and no two clients have a key in common: each is replied what one store replies."""
+    scripts = [script_of(text, order) for text in OWN]
+    add_order(row, chance, order, scripts)
+    for (number, _), script in zip(clients_of(order), scripts):
+        row.call(f"turns held {number}", Fitting("the replies of one store", lambda answer, script=script: is_of_one_store(script, answer)))
+
+
+def replies_in(answer):
+    """The replies that a client held, or none where these are no line each."""
+    found = re.fullmatch(r'"((?:[:-][^\\]*\\r\\n)*)" \d+', answer)
+    return found.group(1).split("\\r\\n")[:-1] if found else []
+
+
+def counts_well(scripts, held):
+    """Of each key: no client's numbers go back, no number comes twice, and no more are missing than were lost."""
+    for key in {words[1] for script in scripts for words in script}:
+        replies = [[reply for words, reply in zip(script, mine) if words[1] == key] for script, mine in zip(scripts, held)]
+        numbers = [[int(reply[1:]) for reply in mine if reply[0] == ":"] for mine in replies]
+        given, lost = sorted(sum(numbers, [])), sum(reply == LOST for mine in replies for reply in mine)
+        if any(mine != sorted(mine) for mine in numbers) or len({*given}) != len(given):
+            return False
+        if sum(map(len, replies)) != len(given) + lost or given and given[-1] > len(given) + lost:
+            return False
+    return True
+
+
+def counted(scripts, held, client):
+    """What a client that counts holds: as many replies as it asked for, each a number or a loss; with the last client's, the counts."""
+
+    def test(answer):
+        held[client] = replies_in(answer)
+        if len(held[client]) != len(scripts[client]):
+            return False
+        return client + 1 < len(scripts) or counts_well(scripts, held.values())
+
+    return Fitting("a number or a loss for each, each number once, and as many as were executed", test)
+
+
+def add_broken_order(row, chance, order):
+    """Connections break after so many calls, and all count the same keys up: each count is executed at most once."""
+    row.call(f"nodes fail {chance.randrange(8, 60)}")
+    scripts = [script_of(text, order) for text in SHARED]
+    add_order(row, chance, order, scripts)
+    held = {}
+    for client, (number, _) in enumerate(clients_of(order)):
+        row.call(f"turns held {number}", counted(scripts, held, client))
+
+
+def ten_thousand_orders_of_turns():
+    """Whatever the order of turns, moves and breaks, each client is served as by one store, and a lost count is none or one."""
+    row = Row("ten_thousand_orders_of_turns")
+    for order in range(ORDERS):
+        if order and order % TOGETHER == 0:
+            row.call("reset")
+        add = add_broken_order if order // TOGETHER % 2 else add_whole_order
+        add(row, random.Random(order), order)
+    row.note = f"{ORDERS} orders, {len(row.calls)} calls"
+    return row
