@@ -114,5 +114,30 @@ def read_changed_bytes(row, data, values, fault):
         row.call("reader next", fault.name if fault and place >= fault.place else due.get(place, "none"))
 
 
+# Bytes of a large bulk string and of the longest line, items of a long array, and so many seconds are many times what each takes.
+BULK, LINE, ITEMS, SECONDS = 4_194_304, 65_536, 65_536, 60
+
+
+def read_in_pieces(name, text, size, value):
+    """A text in small pieces, with a look for a value after each: the work grows with the bytes alone."""
+    row = Row(name, seconds=SECONDS, note=f"{len(text)} bytes in pieces of {size}")
+    row.call("reader new")
+    for start in range(0, len(text), size):
+        row.call("reader feed " + quoted(text[start : start + size]))
+        row.call("reader next", value if start + size >= len(text) else "none")
+    return row
+
+
+def long_texts_in_small_pieces():
+    array = b"*%d\r\n" % ITEMS + b"$1\r\na\r\n" * ITEMS
+    items = "array [ " + "bulk a " * ITEMS + "]"
+    bulk, line = b"a" * BULK, b"a" * LINE
+    return [
+        read_in_pieces("many_small_bulks_byte_by_byte", array, 1, items),
+        read_in_pieces("large_bulk_in_pieces_of_seven", b"$%d\r\n" % BULK + bulk + b"\r\n", 7, f"bulk {bulk.decode()}"),
+        read_in_pieces("longest_line_byte_by_byte", 10 * (b"+" + line + b"\r\n"), 1, f"simple {line.decode()}"),
+    ]
+
+
 def rows():
-    return [cut_at_each_place(), whole_and_byte_by_byte(), changed_bytes()]
+    return [cut_at_each_place(), whole_and_byte_by_byte(), changed_bytes(), *long_texts_in_small_pieces()]
