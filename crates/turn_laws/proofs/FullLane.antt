@@ -22,7 +22,7 @@ use Rattle.turn_laws.proofs.Rings.{memory, outlet_with, inlet_with, takes}
 use Rattle.turn_laws.proofs.Scenes.{scene, put, at-worker, at-client, down-in}
 use Rattle.turn_laws.proofs.ScriptFacts.{k0, new}
 use Rattle.turn_laws.proofs.ScriptStates.{newcomer, carrier}
-use Rattle.turn_laws.proofs.ScriptOpening.{only-one, apart}
+use Rattle.turn_laws.proofs.ScriptOpening.{only-one, apart, seed-first}
 use Rattle.turn_laws.proofs.ScriptAsking.{a0, doors}
 
 -- the outlet knows of no free place
@@ -102,6 +102,8 @@ module _ {C J : Type 0} (port : C) (xs : List (Numbered RunModel)) (many : 1024 
     pending_runs = refl;
     backends = refl;
     apart = apart;
+    room = omega arith;
+    table = seed-first;
     closed = refl;
     log = refl;
     new = new;

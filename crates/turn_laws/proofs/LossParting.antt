@@ -35,7 +35,7 @@ use Rattle.turn_laws.proofs.ScriptStates.{wire, link, backend, pending, newcomer
 use Rattle.turn_laws.proofs.ScriptAsking.{doors}
 use Rattle.turn_laws.proofs.ScriptSetting.{idle}
 use Rattle.turn_laws.proofs.LossStates.{j1, v3, d3, m7, e10, e11, e12, e13, u10, u11, u12, u13, gone, log4}
-use Rattle.turn_laws.proofs.LossSending.{ends, c, w, r0, r1, r2, r3, r4, begins, fails, asks, comes-back, moves-on, to_ask, op}
+use Rattle.turn_laws.proofs.LossSending.{ends, learnt, w, r0, r1, r2, r3, r4, begins, fails, asks, comes-back, moves-on, to_ask, op}
 use Rattle.turn_laws.proofs.LossBreaking.{done, r5, r6, breaks, loses}
 
 -- the first backend, which is asked for the slots, and what it answers
@@ -112,10 +112,10 @@ module _ {C : Type 0} (port : C) where
 
 module _ {C J : Type 0} (port : C) where
   abbrev r7 : System C J
-  r7 = scene (w port (u10 port) v3 d3 (one_more 0)) (c port (ends port v3 d3) (pending None ∷ []) (new_backend ∷ reached ∷ []) 3 op) (done ∷ wire 0 [] [] false ∷ []) 3 j1 log4
+  r7 = scene (w port (u10 port) v3 d3 (one_more 0)) (learnt port (ends port v3 d3) (pending None ∷ []) (new_backend ∷ reached ∷ []) 3 op) (done ∷ wire 0 [] [] false ∷ []) 3 j1 log4
 
   abbrev at : List (Backend Wire) → List Wire → System C J
-  at backends closed = scene (w port (u10 port) v3 d3 (one_more 0)) (c port (ends port v3 d3) (pending None ∷ []) backends 3 op) closed 2 j1 log4
+  at backends closed = scene (w port (u10 port) v3 d3 (one_more 0)) (learnt port (ends port v3 d3) (pending None ∷ []) backends 3 op) closed 2 j1 log4
 
   seeks : FoldsTo SystemStep (r6 {C = C} {J = J} port) script.sought r7
   seeks = (

@@ -27,13 +27,13 @@ use Rattle.turn_laws.specs.Scripts as script
 use Rattle.turn_laws.specs.Scripts.{key, set, ticket, plain}
 use Rattle.turn_laws.proofs.Rings.{posts, takes, outlet_with}
 use Rattle.turn_laws.proofs.Scenes.{scene, put, at-worker, at-client, at-carrier, down-in}
-use Rattle.turn_laws.proofs.ScriptFacts.{fresh-alone, goes-alone}
+use Rattle.turn_laws.proofs.ScriptFacts.{table, fresh-alone, goes-alone}
 use Rattle.turn_laws.proofs.ScriptStates.{Pair, commands, setting, wire, link, backend, pending, lane, carrier, worker}
 use Rattle.turn_laws.proofs.ScriptOpening.{starts-in}
 use Rattle.turn_laws.proofs.ScriptOpening as opening
 use Rattle.turn_laws.proofs.ScriptAsking.{a4, t6, log2, doors, asks-at}
 use Rattle.turn_laws.proofs.ScriptSetting.{idle, sent}
-use Rattle.turn_laws.proofs.LossStates.{j0, new, moved, told-moved, does-moved, v1, v2, d1, d2, x1, x2, x3, p1, p2, e1, e2, e3, e4, e5, u1, u2, u3, u4, u5}
+use Rattle.turn_laws.proofs.LossStates.{j0, new, moved, told-moved, learns-moved, does-moved, v1, v2, d1, d2, x1, x2, x3, p1, p2, e1, e2, e3, e4, e5, u1, u2, u3, u4, u5}
 
 -- what the first node was told is to be published, and then to be given
 abbrev pub refused : Backend Wire
@@ -57,6 +57,10 @@ module _ {C J : Type 0} (port : C) where
 
   abbrev pub c : LaneEnds (Newcomer C J) → List PendingRun → List (Backend Wire) → ℕ → List MapOp → CarrierModel (Newcomer C J) Wire
   c l runs backends failures ops = record (carrier l runs backends false) { failures = failures; published = ops }
+
+  -- it has learnt the second node from MOVED
+  abbrev pub learnt : LaneEnds (Newcomer C J) → List PendingRun → List (Backend Wire) → ℕ → List MapOp → CarrierModel (Newcomer C J) Wire
+  learnt l runs backends failures ops = record (c l runs backends failures ops) { nodes = table }
 
   abbrev pub w : FinMap nat_cmp (ClientModel C) → List (Numbered RunModel) → List (Numbered Pair) → ℕ → WorkerModel C J
   w clients ups downs answered = worker clients (Some 0) (doors port) ups downs answered
@@ -184,7 +188,7 @@ module _ {C J : Type 0} (port : C) where
 
   -- it is sent, and refused with MOVED
   abbrev pub r4 : System C J
-  r4 = scene (w (u5 port) v2 d2 0) (c (ends v2 d2) (pending None ∷ []) (to_ask ∷ new_backend ∷ []) 3 op) [] 1 j0 log2
+  r4 = scene (w (u5 port) v2 d2 0) (learnt (ends v2 d2) (pending None ∷ []) (to_ask ∷ new_backend ∷ []) 3 op) [] 1 j0 log2
 
   pub moves-on : FoldsTo SystemStep r3 script.sent_on r4
   moves-on = (
@@ -257,7 +261,7 @@ module _ {C J : Type 0} (port : C) where
               refl,
             ),
             (
-              scene (w (u4 port) v2 d1 0) (c (ends v2 d1) (pending None ∷ []) (got ∷ new_backend ∷ []) 3 []) [] 1 j0 log2,
+              scene (w (u4 port) v2 d1 0) (learnt (ends v2 d1) (pending None ∷ []) (got ∷ new_backend ∷ []) 3 []) [] 1 j0 log2,
               at-carrier (ends v2 d1) (
                 0,
                 refused,
@@ -269,13 +273,13 @@ module _ {C J : Type 0} (port : C) where
                   ticket 0,
                   told.Moved 1 1,
                   refl,
-                  (refl, (moved, refl, inr (refl, (refl, refl)), refl, told-moved, refl)),
+                  (refl, (moved, refl, inr (refl, (refl, refl)), refl, learns-moved, refl)),
                   refl,
                 ),
                 refl,
               ) (refl, (refl, tt)) refl ([], refl) refl,
               (
-                scene (w (u4 port) v2 d1 0) (c (ends v2 d1) (pending None ∷ []) (published ∷ new_backend ∷ []) 3 op) [] 1 j0 log2,
+                scene (w (u4 port) v2 d1 0) (learnt (ends v2 d1) (pending None ∷ []) (published ∷ new_backend ∷ []) 3 op) [] 1 j0 log2,
                 at-carrier (ends v2 d1) (
                   0,
                   got,
@@ -285,7 +289,7 @@ module _ {C J : Type 0} (port : C) where
                   refl,
                 ) (refl, (refl, tt)) refl ([], refl) refl,
                 (
-                  scene (w (u4 port) v2 d1 0) (c (ends v2 d2) (pending None ∷ []) (to_ask ∷ new_backend ∷ []) 3 op) [] 1 j0 log2,
+                  scene (w (u4 port) v2 d1 0) (learnt (ends v2 d2) (pending None ∷ []) (to_ask ∷ new_backend ∷ []) 3 op) [] 1 j0 log2,
                   at-carrier (ends v2 d2) (
                     0,
                     published,

@@ -52,7 +52,7 @@ module _ {C J : Type 0} where
       ap (λ ls. total f (debts ls)) h.backends,
     )
 
-    no-links : LinksShadow s.carrier s.closed s.opened first
+    no-links : LinksShadow s.nodes s.carrier s.closed s.opened first
     no-links = record {
       ids = [];
       all = refl;
@@ -81,6 +81,9 @@ module _ {C J : Type 0} where
       limit = omega arith;
       cluster = refl;
       apart = h.apart;
+      room = h.room;
+      table = h.table;
+      listed = λ k backend link e. absurd (no-item s.carrier.backends k backend h.backends e);
       numbered = λ k model p. (h.idle k model p).0;
       sides = h.sides;
       seated = λ k b run e. absurd (no-item s.carrier.pending_runs k b h.pending_runs e);

@@ -1,7 +1,8 @@
 -- Each run of the system is a run of the machine: the headline holds of what the code does.
-use Rattle.std.specs.Prelude.{◌≡◌, ℕ, List, [], length, slice_get, Some, IsSome}
+use Rattle.std.specs.Prelude.{◌≡◌, ◌≤◌, ℕ, List, [], length, slice_get, Some, IsSome}
 use Rattle.std.specs.List.{FoldsTo}
 use Rattle.std.specs.FinMap.{empty}
+use mathlib.Core.List.{IsPrefix}
 use Rattle.node_model.specs.declared.role.Verdict.{Verdict}
 use Rattle.proxy_lanes.specs.declared.ends.lane_ends.LaneEnds.{LaneEnds}
 use Rattle.proxy_turns.specs.declared.newcomer.Newcomer.{Newcomer}
@@ -11,7 +12,7 @@ use Rattle.world_laws.specs.Headline.{Headline, IsNew}
 use Rattle.world_laws.specs.declared.event.Event.{Event}
 use Rattle.turn_laws.specs.Walks.{Walk, IsWalked}
 use Rattle.turn_laws.specs.System.{System, between, IsInStep}
-use Rattle.turn_laws.specs.Shadow.{IsShadow, AreApart, down_in, DownInStep, seat_of}
+use Rattle.turn_laws.specs.Shadow.{IsShadow, AreApart, most_nodes, down_in, DownInStep, seat_of}
 use Rattle.proxy_turns.specs.CarrierModel.{CarrierEvent}
 use Rattle.turn_laws.specs.Steps.{SystemEvent, AtWorker, AtCarrier, AtNode, AtBroken, Thrown, Moved, SystemStep}
 
@@ -27,8 +28,10 @@ pub record IsStart {C J : Type 0} (s : System C J) : Type 0 where
   pub unfinished : (k : ℕ) (lane : LaneEnds (Newcomer C J)) → slice_get s.carrier.lanes k ≡ Some lane → IsSome lane.down
   pub pending_runs : s.carrier.pending_runs ≡ []
   pub backends : s.carrier.backends ≡ []
-  -- the table has no endpoint twice
-  pub apart : AreApart s.carrier.nodes
+  -- no two nodes of the cluster have one endpoint; the table has room for each, and lists the first of them: the seed, or more
+  pub apart : AreApart s.nodes
+  pub room : length s.nodes ≤ most_nodes
+  pub table : IsPrefix s.carrier.nodes s.nodes
   pub closed : s.closed ≡ []
   pub log : s.log ≡ []
   pub new : IsNew s.cluster

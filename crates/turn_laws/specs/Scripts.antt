@@ -1,5 +1,6 @@
 -- Lists of steps that a system can make from a start, so that the law speaks of something: its premises hold together in them.
--- One worker serves, there are two nodes, and one key. In the first a slot moves, in the second a command is lost: each kind of step
+-- One worker serves, there are two nodes, and one key. The table begins with the first node alone, and learns the second from a redirect.
+-- In the first list a slot moves, in the second a command is lost: each kind of step
 -- stands in one of them, and each event of a worker, of the carrier and of a backend, but for a run that a full lane gives back.
 -- That one stands in the third, from a start whose lane had carried 1,024 runs. In the fourth two commands go together.
 -- Memory runs out there only where nothing had come, and lanes are looked at only where nothing waits for them.

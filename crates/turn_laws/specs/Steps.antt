@@ -2,6 +2,7 @@
 -- connection, what a broken one still has is thrown away, a slot moves one step.
 use Rattle.std.specs.Prelude.{◌≡◌, ◌⊎◌, ◌+◌, ◌-◌, ◌^◌, ℕ, suc, List, [], ◌∷◌, ◌++◌, Some, None, IsSome, length, take, drop, slice_get, slice_set}
 use Rattle.std.specs.FinMap.{get}
+use mathlib.Core.List.{IsPrefix}
 use Rattle.resp_wire.specs.declared.value.Value.{Value}
 use Rattle.key_split.specs.declared.travel.Ticket.{Ticket}
 use Rattle.key_split.specs.declared.travel.Ended.{Ended}
@@ -153,8 +154,8 @@ module _ {C J : Type 0} where
     pub leaves : s' ≡ record s { carrier = s'.carrier; closed = s'.closed; opened = opened_by event s.opened }
     -- A premise: a lane is in order between its two ends (as above).
     pub in_step : UpsInStep s'
-    -- A premise: the table of nodes is the cluster's list, from the start. A node that joins later, or has two addresses, is left out.
-    pub table : s'.carrier.nodes ≡ s.carrier.nodes
+    -- A premise: what the table lists are nodes of the cluster, each once. A node with two addresses is left out.
+    pub table : IsPrefix s'.carrier.nodes s.nodes
 
   -- ---- the nodes
 
@@ -163,7 +164,7 @@ module _ {C J : Type 0} where
   Serves s k verdict s' =
       (backend : Backend Wire) × (link : LinkModel Wire) × (wire : Wire) × (values : List Value) × (done : List Execution)
       × (slice_get s.carrier.backends k ≡ Some backend) × (backend.link ≡ Some link) × (link.failure ≡ None)
-      × ServesNext s.carrier.nodes s.cluster link.port verdict s'.cluster wire values done
+      × ServesNext s.nodes s.cluster link.port verdict s'.cluster wire values done
       × (wire.values ≡ link.port.values ++ values)
       × (s' ≡ record s {
         cluster = s'.cluster;
@@ -176,7 +177,7 @@ module _ {C J : Type 0} where
   ServesLate s j verdict s' =
       (old : Wire) × (wire : Wire) × (values : List Value) × (done : List Execution)
       × (slice_get s.closed j ≡ Some old)
-      × ServesNext s.carrier.nodes s.cluster old verdict s'.cluster wire values done
+      × ServesNext s.nodes s.cluster old verdict s'.cluster wire values done
       × (wire.values ≡ [])
       × (s' ≡ record s { cluster = s'.cluster; closed = slice_set s.closed j wire; log = s.log ++ log_of done })
 
