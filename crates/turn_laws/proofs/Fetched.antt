@@ -4,7 +4,6 @@ use Rattle.std.specs.Prelude.{slice_get, slice_set}
 use Rattle.resp_wire.specs.declared.value.Value.{Value}
 use Rattle.key_split.specs.declared.travel.Ticket.{Ticket}
 use Rattle.key_split.specs.declared.travel.Told.{Told}
-use Rattle.slot_map.specs.Table.{Endpoint}
 use Rattle.node_link.specs.LinkModel.{LinkModel}
 use Rattle.node_link.specs.LinkCalls.{Comes}
 use Rattle.node_link.specs.Telling.{told_by}

@@ -102,8 +102,11 @@ module _ {C J : Type 0} (port : C) (xs : List (Numbered RunModel)) (many : 1024 
     pending_runs = refl;
     backends = refl;
     apart = apart;
+    each = refl;
     room = omega arith;
     table = seed-first;
+    seed = omega arith;
+    published = refl;
     closed = refl;
     log = refl;
     new = new;
@@ -116,10 +119,10 @@ module _ {C J : Type 0} (port : C) (xs : List (Numbered RunModel)) (many : 1024 
     begins = starts;
     goes = (
       of w1,
-      at-worker l0 [] refl (newcomer port, takes [] (newcomer port), refl, refl, ((omega arith, refl), (tt, get-empty nat_cmp 0)), refl, refl) refl (down-in l0 w1 _ refl ([], refl)) tt,
+      at-worker l0 [] refl (newcomer port, takes [] (newcomer port), refl, refl, ((omega arith, refl), (tt, get-empty nat_cmp 0)), refl, refl) refl (down-in l0 w1 _ refl ([], refl)) refl,
       (
         of w2,
-        at-client l0 0 (a0 port) (a0 port) w0.outlet [] refl (put _ (a0 port) 0) (comes-back xs many (plain 0 0 set), refl) (put _ (a0 port) 0) (down-in l0 w1 _ refl ([], refl)) tt,
+        at-client l0 0 (a0 port) (a0 port) w0.outlet [] refl (put _ (a0 port) 0) (comes-back xs many (plain 0 0 set), refl) (put _ (a0 port) 0) (down-in l0 w1 _ refl ([], refl)) refl,
         refl,
       ),
     );

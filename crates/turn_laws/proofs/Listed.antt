@@ -8,7 +8,6 @@ use Rattle.resp_wire.specs.declared.value.Value.TheVariants as value
 use Rattle.resp_wire.specs.Data.{Data}
 use Rattle.key_split.specs.Requests.{Request}
 use Rattle.slot_map.specs.declared.fault.MapFault.{MapFault}
-use Rattle.slot_map.specs.declared.ops.MapOp.{MapOp}
 use Rattle.slot_map.specs.Table.{Endpoint, Numbered, numbered, numbered_at, same_endpoint, host_of, Grows}
 use Rattle.slot_map.specs.Slots.{SlotsReading, ReadStep, SlotRangeModel, endpoint_meant, before, go_on, range_in, step_at, step_from, read_entries, read_slots}
 use Rattle.node_link.specs.LinkModel.{LinkModel}
@@ -24,7 +23,7 @@ use Rattle.world_laws.proofs.Recorded.{at-set, at-last}
 use Rattle.turn_laws.specs.System.{System}
 use Rattle.turn_laws.specs.Shadow.{AreListed}
 use Rattle.turn_laws.specs.Steps.{CarrierStep, Opens, any_failures, any_garbled, any_none}
-use Rattle.turn_laws.specs.Wire.{Wire, Exchanges}
+use Rattle.turn_laws.specs.Wire.{Exchanges}
 
 -- ---- the table only grows
 
@@ -70,7 +69,7 @@ on-grows (Ok one) next size reading first later is = by-rest (next one.table) (l
     by-rest (Err e) h is = absurd (cc)
     by-rest (Ok r) h is = omega (arith, first one refl, h r refl, (let it : record { ops = one.op ∷ r.ops; table = r.table } ≡ reading = cc in ap (λ (x : SlotsReading). length x.table) it))
 
-entries-grow : (asked : ℕ) (entries : List Data) (table : List Endpoint) (reading : SlotsReading) → read_entries asked entries table ≡ Ok reading → length table ≤ length reading.table
+pub entries-grow : (asked : ℕ) (entries : List Data) (table : List Endpoint) (reading : SlotsReading) → read_entries asked entries table ≡ Ok reading → length table ≤ length reading.table
 entries-grow asked [] table reading is = let it : record { ops = []; table = table } ≡ reading = cc in omega (arith, ap (λ (x : SlotsReading). length x.table) it)
 entries-grow asked (d ∷ ds) table reading is =
     on-grows (step_from (host_of table asked) table (range_in d)) (λ t. read_entries asked ds t) (length table) reading

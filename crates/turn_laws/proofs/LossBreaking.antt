@@ -64,7 +64,7 @@ module _ {C J : Type 0} (port : C) where
       omega arith,
       posts v2 (plain 0 1 set),
       refl,
-    ) (put _ (e6 port) 0) (down-in {J = J} (ends port v2 d2) (w port (u5 port) v2 d2 0) _ refl ([], refl)) (omega arith),
+    ) (put _ (e6 port) 0) (down-in {J = J} (ends port v2 d2) (w port (u5 port) v2 d2 0) _ refl ([], refl)) refl,
     (
       scene (w port (u6 port) v3 d2 0) (learnt port (ends port v3 d2) (pending (Some (plain 0 1 set)) ∷ []) (to_ask ∷ new_backend ∷ []) 3 op) [] 1 j0 log2,
       at-carrier (ends port v3 d2) (
@@ -187,7 +187,7 @@ module _ {C J : Type 0} (port : C) where
       takes d2 (ticket 0, told.Lost),
       (true, (e6 port, e7 port, put _ (e6 port) 0, (x5, (put p4 x5 0, refl, refl), refl), refl, refl)),
       refl,
-    ) refl (down-in {J = J} (ends port v3 d3) (w port (u7 port) v3 d3 0) _ refl ([], refl)) tt,
+    ) refl (down-in {J = J} (ends port v3 d3) (w port (u7 port) v3 d3 0) _ refl ([], refl)) refl,
     (
       scene (w port (u8 port) v3 d3 (one_more 0)) (learnt port (ends port v3 d3) (pending None ∷ []) (to_ask ∷ new_backend ∷ []) 3 op) (done ∷ []) 2 j1 log3,
       at-worker {J = J} (ends port v3 d3) [] refl (
@@ -196,17 +196,17 @@ module _ {C J : Type 0} (port : C) where
         put _ (e7 port) 0,
         ((x6, put p5 x6 0, refl, refl), tt, refl, refl),
         refl,
-      ) refl (down-in {J = J} (ends port v3 d3) (w port (u8 port) v3 d3 0) _ refl ([], refl)) tt,
+      ) refl (down-in {J = J} (ends port v3 d3) (w port (u8 port) v3 d3 0) _ refl ([], refl)) refl,
       (
         scene (w port (u9 port) v3 d3 (one_more 0)) (learnt port (ends port v3 d3) (pending None ∷ []) (to_ask ∷ new_backend ∷ []) 3 op) (done ∷ []) 2 j1 log4,
         at-client {J = J} (ends port v3 d3) 0 (e8 port) (e9 port) (outlet_with v3) [] refl (put _ (e8 port) 0) (
           refl,
           (line, refl, refl, drains),
           refl,
-        ) (put _ (e9 port) 0) (down-in {J = J} (ends port v3 d3) (w port (u8 port) v3 d3 0) _ refl ([], refl)) tt,
+        ) (put _ (e9 port) 0) (down-in {J = J} (ends port v3 d3) (w port (u8 port) v3 d3 0) _ refl ([], refl)) refl,
         (
           r6,
-          at-client {J = J} (ends port v3 d3) 0 (e9 port) (e10 port) (outlet_with v3) [] refl (put _ (e9 port) 0) (tt, refl, refl) (put _ (e10 port) 0) (down-in {J = J} (ends port v3 d3) (w port (u9 port) v3 d3 0) _ refl ([], refl)) tt,
+          at-client {J = J} (ends port v3 d3) 0 (e9 port) (e10 port) (outlet_with v3) [] refl (put _ (e9 port) 0) (tt, refl, refl) (put _ (e10 port) 0) (down-in {J = J} (ends port v3 d3) (w port (u9 port) v3 d3 0) _ refl ([], refl)) refl,
           refl,
         ),
       ),

@@ -69,7 +69,7 @@ module _ {C J : Type 0} (port : C) where
   r0 = scene (opening.w0 port) (carrier (ends [] []) [] [] true) [] 0 j0 []
 
   pub begins : IsStart r0
-  begins = starts-in port j0 new
+  begins = starts-in port j0 refl new
 
   abbrev pub r1 : System C J
   r1 = scene (opening.w0 port) (c (ends [] []) (pending None ∷ []) (new_backend ∷ new_backend ∷ []) 2 []) [] 0 j0 []
@@ -119,7 +119,7 @@ module _ {C J : Type 0} (port : C) where
       refl,
       (0, ((set, refl, refl), (λ j lt m. absurd (omega (arith, lt))), refl), refl, refl),
       refl,
-    ) (put _ (e1 port) 0) (down-in (ends [] []) (w (t6 port) [] [] 0) _ refl ([], refl)) tt,
+    ) (put _ (e1 port) 0) (down-in (ends [] []) (w (t6 port) [] [] 0) _ refl ([], refl)) refl,
     (
       scene (w (u2 port) v1 [] 0) (c (ends [] []) (pending None ∷ []) (new_backend ∷ new_backend ∷ []) 2 []) [] 0 j0 log2,
       at-client (ends [] []) 0 (e1 port) (e2 port) (outlet_with v1) [] refl (put _ (e1 port) 0) (
@@ -136,7 +136,7 @@ module _ {C J : Type 0} (port : C) where
         omega arith,
         posts [] (plain 0 0 set),
         refl,
-      ) (put _ (e2 port) 0) (down-in (ends [] []) (w (u1 port) [] [] 0) _ refl ([], refl)) (omega arith),
+      ) (put _ (e2 port) 0) (down-in (ends [] []) (w (u1 port) [] [] 0) _ refl ([], refl)) refl,
       (
         scene (w (u2 port) v1 [] 0) (c (ends v1 []) (pending (Some (plain 0 0 set)) ∷ []) (new_backend ∷ new_backend ∷ []) 2 []) [] 0 j0 log2,
         at-carrier (ends v1 []) (
@@ -177,7 +177,7 @@ module _ {C J : Type 0} (port : C) where
                 takes [] (ticket 0, told.Unsent),
                 (true, (e2 port, e3 port, put _ (e2 port) 0, (x1, (put empty x1 0, refl, refl), refl), refl, refl)),
                 refl,
-              ) refl (down-in (ends v1 d1) (w (u3 port) v1 d1 0) _ refl ([], refl)) tt,
+              ) refl (down-in (ends v1 d1) (w (u3 port) v1 d1 0) _ refl ([], refl)) refl,
               refl,
             ),
           ),
@@ -207,7 +207,7 @@ module _ {C J : Type 0} (port : C) where
       omega arith,
       posts v1 (plain 0 0 set),
       refl,
-    ) (put _ (e4 port) 0) (down-in (ends v1 d1) (w (u3 port) v1 d1 0) _ refl ([], refl)) (omega arith),
+    ) (put _ (e4 port) 0) (down-in (ends v1 d1) (w (u3 port) v1 d1 0) _ refl ([], refl)) refl,
     (
       scene (w (u4 port) v2 d1 0) (c (ends v2 d1) (pending (Some (plain 0 0 set)) ∷ []) (new_backend ∷ new_backend ∷ []) 3 []) [] 0 j0 log2,
       at-carrier (ends v2 d1) (
@@ -304,7 +304,7 @@ module _ {C J : Type 0} (port : C) where
                       takes d1 (ticket 0, told.Moved 1 1),
                       (true, (e4 port, e5 port, put _ (e4 port) 0, (x3, (put p2 x3 0, refl, refl), refl), refl, refl)),
                       refl,
-                    ) refl (down-in (ends v2 d2) (w (u5 port) v2 d2 0) _ refl ([], refl)) tt,
+                    ) refl (down-in (ends v2 d2) (w (u5 port) v2 d2 0) _ refl ([], refl)) refl,
                     refl,
                   ),
                 ),

@@ -1,4 +1,5 @@
--- What a value tells that is read in the carrier's table is what it tells that is read in the whole list of the nodes, where the table is a front of it.
+-- What a value tells that is read in the carrier's table is what it tells that is read in the whole list of the nodes: the table is a front
+-- of it, before and after.
 use Rattle.std.proofs.Common.{◌≡◌, ℕ, ◌+◌, ◌<◌, ◌≤◌, ◌==◌, ◌&&◌, Bool, true, false, List, [], ◌∷◌, ◌++◌, Option, Some, None, length, cond, refl, sym, ap, ◌∙◌, subst, arith, length-append, append_assoc}
 use Rattle.std.specs.Prelude.{codes, position, nat_lt, slice_get}
 use Rattle.std.specs.List.{position_from}
@@ -13,17 +14,22 @@ use Rattle.world_laws.proofs.Recorded.{before-last}
 use Rattle.resp_wire.specs.declared.value.Value.{Value}
 use Rattle.resp_wire.specs.declared.value.Value.TheVariants as value
 use Rattle.key_split.specs.declared.travel.Told.{Told}
-use Rattle.key_split.specs.declared.travel.Told.TheVariants.{Reply, Moved, Ask, TryAgain, ClusterDown, Unclear}
-use Rattle.slot_map.specs.Table.{Endpoint, Numbered, numbered, numbered_at, same_endpoint, host_of}
+use Rattle.key_split.specs.declared.travel.Told.TheVariants.{Moved, Ask, TryAgain, ClusterDown}
+use Rattle.slot_map.specs.Table.{Endpoint, numbered, numbered_at, same_endpoint, host_of}
 use Rattle.slot_map.proofs.Checking.{host_of_more}
 use Rattle.node_link.specs.Line.{Target, first_word, other_words, target_in}
 use Rattle.node_link.specs.Telling.{sent_on, redirected, refusal_or_reply, told_by, endpoint_meant}
 
-abbrev Telling : Type 0
+abbrev pub Telling : Type 0
 Telling = Told × List Endpoint
 
-abbrev says : Told → List Endpoint → Telling
+abbrev pub says : Told → List Endpoint → Telling
 says told table = (told, table)
+
+-- what an error line says, by its first word
+abbrev pub chosen : Bool → Bool → Bool → Bool → Telling → Telling → List Endpoint → Option Telling
+chosen moved ask again down m a table =
+    cond moved (Some m) (cond ask (Some a) (cond again (Some (says TryAgain table)) (cond down (Some (says ClusterDown table)) None)))
 
 -- ---- places
 
@@ -97,12 +103,6 @@ module _ (table more : List Endpoint) (room : length (table ++ more) ≤ 64) (to
   redirected-alike how host (Some target) is =
       let at = endpoint_meant host target.endpoint in
       by-place how target.slot at table more room told new front (position (same_endpoint at) table) refl is
-
-  -- ---- all words
-
-  abbrev chosen : Bool → Bool → Bool → Bool → Telling → Telling → List Endpoint → Option Telling
-  chosen moved ask again down m a xs =
-      cond moved (Some m) (cond ask (Some a) (cond again (Some (says TryAgain xs)) (cond down (Some (says ClusterDown xs)) None)))
 
   by-word : (moved ask again down : Bool) (m a m' a' : Telling) (said : Value) → (m ≡ says told new → m'.0 ≡ told) → (a ≡ says told new → a'.0 ≡ told)
       → refusal_or_reply said table (chosen moved ask again down m a table) ≡ says told new

@@ -90,7 +90,7 @@ module _ {C J : Type 0} (port : C) where
       refl,
       (0, ((script.get, refl, refl), (λ j lt m. absurd (omega (arith, lt))), refl), refl, refl),
       refl,
-    ) (put _ (a11 port) 0) (down-in {J = J} (l2 port) (w2 port (t13 port) 0) _ refl ([], refl)) tt,
+    ) (put _ (a11 port) 0) (down-in {J = J} (l2 port) (w2 port (t13 port) 0) _ refl ([], refl)) refl,
     (
       scene (w3 (t15 port)) (c (l2 port) (pending None) idle new_backend) [] 1 k8 log4,
       at-client (l2 port) 0 (a11 port) (a12 port) (outlet_with up2) [] refl (put _ (a11 port) 0) (
@@ -107,7 +107,7 @@ module _ {C J : Type 0} (port : C) where
         omega arith,
         posts up1 (plain 1 0 script.get),
         refl,
-      ) (put _ (a12 port) 0) (down-in {J = J} (l2 port) (w2 port (t14 port) 0) _ refl ([], refl)) (omega arith),
+      ) (put _ (a12 port) 0) (down-in {J = J} (l2 port) (w2 port (t14 port) 0) _ refl ([], refl)) refl,
       (
         scene (w3 (t15 port)) (c l3 (pending (Some (plain 1 0 script.get))) idle new_backend) [] 1 k8 log4,
         at-carrier l3 (
@@ -181,7 +181,7 @@ module _ {C J : Type 0} (port : C) where
                     takes down1 (ticket 1, Ask 1 1),
                     (true, (a12 port, a13 port, put _ (a12 port) 0, (awaits getting, (put posted3 (awaits getting) 1, refl, refl), refl), refl, refl)),
                     refl,
-                  ) refl (down-in l4 (w4 (t16 port)) _ refl ([], refl)) tt,
+                  ) refl (down-in l4 (w4 (t16 port)) _ refl ([], refl)) refl,
                   refl,
                 ),
               ),
@@ -213,7 +213,7 @@ module _ {C J : Type 0} (port : C) where
       omega arith,
       posts up2 (behind_asking 1 1 script.get),
       refl,
-    ) (put _ (a14 port) 0) (down-in l4 (w4 (t16 port)) _ refl ([], refl)) (omega arith),
+    ) (put _ (a14 port) 0) (down-in l4 (w4 (t16 port)) _ refl ([], refl)) refl,
     (
       scene (w5 (t17 port)) (learnt l5 (pending (Some (behind_asking 1 1 script.get))) idle new_backend) [] 1 k8 log4,
       at-carrier l5 (
@@ -347,7 +347,7 @@ module _ {C J : Type 0} (port : C) where
       takes down2 (ticket 1, Reply five),
       (true, (a14 port, a15 port, put _ (a14 port) 0, (awaits sent-on, (put posted5 (awaits sent-on) 1, refl, refl), refl), refl, refl)),
       refl,
-    ) refl (down-in l6 (w6 (t18 port) 0) _ refl ([], refl)) tt,
+    ) refl (down-in l6 (w6 (t18 port) 0) _ refl ([], refl)) refl,
     (
       scene (w6 (t19 port) (one_more (one_more 0))) (learnt l6 (pending None) idle opened) [] 2 k9 log5,
       at-worker l6 [] refl (
@@ -356,17 +356,17 @@ module _ {C J : Type 0} (port : C) where
         put _ (a15 port) 0,
         ((progress_told (awaits sent-on) (Reply five), put posted6 _ 1, refl, refl), tt, refl, refl),
         refl,
-      ) refl (down-in l6 (w6 (t19 port) 0) _ refl ([], refl)) tt,
+      ) refl (down-in l6 (w6 (t19 port) 0) _ refl ([], refl)) refl,
       (
         scene (w6 (t20 port) (one_more (one_more 0))) (learnt l6 (pending None) idle opened) [] 2 k9 log6,
         at-client l6 0 (a16 port) (a17 port) (outlet_with up3) [] refl (put _ (a16 port) 0) (
           refl,
           (codes "$1\r\n5\r\n", refl, refl, drains),
           refl,
-        ) (put _ (a17 port) 0) (down-in l6 (w6 (t19 port) 0) _ refl ([], refl)) tt,
+        ) (put _ (a17 port) 0) (down-in l6 (w6 (t19 port) 0) _ refl ([], refl)) refl,
         (
           scene (w6 (t21 port) (one_more (one_more 0))) (learnt l6 (pending None) idle opened) [] 2 k9 log6,
-          at-client l6 0 (a17 port) (a18 port) (outlet_with up3) [] refl (put _ (a17 port) 0) (tt, refl, refl) (put _ (a18 port) 0) (down-in l6 (w6 (t20 port) 0) _ refl ([], refl)) tt,
+          at-client l6 0 (a17 port) (a18 port) (outlet_with up3) [] refl (put _ (a17 port) 0) (tt, refl, refl) (put _ (a18 port) 0) (down-in l6 (w6 (t20 port) 0) _ refl ([], refl)) refl,
           (
             scene (w6 (t21 port) (one_more (one_more 0))) (learnt l6 (pending None) idle opened) [] 2 k10 log6,
             (((refl, λ q e. given-none q), refl), refl),

@@ -93,8 +93,8 @@ module _ {C J : Type 0} (port : C) where
   abbrev pub s0 : System C J
   s0 = scene w0 (carrier l0 [] [] true) [] 0 k0 []
 
-  pub starts-in : (k : ClusterModel) → IsNew k → IsStart (scene w0 (carrier l0 [] [] true) [] 0 k [])
-  starts-in k is-new = record {
+  pub starts-in : (k : ClusterModel) → length table ≡ length k.stores → IsNew k → IsStart (scene w0 (carrier l0 [] [] true) [] 0 k [])
+  starts-in k each is-new = record {
     idle = only-one (λ k model. ((model.worker, model.workers) ≡ (k, 1)) × (model.clients ≡ empty)) w0 (refl, refl);
     ups = λ k model l p q.
         only-one (λ k model. (between model.outlet l.up ≡ []) × (down_in l.down model.inlet ≡ [])) w0
@@ -110,15 +110,18 @@ module _ {C J : Type 0} (port : C) where
     pending_runs = refl;
     backends = refl;
     apart = apart;
+    each = each;
     room = omega arith;
     table = seed-first;
+    seed = omega arith;
+    published = refl;
     closed = refl;
     log = refl;
     new = is-new;
   }
 
   pub starts : IsStart s0
-  starts = starts-in k0 new
+  starts = starts-in k0 refl new
 
   -- after the opening
   abbrev pub s1 : System C J
@@ -127,10 +130,10 @@ module _ {C J : Type 0} (port : C) where
   pub opens : FoldsTo SystemStep s0 script.opening s1
   opens = (
     s0,
-    at-worker l0 [] refl (takes-none [], refl) refl (down-in l0 w0 _ refl ([], refl)) tt,
+    at-worker l0 [] refl (takes-none [], refl) refl (down-in l0 w0 _ refl ([], refl)) refl,
     (
       s0,
-      at-worker l0 [] refl (takes-none [], refl) refl (down-in l0 w0 _ refl ([], refl)) tt,
+      at-worker l0 [] refl (takes-none [], refl) refl (down-in l0 w0 _ refl ([], refl)) refl,
       (
         scene w0 (c0 [] true) [] 0 k0 [],
         at-carrier l0 refl tt refl ([], refl) refl,

@@ -399,7 +399,8 @@ pub record IsShadow {C J : Type 0} (s : System C J) (w : WorldModel) : Type 0 wh
   pub limit : most_together ≤ w.run_limit
   pub cluster : w.cluster ≡ s.cluster
   pub apart : AreApart s.nodes
-  -- the carrier's table has room for each node of the cluster, and lists the first of them
+  -- The carrier's table has room for each node of the cluster, or a redirect would be unclear to it and clear to the machine. It lists
+  -- the first of them, and the node of each link.
   pub room : length s.nodes ≤ most_nodes
   pub table : IsPrefix s.carrier.nodes s.nodes
   pub listed : AreListed s.carrier

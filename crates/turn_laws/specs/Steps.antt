@@ -23,7 +23,7 @@ use Rattle.proxy_turns.specs.ClientTurn.{ClientEvent, Pulled, Fed, Read, HandedO
 use Rattle.proxy_turns.specs.WorkerModel.{WorkerModel, WorkerEvent, Did, Finished, Took, FoundNone, Came, TurnedAway, FoundNobody, Left, WorkerDoes}
 use Rattle.proxy_turns.specs.CarrierModel.{CarrierEvent, Opened as OpenedLink, Reached, CarrierDoes as CarrierDoes}
 use Rattle.world_laws.specs.State.{WorldModel}
-use Rattle.world_laws.specs.World.{IsNode, NoneAsks}
+use Rattle.world_laws.specs.World.{NoneAsks}
 use Rattle.world_laws.specs.declared.event.Event.{Event}
 use Rattle.world_laws.specs.declared.event.Event.TheVariants as core
 use Rattle.turn_laws.specs.Wire.{Wire, Exchanges, Dials, ServesNext, Execution}
@@ -80,11 +80,6 @@ any_garbled wire = Unit {0}
 abbrev pub any_none : Wire → Type 0
 any_none wire = Unit {0}
 
--- a run goes to a node that there is
-abbrev pub PostsThere : ClusterModel → WorkerEvent → Type 0
-PostsThere cluster (Did number (Posted run)) = IsNode cluster run.first.node
-PostsThere cluster event = Unit {0}
-
 -- how many connections were opened, after an event of the carrier
 abbrev pub opened_by : CarrierEvent → ℕ → ℕ
 opened_by OpenedLink n = suc n
@@ -119,9 +114,9 @@ module _ {C J : Type 0} where
     pub leaves : s' ≡ record s { workers = slice_set s.workers k new; log = s.log ++ marks }
     -- A premise: a lane is in order between its two ends. They are on two threads, and a rule of the ring speaks of one end.
     pub in_step : DownInStep lane new
-    -- A premise: the node is one of the cluster. The map and the redirects name nodes of the carrier's table; no clause of a
-    -- worker's view or of what it is told says so.
-    pub there : PostsThere s.cluster event
+    -- A premise: what the worker's view shows of the slot map is a front of what the carrier published. They are on two threads, and
+    -- a rule of the map speaks of one end.
+    pub shown : IsPrefix new.view s.carrier.published
 
   -- ---- the carrier
 
@@ -154,7 +149,7 @@ module _ {C J : Type 0} where
     pub leaves : s' ≡ record s { carrier = s'.carrier; closed = s'.closed; opened = opened_by event s.opened }
     -- A premise: a lane is in order between its two ends (as above).
     pub in_step : UpsInStep s'
-    -- A premise: what the table lists are nodes of the cluster, each once. A node with two addresses is left out.
+    -- A premise: the table, as far as it has grown, lists nodes of the cluster, in their order. A node with two addresses is left out.
     pub table : IsPrefix s'.carrier.nodes s.nodes
 
   -- ---- the nodes

@@ -30,7 +30,7 @@ pub record System (C J : Type 0) : Type 0 where
   -- how many connections were opened
   pub opened : ℕ
   pub cluster : ClusterModel
-  -- Where each node of the cluster listens, numbered in the order in which the carrier's table learns them; the others stand behind.
+  -- The endpoint of each node of the cluster. They have the order in which the carrier's table learns them; the others stand behind.
   pub nodes : List Endpoint
   pub log : List Mark
 
