@@ -2,6 +2,7 @@
 use Rattle.std.proofs.Common.{◌≡◌, ◌≢◌, ◌⊎◌, inl, inr, ⊎_elim, ℕ, suc, ◌<◌, List, ◌∷◌, ◌++◌, Some, None, refl, sym, ap, ◌∙◌, subst, arith, length}
 use Rattle.std.specs.Prelude.{slice_get, slice_set, All}
 use Rattle.resp_wire.specs.declared.value.Value.{Value}
+use Rattle.slot_map.specs.Table.{Endpoint}
 use Rattle.node_link.specs.LinkModel.{LinkModel}
 use Rattle.node_link.specs.LinkCalls.{Comes}
 use Rattle.node_link.specs.declared.link.Due.{Due}
@@ -20,34 +21,34 @@ use Rattle.turn_laws.proofs.Frames.{same-seats, down-fits, carrier-frame}
 use Rattle.turn_laws.proofs.Fetching.{fetched-shadow, comes-first, waits-first}
 use Rattle.turn_laws.proofs.Waiting.{now, same-closed, same-opened, same-bag}
 
-module _ {H : Type 0} (a b : CarrierModel H Wire) (closed : List Wire) (opened : ℕ) (w : WorldModel) (h : LinksShadow a closed opened w)
+module _ {H : Type 0} (nodes : List Endpoint) (a b : CarrierModel H Wire) (closed : List Wire) (opened : ℕ) (w : WorldModel) (h : LinksShadow nodes a closed opened w)
     (k : ℕ) (link link' : LinkModel Wire) (working : IsWorking a k link)
     (now' : (j : ℕ) (x : LinkModel Wire) → IsWorking b j x → ((j ≡ k) × (x ≡ link')) ⊎ ((j ≢ k) × IsWorking a j x))
-    (node : link'.node ≡ k) (id : link'.port.id ≡ link.port.id) (nodes : b.nodes ≡ a.nodes)
-    (shows : (l : Link) → OpenShadow a.nodes w.commands link l → OpenShadow a.nodes w.commands link' l) (idles : IsIdle link → IsIdle link') where
-  mine : (j : ℕ) (x : LinkModel Wire) → j ≡ k → x ≡ link' → (x.node ≡ j) × (x.port.id < opened) × BackendShadow a.nodes w h.ids x
+    (node : link'.node ≡ k) (id : link'.port.id ≡ link.port.id)
+    (shows : (l : Link) → OpenShadow nodes w.commands link l → OpenShadow nodes w.commands link' l) (idles : IsIdle link → IsIdle link') where
+  mine : (j : ℕ) (x : LinkModel Wire) → j ≡ k → x ≡ link' → (x.node ≡ j) × (x.port.id < opened) × BackendShadow nodes w h.ids x
   mine j x ej e =
       let old = h.backends k link working in
-      subst (λ (c : LinkModel Wire). (c.node ≡ j) × (c.port.id < opened) × BackendShadow a.nodes w h.ids c) (sym e) (
+      subst (λ (c : LinkModel Wire). (c.node ≡ j) × (c.port.id < opened) × BackendShadow nodes w h.ids c) (sym e) (
         node ∙ sym ej,
         subst (λ m. m < opened) (sym id) old.1,
         ⊎_elim
-            (λ (z : (i : ℕ) × (l : Link) × Numbers h.ids link.port.id i × (slice_get w.links i ≡ Some l) × OpenShadow a.nodes w.commands link l).
+            (λ (z : (i : ℕ) × (l : Link) × Numbers h.ids link.port.id i × (slice_get w.links i ≡ Some l) × OpenShadow nodes w.commands link l).
             inl (z.0, z.1, subst (λ m. Numbers h.ids m z.0) (sym id) z.2, z.3, shows z.1 z.4))
             (λ (z : IsUnnumbered h.ids link.port.id × IsIdle link). inr (subst (IsUnnumbered h.ids) (sym id) z.0, idles z.1))
             old.2,
       )
 
-  pub quiet-backend : LinksShadow b closed opened w
+  pub quiet-backend : LinksShadow nodes b closed opened w
   quiet-backend = record {
     ids = h.ids;
     all = h.all;
     below = h.below;
     once = h.once;
-    backends = λ j x working'. let l = ⊎_elim
+    backends = λ j x working'. ⊎_elim
         (λ (z : (j ≡ k) × (x ≡ link')). mine j x z.0 z.1)
         (λ (z : (j ≢ k) × IsWorking a j x). h.backends j x z.1)
-        (now' j x working') in (l.0, l.1, subst (λ t. BackendShadow t w h.ids x) (sym nodes) l.2);
+        (now' j x working');
     wires = h.wires;
     apart = λ j m x y p q e. ⊎_elim
         (λ (u : (j ≡ k) × (x ≡ link')). ⊎_elim
@@ -106,18 +107,18 @@ module _ {C J : Type 0} where
       let lanes : s'.carrier.lanes ≡ s.carrier.lanes = ap (λ (c : CarrierModel (Newcomer C J) Wire). c.lanes) on.does.5 in
       let pending_runs : s'.carrier.pending_runs ≡ s.carrier.pending_runs = ap (λ (c : CarrierModel (Newcomer C J) Wire). c.pending_runs) on.does.5 in
       let working : IsWorking s.carrier k link = (backend, on.does.3, was, r.0) in
-      let links : LinksShadow s'.carrier s.closed s.opened w =
-      quiet-backend s.carrier s'.carrier s.closed s.opened w h.links k link link' working
+      let links : LinksShadow s.nodes s'.carrier s.closed s.opened w =
+      quiet-backend s.nodes s.carrier s'.carrier s.closed s.opened w h.links k link link' working
       (now (AtBackend Answered) s s' on refl k backend backend' link link' on.does.3 backends was is r.0 works)
       (ap (λ (c : LinkModel Wire). c.node) r.4 ∙ ((h.links).backends k link working).0)
-      (ap (λ (x : Wire). x.id) (comes-first link link'.port value r.1).1) on.table
-      (λ l o. let f = fetched-shadow s.carrier.nodes w.commands link link' l due.Slots value o r.1 r.2 r.4 in
-      subst (OpenShadow s.carrier.nodes w.commands link') (λ i. record l { backs = sym f.1 i }) f.2)
+      (ap (λ (x : Wire). x.id) (comes-first link link'.port value r.1).1)
+      (λ l o. let f = fetched-shadow s.nodes w.commands link link' l due.Slots value o r.1 r.2 r.4 in
+      subst (OpenShadow s.nodes w.commands link') (λ i. record l { backs = sym f.1 i }) f.2)
       (λ idle. idle-still link link' due.Slots value idle r.1 r.2 r.4) in
       let closed : s'.closed ≡ s.closed = same-closed (AtBackend Answered) s s' on refl k backend backend' link link' on.does.3 backends was is r.0 works in
       let opened : s'.opened ≡ s.opened = same-opened (AtBackend Answered) s s' on refl k backend backend' link link' on.does.3 backends was is r.0 works in
       carrier-frame (AtBackend Answered) s s' w h on
-      (subst (λ xs. LinksShadow s'.carrier xs s'.opened w) (sym closed) (subst (λ n. LinksShadow s'.carrier s.closed n w) (sym opened) links))
+      (subst (λ xs. LinksShadow s.nodes s'.carrier xs s'.opened w) (sym closed) (subst (λ n. LinksShadow s.nodes s'.carrier s.closed n w) (sym opened) links))
       (same-seats s s' (ap length lanes) pending_runs)
       (λ j model lane p q. down-fits s w h j model lane p (sym (ap (λ xs. slice_get xs j) lanes) ∙ q))
       (same-bag (AtBackend Answered) s s' on refl k backend backend' link link' on.does.3 backends was is r.0 works lanes pending_runs pending_told)

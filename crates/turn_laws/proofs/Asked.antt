@@ -87,12 +87,12 @@ module _ {C J : Type 0} (s s' : System C J) (w : WorldModel) (h : IsShadow s w) 
   writes x =
       let works : link'.failure ≡ None = ap (λ (c : LinkModel Wire). c.failure) x.1 ∙ worked in
       let working : IsWorking s.carrier k link = (backend, on.does.3, was, worked) in
-      let links : LinksShadow s'.carrier s.closed s.opened w =
-      quiet-backend s.carrier s'.carrier s.closed s.opened w h.links k link link' working
+      let links : LinksShadow s.nodes s'.carrier s.closed s.opened w =
+      quiet-backend s.nodes s.carrier s'.carrier s.closed s.opened w h.links k link link' working
       (now (AtBackend Asked) s s' on refl k backend backend' link link' on.does.3 backends was is worked works)
       (ap (λ (c : LinkModel Wire). c.node) x.1 ∙ ((h.links).backends k link working).0)
-      (ap (λ (p : Wire). p.id) x.0.1) on.table
-      (λ l o. subst (OpenShadow s.carrier.nodes w.commands link') (λ i. record l { requests = append-nil l.requests i }) (open-written link link' (Slots ∷ []) x s.carrier.nodes w.commands l o (all-slots w.commands)))
+      (ap (λ (p : Wire). p.id) x.0.1)
+      (λ l o. subst (OpenShadow s.nodes w.commands link') (λ i. record l { requests = append-nil l.requests i }) (open-written link link' (Slots ∷ []) x s.nodes w.commands l o (all-slots w.commands)))
       (λ idle. idle-written link link' (Slots ∷ []) x idle refl (All-cons (λ d. d ≡ due.Slots) due.Slots [] refl (All-nil (λ d. d ≡ due.Slots)))) in
       let closed : s'.closed ≡ s.closed = same-closed (AtBackend Asked) s s' on refl k backend backend' link link' on.does.3 backends was is worked works in
       let opened : s'.opened ≡ s.opened = same-opened (AtBackend Asked) s s' on refl k backend backend' link link' on.does.3 backends was is worked works in (
@@ -100,7 +100,7 @@ module _ {C J : Type 0} (s s' : System C J) (w : WorldModel) (h : IsShadow s w) 
         w,
         refl,
         carrier-frame (AtBackend Asked) s s' w h on
-            (subst (λ xs. LinksShadow s'.carrier xs s'.opened w) (sym closed) (subst (λ n. LinksShadow s'.carrier s.closed n w) (sym opened) links))
+            (subst (λ xs. LinksShadow s.nodes s'.carrier xs s'.opened w) (sym closed) (subst (λ n. LinksShadow s.nodes s'.carrier s.closed n w) (sym opened) links))
             (same-seats s s' (ap length lanes) pending_runs)
             (λ j model lane p q. down-fits s w h j model lane p (sym (ap (λ xs. slice_get xs j) lanes) ∙ q))
             (same-bag (AtBackend Asked) s s' on refl k backend backend' link link' on.does.3 backends was is worked works lanes pending_runs owes)

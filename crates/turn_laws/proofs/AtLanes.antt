@@ -93,7 +93,7 @@ not-given : (r : Result (Unit {0}) Pair) (pair : Pair) → r ≡ Ok tt → r ≡
 not-given r pair e g = cc
 
 -- a pair is given
-given : (a b : Option (Outlet Pair)) (pair : Pair) → Gives a b pair (Ok tt) → (inlet : Inlet Pair) → DownSteps a inlet → AfterGiven a b pair inlet
+pub given : (a b : Option (Outlet Pair)) (pair : Pair) → Gives a b pair (Ok tt) → (inlet : Inlet Pair) → DownSteps a inlet → AfterGiven a b pair inlet
 given None b pair g inlet steps = absurd (not-given (Ok tt) pair refl g.1)
 given (Some old) b pair g inlet steps = given-some old g.0 b pair g.1 g.2 inlet (steps old refl)
 

@@ -21,6 +21,9 @@ module _ {C J : Type 0} where
     limit = h.limit;
     cluster = refl;
     apart = h.apart;
+    room = h.room;
+    table = h.table;
+    listed = h.listed;
     numbered = h.numbered;
     sides = h.sides;
     seated = h.seated;

@@ -276,6 +276,9 @@ module _ {C J : Type 0} where
       limit = h.limit;
       cluster = h.cluster;
       apart = h.apart;
+      room = h.room;
+      table = h.table;
+      listed = h.listed;
       numbered = λ j f p. ⊎_elim
           (λ (z : (j ≡ k) × (f ≡ model')). ap seat_of z.1 ∙ quiet.worker ∙ h.numbered j model (here j z.0))
           (λ (z : (j ≢ k) × (slice_get s.workers j ≡ Some f)). h.numbered j f z.1)

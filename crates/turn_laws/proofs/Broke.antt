@@ -117,7 +117,7 @@ module _ {C J : Type 0} (s s' : System C J) (w : WorldModel) (h : IsShadow s w) 
   astray : (value : Value) → link.failure ≡ None → Comes any_failures any_garbled Exchanges link (Some value) link'.port → link.due ≡ [] → ⊥
   astray value worked comes none =
       let first = (comes-first link link'.port value comes).0 in ⊎_elim
-      (λ (x : (i : ℕ) × (l : Link) × Numbers (h.links).ids link.port.id i × (slice_get w.links i ≡ Some l) × OpenShadow s.carrier.nodes w.commands link l).
+      (λ (x : (i : ℕ) × (l : Link) × Numbers (h.links).ids link.port.id i × (slice_get w.links i ≡ Some l) × OpenShadow s.nodes w.commands link l).
       none-waits (x.4).answered _ (length link'.port.values) (sym none ∙ (x.4).due) ((x.4).matched ∙ ap length first))
       (λ (x : IsUnnumbered (h.links).ids link.port.id × IsIdle link).
       none-waits (x.1).answered _ (length link'.port.values) (sym none ∙ (x.1).due) ((x.1).matched ∙ ap length first))

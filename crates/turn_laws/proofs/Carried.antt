@@ -73,11 +73,11 @@ open-idle table commands link node e h = record {
 }
 
 -- A connection gets its link: the next.
-module _ {H : Type 0} (a b : CarrierModel H Wire) (closed : List Wire) (opened : ℕ) (w : WorldModel) (h : LinksShadow a closed opened w)
+module _ {H : Type 0} (nodes : List Endpoint) (a b : CarrierModel H Wire) (closed : List Wire) (opened : ℕ) (w : WorldModel) (h : LinksShadow nodes a closed opened w)
     (k : ℕ) (link link' : LinkModel Wire) (l' : Link) (working : IsWorking a k link)
     (now : (j : ℕ) (x : LinkModel Wire) → IsWorking b j x → ((j ≡ k) × (x ≡ link')) ⊎ ((j ≢ k) × IsWorking a j x))
-    (node : link'.node ≡ k) (id : link'.port.id ≡ link.port.id) (nodes : b.nodes ≡ a.nodes) (un : IsUnnumbered h.ids link.port.id)
-    (shows : OpenShadow a.nodes w.commands link' l') where
+    (node : link'.node ≡ k) (id : link'.port.id ≡ link.port.id) (un : IsUnnumbered h.ids link.port.id)
+    (shows : OpenShadow nodes w.commands link' l') where
   abbrev links : List Link
   links = w.links ++ l' ∷ []
 
@@ -87,26 +87,26 @@ module _ {H : Type 0} (a b : CarrierModel H Wire) (closed : List Wire) (opened :
   un-still : (other : ℕ) → other ≢ link.port.id → IsUnnumbered h.ids other → IsUnnumbered ids other
   un-still other ne old i e = ⊎_elim (λ (z : slice_get h.ids i ≡ Some other). old i z) (λ (z : (i ≡ length h.ids) × (other ≡ link.port.id)). ne z.1) (at-last h.ids link.port.id i other e)
 
-  mine : (j : ℕ) (x : LinkModel Wire) → j ≡ k → x ≡ link' → (x.node ≡ j) × (x.port.id < opened) × BackendShadow a.nodes (record w { links = links }) ids x
-  mine j x ej e = subst (λ (c : LinkModel Wire). (c.node ≡ j) × (c.port.id < opened) × BackendShadow a.nodes (record w { links = links }) ids c) (sym e) (
+  mine : (j : ℕ) (x : LinkModel Wire) → j ≡ k → x ≡ link' → (x.node ≡ j) × (x.port.id < opened) × BackendShadow nodes (record w { links = links }) ids x
+  mine j x ej e = subst (λ (c : LinkModel Wire). (c.node ≡ j) × (c.port.id < opened) × BackendShadow nodes (record w { links = links }) ids c) (sym e) (
     node ∙ sym ej,
     subst (λ m. m < opened) (sym id) (h.backends k link working).1,
     inl (length w.links, l', get-last h.ids link.port.id (length w.links) (sym h.all) ∙ ap Some (sym id), get-last w.links l' (length w.links) refl, shows),
   )
 
-  theirs : (j : ℕ) (x : LinkModel Wire) → j ≢ k → IsWorking a j x → (x.node ≡ j) × (x.port.id < opened) × BackendShadow a.nodes (record w { links = links }) ids x
+  theirs : (j : ℕ) (x : LinkModel Wire) → j ≢ k → IsWorking a j x → (x.node ≡ j) × (x.port.id < opened) × BackendShadow nodes (record w { links = links }) ids x
   theirs j x ne works =
       let old = h.backends j x works in (
         old.0,
         old.1,
         ⊎_elim
-            (λ (z : (i : ℕ) × (m : Link) × Numbers h.ids x.port.id i × (slice_get w.links i ≡ Some m) × OpenShadow a.nodes w.commands x m).
+            (λ (z : (i : ℕ) × (m : Link) × Numbers h.ids x.port.id i × (slice_get w.links i ≡ Some m) × OpenShadow nodes w.commands x m).
             inl (z.0, z.1, before-last h.ids (link.port.id ∷ []) z.0 x.port.id z.2, before-last w.links (l' ∷ []) z.0 z.1 z.3, z.4))
             (λ (z : IsUnnumbered h.ids x.port.id × IsIdle x). inr (un-still x.port.id (λ e. ne (h.apart j k x link works working e)) z.0, z.1))
             old.2,
       )
 
-  pub links-added : LinksShadow b closed opened (record w { links = links })
+  pub links-added : LinksShadow nodes b closed opened (record w { links = links })
   links-added = record {
     ids = ids;
     all = length-append h.ids (link.port.id ∷ []) ∙ (ap (λ n. n + 1) h.all) ∙ sym (length-append w.links (l' ∷ []));
@@ -123,10 +123,10 @@ module _ {H : Type 0} (a b : CarrierModel H Wire) (closed : List Wire) (opened :
         (λ (v : (j ≡ length h.ids) × (n ≡ link.port.id)). u.0 ∙ sym v.0)
         (at-last h.ids link.port.id j n q))
         (at-last h.ids link.port.id i n p);
-    backends = λ j x works. let l = ⊎_elim
+    backends = λ j x works. ⊎_elim
         (λ (z : (j ≡ k) × (x ≡ link')). mine j x z.0 z.1)
         (λ (z : (j ≢ k) × IsWorking a j x). theirs j x z.0 z.1)
-        (now j x works) in (l.0, l.1, subst (λ t. BackendShadow t (record w { links = links }) ids x) (sym nodes) l.2);
+        (now j x works);
     wires = λ j wire e.
         let old = h.wires j wire e in (
           old.0,
@@ -223,12 +223,12 @@ module _ {C J : Type 0} (s s' : System C J) (w : WorldModel) (h : IsShadow s w) 
   id = ap (λ (p : Wire). p.id) (o.writes).0.1
 
   -- the machine carries it
-  carries : (i : ℕ) (links' : List Link) → CarriesOver (ticked w) i (lying run) links' → LinksShadow s'.carrier s.closed s.opened (record w { links = links' }) → Simulated
+  carries : (i : ℕ) (links' : List Link) → CarriesOver (ticked w) i (lying run) links' → LinksShadow s.nodes s'.carrier s.closed s.opened (record w { links = links' }) → Simulated
   carries i links' over shadow =
       let f = leaving s w h o.k o.b run o.at o.full in
       settles-so (Carry o.k i) s s' w (remove w.ups f.front.at) links' [] walked h goes
       (f.front.at, lying run, links', first-of-front (lies_in o.k) w.ups (lying run) f.rest f.front, over, λ n. record (ticked w) { ups = remove w.ups f.front.at; links = links'; downs = append-nil w.downs n })
-      (subst (λ xs. LinksShadow s'.carrier xs s'.opened (record w { links = links' })) (sym o.closed) (subst (λ n. LinksShadow s'.carrier s.closed n (record w { links = links' })) (sym o.opened) shadow))
+      (subst (λ xs. LinksShadow s.nodes s'.carrier xs s'.opened (record w { links = links' })) (sym o.closed) (subst (λ n. LinksShadow s.nodes s'.carrier s.closed n (record w { links = links' })) (sym o.opened) shadow))
       bag
       (set-seats s s' o.k (record o.b { run = None }) (ap length o.lanes) o.pending_runs (λ x e seated. absurd (nothing x e)))
       (λ j model lane p q. down-fits s w h j model lane p (sym (ap (λ xs. slice_get xs j) o.lanes) ∙ q))
@@ -249,28 +249,28 @@ module _ {C J : Type 0} (s s' : System C J) (w : WorldModel) (h : IsShadow s w) 
   is-sent : (l : Link) → with_run l ≡ sent l (lying run)
   is-sent l = λ n. record l { requests = l.requests ++ same-requests run left.known.0 n }
 
-  numbered : (i : ℕ) (l : Link) → Numbers (h.links).ids o.link.port.id i → slice_get w.links i ≡ Some l → OpenShadow s.carrier.nodes w.commands o.link l → Simulated
+  numbered : (i : ℕ) (l : Link) → Numbers (h.links).ids o.link.port.id i → slice_get w.links i ≡ Some l → OpenShadow s.nodes w.commands o.link l → Simulated
   numbered i l numbers at open' =
       let l' : Link = with_run l in
       let links' : List Link = slice_set w.links i l' in
       let node' : l.node ≡ node-of = open'.node ∙ ((h.links).backends node-of o.link working).0 in
       carries i links' (inl (l, at, open'.is_open, node', ap (slice_set w.links i) (is-sent l)))
-      (backend-changes s.carrier s'.carrier s.closed s.opened w (record w { links = links' }) h.links node-of i o.link o.link' l l' working now
-      node id goes.table numbers at refl
-      (subst (λ t. OpenShadow t w.commands o.link' l') (sym goes.table) (open-written o.link o.link' (requests_of_run run) o.writes s.carrier.nodes w.commands l open' known))
-      (λ x m z. subst (λ t. OpenShadow t w.commands x m) (sym goes.table) z)
+      (backend-changes s.nodes s.carrier s'.carrier s.closed s.opened w (record w { links = links' }) h.links node-of i o.link o.link' l l' working now
+      node id numbers at refl
+      (open-written o.link o.link' (requests_of_run run) o.writes s.nodes w.commands l open' known)
+      (λ x m z. z)
       (λ x m z. z))
 
   unnumbered : IsUnnumbered (h.links).ids o.link.port.id → IsIdle o.link → Simulated
   unnumbered un idle =
       let l : Link = new_link node-of in
-      let open' = open-idle s.carrier.nodes w.commands o.link node-of ((h.links).backends node-of o.link working).0 idle in
+      let open' = open-idle s.nodes w.commands o.link node-of ((h.links).backends node-of o.link working).0 idle in
       carries (length w.links) (w.links ++ with_run l ∷ []) (inr (refl, ap (λ (x : Link). w.links ++ x ∷ []) (is-sent l)))
-      (links-added s.carrier s'.carrier s.closed s.opened w h.links node-of o.link o.link' (with_run l) working now node id goes.table un
-      (open-written o.link o.link' (requests_of_run run) o.writes s.carrier.nodes w.commands l open' known))
+      (links-added s.nodes s.carrier s'.carrier s.closed s.opened w h.links node-of o.link o.link' (with_run l) working now node id un
+      (open-written o.link o.link' (requests_of_run run) o.writes s.nodes w.commands l open' known))
 
   pub sends : Simulated
   sends = ⊎_elim
-      (λ (x : (i : ℕ) × (l : Link) × Numbers (h.links).ids o.link.port.id i × (slice_get w.links i ≡ Some l) × OpenShadow s.carrier.nodes w.commands o.link l). numbered x.0 x.1 x.2 x.3 x.4)
+      (λ (x : (i : ℕ) × (l : Link) × Numbers (h.links).ids o.link.port.id i × (slice_get w.links i ≡ Some l) × OpenShadow s.nodes w.commands o.link l). numbered x.0 x.1 x.2 x.3 x.4)
       (λ (x : IsUnnumbered (h.links).ids o.link.port.id × IsIdle o.link). unnumbered x.0 x.1)
       ((h.links).backends node-of o.link working).2

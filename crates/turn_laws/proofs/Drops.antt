@@ -65,13 +65,13 @@ all-front P (x ∷ a) b h zero d lt = h 0 d (omega arith)
 all-front P (x ∷ a) b h (suc i) d lt = all-front P a b (λ j e l. h (suc j) e (omega (arith, l))) i d (omega (arith, lt))
 
 -- One connection is among the broken ones.
-module _ {H : Type 0} (a b : CarrierModel H Wire) (closed : List Wire) (opened : ℕ) (w : WorldModel) (h : LinksShadow a closed opened w) (links : List Link)
+module _ {H : Type 0} (nodes : List Endpoint) (a b : CarrierModel H Wire) (closed : List Wire) (opened : ℕ) (w : WorldModel) (h : LinksShadow nodes a closed opened w) (links : List Link)
     (k : ℕ) (link : LinkModel Wire) (wire : Wire) (working : IsWorking a k link)
     (now : (j : ℕ) (x : LinkModel Wire) → IsWorking b j x → (j ≢ k) × IsWorking a j x)
-    (id : wire.id ≡ link.port.id) (nodes : b.nodes ≡ a.nodes) (size : length links ≡ length w.links)
+    (id : wire.id ≡ link.port.id) (size : length links ≡ length w.links)
     (shows : WireShadow (record w { links = links }) h.ids wire)
     (stays : (i other : ℕ) (m : Link) → Numbers h.ids other i → other ≢ link.port.id → slice_get w.links i ≡ Some m → slice_get links i ≡ Some m) where
-  pub links-broken : LinksShadow b (closed ++ wire ∷ []) opened (record w { links = links })
+  pub links-broken : LinksShadow nodes b (closed ++ wire ∷ []) opened (record w { links = links })
   links-broken = record {
     ids = h.ids;
     all = h.all ∙ sym size;
@@ -83,8 +83,8 @@ module _ {H : Type 0} (a b : CarrierModel H Wire) (closed : List Wire) (opened :
           old.0,
           old.1,
           ⊎_elim
-              (λ (y : (i : ℕ) × (m : Link) × Numbers h.ids x.port.id i × (slice_get w.links i ≡ Some m) × OpenShadow a.nodes w.commands x m).
-              inl (y.0, y.1, y.2, stays y.0 x.port.id y.1 y.2 (λ e. z.0 (h.apart j k x link z.1 working e)) y.3, subst (λ t. OpenShadow t w.commands x y.1) (sym nodes) y.4))
+              (λ (y : (i : ℕ) × (m : Link) × Numbers h.ids x.port.id i × (slice_get w.links i ≡ Some m) × OpenShadow nodes w.commands x m).
+              inl (y.0, y.1, y.2, stays y.0 x.port.id y.1 y.2 (λ e. z.0 (h.apart j k x link z.1 working e)) y.3, y.4))
               (λ y. inr y)
               old.2,
         );
@@ -193,14 +193,14 @@ module _ {C J : Type 0} (s s' : System C J) (w : WorldModel) (h : IsShadow s w) 
   abbrev pub Simulated : Type 0
   Simulated = (events : List Event) × (w' : WorldModel) × Walk w events w' × IsShadow s' w'
 
-  shown : (links : List Link) → LinksShadow s'.carrier (s.closed ++ wire ∷ []) s.opened (record w { links = links }) → LinksShadow s'.carrier s'.closed s'.opened (record w { links = links })
-  shown links x = subst (λ xs. LinksShadow s'.carrier xs s'.opened (record w { links = links })) (sym o.closed) (subst (λ n. LinksShadow s'.carrier (s.closed ++ wire ∷ []) n (record w { links = links })) (sym o.opened) x)
+  shown : (links : List Link) → LinksShadow s.nodes s'.carrier (s.closed ++ wire ∷ []) s.opened (record w { links = links }) → LinksShadow s.nodes s'.carrier s'.closed s'.opened (record w { links = links })
+  shown links x = subst (λ xs. LinksShadow s.nodes s'.carrier xs s'.opened (record w { links = links })) (sym o.closed) (subst (λ n. LinksShadow s.nodes s'.carrier (s.closed ++ wire ∷ []) n (record w { links = links })) (sym o.opened) x)
 
-  numbered : (i : ℕ) (l : Link) → Numbers (h.links).ids o.link.port.id i → slice_get w.links i ≡ Some l → OpenShadow s.carrier.nodes w.commands o.link l → Simulated
+  numbered : (i : ℕ) (l : Link) → Numbers (h.links).ids o.link.port.id i → slice_get w.links i ≡ Some l → OpenShadow s.nodes w.commands o.link l → Simulated
   numbered i l numbers at open' =
       let l' : Link = record l { is_open = false; backs = [] } in
       let links' : List Link = slice_set w.links i l' in
-      let told : lost_tickets (waiting l) ≡ lost = ap lost_tickets (waiting-tickets s.carrier.nodes w.commands o.link l open') in
+      let told : lost_tickets (waiting l) ≡ lost = ap lost_tickets (waiting-tickets s.nodes w.commands o.link l open') in
       let shadow : ClosedShadow w.commands wire l' = record {
         node = open'.node ∙ sym open'.wired ∙ sym o.node;
         is_open = refl;
@@ -211,7 +211,7 @@ module _ {C J : Type 0} (s s' : System C J) (w : WorldModel) (h : IsShadow s w) 
       } in
       settles-so (Drop i) s s' w w.ups links' lost walked h goes
       (l, at, open'.is_open, λ n. record w { links = links'; downs = w.downs ++ sym told n; moment = w.moment + 1 })
-      (shown links' (links-broken s.carrier s'.carrier s.closed s.opened w h.links links' o.k o.link wire working now o.id goes.table (set-size w.links i l')
+      (shown links' (links-broken s.nodes s.carrier s'.carrier s.closed s.opened w h.links links' o.k o.link wire working now o.id (set-size w.links i l')
       (inl (i, l', subst (λ n. Numbers (h.links).ids n i) (sym o.id) numbers, set-same w.links i l l' at, shadow))
       (λ n other m p ne e. not-mine (h.links).ids w.links i o.link.port.id n other l' m numbers p ne e)))
       bag
@@ -229,7 +229,7 @@ module _ {C J : Type 0} (s s' : System C J) (w : WorldModel) (h : IsShadow s w) 
         refl,
         subst (λ (ps : List Pair). IsShadow s' (record w { downs = ps })) (sym h.told)
             (settled-frame s s' w w.ups w.links [] w.commands w.moment (omega arith) (walked-sound w walked).placed h goes
-            (shown w.links (links-broken s.carrier s'.carrier s.closed s.opened w h.links w.links o.k o.link wire working now o.id goes.table refl
+            (shown w.links (links-broken s.nodes s.carrier s'.carrier s.closed s.opened w h.links w.links o.k o.link wire working now o.id refl
             (inr (subst (IsUnnumbered (h.links).ids) (sym o.id) un, quiet)) (λ n other m p ne e. e)))
             refl same
             (same-seats s s' (ap length o.lanes) o.pending_runs)
@@ -239,7 +239,7 @@ module _ {C J : Type 0} (s s' : System C J) (w : WorldModel) (h : IsShadow s w) 
 
   pub drops : Simulated
   drops = ⊎_elim
-      (λ (x : (i : ℕ) × (l : Link) × Numbers (h.links).ids o.link.port.id i × (slice_get w.links i ≡ Some l) × OpenShadow s.carrier.nodes w.commands o.link l). numbered x.0 x.1 x.2 x.3 x.4)
+      (λ (x : (i : ℕ) × (l : Link) × Numbers (h.links).ids o.link.port.id i × (slice_get w.links i ≡ Some l) × OpenShadow s.nodes w.commands o.link l). numbered x.0 x.1 x.2 x.3 x.4)
       (λ (x : IsUnnumbered (h.links).ids o.link.port.id × IsIdle o.link). idle x.0 x.1)
       ((h.links).backends o.k o.link working).2
 

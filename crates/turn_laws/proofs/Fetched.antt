@@ -4,7 +4,6 @@ use Rattle.std.specs.Prelude.{slice_get, slice_set}
 use Rattle.resp_wire.specs.declared.value.Value.{Value}
 use Rattle.key_split.specs.declared.travel.Ticket.{Ticket}
 use Rattle.key_split.specs.declared.travel.Told.{Told}
-use Rattle.slot_map.specs.Table.{Endpoint}
 use Rattle.node_link.specs.LinkModel.{LinkModel}
 use Rattle.node_link.specs.LinkCalls.{Comes}
 use Rattle.node_link.specs.Telling.{told_by}
@@ -33,6 +32,7 @@ use Rattle.turn_laws.proofs.Lines.{backend-changes}
 use Rattle.turn_laws.proofs.Fetching.{fetched-shadow, comes-first}
 use Rattle.turn_laws.proofs.Waiting.{now, same-closed, same-opened, not-idle}
 use Rattle.turn_laws.proofs.Settled.{goes-of, settles-so}
+use Rattle.turn_laws.proofs.SameTold.{same-told}
 
 command-waits : (t : Ticket) → due.Command t ≡ due.Slots → ⊥
 command-waits t e = cc
@@ -104,6 +104,12 @@ module _ {C J : Type 0} (s s' : System C J) (w : WorldModel) (h : IsShadow s w) 
   working : IsWorking s.carrier k link
   working = (backend, on.does.3, was, worked)
 
+  -- the machine was told so, by the whole list of the nodes
+  heard : (told_by value link.node s.nodes).0 ≡ told
+  heard =
+      let node : link.node ≡ k = ((h.links).backends k link working).0 in
+      same-told s.nodes s.carrier.nodes s'.carrier.nodes value link.node told h.room h.table on.table (omega (arith, node, h.listed k backend link on.does.3 was)) says
+
   bag : SameBag (downs_of s ++ (ticket, told) ∷ []) (downs_of s')
   bag f =
       let fl : s'.workers ≡ s.workers = ap (λ (x : System C J). x.workers) on.leaves in
@@ -125,28 +131,27 @@ module _ {C J : Type 0} (s s' : System C J) (w : WorldModel) (h : IsShadow s w) 
   abbrev pub Simulated : Type 0
   Simulated = (events : List Event) × (w' : WorldModel) × Walk w events w' × IsShadow s' w'
 
-  numbered : (i : ℕ) (l : Link) → Numbers (h.links).ids link.port.id i → slice_get w.links i ≡ Some l → OpenShadow s.carrier.nodes w.commands link l → Simulated
+  numbered : (i : ℕ) (l : Link) → Numbers (h.links).ids link.port.id i → slice_get w.links i ≡ Some l → OpenShadow s.nodes w.commands link l → Simulated
   numbered i l numbers at open' =
-      let f = fetched-shadow s.carrier.nodes w.commands link link' l (due.Command ticket) value open' comes dues goes in
+      let f = fetched-shadow s.nodes w.commands link link' l (due.Command ticket) value open' comes dues goes in
       let l' : Link = record l { backs = f.0 } in
       let links' : List Link = slice_set w.links i l' in
-      let first : l.backs ≡ To ticket told ∷ f.0 = f.1 ∙ ap (λ (p : Told × List Endpoint). To ticket p.0 ∷ f.0) says in
+      let first : l.backs ≡ To ticket told ∷ f.0 = f.1 ∙ ap (λ t. To ticket t ∷ f.0) heard in
       let id : link'.port.id ≡ link.port.id = ap (λ (x : Wire). x.id) (comes-first link link'.port value comes).1 in
       let node : link'.node ≡ k = ap (λ (c : LinkModel Wire). c.node) goes ∙ ((h.links).backends k link working).0 in
-      let nodes : s'.carrier.nodes ≡ s.carrier.nodes = on.table in
       let w1 : WorldModel = record w { links = links' } in
-      let shadow : LinksShadow s'.carrier s.closed s.opened w1 =
-      backend-changes s.carrier s'.carrier s.closed s.opened w w1 h.links k i link link' l l' working
+      let shadow : LinksShadow s.nodes s'.carrier s.closed s.opened w1 =
+      backend-changes s.nodes s.carrier s'.carrier s.closed s.opened w w1 h.links k i link link' l l' working
       (now (AtBackend Fetched) s s' on refl k backend backend' link link' on.does.3 backends was is worked works)
-      node id nodes numbers at refl
-      (subst (λ t. OpenShadow t w.commands link' l') (sym nodes) f.2)
-      (λ x m o. subst (λ t. OpenShadow t w.commands x m) (sym nodes) o)
+      node id numbers at refl
+      f.2
+      (λ x m o. o)
       (λ x m o. o) in
       let closed : s'.closed ≡ s.closed = same-closed (AtBackend Fetched) s s' on refl k backend backend' link link' on.does.3 backends was is worked works in
       let opened : s'.opened ≡ s.opened = same-opened (AtBackend Fetched) s s' on refl k backend backend' link link' on.does.3 backends was is worked works in
       settles-so (Fetch i) s s' w w.ups links' ((ticket, told) ∷ []) walked h (goes-of (AtBackend Fetched) s s' on)
       (l, at, open'.is_open, inr (f.0, ticket, told, first, refl))
-      (subst (λ xs. LinksShadow s'.carrier xs s'.opened w1) (sym closed) (subst (λ n. LinksShadow s'.carrier s.closed n w1) (sym opened) shadow))
+      (subst (λ xs. LinksShadow s.nodes s'.carrier xs s'.opened w1) (sym closed) (subst (λ n. LinksShadow s.nodes s'.carrier s.closed n w1) (sym opened) shadow))
       bag
       (same-seats s s' (ap length lanes) pending_runs)
       (λ j model lane p q. down-fits s w h j model lane p (sym (ap (λ xs. slice_get xs j) lanes) ∙ q))
@@ -154,7 +159,7 @@ module _ {C J : Type 0} (s s' : System C J) (w : WorldModel) (h : IsShadow s w) 
 
   pub fetches : Simulated
   fetches = ⊎_elim
-      (λ (x : (i : ℕ) × (l : Link) × Numbers (h.links).ids link.port.id i × (slice_get w.links i ≡ Some l) × OpenShadow s.carrier.nodes w.commands link l). numbered x.0 x.1 x.2 x.3 x.4)
+      (λ (x : (i : ℕ) × (l : Link) × Numbers (h.links).ids link.port.id i × (slice_get w.links i ≡ Some l) × OpenShadow s.nodes w.commands link l). numbered x.0 x.1 x.2 x.3 x.4)
       (λ (x : IsUnnumbered (h.links).ids link.port.id × IsIdle link). absurd (command-waits ticket (not-idle link.due (due.Command ticket) link'.due dues (x.1).none)))
       ((h.links).backends k link working).2
 

@@ -1,10 +1,12 @@
 -- What the shadow needs of a step that the machine does not see.
 use Rattle.std.proofs.Common.{◌≡◌, ◌≢◌, inl, inr, ⊎_elim, ℕ, zero, suc, ◌<◌, ◌≤◌, ◌-◌, Bool, true, false, List, [], ◌∷◌, Some, None, refl, sym, ap, ◌∙◌, subst, arith, length}
 use Rattle.std.specs.Prelude.{slice_get, slice_set, IsSome, All, map}
+use mathlib.Core.List.{IsPrefix}
 use Rattle.std.proofs.lemmas.Bool.{false≢true}
 use Rattle.key_split.specs.declared.travel.Ended.{Ended}
 use Rattle.command_future.specs.CommandModel.{CommandModel}
 use Rattle.command_future.specs.declared.stage.Stage.TheVariants.{Over}
+use Rattle.slot_map.specs.Table.{Endpoint}
 use Rattle.node_link.specs.LinkModel.{LinkModel}
 use Rattle.session_order.specs.declared.queue.PartStage.{PartStage}
 use Rattle.session_order.specs.declared.queue.PartStage.TheVariants.{Waiting, Out, Done}
@@ -24,9 +26,10 @@ use Rattle.world_laws.specs.declared.state.Arrival.{Arrival}
 use Rattle.world_laws.specs.Places.{is}
 use Rattle.turn_laws.specs.Wire.{Wire}
 use Rattle.turn_laws.specs.System.{System, Mark}
-use Rattle.turn_laws.specs.Shadow.{IsShadow, IsWorking, LinksShadow, BackendShadow, LogShadow, UpsShadow, ClientShadow, KeptShadow, IsLetGo, StageShadow, HasCommand, ToldFrom, DownInStep, AreApart, AreSeated, Holds, downs_of, down_in}
+use Rattle.turn_laws.specs.Shadow.{IsShadow, IsWorking, LinksShadow, LogShadow, UpsShadow, ClientShadow, KeptShadow, IsLetGo, StageShadow, HasCommand, ToldFrom, DownInStep, AreApart, AreSeated, most_nodes, Holds, downs_of, down_in}
 use Rattle.turn_laws.specs.Steps.{CarrierStep, Breaks, FailsAt, opened_by}
 use Rattle.turn_laws.proofs.Downs.{Pair, SameBag, bag-has, told-same}
+use Rattle.turn_laws.proofs.Listed.{still-listed}
 
 -- a list as long as another has an item at each of its places
 pub beside : {X Y : Type 0} (xs : List X) (ys : List Y) (i : ℕ) (y : Y) → length xs ≡ length ys → slice_get ys i ≡ Some y → (x : X) × (slice_get xs i ≡ Some x)
@@ -114,17 +117,17 @@ module _ {C J : Type 0} where
   still-opened event s s' step quiet = ap (λ (x : System C J). x.opened) step.leaves ∙ quiet
 
   -- the links' shadow, where no more connections work
-  pub links-still : (a b : CarrierModel (Newcomer C J) Wire) (closed closed' : List Wire) (opened opened' : ℕ) (w : WorldModel)
+  pub links-still : (nodes : List Endpoint) (a b : CarrierModel (Newcomer C J) Wire) (closed closed' : List Wire) (opened opened' : ℕ) (w : WorldModel)
       → ((k : ℕ) (link : LinkModel Wire) → IsWorking b k link → IsWorking a k link)
-      → b.nodes ≡ a.nodes → closed' ≡ closed → opened' ≡ opened
-      → LinksShadow a closed opened w → LinksShadow b closed' opened' w
-  links-still a b closed closed' opened opened' w back nodes ec eo h =
-      subst (λ n. LinksShadow b closed' n w) (sym eo) (subst (λ xs. LinksShadow b xs opened w) (sym ec) (record {
+      → closed' ≡ closed → opened' ≡ opened
+      → LinksShadow nodes a closed opened w → LinksShadow nodes b closed' opened' w
+  links-still nodes a b closed closed' opened opened' w back ec eo h =
+      subst (λ n. LinksShadow nodes b closed' n w) (sym eo) (subst (λ xs. LinksShadow nodes b xs opened w) (sym ec) (record {
         ids = h.ids;
         all = h.all;
         below = h.below;
         once = h.once;
-        backends = λ k link works. let l = h.backends k link (back k link works) in (l.0, l.1, subst (λ t. BackendShadow t w h.ids link) (sym nodes) l.2);
+        backends = λ k link works. h.backends k link (back k link works);
         wires = h.wires;
         apart = λ k m x y p q. h.apart k m x y (back k x p) (back m y q);
         aside = λ k j x wire p. h.aside k j x wire (back k x p);
@@ -163,7 +166,7 @@ module _ {C J : Type 0} where
   -- A step of the carrier at which the machine's links change, and nothing else of it but the moment.
   pub link-frame : (event : CarrierEvent) (s s' : System C J) (w : WorldModel) (links' : List Link) (moment' : ℕ) → w.moment ≤ moment' → IsShadow s w
       → CarrierStep s event s'
-      → LinksShadow s'.carrier s'.closed s'.opened (record w { links = links'; moment = moment' }) → Seats s s'
+      → LinksShadow s.nodes s'.carrier s'.closed s'.opened (record w { links = links'; moment = moment' }) → Seats s s'
       → ((k : ℕ) (model : WorkerModel C J) (lane : LaneEnds (Newcomer C J)) → slice_get s.workers k ≡ Some model → slice_get s'.carrier.lanes k ≡ Some lane → DownFits k model lane)
       → SameBag (downs_of s) (downs_of s') → UpsShadow s.workers s'.carrier w → IsShadow s' (record w { links = links'; moment = moment' })
   link-frame event s s' w links' moment' later h step links lanes steps bag ups =
@@ -172,13 +175,17 @@ module _ {C J : Type 0} where
       let workers : s'.workers ≡ s.workers = ap (λ (x : System C J). x.workers) eq in
       let cluster : s'.cluster ≡ s.cluster = ap (λ (x : System C J). x.cluster) eq in
       let log : s'.log ≡ s.log = ap (λ (x : System C J). x.log) eq in
+      let nodes : s'.nodes ≡ s.nodes = ap (λ (x : System C J). x.nodes) eq in
       let at : (k : ℕ) (model : WorkerModel C J) → slice_get s'.workers k ≡ Some model → slice_get s.workers k ≡ Some model = λ k model e. sym (ap (λ xs. slice_get xs k) workers) ∙ e in
       let back : SameBag (downs_of s') (downs_of s) = λ f. sym (bag f) in
       record {
         workers = ap length workers ∙ h.workers;
         limit = h.limit;
         cluster = h.cluster ∙ sym cluster;
-        apart = subst AreApart (sym step.table) h.apart;
+        apart = subst AreApart (sym nodes) h.apart;
+        room = subst (λ (ns : List Endpoint). length ns ≤ most_nodes) (sym nodes) h.room;
+        table = subst (IsPrefix s'.carrier.nodes) (sym nodes) step.table;
+        listed = still-listed event s s' step h.listed;
         numbered = λ k model e. h.numbered k model (at k model e);
         sides = ap length workers ∙ h.sides ∙ sym lanes.lanes;
         seated = lanes.seated h.seated;
@@ -189,7 +196,7 @@ module _ {C J : Type 0} where
         to_worker = λ k model lane p q. (steps k model lane (at k model p) q).1;
         told = h.told;
         lanes = subst (λ fs. UpsShadow fs s'.carrier w') (sym workers) ups;
-        links = links;
+        links = subst (λ ns. LinksShadow ns s'.carrier s'.closed s'.opened w') (sym nodes) links;
         clients = λ k model number client e g.
             let t = h.clients k model number client (at k model e) g in
             (t.0, client-same (downs_of s) (downs_of s') bag k number client w.commands t.1);
@@ -205,7 +212,7 @@ module _ {C J : Type 0} where
 
   -- a step of the carrier at which the machine does nothing
   pub carrier-frame : (event : CarrierEvent) (s s' : System C J) (w : WorldModel) → IsShadow s w → CarrierStep s event s'
-      → LinksShadow s'.carrier s'.closed s'.opened w → Seats s s'
+      → LinksShadow s.nodes s'.carrier s'.closed s'.opened w → Seats s s'
       → ((k : ℕ) (model : WorkerModel C J) (lane : LaneEnds (Newcomer C J)) → slice_get s.workers k ≡ Some model → slice_get s'.carrier.lanes k ≡ Some lane → DownFits k model lane)
       → SameBag (downs_of s) (downs_of s') → UpsShadow s.workers s'.carrier w → IsShadow s' w
   carrier-frame event s s' w h step links lanes steps bag ups = link-frame event s s' w w.links w.moment (omega arith) h step links lanes steps bag ups
@@ -219,5 +226,5 @@ module _ {C J : Type 0} where
       → SameBag (downs_of s) (downs_of s') → UpsShadow s.workers s'.carrier w → IsShadow s' w
   carrier-stutter event s s' w h step quiet works fails lanes steps bag ups =
       carrier-frame event s s' w h step
-      (links-still s.carrier s'.carrier s.closed s'.closed s.opened s'.opened w works step.table (still-closed s s' fails step.breaks) (still-opened event s s' step quiet) h.links)
+      (links-still s.nodes s.carrier s'.carrier s.closed s'.closed s.opened s'.opened w works (still-closed s s' fails step.breaks) (still-opened event s s' step quiet) h.links)
       lanes steps bag ups

@@ -22,7 +22,7 @@ use Rattle.turn_laws.proofs.Rings.{memory, outlet_with, inlet_with, takes}
 use Rattle.turn_laws.proofs.Scenes.{scene, put, at-worker, at-client, down-in}
 use Rattle.turn_laws.proofs.ScriptFacts.{k0, new}
 use Rattle.turn_laws.proofs.ScriptStates.{newcomer, carrier}
-use Rattle.turn_laws.proofs.ScriptOpening.{only-one, apart}
+use Rattle.turn_laws.proofs.ScriptOpening.{only-one, apart, seed-first}
 use Rattle.turn_laws.proofs.ScriptAsking.{a0, doors}
 
 -- the outlet knows of no free place
@@ -102,6 +102,11 @@ module _ {C J : Type 0} (port : C) (xs : List (Numbered RunModel)) (many : 1024 
     pending_runs = refl;
     backends = refl;
     apart = apart;
+    each = refl;
+    room = omega arith;
+    table = seed-first;
+    seed = omega arith;
+    published = refl;
     closed = refl;
     log = refl;
     new = new;
@@ -114,10 +119,10 @@ module _ {C J : Type 0} (port : C) (xs : List (Numbered RunModel)) (many : 1024 
     begins = starts;
     goes = (
       of w1,
-      at-worker l0 [] refl (newcomer port, takes [] (newcomer port), refl, refl, ((omega arith, refl), (tt, get-empty nat_cmp 0)), refl, refl) refl (down-in l0 w1 _ refl ([], refl)) tt,
+      at-worker l0 [] refl (newcomer port, takes [] (newcomer port), refl, refl, ((omega arith, refl), (tt, get-empty nat_cmp 0)), refl, refl) refl (down-in l0 w1 _ refl ([], refl)) refl,
       (
         of w2,
-        at-client l0 0 (a0 port) (a0 port) w0.outlet [] refl (put _ (a0 port) 0) (comes-back xs many (plain 0 0 set), refl) (put _ (a0 port) 0) (down-in l0 w1 _ refl ([], refl)) tt,
+        at-client l0 0 (a0 port) (a0 port) w0.outlet [] refl (put _ (a0 port) 0) (comes-back xs many (plain 0 0 set), refl) (put _ (a0 port) 0) (down-in l0 w1 _ refl ([], refl)) refl,
         refl,
       ),
     );

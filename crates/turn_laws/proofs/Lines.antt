@@ -2,6 +2,7 @@
 use Rattle.std.proofs.Common.{◌≡◌, ◌≢◌, ◌⊎◌, inl, inr, ⊎_elim, ℕ, ◌<◌, ◌==◌, true, false, List, Some, sym, ap, ◌∙◌, subst, length}
 use Rattle.std.specs.Prelude.{slice_get, slice_set}
 use Rattle.std.proofs.lemmas.Bool.Decides.{eqb_tells}
+use Rattle.slot_map.specs.Table.{Endpoint}
 use Rattle.node_link.specs.LinkModel.{LinkModel}
 use Rattle.world_laws.specs.State.{WorldModel, Link}
 use Rattle.world_laws.proofs.Nodes.{set-size}
@@ -10,14 +11,14 @@ use Rattle.proxy_turns.specs.CarrierModel.{CarrierModel}
 use Rattle.turn_laws.specs.Wire.{Wire}
 use Rattle.turn_laws.specs.Shadow.{IsWorking, LinksShadow, BackendShadow, OpenShadow, ClosedShadow, Numbers}
 
-module _ {H : Type 0} (a b : CarrierModel H Wire) (closed : List Wire) (opened : ℕ) (w w' : WorldModel) (h : LinksShadow a closed opened w) where
+module _ {H : Type 0} (nodes : List Endpoint) (a b : CarrierModel H Wire) (closed : List Wire) (opened : ℕ) (w w' : WorldModel) (h : LinksShadow nodes a closed opened w) where
   -- The connection of backend k goes from `link` to `link'`, and its link, number n, from l to l'.
   module _ (k n : ℕ) (link link' : LinkModel Wire) (l l' : Link)
       (working : IsWorking a k link) (now : (j : ℕ) (x : LinkModel Wire) → IsWorking b j x → ((j ≡ k) × (x ≡ link')) ⊎ ((j ≢ k) × IsWorking a j x))
-      (node : link'.node ≡ k) (id : link'.port.id ≡ link.port.id) (nodes : b.nodes ≡ a.nodes)
+      (node : link'.node ≡ k) (id : link'.port.id ≡ link.port.id)
       (numbers : Numbers (h.ids) link.port.id n) (at : slice_get w.links n ≡ Some l) (links : w'.links ≡ slice_set w.links n l')
-      (shows : OpenShadow b.nodes w'.commands link' l')
-      (others : (x : LinkModel Wire) (m : Link) → OpenShadow a.nodes w.commands x m → OpenShadow b.nodes w'.commands x m)
+      (shows : OpenShadow nodes w'.commands link' l')
+      (others : (x : LinkModel Wire) (m : Link) → OpenShadow nodes w.commands x m → OpenShadow nodes w'.commands x m)
       (wires : (x : Wire) (m : Link) → ClosedShadow w.commands x m → ClosedShadow w'.commands x m) where
     -- another's link is another
     elsewhere : (i other : ℕ) (m : Link) → Numbers (h.ids) other i → other ≢ link.port.id → slice_get w.links i ≡ Some m → slice_get w'.links i ≡ Some m
@@ -32,26 +33,26 @@ module _ {H : Type 0} (a b : CarrierModel H Wire) (closed : List Wire) (opened :
     there : slice_get w'.links n ≡ Some l'
     there = ap (λ xs. slice_get xs n) links ∙ set-same w.links n l l' at
 
-    mine : (j : ℕ) (x : LinkModel Wire) → j ≡ k → x ≡ link' → (x.node ≡ j) × (x.port.id < opened) × BackendShadow b.nodes w' h.ids x
-    mine j x ej e = subst (λ (c : LinkModel Wire). (c.node ≡ j) × (c.port.id < opened) × BackendShadow b.nodes w' h.ids c) (sym e) (
+    mine : (j : ℕ) (x : LinkModel Wire) → j ≡ k → x ≡ link' → (x.node ≡ j) × (x.port.id < opened) × BackendShadow nodes w' h.ids x
+    mine j x ej e = subst (λ (c : LinkModel Wire). (c.node ≡ j) × (c.port.id < opened) × BackendShadow nodes w' h.ids c) (sym e) (
       node ∙ sym ej,
       subst (λ m. m < opened) (sym id) (h.backends k link working).1,
       inl (n, l', subst (λ m. Numbers h.ids m n) (sym id) numbers, there, shows),
     )
 
-    theirs : (j : ℕ) (x : LinkModel Wire) → j ≢ k → IsWorking a j x → (x.node ≡ j) × (x.port.id < opened) × BackendShadow b.nodes w' h.ids x
+    theirs : (j : ℕ) (x : LinkModel Wire) → j ≢ k → IsWorking a j x → (x.node ≡ j) × (x.port.id < opened) × BackendShadow nodes w' h.ids x
     theirs j x ne working' =
         let old = h.backends j x working' in (
           old.0,
           old.1,
           ⊎_elim
-              (λ (z : (i : ℕ) × (m : Link) × Numbers h.ids x.port.id i × (slice_get w.links i ≡ Some m) × OpenShadow a.nodes w.commands x m).
+              (λ (z : (i : ℕ) × (m : Link) × Numbers h.ids x.port.id i × (slice_get w.links i ≡ Some m) × OpenShadow nodes w.commands x m).
               inl (z.0, z.1, z.2, elsewhere z.0 x.port.id z.1 z.2 (λ e. ne (h.apart j k x link working' working e)) z.3, others x z.1 z.4))
               (λ z. inr z)
               old.2,
         )
 
-    pub backend-changes : LinksShadow b closed opened w'
+    pub backend-changes : LinksShadow nodes b closed opened w'
     backend-changes = record {
       ids = h.ids;
       all = h.all ∙ sym (ap length links ∙ set-size w.links n l');

@@ -21,7 +21,7 @@ use Rattle.turn_laws.proofs.ScriptFacts.{goes-alone}
 use Rattle.turn_laws.proofs.ScriptStates.{commands, wire, link, backend, pending}
 use Rattle.turn_laws.proofs.ScriptAsking.{log2}
 use Rattle.turn_laws.proofs.LossStates.{j0, j1, does-late, v2, v3, d2, d3, x4, x5, x6, p4, p5, e5, e6, e7, e8, e9, e10, u5, u6, u7, u8, u9, u10, line, drains, log3, log4}
-use Rattle.turn_laws.proofs.LossSending.{ends, c, w, r4, to_ask, op}
+use Rattle.turn_laws.proofs.LossSending.{ends, learnt, w, r4, to_ask, op}
 
 -- the second connection, as it was opened, with the command, and as it failed, with a ticket that waits and without
 abbrev opened : Backend Wire
@@ -45,11 +45,11 @@ done = wire 1 [] [] false
 
 module _ {C J : Type 0} (port : C) where
   abbrev pub r5 : System C J
-  r5 = scene (w port (u6 port) v3 d2 0) (c port (ends port v3 d3) (pending None ∷ []) (to_ask ∷ new_backend ∷ []) 3 op) (done ∷ []) 2 j1 log3
+  r5 = scene (w port (u6 port) v3 d2 0) (learnt port (ends port v3 d3) (pending None ∷ []) (to_ask ∷ new_backend ∷ []) 3 op) (done ∷ []) 2 j1 log3
 
   pub breaks : FoldsTo SystemStep (r4 {C = C} {J = J} port) script.broken r5
   breaks = (
-    scene (w port (u6 port) v3 d2 0) (c port (ends port v2 d2) (pending None ∷ []) (to_ask ∷ new_backend ∷ []) 3 op) [] 1 j0 log2,
+    scene (w port (u6 port) v3 d2 0) (learnt port (ends port v2 d2) (pending None ∷ []) (to_ask ∷ new_backend ∷ []) 3 op) [] 1 j0 log2,
     at-client {J = J} (ends port v2 d2) 0 (e5 port) (e6 port) (outlet_with v3) [] refl (put _ (e5 port) 0) (
       x4,
       [],
@@ -64,9 +64,9 @@ module _ {C J : Type 0} (port : C) where
       omega arith,
       posts v2 (plain 0 1 set),
       refl,
-    ) (put _ (e6 port) 0) (down-in {J = J} (ends port v2 d2) (w port (u5 port) v2 d2 0) _ refl ([], refl)) (omega arith),
+    ) (put _ (e6 port) 0) (down-in {J = J} (ends port v2 d2) (w port (u5 port) v2 d2 0) _ refl ([], refl)) refl,
     (
-      scene (w port (u6 port) v3 d2 0) (c port (ends port v3 d2) (pending (Some (plain 0 1 set)) ∷ []) (to_ask ∷ new_backend ∷ []) 3 op) [] 1 j0 log2,
+      scene (w port (u6 port) v3 d2 0) (learnt port (ends port v3 d2) (pending (Some (plain 0 1 set)) ∷ []) (to_ask ∷ new_backend ∷ []) 3 op) [] 1 j0 log2,
       at-carrier (ends port v3 d2) (
         0,
         pending None,
@@ -76,7 +76,7 @@ module _ {C J : Type 0} (port : C) where
         refl,
       ) (refl, (refl, tt)) refl ([], refl) refl,
       (
-        scene (w port (u6 port) v3 d2 0) (c port (ends port v3 d2) (pending (Some (plain 0 1 set)) ∷ []) (to_ask ∷ opened ∷ []) 3 op) [] 2 j0 log2,
+        scene (w port (u6 port) v3 d2 0) (learnt port (ends port v3 d2) (pending (Some (plain 0 1 set)) ∷ []) (to_ask ∷ opened ∷ []) 3 op) [] 2 j0 log2,
         at-carrier (ends port v3 d2) (
           1,
           new_backend,
@@ -89,7 +89,7 @@ module _ {C J : Type 0} (port : C) where
           refl,
         ) (refl, (refl, tt)) refl ([], refl) refl,
         (
-          scene (w port (u6 port) v3 d2 0) (c port (ends port v3 d2) (pending None ∷ []) (to_ask ∷ backend (Some sending) None ∷ []) 3 op) [] 2 j0 log2,
+          scene (w port (u6 port) v3 d2 0) (learnt port (ends port v3 d2) (pending None ∷ []) (to_ask ∷ backend (Some sending) None ∷ []) 3 op) [] 2 j0 log2,
           at-carrier (ends port v3 d2) (
             0,
             pending (Some (plain 0 1 set)),
@@ -103,7 +103,7 @@ module _ {C J : Type 0} (port : C) where
             refl,
           ) (refl, (refl, tt)) refl ([], refl) refl,
           (
-            scene (w port (u6 port) v3 d2 0) (c port (ends port v3 d2) (pending None ∷ []) (to_ask ∷ backend (Some failed) None ∷ []) 3 op) (left ∷ []) 2 j0 log2,
+            scene (w port (u6 port) v3 d2 0) (learnt port (ends port v3 d2) (pending None ∷ []) (to_ask ∷ backend (Some failed) None ∷ []) 3 op) (left ∷ []) 2 j0 log2,
             breaking (ends port v3 d2) 1 (backend (Some sending) None) (backend (Some failed) None) sending failed (
               1,
               backend (Some sending) None,
@@ -120,7 +120,7 @@ module _ {C J : Type 0} (port : C) where
               refl,
             ) refl refl refl refl refl refl refl ([], refl) refl,
             (
-              scene (w port (u6 port) v3 d2 0) (c port (ends port v3 d2) (pending None ∷ []) (to_ask ∷ backend (Some let-go) (Some (new_pending_told (ticket 0) told.Lost)) ∷ []) 3 op) (left ∷ []) 2 j0 log2,
+              scene (w port (u6 port) v3 d2 0) (learnt port (ends port v3 d2) (pending None ∷ []) (to_ask ∷ backend (Some let-go) (Some (new_pending_told (ticket 0) told.Lost)) ∷ []) 3 op) (left ∷ []) 2 j0 log2,
               past-failure (ends port v3 d2) (
                 1,
                 backend (Some failed) None,
@@ -130,7 +130,7 @@ module _ {C J : Type 0} (port : C) where
                 refl,
               ) (inr refl, (inl refl, tt)) refl ([], refl) refl,
               (
-                scene (w port (u6 port) v3 d2 0) (c port (ends port v3 d3) (pending None ∷ []) (to_ask ∷ backend (Some let-go) None ∷ []) 3 op) (left ∷ []) 2 j0 log2,
+                scene (w port (u6 port) v3 d2 0) (learnt port (ends port v3 d3) (pending None ∷ []) (to_ask ∷ backend (Some let-go) None ∷ []) 3 op) (left ∷ []) 2 j0 log2,
                 past-failure (ends port v3 d3) (
                   1,
                   backend (Some let-go) (Some (new_pending_told (ticket 0) told.Lost)),
@@ -140,7 +140,7 @@ module _ {C J : Type 0} (port : C) where
                   refl,
                 ) (inr refl, (inl refl, tt)) refl ([], refl) refl,
                 (
-                  scene (w port (u6 port) v3 d2 0) (c port (ends port v3 d3) (pending None ∷ []) (to_ask ∷ new_backend ∷ []) 3 op) (left ∷ []) 2 j0 log2,
+                  scene (w port (u6 port) v3 d2 0) (learnt port (ends port v3 d3) (pending None ∷ []) (to_ask ∷ new_backend ∷ []) 3 op) (left ∷ []) 2 j0 log2,
                   past-failure (ends port v3 d3) (
                     1,
                     backend (Some let-go) None,
@@ -150,7 +150,7 @@ module _ {C J : Type 0} (port : C) where
                     refl,
                   ) (inr refl, (inl refl, tt)) refl ([], refl) refl,
                   (
-                    scene (w port (u6 port) v3 d2 0) (c port (ends port v3 d3) (pending None ∷ []) (to_ask ∷ new_backend ∷ []) 3 op) (done ∷ []) 2 j1 log3,
+                    scene (w port (u6 port) v3 d2 0) (learnt port (ends port v3 d3) (pending None ∷ []) (to_ask ∷ new_backend ∷ []) 3 op) (done ∷ []) 2 j1 log3,
                     (
                       left,
                       done,
@@ -178,35 +178,35 @@ module _ {C J : Type 0} (port : C) where
 
   -- the client is told that it was lost
   abbrev pub r6 : System C J
-  r6 = scene (w port (u10 port) v3 d3 (one_more 0)) (c port (ends port v3 d3) (pending None ∷ []) (to_ask ∷ new_backend ∷ []) 3 op) (done ∷ []) 2 j1 log4
+  r6 = scene (w port (u10 port) v3 d3 (one_more 0)) (learnt port (ends port v3 d3) (pending None ∷ []) (to_ask ∷ new_backend ∷ []) 3 op) (done ∷ []) 2 j1 log4
 
   pub loses : FoldsTo SystemStep r5 script.lost r6
   loses = (
-    scene (w port (u7 port) v3 d3 0) (c port (ends port v3 d3) (pending None ∷ []) (to_ask ∷ new_backend ∷ []) 3 op) (done ∷ []) 2 j1 log3,
+    scene (w port (u7 port) v3 d3 0) (learnt port (ends port v3 d3) (pending None ∷ []) (to_ask ∷ new_backend ∷ []) 3 op) (done ∷ []) 2 j1 log3,
     at-worker {J = J} (ends port v3 d3) [] refl (
       takes d2 (ticket 0, told.Lost),
       (true, (e6 port, e7 port, put _ (e6 port) 0, (x5, (put p4 x5 0, refl, refl), refl), refl, refl)),
       refl,
-    ) refl (down-in {J = J} (ends port v3 d3) (w port (u7 port) v3 d3 0) _ refl ([], refl)) tt,
+    ) refl (down-in {J = J} (ends port v3 d3) (w port (u7 port) v3 d3 0) _ refl ([], refl)) refl,
     (
-      scene (w port (u8 port) v3 d3 (one_more 0)) (c port (ends port v3 d3) (pending None ∷ []) (to_ask ∷ new_backend ∷ []) 3 op) (done ∷ []) 2 j1 log3,
+      scene (w port (u8 port) v3 d3 (one_more 0)) (learnt port (ends port v3 d3) (pending None ∷ []) (to_ask ∷ new_backend ∷ []) 3 op) (done ∷ []) 2 j1 log3,
       at-worker {J = J} (ends port v3 d3) [] refl (
         e7 port,
         e8 port,
         put _ (e7 port) 0,
         ((x6, put p5 x6 0, refl, refl), tt, refl, refl),
         refl,
-      ) refl (down-in {J = J} (ends port v3 d3) (w port (u8 port) v3 d3 0) _ refl ([], refl)) tt,
+      ) refl (down-in {J = J} (ends port v3 d3) (w port (u8 port) v3 d3 0) _ refl ([], refl)) refl,
       (
-        scene (w port (u9 port) v3 d3 (one_more 0)) (c port (ends port v3 d3) (pending None ∷ []) (to_ask ∷ new_backend ∷ []) 3 op) (done ∷ []) 2 j1 log4,
+        scene (w port (u9 port) v3 d3 (one_more 0)) (learnt port (ends port v3 d3) (pending None ∷ []) (to_ask ∷ new_backend ∷ []) 3 op) (done ∷ []) 2 j1 log4,
         at-client {J = J} (ends port v3 d3) 0 (e8 port) (e9 port) (outlet_with v3) [] refl (put _ (e8 port) 0) (
           refl,
           (line, refl, refl, drains),
           refl,
-        ) (put _ (e9 port) 0) (down-in {J = J} (ends port v3 d3) (w port (u8 port) v3 d3 0) _ refl ([], refl)) tt,
+        ) (put _ (e9 port) 0) (down-in {J = J} (ends port v3 d3) (w port (u8 port) v3 d3 0) _ refl ([], refl)) refl,
         (
           r6,
-          at-client {J = J} (ends port v3 d3) 0 (e9 port) (e10 port) (outlet_with v3) [] refl (put _ (e9 port) 0) (tt, refl, refl) (put _ (e10 port) 0) (down-in {J = J} (ends port v3 d3) (w port (u9 port) v3 d3 0) _ refl ([], refl)) tt,
+          at-client {J = J} (ends port v3 d3) 0 (e9 port) (e10 port) (outlet_with v3) [] refl (put _ (e9 port) 0) (tt, refl, refl) (put _ (e10 port) 0) (down-in {J = J} (ends port v3 d3) (w port (u9 port) v3 d3 0) _ refl ([], refl)) refl,
           refl,
         ),
       ),

@@ -2,7 +2,7 @@
 use Rattle.std.proofs.Common.{◌≡◌, inl, inr, ℕ, zero, suc, true, false, List, [], ◌∷◌, ◌++◌, Some, None, Ok, refl, ◌∙◌, arith}
 use Rattle.std.specs.Prelude.{slice_get}
 use Rattle.std.specs.List.{FoldsTo}
-use Rattle.std.specs.FinMap.{FinMap, get, insert, remove, get-empty, get-insert}
+use Rattle.std.specs.FinMap.{FinMap, get, insert, remove, get-empty, get-insert, get-remove}
 use Rattle.std.specs.Ordering.{nat_cmp}
 use Rattle.std.specs.Cmp.{nat_cmp_total}
 use Rattle.resp_wire.specs.LimitsModel.{full}
@@ -35,7 +35,7 @@ use Rattle.turn_laws.proofs.ScriptStates.{wire, link, backend, pending, newcomer
 use Rattle.turn_laws.proofs.ScriptAsking.{doors}
 use Rattle.turn_laws.proofs.ScriptSetting.{idle}
 use Rattle.turn_laws.proofs.LossStates.{j1, v3, d3, m7, e10, e11, e12, e13, u10, u11, u12, u13, gone, log4}
-use Rattle.turn_laws.proofs.LossSending.{ends, c, w, r0, r1, r2, r3, r4, begins, fails, asks, comes-back, moves-on, to_ask, op}
+use Rattle.turn_laws.proofs.LossSending.{ends, learnt, w, r0, r1, r2, r3, r4, begins, fails, asks, comes-back, moves-on, to_ask, op}
 use Rattle.turn_laws.proofs.LossBreaking.{done, r5, r6, breaks, loses}
 
 -- the first backend, which is asked for the slots, and what it answers
@@ -110,12 +110,18 @@ module _ {C : Type 0} (port : C) where
   abbrev u15 : FinMap nat_cmp (ClientModel C)
   u15 = insert u14 1 (gone f0)
 
+  abbrev u16 : FinMap nat_cmp (ClientModel C)
+  u16 = remove u15 1
+
+  first-there : get u16 0 ≡ Some (e13 port)
+  first-there = get-remove nat_cmp_total u15 1 0 ∙ get-insert nat_cmp_total u14 1 (gone f0) 0 ∙ get-insert nat_cmp_total (u13 port) 1 f0 0 ∙ put _ (e13 port) 0
+
 module _ {C J : Type 0} (port : C) where
   abbrev r7 : System C J
-  r7 = scene (w port (u10 port) v3 d3 (one_more 0)) (c port (ends port v3 d3) (pending None ∷ []) (new_backend ∷ reached ∷ []) 3 op) (done ∷ wire 0 [] [] false ∷ []) 3 j1 log4
+  r7 = scene (w port (u10 port) v3 d3 (one_more 0)) (learnt port (ends port v3 d3) (pending None ∷ []) (new_backend ∷ reached ∷ []) 3 op) (done ∷ wire 0 [] [] false ∷ []) 3 j1 log4
 
   abbrev at : List (Backend Wire) → List Wire → System C J
-  at backends closed = scene (w port (u10 port) v3 d3 (one_more 0)) (c port (ends port v3 d3) (pending None ∷ []) backends 3 op) closed 2 j1 log4
+  at backends closed = scene (w port (u10 port) v3 d3 (one_more 0)) (learnt port (ends port v3 d3) (pending None ∷ []) backends 3 op) closed 2 j1 log4
 
   seeks : FoldsTo SystemStep (r6 {C = C} {J = J} port) script.sought r7
   seeks = (
@@ -219,8 +225,9 @@ module _ {C J : Type 0} (port : C) where
   abbrev of : WorkerModel C J → System C J
   of model = scene model r7.carrier r7.closed 3 j1 log4
 
+  -- its view shows the change of the map
   abbrev r8 : System C J
-  r8 = of (with-doors (remove (u15 port) 1) doors3)
+  r8 = of (record (with-doors (insert (u16 port) 0 (e13 port)) doors3) { view = op })
 
   parts : FoldsTo SystemStep r7 script.parting r8
   parts = (
@@ -230,32 +237,37 @@ module _ {C J : Type 0} (port : C) where
       refl,
       (0, ((script.get, refl, refl), (λ j lt m. absurd (omega (arith, lt))), refl), refl, refl),
       refl,
-    ) (put _ (e11 port) 0) (down-in {J = J} (ends port v3 d3) (w port (u10 port) v3 d3 0) _ refl ([], refl)) tt,
+    ) (put _ (e11 port) 0) (down-in {J = J} (ends port v3 d3) (w port (u10 port) v3 d3 0) _ refl ([], refl)) refl,
     (
       of (w port (u12 port) v3 d3 (one_more 0)),
       at-client {J = J} (ends port v3 d3) 0 (e11 port) (e12 port) (outlet_with v3) [] refl (put _ (e11 port) 0) (refl, hangs, refl)
-          (put _ (e12 port) 0) (down-in {J = J} (ends port v3 d3) (w port (u11 port) v3 d3 0) _ refl ([], refl)) tt,
+          (put _ (e12 port) 0) (down-in {J = J} (ends port v3 d3) (w port (u11 port) v3 d3 0) _ refl ([], refl)) refl,
       (
         of (w port (u13 port) v3 d3 (one_more 0)),
         at-client {J = J} (ends port v3 d3) 0 (e12 port) (e13 port) (outlet_with v3) [] refl (put _ (e12 port) 0) (refl, (λ e. absurd (cc)), refl, refl)
-            (put _ (e13 port) 0) (down-in {J = J} (ends port v3 d3) (w port (u12 port) v3 d3 0) _ refl ([], refl)) tt,
+            (put _ (e13 port) 0) (down-in {J = J} (ends port v3 d3) (w port (u12 port) v3 d3 0) _ refl ([], refl)) refl,
         (
           of (with-doors (u14 port) doors2),
           at-worker {J = J} (ends port v3 d3) [] refl (second, takes (doors port) second, refl, refl, ((omega arith, refl), (omega arith, nobody port)), refl, refl) refl
-              (down-in {J = J} (ends port v3 d3) (w port (u13 port) v3 d3 0) _ refl ([], refl)) tt,
+              (down-in {J = J} (ends port v3 d3) (w port (u13 port) v3 d3 0) _ refl ([], refl)) refl,
           (
             of (with-doors (u14 port) doors3),
             at-worker {J = J} (ends port v3 d3) [] refl (second, port, takes doors2 second, refl, refl, (λ may. absurd (omega (arith, may.1.0))), refl, tt, refl) refl
-                (down-in {J = J} (ends port v3 d3) (w port (u14 port) v3 d3 0) _ refl ([], refl)) tt,
+                (down-in {J = J} (ends port v3 d3) (w port (u14 port) v3 d3 0) _ refl ([], refl)) refl,
             (
               of (with-doors (u15 port) doors3),
               at-client {J = J} (ends port v3 d3) 1 (f0 port) (gone (f0 port)) (outlet_with v3) [] refl (put _ (f0 port) 1) (refl, hangs-other, refl)
-                  (put _ (gone (f0 port)) 1) (down-in {J = J} (ends port v3 d3) (w port (u14 port) v3 d3 0) _ refl ([], refl)) tt,
+                  (put _ (gone (f0 port)) 1) (down-in {J = J} (ends port v3 d3) (w port (u14 port) v3 d3 0) _ refl ([], refl)) refl,
               (
-                r8,
+                of (with-doors (u16 port) doors3),
                 at-worker {J = J} (ends port v3 d3) [] refl (port, port, (gone (f0 port), put _ (gone (f0 port)) 1, inr (refl, refl), refl, refl), tt, refl) refl
-                    (down-in {J = J} (ends port v3 d3) (w port (u15 port) v3 d3 0) _ refl ([], refl)) tt,
-                refl,
+                    (down-in {J = J} (ends port v3 d3) (w port (u15 port) v3 d3 0) _ refl ([], refl)) refl,
+                (
+                  r8,
+                  at-client {J = J} (ends port v3 d3) 0 (e13 port) (e13 port) (outlet_with v3) op refl (first-there port) ((Ok (Some 1), ((op, refl), refl)), refl)
+                      (put _ (e13 port) 0) (down-in {J = J} (ends port v3 d3) (w port (u16 port) v3 d3 0) _ refl ([], refl)) refl,
+                  refl,
+                ),
               ),
             ),
           ),

@@ -27,13 +27,13 @@ use Rattle.turn_laws.specs.Scripts as script
 use Rattle.turn_laws.specs.Scripts.{key, set, ticket, plain}
 use Rattle.turn_laws.proofs.Rings.{posts, takes, outlet_with}
 use Rattle.turn_laws.proofs.Scenes.{scene, put, at-worker, at-client, at-carrier, down-in}
-use Rattle.turn_laws.proofs.ScriptFacts.{fresh-alone, goes-alone}
+use Rattle.turn_laws.proofs.ScriptFacts.{table, fresh-alone, goes-alone}
 use Rattle.turn_laws.proofs.ScriptStates.{Pair, commands, setting, wire, link, backend, pending, lane, carrier, worker}
 use Rattle.turn_laws.proofs.ScriptOpening.{starts-in}
 use Rattle.turn_laws.proofs.ScriptOpening as opening
 use Rattle.turn_laws.proofs.ScriptAsking.{a4, t6, log2, doors, asks-at}
 use Rattle.turn_laws.proofs.ScriptSetting.{idle, sent}
-use Rattle.turn_laws.proofs.LossStates.{j0, new, moved, told-moved, does-moved, v1, v2, d1, d2, x1, x2, x3, p1, p2, e1, e2, e3, e4, e5, u1, u2, u3, u4, u5}
+use Rattle.turn_laws.proofs.LossStates.{j0, new, moved, told-moved, learns-moved, does-moved, v1, v2, d1, d2, x1, x2, x3, p1, p2, e1, e2, e3, e4, e5, u1, u2, u3, u4, u5}
 
 -- what the first node was told is to be published, and then to be given
 abbrev pub refused : Backend Wire
@@ -58,6 +58,10 @@ module _ {C J : Type 0} (port : C) where
   abbrev pub c : LaneEnds (Newcomer C J) → List PendingRun → List (Backend Wire) → ℕ → List MapOp → CarrierModel (Newcomer C J) Wire
   c l runs backends failures ops = record (carrier l runs backends false) { failures = failures; published = ops }
 
+  -- it has learnt the second node from MOVED
+  abbrev pub learnt : LaneEnds (Newcomer C J) → List PendingRun → List (Backend Wire) → ℕ → List MapOp → CarrierModel (Newcomer C J) Wire
+  learnt l runs backends failures ops = record (c l runs backends failures ops) { nodes = table }
+
   abbrev pub w : FinMap nat_cmp (ClientModel C) → List (Numbered RunModel) → List (Numbered Pair) → ℕ → WorkerModel C J
   w clients ups downs answered = worker clients (Some 0) (doors port) ups downs answered
 
@@ -65,7 +69,7 @@ module _ {C J : Type 0} (port : C) where
   r0 = scene (opening.w0 port) (carrier (ends [] []) [] [] true) [] 0 j0 []
 
   pub begins : IsStart r0
-  begins = starts-in port j0 new
+  begins = starts-in port j0 refl new
 
   abbrev pub r1 : System C J
   r1 = scene (opening.w0 port) (c (ends [] []) (pending None ∷ []) (new_backend ∷ new_backend ∷ []) 2 []) [] 0 j0 []
@@ -115,7 +119,7 @@ module _ {C J : Type 0} (port : C) where
       refl,
       (0, ((set, refl, refl), (λ j lt m. absurd (omega (arith, lt))), refl), refl, refl),
       refl,
-    ) (put _ (e1 port) 0) (down-in (ends [] []) (w (t6 port) [] [] 0) _ refl ([], refl)) tt,
+    ) (put _ (e1 port) 0) (down-in (ends [] []) (w (t6 port) [] [] 0) _ refl ([], refl)) refl,
     (
       scene (w (u2 port) v1 [] 0) (c (ends [] []) (pending None ∷ []) (new_backend ∷ new_backend ∷ []) 2 []) [] 0 j0 log2,
       at-client (ends [] []) 0 (e1 port) (e2 port) (outlet_with v1) [] refl (put _ (e1 port) 0) (
@@ -132,7 +136,7 @@ module _ {C J : Type 0} (port : C) where
         omega arith,
         posts [] (plain 0 0 set),
         refl,
-      ) (put _ (e2 port) 0) (down-in (ends [] []) (w (u1 port) [] [] 0) _ refl ([], refl)) (omega arith),
+      ) (put _ (e2 port) 0) (down-in (ends [] []) (w (u1 port) [] [] 0) _ refl ([], refl)) refl,
       (
         scene (w (u2 port) v1 [] 0) (c (ends v1 []) (pending (Some (plain 0 0 set)) ∷ []) (new_backend ∷ new_backend ∷ []) 2 []) [] 0 j0 log2,
         at-carrier (ends v1 []) (
@@ -173,7 +177,7 @@ module _ {C J : Type 0} (port : C) where
                 takes [] (ticket 0, told.Unsent),
                 (true, (e2 port, e3 port, put _ (e2 port) 0, (x1, (put empty x1 0, refl, refl), refl), refl, refl)),
                 refl,
-              ) refl (down-in (ends v1 d1) (w (u3 port) v1 d1 0) _ refl ([], refl)) tt,
+              ) refl (down-in (ends v1 d1) (w (u3 port) v1 d1 0) _ refl ([], refl)) refl,
               refl,
             ),
           ),
@@ -184,7 +188,7 @@ module _ {C J : Type 0} (port : C) where
 
   -- it is sent, and refused with MOVED
   abbrev pub r4 : System C J
-  r4 = scene (w (u5 port) v2 d2 0) (c (ends v2 d2) (pending None ∷ []) (to_ask ∷ new_backend ∷ []) 3 op) [] 1 j0 log2
+  r4 = scene (w (u5 port) v2 d2 0) (learnt (ends v2 d2) (pending None ∷ []) (to_ask ∷ new_backend ∷ []) 3 op) [] 1 j0 log2
 
   pub moves-on : FoldsTo SystemStep r3 script.sent_on r4
   moves-on = (
@@ -203,7 +207,7 @@ module _ {C J : Type 0} (port : C) where
       omega arith,
       posts v1 (plain 0 0 set),
       refl,
-    ) (put _ (e4 port) 0) (down-in (ends v1 d1) (w (u3 port) v1 d1 0) _ refl ([], refl)) (omega arith),
+    ) (put _ (e4 port) 0) (down-in (ends v1 d1) (w (u3 port) v1 d1 0) _ refl ([], refl)) refl,
     (
       scene (w (u4 port) v2 d1 0) (c (ends v2 d1) (pending (Some (plain 0 0 set)) ∷ []) (new_backend ∷ new_backend ∷ []) 3 []) [] 0 j0 log2,
       at-carrier (ends v2 d1) (
@@ -257,7 +261,7 @@ module _ {C J : Type 0} (port : C) where
               refl,
             ),
             (
-              scene (w (u4 port) v2 d1 0) (c (ends v2 d1) (pending None ∷ []) (got ∷ new_backend ∷ []) 3 []) [] 1 j0 log2,
+              scene (w (u4 port) v2 d1 0) (learnt (ends v2 d1) (pending None ∷ []) (got ∷ new_backend ∷ []) 3 []) [] 1 j0 log2,
               at-carrier (ends v2 d1) (
                 0,
                 refused,
@@ -269,13 +273,13 @@ module _ {C J : Type 0} (port : C) where
                   ticket 0,
                   told.Moved 1 1,
                   refl,
-                  (refl, (moved, refl, inr (refl, (refl, refl)), refl, told-moved, refl)),
+                  (refl, (moved, refl, inr (refl, (refl, refl)), refl, learns-moved, refl)),
                   refl,
                 ),
                 refl,
               ) (refl, (refl, tt)) refl ([], refl) refl,
               (
-                scene (w (u4 port) v2 d1 0) (c (ends v2 d1) (pending None ∷ []) (published ∷ new_backend ∷ []) 3 op) [] 1 j0 log2,
+                scene (w (u4 port) v2 d1 0) (learnt (ends v2 d1) (pending None ∷ []) (published ∷ new_backend ∷ []) 3 op) [] 1 j0 log2,
                 at-carrier (ends v2 d1) (
                   0,
                   got,
@@ -285,7 +289,7 @@ module _ {C J : Type 0} (port : C) where
                   refl,
                 ) (refl, (refl, tt)) refl ([], refl) refl,
                 (
-                  scene (w (u4 port) v2 d1 0) (c (ends v2 d2) (pending None ∷ []) (to_ask ∷ new_backend ∷ []) 3 op) [] 1 j0 log2,
+                  scene (w (u4 port) v2 d1 0) (learnt (ends v2 d2) (pending None ∷ []) (to_ask ∷ new_backend ∷ []) 3 op) [] 1 j0 log2,
                   at-carrier (ends v2 d2) (
                     0,
                     published,
@@ -300,7 +304,7 @@ module _ {C J : Type 0} (port : C) where
                       takes d1 (ticket 0, told.Moved 1 1),
                       (true, (e4 port, e5 port, put _ (e4 port) 0, (x3, (put p2 x3 0, refl, refl), refl), refl, refl)),
                       refl,
-                    ) refl (down-in (ends v2 d2) (w (u5 port) v2 d2 0) _ refl ([], refl)) tt,
+                    ) refl (down-in (ends v2 d2) (w (u5 port) v2 d2 0) _ refl ([], refl)) refl,
                     refl,
                   ),
                 ),

@@ -33,7 +33,7 @@ use Rattle.turn_laws.specs.System.{Mark}
 use Rattle.turn_laws.specs.System as seen
 use Rattle.turn_laws.specs.Scripts as script
 use Rattle.turn_laws.specs.Scripts.{key, set, ok, ticket, plain, did}
-use Rattle.turn_laws.proofs.ScriptFacts.{slot-is, none, held, table, alone}
+use Rattle.turn_laws.proofs.ScriptFacts.{slot-is, none, held, table, seed_alone, alone}
 use Rattle.turn_laws.proofs.ScriptStates.{Pair, Posted, session, one, commands, awaits, setting, getting, client}
 use Rattle.turn_laws.proofs.ScriptAsking.{log2, t6}
 use Rattle.turn_laws.proofs.ScriptSetting.{below-one, n4, n6}
@@ -64,6 +64,10 @@ moved = Error (codes "MOVED 1 b:2")
 
 pub told-moved : told_by moved 0 table ≡ (told.Moved 1 1, table)
 told-moved = refl
+
+-- the carrier learns the second node from it
+pub learns-moved : told_by moved 0 seed_alone ≡ (told.Moved 1 1, table)
+learns-moved = refl
 
 refuses : deed_at j0 0 false set Plain ≡ Says (told.Moved 1 1)
 refuses = ap (λ n. deed_of Plain (role_of j0 0 n) false (held_of (store_at j0 0) (keys_of set)) true n) slot-is

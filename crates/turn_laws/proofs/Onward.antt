@@ -134,6 +134,9 @@ module _ {C J : Type 0} where
     limit = h.limit;
     cluster = h.cluster;
     apart = h.apart;
+    room = h.room;
+    table = h.table;
+    listed = h.listed;
     numbered = λ j f p. ⊎_elim
         (λ (z : (j ≡ k) × (f ≡ model')). ap seat_of z.1 ∙ worker ∙ h.numbered j model (here j z.0))
         (λ (z : (j ≢ k) × (slice_get s.workers j ≡ Some f)). h.numbered j f z.1)
@@ -155,7 +158,7 @@ module _ {C J : Type 0} where
         (subst (λ (x : WorkerModel C J). ListShadow (record w { commands = commands'; ups = ups' }) k (ups_in x lane (slice_get s.carrier.pending_runs k))) (sym z.1) (lane-goes lane (sym (ap (slice_get s.carrier.lanes) z.0) ∙ q)).1))
         (λ (z : (j ≢ k) × (slice_get s.workers j ≡ Some f)). lanes-stay j (ups_in f lane (slice_get s.carrier.pending_runs j)) z.0 (h.lanes j f lane z.1 q))
         (at-set s.workers k model' j f p);
-    links = links-told s.carrier s.closed s.opened w (record w { commands = commands'; ups = ups'; answers = answers'; moment = moment' }) refl parts h.links;
+    links = links-told s.nodes s.carrier s.closed s.opened w (record w { commands = commands'; ups = ups'; answers = answers'; moment = moment' }) refl parts h.links;
     clients = fits.clients;
     unseen = fits.unseen;
     downs = fits.once;

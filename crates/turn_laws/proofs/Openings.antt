@@ -17,6 +17,7 @@ use Rattle.turn_laws.specs.Steps.{CarrierStep, Opens, FailsAt}
 use Rattle.turn_laws.proofs.Downs.{SameBag, total-set-flat}
 use Rattle.turn_laws.proofs.Frames.{same-seats, down-fits, carrier-frame, still-closed}
 use Rattle.turn_laws.proofs.Carriers.{refusals, debts, bag-parts, not-up}
+use Rattle.turn_laws.proofs.SameTold.{front-get}
 
 pub no-link : (o : Option (LinkModel Wire)) (link : LinkModel Wire) → o ≡ None → o ≡ Some link → ⊥
 no-link o link e f = cc
@@ -91,7 +92,7 @@ module _ {C J : Type 0} (event : CarrierEvent) (s s' : System C J) (w : WorldMod
 
   -- the new wire has the next number
   numbered : o.port ≡ new_wire s.opened k
-  numbered = (o.leads).2 ∙ ap (new_wire s.opened) (h.apart (o.leads).0 k o.endpoint (o.leads).1 o.node)
+  numbered = (o.leads).2 ∙ ap (new_wire s.opened) (h.apart (o.leads).0 k o.endpoint (front-get s.carrier.nodes s.nodes (o.leads).0 o.endpoint h.table (o.leads).1) (front-get s.carrier.nodes s.nodes k o.endpoint h.table o.node))
 
   cases : (j : ℕ) (link : LinkModel Wire) → IsWorking s'.carrier j link → ((j ≡ k) × (link ≡ fresh_link (new_wire s.opened k) k)) ⊎ IsWorking s.carrier j link
   cases j link x = ⊎_elim
@@ -106,21 +107,21 @@ module _ {C J : Type 0} (event : CarrierEvent) (s s' : System C J) (w : WorldMod
   unnumbered i e = absurd (omega (arith, (h.links).below i s.opened e))
 
   fresh-backend : (j : ℕ) (link : LinkModel Wire) → j ≡ k → link ≡ fresh_link (new_wire s.opened k) k
-      → (link.node ≡ j) × (link.port.id < suc s.opened) × BackendShadow s.carrier.nodes w (h.links).ids link
+      → (link.node ≡ j) × (link.port.id < suc s.opened) × BackendShadow s.nodes w (h.links).ids link
   fresh-backend j link ej e = subst
-      (λ (c : LinkModel Wire). (c.node ≡ j) × (c.port.id < suc s.opened) × BackendShadow s.carrier.nodes w (h.links).ids c) (sym e)
+      (λ (c : LinkModel Wire). (c.node ≡ j) × (c.port.id < suc s.opened) × BackendShadow s.nodes w (h.links).ids c) (sym e)
       (sym ej, omega arith, inr (unnumbered, idle-at s.opened k))
 
-  opened-links : LinksShadow s'.carrier s.closed (suc s.opened) w
+  opened-links : LinksShadow s.nodes s'.carrier s.closed (suc s.opened) w
   opened-links = record {
     ids = (h.links).ids;
     all = (h.links).all;
     below = λ i id e. omega (arith, (h.links).below i id e);
     once = (h.links).once;
-    backends = λ j link x. let l = ⊎_elim
+    backends = λ j link x. ⊎_elim
         (λ (z : (j ≡ k) × (link ≡ fresh_link (new_wire s.opened k) k)). fresh-backend j link z.0 z.1)
         (λ (z : IsWorking s.carrier j link). let l = (h.links).backends j link z in (l.0, omega (arith, l.1), l.2))
-        (cases j link x) in (l.0, l.1, subst (λ t. BackendShadow t w (h.links).ids link) (sym on.table) l.2);
+        (cases j link x);
     wires = λ j wire e. let x = (h.links).wires j wire e in (omega (arith, x.0), x.1);
     apart = λ j m a b p q e. ⊎_elim
         (λ (y : (j ≡ k) × (a ≡ fresh_link (new_wire s.opened k) k)). ⊎_elim
@@ -139,9 +140,9 @@ module _ {C J : Type 0} (event : CarrierEvent) (s s' : System C J) (w : WorldMod
     each = (h.links).each;
   }
 
-  links' : LinksShadow s'.carrier s'.closed s'.opened w
-  links' = subst (λ xs. LinksShadow s'.carrier xs s'.opened w) (sym (still-closed s s' fails on.breaks))
-      (subst (λ n. LinksShadow s'.carrier s.closed n w) (sym o.opened) opened-links)
+  links' : LinksShadow s.nodes s'.carrier s'.closed s'.opened w
+  links' = subst (λ xs. LinksShadow s.nodes s'.carrier xs s'.opened w) (sym (still-closed s s' fails on.breaks))
+      (subst (λ n. LinksShadow s.nodes s'.carrier s.closed n w) (sym o.opened) opened-links)
 
   bag : SameBag (downs_of s) (downs_of s')
   bag f =

@@ -33,8 +33,8 @@ use Rattle.world_laws.proofs.Runs.{Sound}
 use Rattle.turn_laws.specs.Walks.{ticked, Walk}
 use Rattle.turn_laws.specs.System.{System, between, IsInStep}
 use Rattle.turn_laws.specs.Shadow.{IsShadow, ClientShadow, HasPart, IsUnderWay, RunShadow, downs_of, lying, ups_in, run_in, seat_of}
-use Rattle.turn_laws.specs.Steps.{AtWorker, WorkerStep}
-use Rattle.turn_laws.specs.Refines.{Simulates}
+use Rattle.turn_laws.specs.Steps.{AtWorker, WorkerStep, any_moves}
+use Rattle.turn_laws.specs.Refines.{SimulatesNaming}
 use Rattle.turn_laws.proofs.AtLanes.{ListShadow}
 use Rattle.turn_laws.proofs.Clients.{put-same}
 use Rattle.turn_laws.proofs.Downs.{Pair}
@@ -47,6 +47,7 @@ use Rattle.turn_laws.proofs.Rising.{Rising, walked-rising}
 use Rattle.turn_laws.proofs.Settled.{log-on}
 use Rattle.turn_laws.proofs.Settling.{same_number}
 use Rattle.turn_laws.proofs.Told.{Fitting, fitting, lists-still}
+use Rattle.turn_laws.proofs.NamedWorker.{posts-there}
 use Rattle.turn_laws.proofs.Walks.{walked-sound}
 
 not-empty : (t : Ticket) (ts : List Ticket) → t ∷ ts ≢ []
@@ -88,7 +89,7 @@ at-place P [] i x all e = absurd (none-some None x refl e)
 at-place P (y ∷ xs) zero x all e = let same : y ≡ x = cc in subst P same (all 0 y (omega arith))
 at-place P (y ∷ xs) (suc i) x all e = at-place P xs i x (λ n z lt. all (suc n) z (omega (arith, lt))) e
 
-module _ {C J : Type 0} (k number : ℕ) (run : RunModel) (s s' : System C J) (w : WorldModel) (h : IsShadow s w) (sound : Sound w) (rising : Rising w.commands) (on : WorkerStep s k (Did number (Posted run)) s') where
+module _ {C J : Type 0} (k number : ℕ) (run : RunModel) (s s' : System C J) (w : WorldModel) (h : IsShadow s w) (sound : Sound w) (rising : Rising w.commands) (on : WorkerStep s k (Did number (Posted run)) s') (there : run.first.node < length s.cluster.stores) where
   abbrev holder : ClientModel C
   holder = on.does.0
 
@@ -238,7 +239,7 @@ module _ {C J : Type 0} (k number : ℕ) (run : RunModel) (s s' : System C J) (w
   may-run = (not-empty first.ticket (tickets_of later), short-enough, follow)
 
   does : WorldDoes (ticked w) (Post tickets node) w'
-  does = (way, commands', may-run, subst (λ (n : ℕ). node < n) (ap (λ m. length m.stores) (sym h.cluster)) on.there, goes.goes, refl)
+  does = (way, commands', may-run, subst (λ (n : ℕ). node < n) (ap (λ m. length m.stores) (sym h.cluster)) there, goes.goes, refl)
 
   now : holder' ≡ record holder { commands = with_run rest first later }
   now = ap (λ (z : ClientContext C). z.client) on.does.3.12
@@ -321,5 +322,8 @@ module _ {C J : Type 0} (k number : ℕ) (run : RunModel) (s s' : System C J) (w
       )
 
 module _ (C J : Type 0) where
-  pub posted : (k number : ℕ) (run : RunModel) → Simulates C J (AtWorker k (Did number (Posted run)))
-  posted k number run s s' w h walked on = posts k number run s s' w h (walked-sound w walked) (walked-rising w walked) on
+  pub posted : (k number : ℕ) (run : RunModel) → SimulatesNaming C J (AtWorker k (Did number (Posted run)))
+  posted k number run s s' w h names walked on =
+      let there : run.first.node < length s.nodes =
+      posts-there any_moves (length s.nodes) number run on.old on.new s.carrier.published names.seed names.published on.shown (λ n client e part c f. names.posted k on.old n client part c on.at e f) on.does in
+      posts k number run s s' w h (walked-sound w walked) (walked-rising w walked) on (omega (arith, there, names.each))

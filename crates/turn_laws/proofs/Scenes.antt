@@ -1,7 +1,9 @@
 -- Systems of one worker, and their steps.
 use Rattle.std.proofs.Common.{◌≡◌, ◌⊎◌, inl, inr, ⊎_elim, ℕ, zero, suc, Bool, true, false, List, [], ◌∷◌, ◌++◌, Some, None, refl, sym, ap, ◌∙◌, subst}
-use Rattle.std.specs.Prelude.{slice_get, Option, IsSome, is_none, is_some, unwrap_or, cond}
+use Rattle.std.specs.Prelude.{slice_get, take, drop, length, Option, IsSome, is_none, is_some, unwrap_or, cond}
 use Rattle.std.specs.List.{FoldsTo}
+use mathlib.Core.List.{IsPrefix}
+use Rattle.std.proofs.lemmas.List.{take-append-drop}
 use Rattle.std.specs.FinMap.{FinMap, get, insert, get-insert}
 use Rattle.std.specs.Ordering.{nat_cmp, eq_by_cmp}
 use Rattle.std.specs.Cmp.{nat_cmp_total}
@@ -22,8 +24,9 @@ use Rattle.proxy_turns.specs.CarrierModel.{CarrierModel, CarrierEvent, CarrierDo
 use Rattle.turn_laws.specs.Wire.{Wire, Exchanges, Dials}
 use Rattle.turn_laws.specs.System.{System, Mark, IsInStep}
 use Rattle.turn_laws.specs.Shadow.{DownInStep}
-use Rattle.turn_laws.specs.Steps.{WorkerStep, CarrierStep, IsSeen, PostsThere, UpsInStep, opened_by, seen_at, any_moves, any_failures, any_garbled, any_none}
+use Rattle.turn_laws.specs.Steps.{WorkerStep, CarrierStep, IsSeen, UpsInStep, opened_by, seen_at, any_moves, any_failures, any_garbled, any_none}
 use Rattle.turn_laws.proofs.AtLanes.{nothing-there}
+use Rattle.turn_laws.proofs.ScriptFacts.{table}
 
 -- what is put in at a number stands there
 pub put : {X : Type 0} (m : FinMap nat_cmp X) (x : X) (k : ℕ) → get (insert m k x) k ≡ cond (eq_by_cmp nat_cmp k k) (Some x) (get m k)
@@ -83,9 +86,13 @@ steady-there (x ∷ os) (y ∷ ns) all zero o n e f =
     (subst (λ (b : Option (Backend Wire)). (works x.link ≡ false) ⊎ (works (unwrap_or b y).link ≡ true)) f all.0)
 steady-there (x ∷ os) (y ∷ ns) all (suc k) o n e f = steady-there os ns all.1 k o n e f
 
+-- the first so many of them are a front
+front-of : {X : Type 0} (xs all : List X) → take (length xs) all ≡ xs → IsPrefix xs all
+front-of xs all first = (drop (length xs) all, ap (λ ys. ys ++ drop (length xs) all) (sym first) ∙ take-append-drop (length xs) all)
+
 module _ {C J : Type 0} where
   abbrev pub scene : WorkerModel C J → CarrierModel (Newcomer C J) Wire → List Wire → ℕ → ClusterModel → List Mark → System C J
-  scene worker carrier closed opened cluster log = record { workers = worker ∷ []; carrier = carrier; closed = closed; opened = opened; cluster = cluster; log = log }
+  scene worker carrier closed opened cluster log = record { workers = worker ∷ []; carrier = carrier; closed = closed; opened = opened; cluster = cluster; nodes = table; log = log }
 
   -- ---- lanes in order
 
@@ -103,9 +110,9 @@ module _ {C J : Type 0} where
 
   module _ {old : WorkerModel C J} {carrier : CarrierModel (Newcomer C J) Wire} {closed : List Wire} {opened : ℕ} {cluster : ClusterModel} {log : List Mark} where
     pub at-worker : {new : WorkerModel C J} {event : WorkerEvent} (lane : LaneEnds (Newcomer C J)) (marks : List Mark)
-        → slice_get carrier.lanes 0 ≡ Some lane → WorkerDoes any_moves old event new → IsSeen old event new marks → DownInStep lane new → PostsThere cluster event
+        → slice_get carrier.lanes 0 ≡ Some lane → WorkerDoes any_moves old event new → IsSeen old event new marks → DownInStep lane new → take (length new.view) carrier.published ≡ new.view
         → WorkerStep (scene old carrier closed opened cluster log) 0 event (scene new carrier closed opened cluster (log ++ marks))
-    at-worker {new} lane marks at does seen down there = record {
+    at-worker {new} lane marks at does seen down front = record {
       old = old;
       new = new;
       lane = lane;
@@ -116,37 +123,37 @@ module _ {C J : Type 0} where
       seen = seen;
       leaves = refl;
       in_step = down;
-      there = there;
+      shown = front-of new.view carrier.published front;
     }
 
     -- what happens to one client
     pub at-client : {event : ClientEvent} (lane : LaneEnds (Newcomer C J)) (number : ℕ) (client client' : ClientModel C) (outlet : Outlet RunModel) (view : List MapOp)
         → slice_get carrier.lanes 0 ≡ Some lane → get old.clients number ≡ Some client
         → ClientDoes any_moves (record { client = client; outlet = old.outlet; view = old.view }) event (record { client = client'; outlet = outlet; view = view })
-        → get (insert old.clients number client') number ≡ Some client' → DownInStep lane old → PostsThere cluster (Did number event)
+        → get (insert old.clients number client') number ≡ Some client' → DownInStep lane old → take (length view) carrier.published ≡ view
         → WorkerStep (scene old carrier closed opened cluster log) 0 (Did number event) (scene (record old { clients = insert old.clients number client'; outlet = outlet; view = view }) carrier closed opened cluster (log ++ seen_at event client.session client'.session))
-    at-client {event} lane number client client' outlet view at is does put-in down there =
-        at-worker lane (seen_at event client.session client'.session) at (client, client', is, does, refl) (client, client', is, put-in, refl) down there
+    at-client {event} lane number client client' outlet view at is does put-in down front =
+        at-worker lane (seen_at event client.session client'.session) at (client, client', is, does, refl) (client, client', is, put-in, refl) down front
 
   pub at-carrier : {worker : WorkerModel C J} {old new : CarrierModel (Newcomer C J) Wire} {closed : List Wire} {opened : ℕ} {cluster : ClusterModel} {log : List Mark} {event : CarrierEvent} (lane : LaneEnds (Newcomer C J))
       → CarrierDoes any_failures any_garbled Exchanges any_none (Dials old.nodes opened) some_length old event new
-      → AllWork new.backends → new.lanes ≡ lane ∷ [] → IsInStep worker.outlet lane.up → new.nodes ≡ old.nodes
+      → AllWork new.backends → new.lanes ≡ lane ∷ [] → IsInStep worker.outlet lane.up → take (length new.nodes) table ≡ new.nodes
       → CarrierStep (scene worker old closed opened cluster log) event (scene worker new closed (opened_by event opened) cluster log)
-  at-carrier {worker} {old} {new} {closed} {opened} {cluster} {log} {event} lane does work only up table = record {
+  at-carrier {worker} {old} {new} {closed} {opened} {cluster} {log} {event} lane does work only up first = record {
     longest = some_length;
     does = does;
     breaks = inl (refl, λ k link link' fails. no-failure fails.1.link link' (work-there new.backends work k fails.1 fails.2) fails.3 fails.4);
     leaves = refl;
     in_step = ups-in worker new closed (opened_by event opened) cluster log lane only up;
-    table = table;
+    table = front-of new.nodes table first;
   }
 
   -- where a connection failed before
   pub past-failure : {worker : WorkerModel C J} {old new : CarrierModel (Newcomer C J) Wire} {closed : List Wire} {opened : ℕ} {cluster : ClusterModel} {log : List Mark} {event : CarrierEvent} (lane : LaneEnds (Newcomer C J))
       → CarrierDoes any_failures any_garbled Exchanges any_none (Dials old.nodes opened) some_length old event new
-      → Steady old.backends new.backends → new.lanes ≡ lane ∷ [] → IsInStep worker.outlet lane.up → new.nodes ≡ old.nodes
+      → Steady old.backends new.backends → new.lanes ≡ lane ∷ [] → IsInStep worker.outlet lane.up → take (length new.nodes) table ≡ new.nodes
       → CarrierStep (scene worker old closed opened cluster log) event (scene worker new closed (opened_by event opened) cluster log)
-  past-failure {worker} {old} {new} {closed} {opened} {cluster} {log} {event} lane does steady only up table = record {
+  past-failure {worker} {old} {new} {closed} {opened} {cluster} {log} {event} lane does steady only up first = record {
     longest = some_length;
     does = does;
     breaks = inl (
@@ -158,7 +165,7 @@ module _ {C J : Type 0} where
     );
     leaves = refl;
     in_step = ups-in worker new closed (opened_by event opened) cluster log lane only up;
-    table = table;
+    table = front-of new.nodes table first;
   }
 
   -- where one fails
@@ -166,13 +173,13 @@ module _ {C J : Type 0} where
       (k : ℕ) (b b' : Backend Wire) (link link' : LinkModel Wire)
       → CarrierDoes any_failures any_garbled Exchanges any_none (Dials old.nodes opened) some_length old event new
       → slice_get old.backends k ≡ Some b → b.link ≡ Some link → link.failure ≡ None → slice_get new.backends k ≡ Some b' → b'.link ≡ Some link' → IsSome link'.failure
-      → new.lanes ≡ lane ∷ [] → IsInStep worker.outlet lane.up → new.nodes ≡ old.nodes
+      → new.lanes ≡ lane ∷ [] → IsInStep worker.outlet lane.up → take (length new.nodes) table ≡ new.nodes
       → CarrierStep (scene worker old closed opened cluster log) event (scene worker new (closed ++ record link'.port { values = [] } ∷ []) (opened_by event opened) cluster log)
-  breaking {worker} {old} {new} {closed} {opened} {cluster} {log} {event} lane k b b' link link' does at is works there has failed only up table = record {
+  breaking {worker} {old} {new} {closed} {opened} {cluster} {log} {event} lane k b b' link link' does at is works there has failed only up first = record {
     longest = some_length;
     does = does;
     breaks = inr (k, link, link', ((b, at, is, works), b', there, has, failed), refl);
     leaves = refl;
     in_step = ups-in worker new (closed ++ record link'.port { values = [] } ∷ []) (opened_by event opened) cluster log lane only up;
-    table = table;
+    table = front-of new.nodes table first;
   }

@@ -99,16 +99,16 @@ module _ {C J : Type 0} (port : C) where
     pub asks-at : FrontIsWhole → FoldsTo SystemStep (scene (w0 port) c [] opened k []) script.asking (at1 (t6 port) log2)
     asks-at law = (
       at1 (t1 port) [],
-      at-worker (l0 port) [] lane-at (newcomer port, takes [] (newcomer port), refl, refl, ((omega arith, refl), (tt, get-empty nat_cmp 0)), refl, refl) refl (down-in (l0 port) (w1 (t1 port)) _ refl ([], refl)) tt,
+      at-worker (l0 port) [] lane-at (newcomer port, takes [] (newcomer port), refl, refl, ((omega arith, refl), (tt, get-empty nat_cmp 0)), refl, refl) refl (down-in (l0 port) (w1 (t1 port)) _ refl ([], refl)) refl,
       (
         at1 (t2 port) [],
-        at-client (l0 port) 0 (a0 port) (a0 port) (outlet_with []) [] lane-at (put empty (a0 port) 0) (tt, refl) (put (t1 port) (a0 port) 0) (down-in (l0 port) (w1 (t1 port)) _ refl ([], refl)) tt,
+        at-client (l0 port) 0 (a0 port) (a0 port) (outlet_with []) [] lane-at (put empty (a0 port) 0) (tt, refl) (put (t1 port) (a0 port) 0) (down-in (l0 port) (w1 (t1 port)) _ refl ([], refl)) refl,
         (
           at1 (t3 port) [],
-          at-client (l0 port) 0 (a0 port) (a1 port) (outlet_with []) [] lane-at (put (t1 port) (a0 port) 0) (tt, refl) (put (t2 port) (a1 port) 0) (down-in (l0 port) (w1 (t2 port)) _ refl ([], refl)) tt,
+          at-client (l0 port) 0 (a0 port) (a1 port) (outlet_with []) [] lane-at (put (t1 port) (a0 port) 0) (tt, refl) (put (t2 port) (a1 port) 0) (down-in (l0 port) (w1 (t2 port)) _ refl ([], refl)) refl,
           (
             at1 (t4 port) [],
-            at-client (l0 port) 0 (a1 port) (a2 port) (outlet_with []) [] lane-at (put (t2 port) (a1 port) 0) (inr (omega arith, refl, inl (refl, refl)), refl) (put (t3 port) (a2 port) 0) (down-in (l0 port) (w1 (t3 port)) _ refl ([], refl)) tt,
+            at-client (l0 port) 0 (a1 port) (a2 port) (outlet_with []) [] lane-at (put (t2 port) (a1 port) 0) (inr (omega arith, refl, inl (refl, refl)), refl) (put (t3 port) (a2 port) 0) (down-in (l0 port) (w1 (t3 port)) _ refl ([], refl)) refl,
             (
               at1 (t5 port) log1,
               at-client (l0 port) 0 (a2 port) (a3 port) (outlet_with []) [] lane-at (put (t3 port) (a2 port) 0) (
@@ -124,7 +124,7 @@ module _ {C J : Type 0} (port : C) where
                   ),
                 ),
                 refl,
-              ) (put (t4 port) (a3 port) 0) (down-in (l0 port) (w1 (t4 port)) _ refl ([], refl)) tt,
+              ) (put (t4 port) (a3 port) 0) (down-in (l0 port) (w1 (t4 port)) _ refl ([], refl)) refl,
               (
                 at1 (t6 port) log2,
                 at-client (l0 port) 0 (a3 port) (a4 port) (outlet_with []) [] lane-at (put (t4 port) (a3 port) 0) (
@@ -140,7 +140,7 @@ module _ {C J : Type 0} (port : C) where
                     ),
                   ),
                   refl,
-                ) (put (t5 port) (a4 port) 0) (down-in (l0 port) (w1 (t5 port)) _ refl ([], refl)) tt,
+                ) (put (t5 port) (a4 port) 0) (down-in (l0 port) (w1 (t5 port)) _ refl ([], refl)) refl,
                 refl,
               ),
             ),

@@ -148,14 +148,23 @@ front-get law = (law full get-bytes [] get-data).1 (get-bytes, spells-get, refl)
 
 -- ---- replies
 
+-- the two nodes
 abbrev pub table : List Endpoint
 table = record { host = codes "a"; port = 1 } ∷ record { host = codes "b"; port = 2 } ∷ []
+
+-- the first alone
+abbrev pub seed_alone : List Endpoint
+seed_alone = record { host = codes "a"; port = 1 } ∷ []
 
 abbrev pub ask : Value
 ask = Error (codes "ASK 1 b:2")
 
 pub told-ask : told_by ask 0 table ≡ (Ask 1 1, table)
 told-ask = refl
+
+-- the carrier learns the second node from it
+pub learns-ask : told_by ask 0 seed_alone ≡ (Ask 1 1, table)
+learns-ask = refl
 
 pub written-ok : codes "+OK\r\n" ≡ bytes_of (joined One (Answered ok ∷ []) ∷ [])
 unfolding joined spelling

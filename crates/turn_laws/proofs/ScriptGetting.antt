@@ -24,7 +24,7 @@ use Rattle.turn_laws.specs.Scripts as script
 use Rattle.turn_laws.specs.Scripts.{key, five, ticket, plain, behind_asking, did, opening, moving, asking, setting as request_set, getting_key, refused as request_refused, followed, settling, story, Happens}
 use Rattle.turn_laws.proofs.Rings.{posts, takes, outlet_with}
 use Rattle.turn_laws.proofs.Scenes.{scene, and-then, put, at-worker, at-client, at-carrier, down-in}
-use Rattle.turn_laws.proofs.ScriptFacts.{k7, k8, k9, k10, k11, slot-is, in-held, key-moved, given-none, ask, told-ask, does-ask, does-get, fresh-alone, goes-alone}
+use Rattle.turn_laws.proofs.ScriptFacts.{k7, k8, k9, k10, k11, slot-is, in-held, key-moved, given-none, ask, told-ask, learns-ask, table, does-ask, does-get, fresh-alone, goes-alone}
 use Rattle.turn_laws.proofs.ScriptStates.{commands, awaits, getting, sent-on, posted3, posted4, posted5, posted6, wire, link, pending, lane, carrier, worker, up1, up2, up3, down1, down2, down3}
 use Rattle.turn_laws.proofs.ScriptOpening.{s0, s1, s2, starts, opens, moves}
 use Rattle.turn_laws.proofs.ScriptAsking.{doors, s3, asks}
@@ -46,6 +46,10 @@ module _ {C J : Type 0} (port : C) where
 
   abbrev c : LaneEnds (Newcomer C J) → PendingRun → Backend Wire → Backend Wire → CarrierModel (Newcomer C J) Wire
   c l run a b = carrier l (run ∷ []) (a ∷ b ∷ []) false
+
+  -- it has learnt the second node from ASK
+  abbrev learnt : LaneEnds (Newcomer C J) → PendingRun → Backend Wire → Backend Wire → CarrierModel (Newcomer C J) Wire
+  learnt l run a b = record (c l run a b) { nodes = table }
 
   -- after the second post, after ASK was taken, after the third post, and after the reply was taken
   abbrev w3 : FinMap nat_cmp (ClientModel C) → WorkerModel C J
@@ -76,7 +80,7 @@ module _ {C J : Type 0} (port : C) where
 
   -- refused by the first node
   abbrev pub s6 : System C J
-  s6 = scene (w4 (t16 port)) (c l4 (pending None) idle new_backend) [] 1 k8 log4
+  s6 = scene (w4 (t16 port)) (learnt l4 (pending None) idle new_backend) [] 1 k8 log4
 
   pub refuses : FoldsTo SystemStep s5 script.refused s6
   refuses = (
@@ -86,7 +90,7 @@ module _ {C J : Type 0} (port : C) where
       refl,
       (0, ((script.get, refl, refl), (λ j lt m. absurd (omega (arith, lt))), refl), refl, refl),
       refl,
-    ) (put _ (a11 port) 0) (down-in {J = J} (l2 port) (w2 port (t13 port) 0) _ refl ([], refl)) tt,
+    ) (put _ (a11 port) 0) (down-in {J = J} (l2 port) (w2 port (t13 port) 0) _ refl ([], refl)) refl,
     (
       scene (w3 (t15 port)) (c (l2 port) (pending None) idle new_backend) [] 1 k8 log4,
       at-client (l2 port) 0 (a11 port) (a12 port) (outlet_with up2) [] refl (put _ (a11 port) 0) (
@@ -103,7 +107,7 @@ module _ {C J : Type 0} (port : C) where
         omega arith,
         posts up1 (plain 1 0 script.get),
         refl,
-      ) (put _ (a12 port) 0) (down-in {J = J} (l2 port) (w2 port (t14 port) 0) _ refl ([], refl)) (omega arith),
+      ) (put _ (a12 port) 0) (down-in {J = J} (l2 port) (w2 port (t14 port) 0) _ refl ([], refl)) refl,
       (
         scene (w3 (t15 port)) (c l3 (pending (Some (plain 1 0 script.get))) idle new_backend) [] 1 k8 log4,
         at-carrier l3 (
@@ -144,7 +148,7 @@ module _ {C J : Type 0} (port : C) where
               refl,
             ),
             (
-              scene (w3 (t15 port)) (c l3 (pending None) got new_backend) [] 1 k8 log4,
+              scene (w3 (t15 port)) (learnt l3 (pending None) got new_backend) [] 1 k8 log4,
               at-carrier l3 (
                 0,
                 refused,
@@ -156,13 +160,13 @@ module _ {C J : Type 0} (port : C) where
                   ticket 1,
                   Ask 1 1,
                   refl,
-                  (refl, (ask, refl, inr (refl, (refl, refl)), refl, told-ask, refl)),
+                  (refl, (ask, refl, inr (refl, (refl, refl)), refl, learns-ask, refl)),
                   refl,
                 ),
                 refl,
               ) (refl, (refl, tt)) refl ([], refl) refl,
               (
-                scene (w3 (t15 port)) (c l4 (pending None) idle new_backend) [] 1 k8 log4,
+                scene (w3 (t15 port)) (learnt l4 (pending None) idle new_backend) [] 1 k8 log4,
                 at-carrier l4 (
                   0,
                   got,
@@ -177,7 +181,7 @@ module _ {C J : Type 0} (port : C) where
                     takes down1 (ticket 1, Ask 1 1),
                     (true, (a12 port, a13 port, put _ (a12 port) 0, (awaits getting, (put posted3 (awaits getting) 1, refl, refl), refl), refl, refl)),
                     refl,
-                  ) refl (down-in l4 (w4 (t16 port)) _ refl ([], refl)) tt,
+                  ) refl (down-in l4 (w4 (t16 port)) _ refl ([], refl)) refl,
                   refl,
                 ),
               ),
@@ -190,11 +194,11 @@ module _ {C J : Type 0} (port : C) where
 
   -- executed by the second node
   abbrev pub s7 : System C J
-  s7 = scene (w5 (t17 port)) (c l6 (pending None) idle opened) [] 2 k9 log5
+  s7 = scene (w5 (t17 port)) (learnt l6 (pending None) idle opened) [] 2 k9 log5
 
   pub follows : FoldsTo SystemStep s6 script.followed s7
   follows = (
-    scene (w5 (t17 port)) (c l4 (pending None) idle new_backend) [] 1 k8 log4,
+    scene (w5 (t17 port)) (learnt l4 (pending None) idle new_backend) [] 1 k8 log4,
     at-client l4 0 (a13 port) (a14 port) (outlet_with up3) [] refl (put _ (a13 port) 0) (
       sent-on,
       [],
@@ -209,9 +213,9 @@ module _ {C J : Type 0} (port : C) where
       omega arith,
       posts up2 (behind_asking 1 1 script.get),
       refl,
-    ) (put _ (a14 port) 0) (down-in l4 (w4 (t16 port)) _ refl ([], refl)) (omega arith),
+    ) (put _ (a14 port) 0) (down-in l4 (w4 (t16 port)) _ refl ([], refl)) refl,
     (
-      scene (w5 (t17 port)) (c l5 (pending (Some (behind_asking 1 1 script.get))) idle new_backend) [] 1 k8 log4,
+      scene (w5 (t17 port)) (learnt l5 (pending (Some (behind_asking 1 1 script.get))) idle new_backend) [] 1 k8 log4,
       at-carrier l5 (
         0,
         pending None,
@@ -221,7 +225,7 @@ module _ {C J : Type 0} (port : C) where
         refl,
       ) (refl, (refl, tt)) refl ([], refl) refl,
       (
-        scene (w5 (t17 port)) (c l5 (pending (Some (behind_asking 1 1 script.get))) idle opened) [] 2 k8 log4,
+        scene (w5 (t17 port)) (learnt l5 (pending (Some (behind_asking 1 1 script.get))) idle opened) [] 2 k8 log4,
         at-carrier l5 (
           1,
           new_backend,
@@ -234,7 +238,7 @@ module _ {C J : Type 0} (port : C) where
           refl,
         ) (refl, (refl, tt)) refl ([], refl) refl,
         (
-          scene (w5 (t17 port)) (c l5 (pending None) idle both-due) [] 2 k8 log4,
+          scene (w5 (t17 port)) (learnt l5 (pending None) idle both-due) [] 2 k8 log4,
           at-carrier l5 (
             0,
             pending (Some (behind_asking 1 1 script.get)),
@@ -248,7 +252,7 @@ module _ {C J : Type 0} (port : C) where
             refl,
           ) (refl, (refl, tt)) refl ([], refl) refl,
           (
-            scene (w5 (t17 port)) (c l5 (pending None) idle welcomed) [] 2 k8 log4,
+            scene (w5 (t17 port)) (learnt l5 (pending None) idle welcomed) [] 2 k8 log4,
             (
               both-due,
               link 1 (wire 1 (Asks ∷ Runs ((ticket 1, script.get) ∷ []) ∷ []) [] false) (due.Asking ∷ due.Command (ticket 1) ∷ []),
@@ -263,7 +267,7 @@ module _ {C J : Type 0} (port : C) where
               refl,
             ),
             (
-              scene (w5 (t17 port)) (c l5 (pending None) idle both-served) [] 2 k9 log5,
+              scene (w5 (t17 port)) (learnt l5 (pending None) idle both-served) [] 2 k9 log5,
               (
                 welcomed,
                 link 1 (wire 1 (Runs ((ticket 1, script.get) ∷ []) ∷ []) (script.ok ∷ []) true) (due.Asking ∷ due.Command (ticket 1) ∷ []),
@@ -278,7 +282,7 @@ module _ {C J : Type 0} (port : C) where
                 refl,
               ),
               (
-                scene (w5 (t17 port)) (c l5 (pending None) idle one-left) [] 2 k9 log5,
+                scene (w5 (t17 port)) (learnt l5 (pending None) idle one-left) [] 2 k9 log5,
                 at-carrier l5 (
                   1,
                   both-served,
@@ -294,7 +298,7 @@ module _ {C J : Type 0} (port : C) where
                   refl,
                 ) (refl, (refl, tt)) refl ([], refl) refl,
                 (
-                  scene (w5 (t17 port)) (c l5 (pending None) idle fetched) [] 2 k9 log5,
+                  scene (w5 (t17 port)) (learnt l5 (pending None) idle fetched) [] 2 k9 log5,
                   at-carrier l5 (
                     1,
                     one-left,
@@ -334,37 +338,37 @@ module _ {C J : Type 0} (port : C) where
 
   -- the client is answered, and the second node owns the slot
   abbrev pub s8 : System C J
-  s8 = scene (w6 (t21 port) (one_more (one_more 0))) (c l6 (pending None) idle opened) [] 2 k11 log6
+  s8 = scene (w6 (t21 port) (one_more (one_more 0))) (learnt l6 (pending None) idle opened) [] 2 k11 log6
 
   pub answers : FoldsTo SystemStep s7 script.settling s8
   answers = (
-    scene (w6 (t18 port) (one_more 0)) (c l6 (pending None) idle opened) [] 2 k9 log5,
+    scene (w6 (t18 port) (one_more 0)) (learnt l6 (pending None) idle opened) [] 2 k9 log5,
     at-worker l6 [] refl (
       takes down2 (ticket 1, Reply five),
       (true, (a14 port, a15 port, put _ (a14 port) 0, (awaits sent-on, (put posted5 (awaits sent-on) 1, refl, refl), refl), refl, refl)),
       refl,
-    ) refl (down-in l6 (w6 (t18 port) 0) _ refl ([], refl)) tt,
+    ) refl (down-in l6 (w6 (t18 port) 0) _ refl ([], refl)) refl,
     (
-      scene (w6 (t19 port) (one_more (one_more 0))) (c l6 (pending None) idle opened) [] 2 k9 log5,
+      scene (w6 (t19 port) (one_more (one_more 0))) (learnt l6 (pending None) idle opened) [] 2 k9 log5,
       at-worker l6 [] refl (
         a15 port,
         a16 port,
         put _ (a15 port) 0,
         ((progress_told (awaits sent-on) (Reply five), put posted6 _ 1, refl, refl), tt, refl, refl),
         refl,
-      ) refl (down-in l6 (w6 (t19 port) 0) _ refl ([], refl)) tt,
+      ) refl (down-in l6 (w6 (t19 port) 0) _ refl ([], refl)) refl,
       (
-        scene (w6 (t20 port) (one_more (one_more 0))) (c l6 (pending None) idle opened) [] 2 k9 log6,
+        scene (w6 (t20 port) (one_more (one_more 0))) (learnt l6 (pending None) idle opened) [] 2 k9 log6,
         at-client l6 0 (a16 port) (a17 port) (outlet_with up3) [] refl (put _ (a16 port) 0) (
           refl,
           (codes "$1\r\n5\r\n", refl, refl, drains),
           refl,
-        ) (put _ (a17 port) 0) (down-in l6 (w6 (t19 port) 0) _ refl ([], refl)) tt,
+        ) (put _ (a17 port) 0) (down-in l6 (w6 (t19 port) 0) _ refl ([], refl)) refl,
         (
-          scene (w6 (t21 port) (one_more (one_more 0))) (c l6 (pending None) idle opened) [] 2 k9 log6,
-          at-client l6 0 (a17 port) (a18 port) (outlet_with up3) [] refl (put _ (a17 port) 0) (tt, refl, refl) (put _ (a18 port) 0) (down-in l6 (w6 (t20 port) 0) _ refl ([], refl)) tt,
+          scene (w6 (t21 port) (one_more (one_more 0))) (learnt l6 (pending None) idle opened) [] 2 k9 log6,
+          at-client l6 0 (a17 port) (a18 port) (outlet_with up3) [] refl (put _ (a17 port) 0) (tt, refl, refl) (put _ (a18 port) 0) (down-in l6 (w6 (t20 port) 0) _ refl ([], refl)) refl,
           (
-            scene (w6 (t21 port) (one_more (one_more 0))) (c l6 (pending None) idle opened) [] 2 k10 log6,
+            scene (w6 (t21 port) (one_more (one_more 0))) (learnt l6 (pending None) idle opened) [] 2 k10 log6,
             (((refl, λ q e. given-none q), refl), refl),
             (
               s8,

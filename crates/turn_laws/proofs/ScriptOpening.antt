@@ -2,6 +2,7 @@
 use Rattle.std.proofs.Common.{◌≡◌, inl, inr, ℕ, zero, suc, Bool, true, false, List, [], ◌∷◌, Some, None, Ok, refl, sym, ap, ◌∙◌, subst, arith, length}
 use Rattle.std.specs.Prelude.{slice_get, All, map, Option, IsSome, unwrap_or}
 use Rattle.std.specs.List.{FoldsTo}
+use mathlib.Core.List.{IsPrefix}
 use Rattle.std.specs.FinMap.{empty, get-empty}
 use Rattle.std.specs.Ordering.{nat_cmp}
 use Rattle.std.specs.Cmp.Lexicographic.{slice_cmp}
@@ -30,7 +31,7 @@ use Rattle.turn_laws.specs.Scripts as script
 use Rattle.turn_laws.proofs.AtLanes.{nothing-there}
 use Rattle.turn_laws.proofs.Rings.{takes-none}
 use Rattle.turn_laws.proofs.Scenes.{scene, at-worker, at-carrier, down-in}
-use Rattle.turn_laws.proofs.ScriptFacts.{table, new, k0, k1, k2, k3, k4, k5}
+use Rattle.turn_laws.proofs.ScriptFacts.{table, seed_alone, new, k0, k1, k2, k3, k4, k5}
 use Rattle.turn_laws.proofs.ScriptStates.{lane, carrier, worker, wire, link}
 
 -- the one item of a list
@@ -46,6 +47,9 @@ apart (suc zero) (suc zero) at e f = refl
 apart zero (suc (suc j)) at e f = absurd (nothing-there j at f)
 apart (suc zero) (suc (suc j)) at e f = absurd (nothing-there j at f)
 apart (suc (suc i)) j at e f = absurd (nothing-there i at e)
+
+pub seed-first : IsPrefix seed_alone table
+seed-first = (_, refl)
 
 -- where nothing was seen, no command arrived
 no-commands : (xs : List Arrival) {Y : Type 0} (f : Arrival → Y) → [] ≡ map f xs → xs ≡ []
@@ -89,8 +93,8 @@ module _ {C J : Type 0} (port : C) where
   abbrev pub s0 : System C J
   s0 = scene w0 (carrier l0 [] [] true) [] 0 k0 []
 
-  pub starts-in : (k : ClusterModel) → IsNew k → IsStart (scene w0 (carrier l0 [] [] true) [] 0 k [])
-  starts-in k is-new = record {
+  pub starts-in : (k : ClusterModel) → length table ≡ length k.stores → IsNew k → IsStart (scene w0 (carrier l0 [] [] true) [] 0 k [])
+  starts-in k each is-new = record {
     idle = only-one (λ k model. ((model.worker, model.workers) ≡ (k, 1)) × (model.clients ≡ empty)) w0 (refl, refl);
     ups = λ k model l p q.
         only-one (λ k model. (between model.outlet l.up ≡ []) × (down_in l.down model.inlet ≡ [])) w0
@@ -106,13 +110,18 @@ module _ {C J : Type 0} (port : C) where
     pending_runs = refl;
     backends = refl;
     apart = apart;
+    each = each;
+    room = omega arith;
+    table = seed-first;
+    seed = omega arith;
+    published = refl;
     closed = refl;
     log = refl;
     new = is-new;
   }
 
   pub starts : IsStart s0
-  starts = starts-in k0 new
+  starts = starts-in k0 refl new
 
   -- after the opening
   abbrev pub s1 : System C J
@@ -121,10 +130,10 @@ module _ {C J : Type 0} (port : C) where
   pub opens : FoldsTo SystemStep s0 script.opening s1
   opens = (
     s0,
-    at-worker l0 [] refl (takes-none [], refl) refl (down-in l0 w0 _ refl ([], refl)) tt,
+    at-worker l0 [] refl (takes-none [], refl) refl (down-in l0 w0 _ refl ([], refl)) refl,
     (
       s0,
-      at-worker l0 [] refl (takes-none [], refl) refl (down-in l0 w0 _ refl ([], refl)) tt,
+      at-worker l0 [] refl (takes-none [], refl) refl (down-in l0 w0 _ refl ([], refl)) refl,
       (
         scene w0 (c0 [] true) [] 0 k0 [],
         at-carrier l0 refl tt refl ([], refl) refl,
@@ -151,7 +160,7 @@ module _ {C J : Type 0} (port : C) where
                       at-carrier l0 (0, b4, b5, refl, (link 0 (wire 0 [] (Array [] ∷ []) false) (due.Slots ∷ []), link 0 (new_wire 0 0) [], Array [], refl, (refl, (refl, inr (refl, (refl, refl)), refl, refl, refl)), refl), refl) (refl, (refl, tt)) refl ([], refl) refl,
                       (
                         scene w0 (c0 (b6 ∷ new_backend ∷ []) false) [] 1 k0 [],
-                        at-carrier l0 (0, b5, b6, refl, (link 0 (new_wire 0 0) [], Array [], record { ops = []; table = table }, refl, refl, refl, refl, refl), refl) (refl, (refl, tt)) refl ([], refl) refl,
+                        at-carrier l0 (0, b5, b6, refl, (link 0 (new_wire 0 0) [], Array [], record { ops = []; table = seed_alone }, refl, refl, refl, refl, refl), refl) (refl, (refl, tt)) refl ([], refl) refl,
                         (
                           s1,
                           at-carrier l0 (0, b6, b1, refl, ([], refl, refl), refl) (refl, (refl, tt)) refl ([], refl) refl,

@@ -251,14 +251,14 @@ module _ {C J : Type 0} (port : C) where
       refl,
       (0, ((set, refl, refl), (λ j lt m. absurd (omega (arith, lt))), refl), refl, refl),
       refl,
-    ) (put _ (a5 port) 0) (down-in l0 (w (t6 port) [] [] 0) _ refl ([], refl)) tt,
+    ) (put _ (a5 port) 0) (down-in l0 (w (t6 port) [] [] 0) _ refl ([], refl)) refl,
     (
       scene (w (z1 port) [] [] 0) (c l0 (pending None) idle) [] 1 k0 log2,
       at-client l0 0 (a5 port) (y1 port) (outlet_with []) [] refl (put _ (a5 port) 0) (
         refl,
         ([], setting, refl, (1, record { waits = refl; out = refl; behind = omega arith; next = refl; in_order = refl }, refl, refl)),
         refl,
-      ) (put _ (y1 port) 0) (down-in l0 (w (t7 port) [] [] 0) _ refl ([], refl)) tt,
+      ) (put _ (y1 port) 0) (down-in l0 (w (t7 port) [] [] 0) _ refl ([], refl)) refl,
       (
         scene (w (z2 port) up [] 0) (c l0 (pending None) idle) [] 1 k0 log2,
         at-client l0 0 (y1 port) (y2 port) (outlet_with up) [] refl (put _ (y1 port) 0) (
@@ -275,7 +275,7 @@ module _ {C J : Type 0} (port : C) where
           omega arith,
           posts [] both,
           refl,
-        ) (put _ (y2 port) 0) (down-in l0 (w (z1 port) [] [] 0) _ refl ([], refl)) (omega arith),
+        ) (put _ (y2 port) 0) (down-in l0 (w (z1 port) [] [] 0) _ refl ([], refl)) refl,
         (
           scene (w (z2 port) up [] 0) (c l1 (pending (Some both)) idle) [] 1 k0 log2,
           at-carrier l1 (
@@ -369,22 +369,22 @@ module _ {C J : Type 0} (port : C) where
                 takes [] (ticket 0, Reply ok),
                 (true, (y2 port, y3 port, put _ (y2 port) 0, (awaits setting, (first-there, refl, refl), refl), refl, refl)),
                 refl,
-              ) refl (down-in l3 (w (z3 port) up down1 0) _ refl (numbered 1 (ticket 1, Reply five) ∷ [], refl)) tt,
+              ) refl (down-in l3 (w (z3 port) up down1 0) _ refl (numbered 1 (ticket 1, Reply five) ∷ [], refl)) refl,
               (
                 scene (w (z4 port) up down2 0) (c l3 (pending None) idle) [] 1 k' log3,
                 at-worker l3 [] refl (
                   takes down1 (ticket 1, Reply five),
                   (true, (y3 port, y4 port, put _ (y3 port) 0, (awaits getting, (second-there, refl, refl), refl), refl, refl)),
                   refl,
-                ) refl (down-in l3 (w (z4 port) up down2 0) _ refl ([], refl)) tt,
+                ) refl (down-in l3 (w (z4 port) up down2 0) _ refl ([], refl)) refl,
                 (
                   scene (w (z5 port) up down2 (one_more 0)) (c l3 (pending None) idle) [] 1 k' log3,
                   at-worker l3 [] refl (y4 port, y5 port, put _ (y4 port) 0, ((told0, first-over, refl, refl), tt, refl, refl), refl) refl
-                      (down-in l3 (w (z5 port) up down2 0) _ refl ([], refl)) tt,
+                      (down-in l3 (w (z5 port) up down2 0) _ refl ([], refl)) refl,
                   (
                     r2,
                     at-worker l3 [] refl (y5 port, y6 port, put _ (y5 port) 0, ((told1, second-over, refl, refl), tt, refl, refl), refl) refl
-                        (down-in l3 (w (z6 port) up down2 0) _ refl ([], refl)) tt,
+                        (down-in l3 (w (z6 port) up down2 0) _ refl ([], refl)) refl,
                     refl,
                   ),
                 ),

@@ -153,11 +153,11 @@ module _ {C J : Type 0} (port : C) where
       refl,
       (0, ((set, refl, refl), (λ j lt m. absurd (omega (arith, lt))), refl), refl, refl),
       refl,
-    ) (put _ (a5 port) 0) (down-in l0 (w0 (t6 port)) _ refl ([], refl)) tt,
+    ) (put _ (a5 port) 0) (down-in l0 (w0 (t6 port)) _ refl ([], refl)) refl,
     (
       scene (w0 (t8 port)) (c l0 (pending None) idle) [] 1 k5 log2,
       at-client l0 0 (a5 port) (a5 port) (outlet_with []) [] refl (put _ (a5 port) 0) ((Ok None, (([], refl), refl)), refl)
-          (put _ (a5 port) 0) (down-in l0 (w0 (t7 port)) _ refl ([], refl)) tt,
+          (put _ (a5 port) 0) (down-in l0 (w0 (t7 port)) _ refl ([], refl)) refl,
       (
         scene (w1 (t9 port)) (c l0 (pending None) idle) [] 1 k5 log2,
         at-client l0 0 (a5 port) (a6 port) (outlet_with up1) [] refl (put _ (a5 port) 0) (
@@ -174,7 +174,7 @@ module _ {C J : Type 0} (port : C) where
           omega arith,
           posts [] (plain 0 0 set),
           refl,
-        ) (put _ (a6 port) 0) (down-in l0 (w0 (t8 port)) _ refl ([], refl)) (omega arith),
+        ) (put _ (a6 port) 0) (down-in l0 (w0 (t8 port)) _ refl ([], refl)) refl,
         (
           scene (w1 (t9 port)) (c l1 (pending (Some (plain 0 0 set))) idle) [] 1 k5 log2,
           at-carrier l1 (
@@ -248,7 +248,7 @@ module _ {C J : Type 0} (port : C) where
                       takes [] (ticket 0, Reply ok),
                       (true, (a6 port, a7 port, put _ (a6 port) 0, (awaits setting, (put empty (awaits setting) 0, refl, refl), refl), refl, refl)),
                       refl,
-                    ) refl (down-in l2 (w2 (t10 port) 0) _ refl ([], refl)) tt,
+                    ) refl (down-in l2 (w2 (t10 port) 0) _ refl ([], refl)) refl,
                     (
                       scene (w2 (t11 port) (one_more 0)) (c l2 (pending None) idle) [] 1 k6 log3,
                       at-worker l2 [] refl (
@@ -257,17 +257,17 @@ module _ {C J : Type 0} (port : C) where
                         put _ (a7 port) 0,
                         ((progress_told (awaits setting) (Reply ok), put posted1 _ 0, refl, refl), tt, refl, refl),
                         refl,
-                      ) refl (down-in l2 (w2 (t11 port) 0) _ refl ([], refl)) tt,
+                      ) refl (down-in l2 (w2 (t11 port) 0) _ refl ([], refl)) refl,
                       (
                         scene (w2 (t12 port) (one_more 0)) (c l2 (pending None) idle) [] 1 k6 log4,
                         at-client l2 0 (a8 port) (a9 port) (outlet_with up1) [] refl (put _ (a8 port) 0) (
                           refl,
                           (codes "+OK\r\n", refl, refl, drains),
                           refl,
-                        ) (put _ (a9 port) 0) (down-in l2 (w2 (t11 port) 0) _ refl ([], refl)) tt,
+                        ) (put _ (a9 port) 0) (down-in l2 (w2 (t11 port) 0) _ refl ([], refl)) refl,
                         (
                           s4,
-                          at-client l2 0 (a9 port) (a10 port) (outlet_with up1) [] refl (put _ (a9 port) 0) (tt, refl, refl) (put _ (a10 port) 0) (down-in l2 (w2 (t12 port) 0) _ refl ([], refl)) tt,
+                          at-client l2 0 (a9 port) (a10 port) (outlet_with up1) [] refl (put _ (a9 port) 0) (tt, refl, refl) (put _ (a10 port) 0) (down-in l2 (w2 (t12 port) 0) _ refl ([], refl)) refl,
                           refl,
                         ),
                       ),

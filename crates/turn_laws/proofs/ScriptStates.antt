@@ -35,7 +35,7 @@ use Rattle.turn_laws.specs.Wire.{Wire, Item}
 use Rattle.turn_laws.specs.Scripts as script
 use Rattle.turn_laws.specs.Scripts.{set, ok, five, ticket, plain, behind_asking}
 use Rattle.turn_laws.proofs.Rings.{outlet_with, inlet_with}
-use Rattle.turn_laws.proofs.ScriptFacts.{table}
+use Rattle.turn_laws.proofs.ScriptFacts.{seed_alone}
 
 -- ---- the lanes' items
 
@@ -147,8 +147,9 @@ module _ {C J : Type 0} where
   abbrev pub lane : C → List (Numbered RunModel) → List (Numbered Pair) → LaneEnds (Newcomer C J)
   lane port ups downs = record { up = inlet_with ups; down = Some (outlet_with downs); door = outlet_with (numbered 0 (newcomer port) ∷ []) }
 
+  -- its table lists the first node
   abbrev pub carrier : LaneEnds (Newcomer C J) → List PendingRun → List (Backend Wire) → Bool → CarrierModel (Newcomer C J) Wire
-  carrier l runs backends seed = record { lanes = l ∷ []; pending_runs = runs; backends = backends; nodes = table; published = []; seed_to_dial = seed; failures = 0 }
+  carrier l runs backends seed = record { lanes = l ∷ []; pending_runs = runs; backends = backends; nodes = seed_alone; published = []; seed_to_dial = seed; failures = 0 }
 
   abbrev pub worker : FinMap nat_cmp (ClientModel C) → Option ℕ → List (Numbered (Newcomer C J)) → List (Numbered RunModel) → List (Numbered Pair) → ℕ → WorkerModel C J
   worker clients newest doors ups downs answered = record {

@@ -1,5 +1,5 @@
 -- A run is sent: the machine carries it, and drops the link where the connection breaks at it.
-use Rattle.std.proofs.Common.{◌≡◌, ◌≢◌, ⊎_elim, ℕ, List, [], ◌++◌, Some, None, Result, Ok, Err, refl, sym, ap, ◌∙◌, subst}
+use Rattle.std.proofs.Common.{◌≡◌, ◌≢◌, inl, ⊎_elim, ℕ, List, [], ◌++◌, Some, None, Result, Ok, Err, refl, sym, ap, ◌∙◌, subst, arith}
 use Rattle.std.specs.Prelude.{slice_get, slice_set, Option, All, map}
 use mathlib.Core.List.{IsPrefix}
 use Rattle.std.proofs.lemmas.List.{append-nil}
@@ -26,6 +26,7 @@ use Rattle.turn_laws.specs.Steps.{AtCarrier, CarrierStep, any_failures, any_garb
 use Rattle.turn_laws.specs.Refines.{Simulates}
 use Rattle.turn_laws.proofs.Waiting.{same-closed}
 use Rattle.turn_laws.proofs.Walks.{walks_join}
+use Rattle.turn_laws.proofs.Listed.{set-listed, still-listed}
 use Rattle.turn_laws.proofs.Settled.{Goes, goes-of}
 use Rattle.turn_laws.proofs.Items.{requests-append}
 use Rattle.turn_laws.proofs.Drops.{drops, broken-wire, all-front}
@@ -124,7 +125,9 @@ module _ {C J : Type 0} (s s' : System C J) (w : WorldModel) (h : IsShadow s w) 
     workers = refl;
     cluster = refl;
     log = refl;
-    table = refl;
+    nodes = refl;
+    table = h.table;
+    listed = set-listed s.carrier s1.carrier held.first.node backend backend1 on.does.7 refl (omega arith) (λ x e. inl (link, was));
     in_step = λ j model lane p q. on.in_step j model lane (ap (λ (x : System C J). slice_get x.workers j) on.leaves ∙ p) (ap (λ xs. slice_get xs j) lanes ∙ q);
   }
 
@@ -133,7 +136,9 @@ module _ {C J : Type 0} (s s' : System C J) (w : WorldModel) (h : IsShadow s w) 
     workers = ap (λ (x : System C J). x.workers) on.leaves;
     cluster = ap (λ (x : System C J). x.cluster) on.leaves;
     log = ap (λ (x : System C J). x.log) on.leaves;
+    nodes = ap (λ (x : System C J). x.nodes) on.leaves;
     table = on.table;
+    listed = λ _. still-listed Sent s s' on h.listed;
     in_step = on.in_step;
   }
 

@@ -27,11 +27,12 @@ use Rattle.world_laws.proofs.Recorded.{at-set}
 use Rattle.turn_laws.specs.Walks.{Walk, IsWalked, ticked}
 use Rattle.turn_laws.specs.Wire.{Wire, Item, Part, Asks, Runs, Lists, AreTold, ServesNext, executions, parts_in, tickets_for}
 use Rattle.turn_laws.specs.System.{System}
-use Rattle.turn_laws.specs.Shadow.{IsShadow, IsWorking, LinksShadow, LogShadow, OpenShadow, IsIdle, IsKnown, IsUnnumbered, Numbers, coming, coming_of, requests_in, dues_of, dues_in, back_of, backs_in, downs_of, told_in, lost_in}
+use Rattle.turn_laws.specs.Shadow.{IsShadow, IsWorking, LinksShadow, LogShadow, AreListed, OpenShadow, IsIdle, IsKnown, IsUnnumbered, Numbers, coming, coming_of, requests_in, dues_of, dues_in, back_of, backs_in, downs_of, told_in, lost_in}
 use Rattle.turn_laws.specs.Steps.{AtNode, Serves, log_of}
 use Rattle.turn_laws.specs.Refines.{Simulates}
 use Rattle.turn_laws.proofs.Downs.{SameBag, total-set-flat}
 use Rattle.turn_laws.proofs.Carriers.{bag-parts}
+use Rattle.turn_laws.proofs.Listed.{set-listed}
 use Rattle.turn_laws.proofs.Lines.{backend-changes}
 use Rattle.turn_laws.proofs.Answering.{quiet-backend}
 use Rattle.turn_laws.proofs.Openings.{one-connection}
@@ -180,6 +181,10 @@ module _ {C J : Type 0} (s s' : System C J) (w : WorldModel) (h : IsShadow s w) 
     (let e : total f (told_in backend.pending_told ++ lost_in (Some link)) ≡ total f (told_in backend.pending_told ++ lost_in (Some link')) = refl in e),
   )
 
+  -- the link stays where it was
+  listed : AreListed carrier'
+  listed = set-listed s.carrier carrier' k backend backend' on.5 refl (omega arith) (λ x e. inl (link, on.6)) h.listed
+
   node : link'.node ≡ k
   node = ((h.links).backends k link working).0
 
@@ -188,13 +193,13 @@ module _ {C J : Type 0} (s s' : System C J) (w : WorldModel) (h : IsShadow s w) 
 
   -- the first item is served, and the machine's link says so
   links-served : (r : Item) (rest : List Item) → length (dues_of r) ≡ length more → link.port.items ≡ r ∷ rest → wire.node ≡ link.port.node → wire.id ≡ link.port.id → wire.items ≡ rest
-      → (i : ℕ) (l : Link) → Numbers (h.links).ids link.port.id i → slice_get w.links i ≡ Some l → OpenShadow s.carrier.nodes w.commands link l
-      → LinksShadow carrier' s.closed s.opened (record w { links = slice_set w.links i (record l { requests = requests_in rest; backs = l.backs ++ backs_in s.carrier.nodes link.node (dues_of r) more; asking = wire.asking }) })
+      → (i : ℕ) (l : Link) → Numbers (h.links).ids link.port.id i → slice_get w.links i ≡ Some l → OpenShadow s.nodes w.commands link l
+      → LinksShadow s.nodes carrier' s.closed s.opened (record w { links = slice_set w.links i (record l { requests = requests_in rest; backs = l.backs ++ backs_in s.nodes link.node (dues_of r) more; asking = wire.asking }) })
   links-served r rest as-many first wired id items i l numbers at open' =
-      let l' : Link = record l { requests = requests_in rest; backs = l.backs ++ backs_in s.carrier.nodes link.node (dues_of r) more; asking = wire.asking } in
-      backend-changes s.carrier carrier' s.closed s.opened w (record w { links = slice_set w.links i l' }) h.links k i link link' l l' working now
-      node id refl numbers at refl
-      (open-served link wire r rest more as-many first wired items on.9 s.carrier.nodes w.commands l open')
+      let l' : Link = record l { requests = requests_in rest; backs = l.backs ++ backs_in s.nodes link.node (dues_of r) more; asking = wire.asking } in
+      backend-changes s.nodes s.carrier carrier' s.closed s.opened w (record w { links = slice_set w.links i l' }) h.links k i link link' l l' working now
+      node id numbers at refl
+      (open-served link wire r rest more as-many first wired items on.9 s.nodes w.commands l open')
       (λ x m o. o)
       (λ x m o. o)
 
@@ -204,51 +209,51 @@ module _ {C J : Type 0} (s s' : System C J) (w : WorldModel) (h : IsShadow s w) 
   -- ASKING
   module _ (rest : List Item) (value : Value) (first : link.port.items ≡ Asks ∷ rest) (one : more ≡ value ∷ []) (cluster : s'.cluster ≡ s.cluster) (none : on.4 ≡ [])
       (is : wire ≡ record (link.port) { items = rest; values = wire.values; asking = true }) where
-    welcomed : (i : ℕ) (l : Link) → Numbers (h.links).ids link.port.id i → slice_get w.links i ≡ Some l → OpenShadow s.carrier.nodes w.commands link l → Simulated
+    welcomed : (i : ℕ) (l : Link) → Numbers (h.links).ids link.port.id i → slice_get w.links i ≡ Some l → OpenShadow s.nodes w.commands link l → Simulated
     welcomed i l numbers at open' =
-        let l' : Link = record l { requests = requests_in rest; backs = l.backs ++ backs_in s.carrier.nodes link.node (dues_of Asks) more; asking = wire.asking } in
+        let l' : Link = record l { requests = requests_in rest; backs = l.backs ++ backs_in s.nodes link.node (dues_of Asks) more; asking = wire.asking } in
         let links' : List Link = slice_set w.links i l' in
         let w' : WorldModel = record w { cluster = s'.cluster; links = links'; moment = w.moment + 1 } in
         let same : l' ≡ replied (record l { requests = requests_in rest; asking = true }) Welcome =
-        (λ j. record l { requests = requests_in rest; backs = l.backs ++ backs_in s.carrier.nodes link.node (dues_of Asks) (one j); asking = ap (λ (x : Wire). x.asking) is j }) ∙ sym (replied-open (record l { requests = requests_in rest; asking = true }) Welcome open'.is_open) in (
+        (λ j. record l { requests = requests_in rest; backs = l.backs ++ backs_in s.nodes link.node (dues_of Asks) (one j); asking = ap (λ (x : Wire). x.asking) is j }) ∙ sym (replied-open (record l { requests = requests_in rest; asking = true }) Welcome open'.is_open) in (
           Serve i Plain ∷ [],
           w',
           (w', (l, at, inl (requests_in rest, open'.requests ∙ ap requests_in first, refl, λ j. record w { cluster = (cluster ∙ sym h.cluster) j; links = slice_set w.links i (same j); moment = w.moment + 1 })), refl),
           node-frame s s' w s'.cluster backends' s.closed (s.log ++ log_of on.4) links' w.history (w.moment + 1) h on.10
               (links-served Asks rest (ap length (sym one)) first (ap (λ (x : Wire). x.node) is) (ap (λ (x : Wire). x.id) is) (ap (λ (x : Wire). x.items) is) i l numbers at open')
-              bag
+              listed bag
               (log-of-nothing w' none refl refl refl (omega arith)),
         )
 
     pub welcomes : Simulated
     welcomes = ⊎_elim
-        (λ (x : (i : ℕ) × (l : Link) × Numbers (h.links).ids link.port.id i × (slice_get w.links i ≡ Some l) × OpenShadow s.carrier.nodes w.commands link l). welcomed x.0 x.1 x.2 x.3 x.4)
+        (λ (x : (i : ℕ) × (l : Link) × Numbers (h.links).ids link.port.id i × (slice_get w.links i ≡ Some l) × OpenShadow s.nodes w.commands link l). welcomed x.0 x.1 x.2 x.3 x.4)
         (λ (x : IsUnnumbered (h.links).ids link.port.id × IsIdle link). absurd (some-request asked.Asking (requests_in rest) (sym (ap requests_in first) ∙ (x.1).requests)))
         ((h.links).backends k link working).2
 
   -- a run
   module _ (rest : List Item) (parts : List Part) (tolds : List Told) (first : link.port.items ≡ Runs parts ∷ rest) (names : NamesNode s.cluster verdict)
       (does : DoesRun (deed_for s.cluster link.port.node link.port.asking (parts_in parts) verdict) s.cluster link.port.node (parts_in parts) tolds s'.cluster)
-      (says : AreTold s.carrier.nodes link.port.node more tolds) (done : on.4 ≡ executions parts tolds)
+      (says : AreTold s.nodes link.port.node more tolds) (done : on.4 ≡ executions parts tolds)
       (is : wire ≡ record (link.port) { items = rest; values = wire.values; asking = false }) where
     as-many : length (dues_of (Runs parts)) ≡ length more
     as-many = as-many-dues parts
         ∙ each-told (deed_for s.cluster link.port.node link.port.asking (parts_in parts) verdict) s.cluster link.port.node (parts_in parts) tolds s'.cluster does
-        ∙ sym (as-many-values s.carrier.nodes link.port.node more tolds says)
+        ∙ sym (as-many-values s.nodes link.port.node more tolds says)
 
-    replies : (i : ℕ) (l : Link) → Numbers (h.links).ids link.port.id i → slice_get w.links i ≡ Some l → OpenShadow s.carrier.nodes w.commands link l → Simulated
+    replies : (i : ℕ) (l : Link) → Numbers (h.links).ids link.port.id i → slice_get w.links i ≡ Some l → OpenShadow s.nodes w.commands link l → Simulated
     replies i l numbers at open' =
-        let l' : Link = record l { requests = requests_in rest; backs = l.backs ++ backs_in s.carrier.nodes link.node (dues_of (Runs parts)) more; asking = wire.asking } in
+        let l' : Link = record l { requests = requests_in rest; backs = l.backs ++ backs_in s.nodes link.node (dues_of (Runs parts)) more; asking = wire.asking } in
         let links' : List Link = slice_set w.links i l' in
         let r = serves-run w (walked-sound w walked).placed s.cluster s'.cluster i l link.port.node link.port.asking parts verdict tolds (requests_in rest) at h.cluster (open'.node ∙ sym open'.wired) open'.asking
         (open'.requests ∙ ap requests_in first) (all-first (IsKnown w.commands) (Runs parts) rest (subst (All (IsKnown w.commands)) first open'.known)) names does in
         let m = r.0 in
         let history' : List EntryModel = w.history ++ entries_at (w.moment + 1) (executions parts tolds) in
         let w' : WorldModel = record w { cluster = s'.cluster; links = links'; history = history'; moment = w.moment + 1 } in
-        let said : AreTold s.carrier.nodes link.node more tolds = subst (λ n. AreTold s.carrier.nodes n more tolds) open'.wired says in
+        let said : AreTold s.nodes link.node more tolds = subst (λ n. AreTold s.nodes n more tolds) open'.wired says in
         let same : all_replied (record l { requests = requests_in rest; asking = false }) m.run ≡ l' =
         all-open (record l { requests = requests_in rest; asking = false }) m.run open'.is_open
-        ∙ (λ j. record l { requests = requests_in rest; backs = l.backs ++ run-backs s.carrier.nodes link.node m.run parts more tolds m.tickets m.tolds_are said j; asking = ap (λ (x : Wire). x.asking) (sym is) j }) in
+        ∙ (λ j. record l { requests = requests_in rest; backs = l.backs ++ run-backs s.nodes link.node m.run parts more tolds m.tickets m.tolds_are said j; asking = ap (λ (x : Wire). x.asking) (sym is) j }) in
         let event : WorldDoes (ticked w) (Serve i verdict) w' =
         subst (λ (x : Link). WorldDoes (ticked w) (Serve i verdict) (record (ticked w) { cluster = s'.cluster; links = slice_set w.links i x; history = history' })) same r.1 in
         let log : LogShadow (s.log ++ log_of (executions parts tolds)) w' = log-served s.log w w' (executions parts tolds) h.log refl refl refl refl in (
@@ -257,13 +262,13 @@ module _ {C J : Type 0} (s s' : System C J) (w : WorldModel) (h : IsShadow s w) 
           (w', event, refl),
           node-frame s s' w s'.cluster backends' s.closed (s.log ++ log_of on.4) links' history' (w.moment + 1) h on.10
               (links-served (Runs parts) rest as-many first (ap (λ (x : Wire). x.node) is) (ap (λ (x : Wire). x.id) is) (ap (λ (x : Wire). x.items) is) i l numbers at open')
-              bag
+              listed bag
               (subst (λ d. LogShadow (s.log ++ log_of d) w') (sym done) log),
         )
 
     pub executes : Simulated
     executes = ⊎_elim
-        (λ (x : (i : ℕ) × (l : Link) × Numbers (h.links).ids link.port.id i × (slice_get w.links i ≡ Some l) × OpenShadow s.carrier.nodes w.commands link l). replies x.0 x.1 x.2 x.3 x.4)
+        (λ (x : (i : ℕ) × (l : Link) × Numbers (h.links).ids link.port.id i × (slice_get w.links i ≡ Some l) × OpenShadow s.nodes w.commands link l). replies x.0 x.1 x.2 x.3 x.4)
         (λ (x : IsUnnumbered (h.links).ids link.port.id × IsIdle link). absurd (some-request (asked.Runs (tickets_for parts)) (requests_in rest) (sym (ap requests_in first) ∙ (x.1).requests)))
         ((h.links).backends k link working).2
 
@@ -275,19 +280,19 @@ module _ {C J : Type 0} (s s' : System C J) (w : WorldModel) (h : IsShadow s w) 
       let asking : wire.asking ≡ link.port.asking = ap (λ (x : Wire). x.asking) is in
       let as-many : length (dues_of Lists) ≡ length more = ap length (sym one) in
       let w' : WorldModel = record w { cluster = s'.cluster } in
-      let links : LinksShadow carrier' s.closed s.opened w =
-      quiet-backend s.carrier carrier' s.closed s.opened w h.links k link link' working now node (ap (λ (x : Wire). x.id) is) refl
-      (λ l o. subst (OpenShadow s.carrier.nodes w.commands link')
-      (λ j. record l { requests = (ap requests_in (sym first) ∙ sym o.requests) j; backs = (ap (λ vs. l.backs ++ backs_in s.carrier.nodes link.node (dues_of Lists) vs) one ∙ append-nil l.backs) j; asking = (asking ∙ sym o.asking) j })
-      (open-served link wire Lists rest more as-many first id items on.9 s.carrier.nodes w.commands l o))
+      let links : LinksShadow s.nodes carrier' s.closed s.opened w =
+      quiet-backend s.nodes s.carrier carrier' s.closed s.opened w h.links k link link' working now node (ap (λ (x : Wire). x.id) is)
+      (λ l o. subst (OpenShadow s.nodes w.commands link')
+      (λ j. record l { requests = (ap requests_in (sym first) ∙ sym o.requests) j; backs = (ap (λ vs. l.backs ++ backs_in s.nodes link.node (dues_of Lists) vs) one ∙ append-nil l.backs) j; asking = (asking ∙ sym o.asking) j })
+      (open-served link wire Lists rest more as-many first id items on.9 s.nodes w.commands l o))
       (λ idle. idle-served link wire Lists rest more as-many first id items on.9 idle asking (ap requests_in (sym first) ∙ idle.requests)) in
-      let shadow : IsShadow s' w' = node-frame s s' w s'.cluster backends' s.closed (s.log ++ log_of on.4) w.links w.history w.moment h on.10 links bag (log-of-nothing w' none refl refl refl (omega arith)) in
+      let shadow : IsShadow s' w' = node-frame s s' w s'.cluster backends' s.closed (s.log ++ log_of on.4) w.links w.history w.moment h on.10 links listed bag (log-of-nothing w' none refl refl refl (omega arith)) in
       ([], w, refl, subst (λ c. IsShadow s' (record w { cluster = c })) (cluster ∙ sym h.cluster) shadow)
 
   pub serves : Simulated
   serves = cases on.8
     where
-      cases : ServesNext s.carrier.nodes s.cluster link.port verdict s'.cluster wire more on.4 → Simulated
+      cases : ServesNext s.nodes s.cluster link.port verdict s'.cluster wire more on.4 → Simulated
       cases (inl x) = welcomes x.0 x.1 x.2 x.3 x.4 x.5 x.6
       cases (inr (inl x)) = executes x.0 x.1 x.2 x.3 x.4 x.5 x.6 x.7 x.8
       cases (inr (inr x)) = lists x.0 x.1 x.2 x.3 x.4 x.5 x.6

@@ -74,17 +74,17 @@ module _ {C J : Type 0} (s s' : System C J) (w : WorldModel) (h : IsShadow s w) 
       backs = closed.backs;
     }
 
-    pub links-after : LinksShadow s.carrier closed' s.opened (record w { links = slice_set w.links i link' })
+    pub links-after : LinksShadow s.nodes s.carrier closed' s.opened (record w { links = slice_set w.links i link' })
     links-after =
         let id : wire.id ≡ old.id = ap (λ (x : Wire). x.id) is in
-        wire-changes s.carrier s.closed s.opened w h.links (slice_set w.links i link') w.moment j old wire on.4 id (set-size w.links i link')
+        wire-changes s.nodes s.carrier s.closed s.opened w h.links (slice_set w.links i link') w.moment j old wire on.4 id (set-size w.links i link')
         (inl (i, link', subst (λ n. Numbers (h.links).ids n i) (sym id) numbers, set-same w.links i l link' at, shown))
         (λ n other m p ne e. not-mine (h.links).ids w.links i old.id n other link' m numbers p ne e)
 
-  frame : (links' : List Link) (history' : _) (moment' : ℕ) → LinksShadow s.carrier closed' s.opened (record w { links = links' })
+  frame : (links' : List Link) (history' : _) (moment' : ℕ) → LinksShadow s.nodes s.carrier closed' s.opened (record w { links = links' })
       → LogShadow (s.log ++ log_of on.3) (record w { cluster = s'.cluster; links = links'; history = history'; moment = moment' })
       → IsShadow s' (record w { cluster = s'.cluster; links = links'; history = history'; moment = moment' })
-  frame links' history' moment' links log = node-frame s s' w s'.cluster s.carrier.backends closed' (s.log ++ log_of on.3) links' history' moment' h on.7 links (λ f. refl) log
+  frame links' history' moment' links log = node-frame s s' w s'.cluster s.carrier.backends closed' (s.log ++ log_of on.3) links' history' moment' h on.7 links h.listed (λ f. refl) log
 
   -- ASKING
   module _ (rest : List Item) (first : old.items ≡ Asks ∷ rest) (cluster : s'.cluster ≡ s.cluster) (none : on.3 ≡ [])
@@ -165,7 +165,7 @@ module _ {C J : Type 0} (s s' : System C J) (w : WorldModel) (h : IsShadow s w) 
       ))
       (λ (x : IsUnnumbered (h.links).ids old.id × (requests_in old.items ≡ [])). inr (subst (IsUnnumbered (h.links).ids) (sym id) x.0, same ∙ x.1))
       ((h.links).wires j old on.4).1 in
-      let links : LinksShadow s.carrier closed' s.opened w = wire-changes s.carrier s.closed s.opened w h.links w.links w.moment j old wire on.4 id refl shows (λ i other m p ne e. e) in
+      let links : LinksShadow s.nodes s.carrier closed' s.opened w = wire-changes s.nodes s.carrier s.closed s.opened w h.links w.links w.moment j old wire on.4 id refl shows (λ i other m p ne e. e) in
       let w' : WorldModel = record w { cluster = s'.cluster } in
       let shadow : IsShadow s' w' = frame w.links w.history w.moment links (log-nothing s.log w w' on.3 none refl refl refl (omega arith) h.log) in
       ([], w, refl, subst (λ c. IsShadow s' (record w { cluster = c })) (cluster ∙ sym h.cluster) shadow)
@@ -173,7 +173,7 @@ module _ {C J : Type 0} (s s' : System C J) (w : WorldModel) (h : IsShadow s w) 
   pub serves : Simulated
   serves = cases on.5
     where
-      cases : ServesNext s.carrier.nodes s.cluster old verdict s'.cluster wire more on.3 → Simulated
+      cases : ServesNext s.nodes s.cluster old verdict s'.cluster wire more on.3 → Simulated
       cases (inl x) = welcomes x.0 x.2 x.4 x.5 x.6
       cases (inr (inl x)) = executes x.0 x.1 x.2 x.3 x.4 x.5 x.7 x.8
       cases (inr (inr x)) = lists x.0 x.2 x.4 x.5 x.6

@@ -27,7 +27,7 @@ use Rattle.world_laws.proofs.Allowed.{found}
 use Rattle.turn_laws.specs.Walks.{ticked}
 use Rattle.turn_laws.specs.Wire.{Wire, Part, Execution, executed, executions, parts_in, tickets_for}
 use Rattle.turn_laws.specs.System.{System, Mark}
-use Rattle.turn_laws.specs.Shadow.{IsShadow, LinksShadow, LogShadow, HasPart, downs_of, entry_at}
+use Rattle.turn_laws.specs.Shadow.{IsShadow, AreListed, LinksShadow, LogShadow, HasPart, downs_of, entry_at}
 use Rattle.turn_laws.specs.Steps.{log_of}
 use Rattle.turn_laws.proofs.Downs.{Pair, SameBag, bag-has}
 use Rattle.turn_laws.proofs.Frames.{client-same, log-later}
@@ -160,11 +160,12 @@ module _ {C J : Type 0} where
   pub node-frame : (s s' : System C J) (w : WorldModel) (k' : ClusterModel) (backends' : List (Backend Wire)) (closed' : List Wire) (log' : List Mark)
       (links' : List Link) (history' : List EntryModel) (moment' : ℕ)
       → IsShadow s w → s' ≡ record s { cluster = k'; carrier = record (s.carrier) { backends = backends' }; closed = closed'; log = log' }
-      → LinksShadow (record (s.carrier) { backends = backends' }) closed' s.opened (record w { links = links' })
+      → LinksShadow s.nodes (record (s.carrier) { backends = backends' }) closed' s.opened (record w { links = links' })
+      → AreListed (record (s.carrier) { backends = backends' })
       → SameBag (downs_of s) (downs_of (record s { carrier = record (s.carrier) { backends = backends' } }))
       → LogShadow log' (record w { cluster = k'; links = links'; history = history'; moment = moment' })
       → IsShadow s' (record w { cluster = k'; links = links'; history = history'; moment = moment' })
-  node-frame s s' w k' backends' closed' log' links' history' moment' h eq links bag log =
+  node-frame s s' w k' backends' closed' log' links' history' moment' h eq links listed bag log =
       let w' : WorldModel = record w { cluster = k'; links = links'; history = history'; moment = moment' } in
       let next : System C J = record s { cluster = k'; carrier = record (s.carrier) { backends = backends' }; closed = closed'; log = log' } in
       let back : SameBag (downs_of next) (downs_of s) = λ f. sym (bag f) in
@@ -173,6 +174,9 @@ module _ {C J : Type 0} where
         limit = h.limit;
         cluster = refl;
         apart = h.apart;
+        room = h.room;
+        table = h.table;
+        listed = listed;
         numbered = h.numbered;
         sides = h.sides;
         seated = h.seated;

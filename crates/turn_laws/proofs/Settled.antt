@@ -1,6 +1,8 @@
 -- A step of the carrier by which something comes down: the machine's event, and all that came down is told at once.
 use Rattle.std.proofs.Common.{◌≡◌, ℕ, ◌≤◌, List, [], ◌∷◌, ◌++◌, Some, refl, sym, ap, ◌∙◌, subst, arith, length}
 use Rattle.std.specs.Prelude.{slice_get, map}
+use mathlib.Core.List.{IsPrefix}
+use Rattle.slot_map.specs.Table.{Endpoint}
 use Rattle.world_laws.specs.declared.history.Answer.{Answer}
 use Rattle.proxy_lanes.specs.declared.ends.lane_ends.LaneEnds.{LaneEnds}
 use Rattle.proxy_turns.specs.declared.newcomer.Newcomer.{Newcomer}
@@ -16,10 +18,11 @@ use Rattle.world_laws.proofs.Lives.{does-moment}
 use Rattle.turn_laws.specs.Walks.{ticked, Walk, IsWalked}
 use Rattle.turn_laws.specs.Settling.{TellsAll}
 use Rattle.turn_laws.specs.System.{System, Mark}
-use Rattle.turn_laws.specs.Shadow.{IsShadow, LinksShadow, UpsShadow, LogShadow, AreApart, Holds, downs_of}
+use Rattle.turn_laws.specs.Shadow.{IsShadow, LinksShadow, UpsShadow, LogShadow, AreApart, AreListed, Holds, most_nodes, downs_of}
 use Rattle.turn_laws.specs.Steps.{CarrierStep, UpsInStep}
 use Rattle.turn_laws.proofs.Downs.{Pair, SameBag}
 use Rattle.turn_laws.proofs.Frames.{DownFits, Seats, beside}
+use Rattle.turn_laws.proofs.Listed.{still-listed}
 use Rattle.turn_laws.proofs.Walks.{walked-sound}
 use Rattle.turn_laws.proofs.Settling.{settling-after}
 use Rattle.turn_laws.proofs.Told.{Fitting, fitting, fitting-same, tell-all, SameParts, parts-told, links-told, lists-still}
@@ -45,7 +48,9 @@ pub record Goes {C J : Type 0} (s s' : System C J) : Type 0 where
   pub workers : s'.workers ≡ s.workers
   pub cluster : s'.cluster ≡ s.cluster
   pub log : s'.log ≡ s.log
-  pub table : s'.carrier.nodes ≡ s.carrier.nodes
+  pub nodes : s'.nodes ≡ s.nodes
+  pub table : IsPrefix s'.carrier.nodes s.nodes
+  pub listed : AreListed s.carrier → AreListed s'.carrier
   pub in_step : UpsInStep s'
 
 pub goes-of : {C J : Type 0} (event : CarrierEvent) (s s' : System C J) → CarrierStep s event s' → Goes s s'
@@ -53,14 +58,16 @@ goes-of {C} {J} event s s' step = record {
   workers = ap (λ (x : System C J). x.workers) step.leaves;
   cluster = ap (λ (x : System C J). x.cluster) step.leaves;
   log = ap (λ (x : System C J). x.log) step.leaves;
+  nodes = ap (λ (x : System C J). x.nodes) step.leaves;
   table = step.table;
+  listed = still-listed event s s' step;
   in_step = step.in_step;
 }
 
 module _ {C J : Type 0} where
   pub settled-frame : (s s' : System C J) (w : WorldModel) (ups' : List Posted) (links' : List Link) (pairs : List Pair) (commands' : List Arrival) (moment' : ℕ)
       → w.moment ≤ moment' → Placed w → IsShadow s w → Goes s s'
-      → LinksShadow s'.carrier s'.closed s'.opened (record w { links = links' })
+      → LinksShadow s.nodes s'.carrier s'.closed s'.opened (record w { links = links' })
       → TellsAll w.commands pairs commands' → SameBag (downs_of s ++ pairs) (downs_of s')
       → Seats s s'
       → ((k : ℕ) (model : WorkerModel C J) (lane : LaneEnds (Newcomer C J)) → slice_get s.workers k ≡ Some model → slice_get s'.carrier.lanes k ≡ Some lane → DownFits k model lane)
@@ -80,7 +87,10 @@ module _ {C J : Type 0} where
         workers = ap length workers ∙ h.workers;
         limit = h.limit;
         cluster = h.cluster ∙ sym cluster;
-        apart = subst AreApart (sym step.table) h.apart;
+        apart = subst AreApart (sym step.nodes) h.apart;
+        room = subst (λ (ns : List Endpoint). length ns ≤ most_nodes) (sym step.nodes) h.room;
+        table = subst (IsPrefix s'.carrier.nodes) (sym step.nodes) step.table;
+        listed = step.listed h.listed;
         numbered = λ k model e. h.numbered k model (at k model e);
         sides = ap length workers ∙ h.sides ∙ sym lanes.lanes;
         seated = lanes.seated h.seated;
@@ -91,7 +101,7 @@ module _ {C J : Type 0} where
         to_worker = λ k model lane p q. (steps k model lane (at k model p) q).1;
         told = refl;
         lanes = λ k model lane p q. let x = ups k model lane (at k model p) q in (x.0, lists-still w.commands commands' same.parts k _ x.1);
-        links = links-told s'.carrier s'.closed s'.opened (record w { links = links' }) w' refl same.parts links;
+        links = subst (λ ns. LinksShadow ns s'.carrier s'.closed s'.opened w') (sym step.nodes) (links-told s.nodes s'.carrier s'.closed s'.opened (record w { links = links' }) w' refl same.parts links);
         clients = λ k model number client e g. fits.clients k model number client (at k model e) g;
         unseen = λ k model number e. fits.unseen k model number (at k model e);
         downs = fits.once;
@@ -104,7 +114,7 @@ module _ {C J : Type 0} where
   pub settles-so : (core : Event) (s s' : System C J) (w : WorldModel) (ups' : List Posted) (links' : List Link) (pairs : List Pair)
       → IsWalked w → IsShadow s w → Goes s s'
       → WorldDoes (ticked w) core (record (ticked w) { ups = ups'; links = links'; downs = w.downs ++ pairs })
-      → LinksShadow s'.carrier s'.closed s'.opened (record w { links = links' })
+      → LinksShadow s.nodes s'.carrier s'.closed s'.opened (record w { links = links' })
       → SameBag (downs_of s ++ pairs) (downs_of s')
       → Seats s s'
       → ((k : ℕ) (model : WorkerModel C J) (lane : LaneEnds (Newcomer C J)) → slice_get s.workers k ≡ Some model → slice_get s'.carrier.lanes k ≡ Some lane → DownFits k model lane)

@@ -8,9 +8,9 @@ use Rattle.proxy_turns.specs.ClientTurn.{ClientEvent, Pulled, Fed, Read, HandedO
 use Rattle.proxy_turns.specs.WorkerModel.{WorkerEvent, Did, Finished, Took as TookPair, FoundNone, Came, TurnedAway, FoundNobody, Left}
 use Rattle.turn_laws.specs.System.{System}
 use Rattle.turn_laws.specs.Shadow.{IsShadow}
-use Rattle.turn_laws.specs.Steps.{AtWorker, AtCarrier, CarrierStep, WorkerStep}
+use Rattle.turn_laws.specs.Steps.{SystemEvent, AtWorker, AtCarrier, CarrierStep, WorkerStep}
 use Rattle.key_split.specs.Laws.{PlansArePlain}
-use Rattle.turn_laws.specs.Refines.{Simulates}
+use Rattle.turn_laws.specs.Refines.{Simulates, SimulatesNaming}
 use Rattle.turn_laws.proofs.AtLines as at-line
 use Rattle.turn_laws.proofs.AtLanes as at-lane
 use Rattle.turn_laws.proofs.Looked.{looked}
@@ -75,28 +75,32 @@ module _ (C J : Type 0) where
   unseen-at : (k : ℕ) (event : WorkerEvent) → ((s s' : System C J) (w : WorldModel) → IsShadow s w → WorkerStep s k event s' → IsShadow s' w) → Simulates C J (AtWorker k event)
   unseen-at k event keeps s s' w h _ on = ([], w, refl, keeps s s' w h on)
 
-  module _ (plain : PlansArePlain) where
-    client-step : (k number : ℕ) (event : ClientEvent) → Simulates C J (AtWorker k (Did number event))
-    client-step k number (Pulled bytes) = unseen-at k (Did number (Pulled bytes)) (at-worker.pulled k number bytes)
-    client-step k number (Fed result) = unseen-at k (Did number (Fed result)) (at-worker.fed-in k number result)
-    client-step k number (Read result) = read C J plain k number result
-    client-step k number (HandedOut ticket part) = handed-out C J k number ticket part
-    client-step k number (Followed ticket part) = followed C J k number ticket part
-    client-step k number (LookedUp slot) = unseen-at k (Did number (LookedUp slot)) (at-worker.looked k number slot)
-    client-step k number (CameBack run) = unseen-at k (Did number (CameBack run)) (at-worker.came-back k number run)
-    client-step k number (Posted run) = posted C J k number run
-    client-step k number (Drained n) = drained C J k number n
-    client-step k number (Pushed bytes) = unseen-at k (Did number (Pushed bytes)) (at-worker.pushed k number bytes)
-    client-step k number Tried = unseen-at k (Did number Tried) (at-worker.tried k number)
-    client-step k number Parted = parted C J k number
-    client-step k number (Dropped tickets) = dropped C J k number tickets
+  -- whatever was named
+  pub anyhow : (event : SystemEvent) → Simulates C J event → SimulatesNaming C J event
+  anyhow event simulates s s' w h names walked on = simulates s s' w h walked on
 
-    pub worker-step : (k : ℕ) (event : WorkerEvent) → Simulates C J (AtWorker k event)
+  module _ (plain : PlansArePlain) where
+    client-step : (k number : ℕ) (event : ClientEvent) → SimulatesNaming C J (AtWorker k (Did number event))
+    client-step k number (Pulled bytes) = anyhow (AtWorker k (Did number (Pulled bytes))) (unseen-at k (Did number (Pulled bytes)) (at-worker.pulled k number bytes))
+    client-step k number (Fed result) = anyhow (AtWorker k (Did number (Fed result))) (unseen-at k (Did number (Fed result)) (at-worker.fed-in k number result))
+    client-step k number (Read result) = anyhow (AtWorker k (Did number (Read result))) (read C J plain k number result)
+    client-step k number (HandedOut ticket part) = anyhow (AtWorker k (Did number (HandedOut ticket part))) (handed-out C J k number ticket part)
+    client-step k number (Followed ticket part) = anyhow (AtWorker k (Did number (Followed ticket part))) (followed C J k number ticket part)
+    client-step k number (LookedUp slot) = anyhow (AtWorker k (Did number (LookedUp slot))) (unseen-at k (Did number (LookedUp slot)) (at-worker.looked k number slot))
+    client-step k number (CameBack run) = anyhow (AtWorker k (Did number (CameBack run))) (unseen-at k (Did number (CameBack run)) (at-worker.came-back k number run))
+    client-step k number (Posted run) = posted C J k number run
+    client-step k number (Drained n) = anyhow (AtWorker k (Did number (Drained n))) (drained C J k number n)
+    client-step k number (Pushed bytes) = anyhow (AtWorker k (Did number (Pushed bytes))) (unseen-at k (Did number (Pushed bytes)) (at-worker.pushed k number bytes))
+    client-step k number Tried = anyhow (AtWorker k (Did number Tried)) (unseen-at k (Did number Tried) (at-worker.tried k number))
+    client-step k number Parted = anyhow (AtWorker k (Did number Parted)) (parted C J k number)
+    client-step k number (Dropped tickets) = anyhow (AtWorker k (Did number (Dropped tickets))) (dropped C J k number tickets)
+
+    pub worker-step : (k : ℕ) (event : WorkerEvent) → SimulatesNaming C J (AtWorker k event)
     worker-step k (Did number event) = client-step k number event
-    worker-step k (Finished number ticket end) = finished C J k number ticket end
-    worker-step k (TookPair ticket told) = took C J k ticket told
-    worker-step k FoundNone = unseen-at k FoundNone (at-worker.found-none k)
-    worker-step k (Came number) = came C J k number
-    worker-step k (TurnedAway number) = unseen-at k (TurnedAway number) (at-worker.turned-away k number)
-    worker-step k FoundNobody = unseen-at k FoundNobody (at-worker.found-nobody k)
-    worker-step k (Left number) = unseen-at k (Left number) (left k number)
+    worker-step k (Finished number ticket end) = anyhow (AtWorker k (Finished number ticket end)) (finished C J k number ticket end)
+    worker-step k (TookPair ticket told) = anyhow (AtWorker k (TookPair ticket told)) (took C J k ticket told)
+    worker-step k FoundNone = anyhow (AtWorker k FoundNone) (unseen-at k FoundNone (at-worker.found-none k))
+    worker-step k (Came number) = anyhow (AtWorker k (Came number)) (came C J k number)
+    worker-step k (TurnedAway number) = anyhow (AtWorker k (TurnedAway number)) (unseen-at k (TurnedAway number) (at-worker.turned-away k number))
+    worker-step k FoundNobody = anyhow (AtWorker k FoundNobody) (unseen-at k FoundNobody (at-worker.found-nobody k))
+    worker-step k (Left number) = anyhow (AtWorker k (Left number)) (unseen-at k (Left number) (left k number))

@@ -1,5 +1,5 @@
 -- The start of the system is that of the machine.
-use Rattle.std.proofs.Common.{◌≡◌, ℕ, suc, List, [], ◌∷◌, Some, None, refl, sym, ap, ◌∙◌, subst, arith, length}
+use Rattle.std.proofs.Common.{◌≡◌, ℕ, suc, List, [], ◌∷◌, Some, None, refl, sym, ap, ◌∙◌, subst, arith, length, length-append}
 use Rattle.std.specs.Prelude.{slice_get, All}
 use Rattle.std.specs.FinMap.{get, empty, get-empty}
 use Rattle.std.specs.Ordering.{nat_cmp}
@@ -15,6 +15,7 @@ use Rattle.world_laws.proofs.Tally.{total-append, total-one}
 use Rattle.turn_laws.specs.Walks.{IsWalked}
 use Rattle.turn_laws.specs.System.{System}
 use Rattle.turn_laws.specs.Shadow.{IsShadow, LinksShadow, LogShadow, downs_of, downs_in, down_in, ups_in}
+use Rattle.turn_laws.specs.Naming.{NamesNodes, SaysOneOf, SetsOneOf}
 use Rattle.turn_laws.specs.Refines.{IsStart}
 use Rattle.turn_laws.proofs.Downs.{Pair}
 use Rattle.turn_laws.proofs.Carriers.{refusals, debts, bag-parts}
@@ -52,7 +53,7 @@ module _ {C J : Type 0} where
       ap (λ ls. total f (debts ls)) h.backends,
     )
 
-    no-links : LinksShadow s.carrier s.closed s.opened first
+    no-links : LinksShadow s.nodes s.carrier s.closed s.opened first
     no-links = record {
       ids = [];
       all = refl;
@@ -81,6 +82,9 @@ module _ {C J : Type 0} where
       limit = omega arith;
       cluster = refl;
       apart = h.apart;
+      room = h.room;
+      table = h.table;
+      listed = λ k backend link e. absurd (no-item s.carrier.backends k backend h.backends e);
       numbered = λ k model p. (h.idle k model p).0;
       sides = h.sides;
       seated = λ k b run e. absurd (no-item s.carrier.pending_runs k b h.pending_runs e);
@@ -106,9 +110,19 @@ module _ {C J : Type 0} where
         no-pair : (i : ℕ) (pair : Pair) → slice_get (downs_of s) i ≡ Some pair → ⊥
         no-pair i pair e = omega (arith, total-one (λ (p : Pair). 1) (downs_of s) i pair e, no-downs (λ (p : Pair). 1))
 
+    pub names : NamesNodes s
+    names = record {
+      seed = omega (arith, h.seed, ap length h.table.1, length-append s.carrier.nodes h.table.0);
+      each = h.each;
+      published = subst (All (SetsOneOf (length s.nodes))) (sym h.published) (λ i op lt. absurd (omega arith));
+      backends = λ k backend e. absurd (no-item s.carrier.backends k backend h.backends e);
+      downs = λ k model lane p q. subst (All (λ (pair : Pair). SaysOneOf (length s.nodes) pair.1)) (sym (h.ups k model lane p q).1) (λ i x lt. absurd (omega arith));
+      posted = λ k model number client part c p q. absurd (no-client model.clients number client (h.idle k model p).1 q);
+    }
+
     pub walked : IsWalked first
     walked = (length s.workers, most_together, s.cluster, [], h.new, refl)
 
 module _ (C J : Type 0) where
-  pub start-shadow : (s : System C J) → IsStart s → (w : WorldModel) × IsWalked w × IsShadow s w
-  start-shadow s h = (_, walked s h, shadow s h)
+  pub start-shadow : (s : System C J) → IsStart s → (w : WorldModel) × IsWalked w × IsShadow s w × NamesNodes s
+  start-shadow s h = (_, walked s h, shadow s h, names s h)

@@ -83,17 +83,17 @@ module _ {C J : Type 0} (s s' : System C J) (w : WorldModel) (h : IsShadow s w) 
   kept k backend backend' link link' value at e was is pending_told worked comes goes =
       let works : link'.failure ≡ None = ap (λ (c : LinkModel Wire). c.failure) goes ∙ worked in
       let working : IsWorking s.carrier k link = (backend, at, was, worked) in
-      let links : LinksShadow s'.carrier s.closed s.opened w =
-      quiet-backend s.carrier s'.carrier s.closed s.opened w h.links k link link' working
+      let links : LinksShadow s.nodes s'.carrier s.closed s.opened w =
+      quiet-backend s.nodes s.carrier s'.carrier s.closed s.opened w h.links k link link' working
       (now Starved s s' on refl k backend backend' link link' at e.0 was is worked works)
       (ap (λ (c : LinkModel Wire). c.node) goes ∙ ((h.links).backends k link working).0)
-      (ap (λ (x : Wire). x.id) (comes-first link link'.port value comes).1) on.table
-      (λ l o. kept-open s.carrier.nodes w.commands link link' l value comes goes o)
+      (ap (λ (x : Wire). x.id) (comes-first link link'.port value comes).1)
+      (λ l o. kept-open s.nodes w.commands link link' l value comes goes o)
       (λ idle. kept-idle link link' value comes goes idle) in
       let closed : s'.closed ≡ s.closed = same-closed Starved s s' on refl k backend backend' link link' at e.0 was is worked works in
       let opened : s'.opened ≡ s.opened = same-opened Starved s s' on refl k backend backend' link link' at e.0 was is worked works in
       carrier-frame Starved s s' w h on
-      (subst (λ xs. LinksShadow s'.carrier xs s'.opened w) (sym closed) (subst (λ n. LinksShadow s'.carrier s.closed n w) (sym opened) links))
+      (subst (λ xs. LinksShadow s.nodes s'.carrier xs s'.opened w) (sym closed) (subst (λ n. LinksShadow s.nodes s'.carrier s.closed n w) (sym opened) links))
       (same-seats s s' (ap length e.1) e.2)
       (λ j model lane p q. down-fits s w h j model lane p (sym (ap (λ xs. slice_get xs j) e.1) ∙ q))
       (same-bag Starved s s' on refl k backend backend' link link' at e.0 was is worked works e.1 e.2 pending_told)

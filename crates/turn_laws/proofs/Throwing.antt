@@ -2,6 +2,7 @@
 use Rattle.std.proofs.Common.{◌≡◌, ◌≢◌, inl, inr, ⊎_elim, ℕ, ◌<◌, ◌≤◌, ◌==◌, true, false, List, [], Some, refl, sym, ap, ◌∙◌, subst, arith, length}
 use Rattle.std.specs.Prelude.{slice_get, slice_set}
 use Rattle.std.proofs.lemmas.Bool.Decides.{eqb_tells}
+use Rattle.slot_map.specs.Table.{Endpoint}
 use Rattle.proxy_turns.specs.CarrierModel.{CarrierModel}
 use Rattle.world_laws.specs.State.{WorldModel, Link}
 use Rattle.world_laws.specs.declared.event.Event.{Event}
@@ -17,11 +18,11 @@ use Rattle.turn_laws.proofs.Frames.{log-later}
 abbrev pub linked : WorldModel → List Link → ℕ → WorldModel
 linked w links moment = record w { links = links; moment = moment }
 
-module _ {H : Type 0} (a : CarrierModel H Wire) (closed : List Wire) (opened : ℕ) (w : WorldModel) (h : LinksShadow a closed opened w) (links : List Link) (moment : ℕ)
+module _ {H : Type 0} (nodes : List Endpoint) (a : CarrierModel H Wire) (closed : List Wire) (opened : ℕ) (w : WorldModel) (h : LinksShadow nodes a closed opened w) (links : List Link) (moment : ℕ)
     (j : ℕ) (wire wire' : Wire) (at : slice_get closed j ≡ Some wire) (id : wire'.id ≡ wire.id)
     (size : length links ≡ length w.links) (shows : WireShadow (linked w links moment) h.ids wire')
     (stays : (i other : ℕ) (m : Link) → Numbers h.ids other i → other ≢ wire.id → slice_get w.links i ≡ Some m → slice_get links i ≡ Some m) where
-  pub wire-changes : LinksShadow a (slice_set closed j wire') opened (linked w links moment)
+  pub wire-changes : LinksShadow nodes a (slice_set closed j wire') opened (linked w links moment)
   wire-changes = record {
     ids = h.ids;
     all = h.all ∙ sym size;
@@ -32,7 +33,7 @@ module _ {H : Type 0} (a : CarrierModel H Wire) (closed : List Wire) (opened : �
           old.0,
           old.1,
           ⊎_elim
-              (λ (z : (i : ℕ) × (m : Link) × Numbers h.ids x.port.id i × (slice_get w.links i ≡ Some m) × OpenShadow a.nodes w.commands x m).
+              (λ (z : (i : ℕ) × (m : Link) × Numbers h.ids x.port.id i × (slice_get w.links i ≡ Some m) × OpenShadow nodes w.commands x m).
               inl (z.0, z.1, z.2, stays z.0 x.port.id z.1 z.2 (h.aside k j x wire works at) z.3, z.4))
               (λ z. inr z)
               old.2,
@@ -80,12 +81,15 @@ not-mine ids links n mine i other l' m numbers numbered apart e = ⊎_elim
 module _ {C J : Type 0} where
   -- one broken wire changes, and with it the machine's links
   pub broken-frame : (s s' : System C J) (w : WorldModel) (closed' : List Wire) (links : List Link) (moment : ℕ) → w.moment ≤ moment → IsShadow s w → s' ≡ record s { closed = closed' }
-      → LinksShadow s.carrier closed' s.opened (linked w links moment) → IsShadow s' (linked w links moment)
+      → LinksShadow s.nodes s.carrier closed' s.opened (linked w links moment) → IsShadow s' (linked w links moment)
   broken-frame s s' w closed' links moment later h e shadow = subst (λ x. IsShadow x (linked w links moment)) (sym e) (record {
     workers = h.workers;
     limit = h.limit;
     cluster = h.cluster;
     apart = h.apart;
+    room = h.room;
+    table = h.table;
+    listed = h.listed;
     numbered = h.numbered;
     sides = h.sides;
     seated = h.seated;
@@ -122,7 +126,7 @@ module _ {C J : Type 0} (s s' : System C J) (w : WorldModel) (h : IsShadow s w) 
     w,
     refl,
     broken-frame s s' w (slice_set s.closed j wire') w.links w.moment (omega arith) h on.2
-        (wire-changes s.carrier s.closed s.opened w h.links w.links w.moment j wire wire' on.1 refl refl shows (λ i other m p ne e. e)),
+        (wire-changes s.nodes s.carrier s.closed s.opened w h.links w.links w.moment j wire wire' on.1 refl refl shows (λ i other m p ne e. e)),
   )
 
   pub thrown-one : Simulated

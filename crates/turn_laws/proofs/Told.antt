@@ -257,9 +257,9 @@ lists-still old new same k runs h i run lt =
     (x.0, λ n batch within. let b = x.1 n batch within in (same _ _ b.0, b.1))
 
 -- the links' shadow, as the machine's commands go on
-pub links-told : {H : Type 0} (carrier : CarrierModel H Wire) (closed : List Wire) (opened : ℕ) (w w' : WorldModel) → w'.links ≡ w.links → PartsStay w.commands w'.commands
-    → LinksShadow carrier closed opened w → LinksShadow carrier closed opened w'
-links-told {H} carrier closed opened w w' links same h = record {
+pub links-told : {H : Type 0} (nodes : List Endpoint) (carrier : CarrierModel H Wire) (closed : List Wire) (opened : ℕ) (w w' : WorldModel) → w'.links ≡ w.links → PartsStay w.commands w'.commands
+    → LinksShadow nodes carrier closed opened w → LinksShadow nodes carrier closed opened w'
+links-told {H} nodes carrier closed opened w w' links same h = record {
   ids = h.ids;
   all = h.all ∙ sym (ap length links);
   below = h.below;
@@ -269,8 +269,8 @@ links-told {H} carrier closed opened w w' links same h = record {
         b.0,
         b.1,
         ⊎_elim
-            (λ (z : (i : ℕ) × (l : Link) × Numbers h.ids link.port.id i × (slice_get w.links i ≡ Some l) × OpenShadow carrier.nodes w.commands link l).
-            inl (z.0, z.1, z.2, ap (λ ls. slice_get ls z.0) links ∙ z.3, open-still carrier.nodes w.commands w'.commands same link z.1 z.4))
+            (λ (z : (i : ℕ) × (l : Link) × Numbers h.ids link.port.id i × (slice_get w.links i ≡ Some l) × OpenShadow nodes w.commands link l).
+            inl (z.0, z.1, z.2, ap (λ ls. slice_get ls z.0) links ∙ z.3, open-still nodes w.commands w'.commands same link z.1 z.4))
             (λ (z : IsUnnumbered h.ids link.port.id × IsIdle link). inr z)
             b.2,
       );

@@ -200,7 +200,7 @@ module _ (downs downs' : List Pair) (t : Ticket) (told : Told) (more : OneMore d
 -- ---- the step
 
 -- the lane that is not finished
-outlet-of : (o : Option (Outlet Pair)) → IsSome o → (outlet : Outlet Pair) × (o ≡ Some outlet)
+pub outlet-of : (o : Option (Outlet Pair)) → IsSome o → (outlet : Outlet Pair) × (o ≡ Some outlet)
 outlet-of None h = absurd (false≢true h)
 outlet-of (Some outlet) h = (outlet, refl)
 

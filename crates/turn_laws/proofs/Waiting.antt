@@ -148,21 +148,20 @@ module _ {C J : Type 0} (s s' : System C J) (w : WorldModel) (h : IsShadow s w) 
     abbrev Fetched : Type 0
     Fetched = (i : ℕ) × (l : Link) × (links : List Link) × WorldDoes (ticked w) (Fetch i) (record w { links = links; moment = w.moment + 1 }) × IsShadow s' (record w { links = links; moment = w.moment + 1 })
 
-    numbered : (i : ℕ) (l : Link) → Numbers (h.links).ids link.port.id i → slice_get w.links i ≡ Some l → OpenShadow s.carrier.nodes w.commands link l → Fetched
+    numbered : (i : ℕ) (l : Link) → Numbers (h.links).ids link.port.id i → slice_get w.links i ≡ Some l → OpenShadow s.nodes w.commands link l → Fetched
     numbered i l numbers at open' =
-        let f = fetched-shadow s.carrier.nodes w.commands link link' l due.Asking value open' comes dues e in
+        let f = fetched-shadow s.nodes w.commands link link' l due.Asking value open' comes dues e in
         let l' : Link = record l { backs = f.0 } in
         let links' : List Link = slice_set w.links i l' in
         let w' : WorldModel = record w { links = links'; moment = w.moment + 1 } in
         let id : link'.port.id ≡ link.port.id = same-id value comes in
         let node : link'.node ≡ k = ap (λ (c : LinkModel Wire). c.node) e ∙ ((h.links).backends k link working).0 in
-        let nodes : s'.carrier.nodes ≡ s.carrier.nodes = on.table in
-        let shadow : LinksShadow s'.carrier s.closed s.opened w' =
-        backend-changes s.carrier s'.carrier s.closed s.opened w w' h.links k i link link' l l' working
+        let shadow : LinksShadow s.nodes s'.carrier s.closed s.opened w' =
+        backend-changes s.nodes s.carrier s'.carrier s.closed s.opened w w' h.links k i link link' l l' working
         (now (AtBackend Waited) s s' on refl k backend backend' link link' on.does.3 backends was is worked works)
-        node id nodes numbers at refl
-        (subst (λ t. OpenShadow t w.commands link' l') (sym nodes) f.2)
-        (λ x m o. subst (λ t. OpenShadow t w.commands x m) (sym nodes) o)
+        node id numbers at refl
+        f.2
+        (λ x m o. o)
         (λ x m o. o) in
         let closed : s'.closed ≡ s.closed = same-closed (AtBackend Waited) s s' on refl k backend backend' link link' on.does.3 backends was is worked works in
         let opened : s'.opened ≡ s.opened = same-opened (AtBackend Waited) s s' on refl k backend backend' link link' on.does.3 backends was is worked works in (
@@ -171,7 +170,7 @@ module _ {C J : Type 0} (s s' : System C J) (w : WorldModel) (h : IsShadow s w) 
           links',
           (l, at, open'.is_open, inl (f.0, f.1, refl)),
           link-frame (AtBackend Waited) s s' w links' (w.moment + 1) (omega arith) h on
-              (subst (λ xs. LinksShadow s'.carrier xs s'.opened w') (sym closed) (subst (λ n. LinksShadow s'.carrier s.closed n w') (sym opened) shadow))
+              (subst (λ xs. LinksShadow s.nodes s'.carrier xs s'.opened w') (sym closed) (subst (λ n. LinksShadow s.nodes s'.carrier s.closed n w') (sym opened) shadow))
               (same-seats s s' (ap length lanes) pending_runs)
               (λ j model lane p q. down-fits s w h j model lane p (sym (ap (λ xs. slice_get xs j) lanes) ∙ q))
               (same-bag (AtBackend Waited) s s' on refl k backend backend' link link' on.does.3 backends was is worked works lanes pending_runs pending_told)
@@ -183,7 +182,7 @@ module _ {C J : Type 0} (s s' : System C J) (w : WorldModel) (h : IsShadow s w) 
 
     welcome : Fetched
     welcome = ⊎_elim
-        (λ (x : (i : ℕ) × (l : Link) × Numbers (h.links).ids link.port.id i × (slice_get w.links i ≡ Some l) × OpenShadow s.carrier.nodes w.commands link l). numbered x.0 x.1 x.2 x.3 x.4)
+        (λ (x : (i : ℕ) × (l : Link) × Numbers (h.links).ids link.port.id i × (slice_get w.links i ≡ Some l) × OpenShadow s.nodes w.commands link l). numbered x.0 x.1 x.2 x.3 x.4)
         (λ (x : IsUnnumbered (h.links).ids link.port.id × IsIdle link). absurd (asking-waits (not-idle link.due due.Asking link'.due dues (x.1).none)))
         ((h.links).backends k link working).2
 

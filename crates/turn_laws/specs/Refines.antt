@@ -1,7 +1,8 @@
 -- Each run of the system is a run of the machine: the headline holds of what the code does.
-use Rattle.std.specs.Prelude.{◌≡◌, ℕ, List, [], length, slice_get, Some, IsSome}
+use Rattle.std.specs.Prelude.{◌≡◌, ◌<◌, ◌≤◌, ℕ, List, [], length, slice_get, Some, IsSome}
 use Rattle.std.specs.List.{FoldsTo}
 use Rattle.std.specs.FinMap.{empty}
+use mathlib.Core.List.{IsPrefix}
 use Rattle.node_model.specs.declared.role.Verdict.{Verdict}
 use Rattle.proxy_lanes.specs.declared.ends.lane_ends.LaneEnds.{LaneEnds}
 use Rattle.proxy_turns.specs.declared.newcomer.Newcomer.{Newcomer}
@@ -11,7 +12,8 @@ use Rattle.world_laws.specs.Headline.{Headline, IsNew}
 use Rattle.world_laws.specs.declared.event.Event.{Event}
 use Rattle.turn_laws.specs.Walks.{Walk, IsWalked}
 use Rattle.turn_laws.specs.System.{System, between, IsInStep}
-use Rattle.turn_laws.specs.Shadow.{IsShadow, AreApart, down_in, DownInStep, seat_of}
+use Rattle.turn_laws.specs.Naming.{NamesNodes}
+use Rattle.turn_laws.specs.Shadow.{IsShadow, AreApart, most_nodes, down_in, DownInStep, seat_of}
 use Rattle.proxy_turns.specs.CarrierModel.{CarrierEvent}
 use Rattle.turn_laws.specs.Steps.{SystemEvent, AtWorker, AtCarrier, AtNode, AtBroken, Thrown, Moved, SystemStep}
 
@@ -27,8 +29,14 @@ pub record IsStart {C J : Type 0} (s : System C J) : Type 0 where
   pub unfinished : (k : ℕ) (lane : LaneEnds (Newcomer C J)) → slice_get s.carrier.lanes k ≡ Some lane → IsSome lane.down
   pub pending_runs : s.carrier.pending_runs ≡ []
   pub backends : s.carrier.backends ≡ []
-  -- the table has no endpoint twice
-  pub apart : AreApart s.carrier.nodes
+  -- each node of the cluster has its endpoint, no two the same; the table has room for each, and lists the first of them: the seed, or more
+  pub each : length s.nodes ≡ length s.cluster.stores
+  pub apart : AreApart s.nodes
+  pub room : length s.nodes ≤ most_nodes
+  pub table : IsPrefix s.carrier.nodes s.nodes
+  pub seed : 0 < length s.carrier.nodes
+  -- nothing was published of the slot map
+  pub published : s.carrier.published ≡ []
   pub closed : s.closed ≡ []
   pub log : s.log ≡ []
   pub new : IsNew s.cluster
@@ -39,13 +47,22 @@ module _ (C J : Type 0) where
   Simulates event = (s s' : System C J) (w : WorldModel) → IsShadow s w → IsWalked w → SystemStep s event s'
       → (events : List Event) × (w' : WorldModel) × Walk w events w' × IsShadow s' w'
 
+  -- the same, where each node that was named is one of the cluster
+  abbrev pub SimulatesNaming : SystemEvent → Type 0
+  SimulatesNaming event = (s s' : System C J) (w : WorldModel) → IsShadow s w → NamesNodes s → IsWalked w → SystemStep s event s'
+      → (events : List Event) × (w' : WorldModel) × Walk w events w' × IsShadow s' w'
+
+  -- each step keeps that
+  abbrev pub NamesStay : Type 0
+  NamesStay = (event : SystemEvent) (s s' : System C J) (w : WorldModel) → IsShadow s w → NamesNodes s → SystemStep s event s' → NamesNodes s'
+
   -- what the carrier does
   abbrev pub CarrierRefines : Type 0
   CarrierRefines = (event : CarrierEvent) → Simulates (AtCarrier event)
 
   -- what a worker does
   abbrev pub WorkersRefine : Type 0
-  WorkersRefine = (k : ℕ) (event : WorkerEvent) → Simulates (AtWorker k event)
+  WorkersRefine = (k : ℕ) (event : WorkerEvent) → SimulatesNaming (AtWorker k event)
 
   -- the steps of a move, and requests of a broken connection that are thrown away
   abbrev pub MovesRefine : Type 0
@@ -58,9 +75,9 @@ module _ (C J : Type 0) where
   abbrev pub NodesRefine : Type 0
   NodesRefine = ((k : ℕ) (verdict : Verdict) → Simulates (AtNode k verdict)) × ((j : ℕ) (verdict : Verdict) → Simulates (AtBroken j verdict))
 
-  -- a system that has done nothing stands for a world of the machine
+  -- a system that has done nothing stands for a world of the machine, and names nodes of the cluster
   abbrev pub StartsRefine : Type 0
-  StartsRefine = (s : System C J) → IsStart s → (w : WorldModel) × IsWalked w × IsShadow s w
+  StartsRefine = (s : System C J) → IsStart s → (w : WorldModel) × IsWalked w × IsShadow s w × NamesNodes s
 
   -- whatever the system does from its start, the machine may do, and the headline holds of it
   abbrev pub Refines : Type 0

@@ -1,6 +1,7 @@
 -- Lists of steps that a system can make from a start, so that the law speaks of something: its premises hold together in them.
--- One worker serves, there are two nodes, and one key. In the first a slot moves, in the second a command is lost: each kind of step
--- stands in one of them, and each event of a worker, of the carrier and of a backend, but for a run that a full lane gives back.
+-- One worker serves, there are two nodes, and one key. The table begins with the first node alone, and learns the second from a redirect.
+-- In the first list a slot moves, in the second a command is lost: each kind of step stands in one of them, and each event of a worker, of
+-- the carrier and of a backend, but for a run that a full lane gives back.
 -- That one stands in the third, from a start whose lane had carried 1,024 runs. In the fourth two commands go together.
 -- Memory runs out there only where nothing had come, and lanes are looked at only where nothing waits for them.
 use Rattle.std.specs.Prelude.{◌≡◌, ℕ, List, [], ◌∷◌, ◌++◌, Bool, true, false, Ok, codes, length}
@@ -256,7 +257,8 @@ sought =
     ∷ AtCarrier carrier.Reached
     ∷ []
 
--- the client is gone before its second command is posted; another comes, is gone and leaves, and one of the same number is turned away
+-- the client is gone before its second command is posted; another comes, is gone and leaves, and one of the same number is turned away; the
+-- map shows what MOVED said
 abbrev pub parting : List SystemEvent
 parting =
     AtWorker 0 (Did 0 (HandedOut (ticket 1) get))
@@ -266,6 +268,7 @@ parting =
     ∷ AtWorker 0 (TurnedAway 1)
     ∷ AtWorker 0 (Did 1 Parted)
     ∷ AtWorker 0 (Left 1)
+    ∷ AtWorker 0 (Did 0 (Looked slot))
     ∷ []
 
 abbrev pub breaks : List SystemEvent

@@ -155,12 +155,12 @@ WireShadow w ids wire =
 abbrev pub IsWorking : {H : Type 0} → CarrierModel H Wire → ℕ → LinkModel Wire → Type 0
 IsWorking carrier k link = (backend : Backend Wire) × (slice_get carrier.backends k ≡ Some backend) × (backend.link ≡ Some link) × (link.failure ≡ None)
 
-pub record LinksShadow {H : Type 0} (carrier : CarrierModel H Wire) (closed : List Wire) (opened : ℕ) (w : WorldModel) : Type 0 where
+pub record LinksShadow {H : Type 0} (nodes : List Endpoint) (carrier : CarrierModel H Wire) (closed : List Wire) (opened : ℕ) (w : WorldModel) : Type 0 where
   pub ids : List ℕ
   pub all : length ids ≡ length w.links
   pub below : (i id : ℕ) → slice_get ids i ≡ Some id → id < opened
   pub once : (i j id : ℕ) → slice_get ids i ≡ Some id → slice_get ids j ≡ Some id → i ≡ j
-  pub backends : (k : ℕ) (link : LinkModel Wire) → IsWorking carrier k link → (link.node ≡ k) × (link.port.id < opened) × BackendShadow carrier.nodes w ids link
+  pub backends : (k : ℕ) (link : LinkModel Wire) → IsWorking carrier k link → (link.node ≡ k) × (link.port.id < opened) × BackendShadow nodes w ids link
   pub wires : (j : ℕ) (wire : Wire) → slice_get closed j ≡ Some wire → (wire.id < opened) × WireShadow w ids wire
   -- no two connections have one number
   pub apart : (k m : ℕ) (a b : LinkModel Wire) → IsWorking carrier k a → IsWorking carrier m b → a.port.id ≡ b.port.id → k ≡ m
@@ -377,6 +377,14 @@ Holds {C} {J} workers ticket c = (k : ℕ) × (model : WorkerModel C J) × (slic
 abbrev pub AreApart : List Endpoint → Type 0
 AreApart nodes = (i j : ℕ) (at : Endpoint) → slice_get nodes i ≡ Some at → slice_get nodes j ≡ Some at → i ≡ j
 
+-- how many nodes a table has room for
+abbrev pub most_nodes : ℕ
+most_nodes = 64
+
+-- the table lists the node of each link
+abbrev pub AreListed : {H P : Type 0} → CarrierModel H P → Type 0
+AreListed {H} {P} carrier = (k : ℕ) (backend : Backend P) (link : LinkModel P) → slice_get carrier.backends k ≡ Some backend → backend.link ≡ Some link → k < length carrier.nodes
+
 -- a run that is pending came from a lane that there is
 abbrev pub AreSeated : {H P : Type 0} → CarrierModel H P → Type 0
 AreSeated carrier = (k : ℕ) (pending_run : PendingRun) (run : RunModel) → slice_get carrier.pending_runs k ≡ Some pending_run → pending_run.run ≡ Some run → k < length carrier.lanes
@@ -390,7 +398,12 @@ pub record IsShadow {C J : Type 0} (s : System C J) (w : WorldModel) : Type 0 wh
   -- the machine's runs may be as long as those that workers post
   pub limit : most_together ≤ w.run_limit
   pub cluster : w.cluster ≡ s.cluster
-  pub apart : AreApart s.carrier.nodes
+  pub apart : AreApart s.nodes
+  -- The carrier's table has room for each node of the cluster, or a redirect would be unclear to it and clear to the machine. It lists
+  -- the first of them, and the node of each link.
+  pub room : length s.nodes ≤ most_nodes
+  pub table : IsPrefix s.carrier.nodes s.nodes
+  pub listed : AreListed s.carrier
   pub numbered : (k : ℕ) (model : WorkerModel C J) → slice_get s.workers k ≡ Some model → seat_of model ≡ (k, w.workers)
   -- each worker has its lanes, of which nothing is taken that was not posted
   pub sides : length s.workers ≡ length s.carrier.lanes
@@ -406,7 +419,7 @@ pub record IsShadow {C J : Type 0} (s : System C J) (w : WorldModel) : Type 0 wh
   -- the machine has told all that came down
   pub told : w.downs ≡ []
   pub lanes : UpsShadow s.workers s.carrier w
-  pub links : LinksShadow s.carrier s.closed s.opened w
+  pub links : LinksShadow s.nodes s.carrier s.closed s.opened w
   pub clients : (k : ℕ) (model : WorkerModel C J) (number : ℕ) (client : ClientModel C) → slice_get s.workers k ≡ Some model → get model.clients number ≡ Some client
       → (number % w.workers ≡ k) × ClientShadow (downs_of s) k number client w.commands
   -- a number that is still to come has no command, and no client

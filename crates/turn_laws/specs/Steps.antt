@@ -2,6 +2,7 @@
 -- connection, what a broken one still has is thrown away, a slot moves one step.
 use Rattle.std.specs.Prelude.{◌≡◌, ◌⊎◌, ◌+◌, ◌-◌, ◌^◌, ℕ, suc, List, [], ◌∷◌, ◌++◌, Some, None, IsSome, length, take, drop, slice_get, slice_set}
 use Rattle.std.specs.FinMap.{get}
+use mathlib.Core.List.{IsPrefix}
 use Rattle.resp_wire.specs.declared.value.Value.{Value}
 use Rattle.key_split.specs.declared.travel.Ticket.{Ticket}
 use Rattle.key_split.specs.declared.travel.Ended.{Ended}
@@ -22,7 +23,7 @@ use Rattle.proxy_turns.specs.ClientTurn.{ClientEvent, Pulled, Fed, Read, HandedO
 use Rattle.proxy_turns.specs.WorkerModel.{WorkerModel, WorkerEvent, Did, Finished, Took, FoundNone, Came, TurnedAway, FoundNobody, Left, WorkerDoes}
 use Rattle.proxy_turns.specs.CarrierModel.{CarrierEvent, Opened as OpenedLink, Reached, CarrierDoes as CarrierDoes}
 use Rattle.world_laws.specs.State.{WorldModel}
-use Rattle.world_laws.specs.World.{IsNode, NoneAsks}
+use Rattle.world_laws.specs.World.{NoneAsks}
 use Rattle.world_laws.specs.declared.event.Event.{Event}
 use Rattle.world_laws.specs.declared.event.Event.TheVariants as core
 use Rattle.turn_laws.specs.Wire.{Wire, Exchanges, Dials, ServesNext, Execution}
@@ -79,11 +80,6 @@ any_garbled wire = Unit {0}
 abbrev pub any_none : Wire → Type 0
 any_none wire = Unit {0}
 
--- a run goes to a node that there is
-abbrev pub PostsThere : ClusterModel → WorkerEvent → Type 0
-PostsThere cluster (Did number (Posted run)) = IsNode cluster run.first.node
-PostsThere cluster event = Unit {0}
-
 -- how many connections were opened, after an event of the carrier
 abbrev pub opened_by : CarrierEvent → ℕ → ℕ
 opened_by OpenedLink n = suc n
@@ -118,9 +114,9 @@ module _ {C J : Type 0} where
     pub leaves : s' ≡ record s { workers = slice_set s.workers k new; log = s.log ++ marks }
     -- A premise: a lane is in order between its two ends. They are on two threads, and a rule of the ring speaks of one end.
     pub in_step : DownInStep lane new
-    -- A premise: the node is one of the cluster. The map and the redirects name nodes of the carrier's table; no clause of a
-    -- worker's view or of what it is told says so.
-    pub there : PostsThere s.cluster event
+    -- A premise: what the worker's view shows of the slot map is a front of what the carrier published. They are on two threads, and
+    -- a rule of the map speaks of one end.
+    pub shown : IsPrefix new.view s.carrier.published
 
   -- ---- the carrier
 
@@ -153,8 +149,8 @@ module _ {C J : Type 0} where
     pub leaves : s' ≡ record s { carrier = s'.carrier; closed = s'.closed; opened = opened_by event s.opened }
     -- A premise: a lane is in order between its two ends (as above).
     pub in_step : UpsInStep s'
-    -- A premise: the table of nodes is the cluster's list, from the start. A node that joins later, or has two addresses, is left out.
-    pub table : s'.carrier.nodes ≡ s.carrier.nodes
+    -- A premise: the table, as far as it has grown, lists nodes of the cluster, in their order. A node with two addresses is left out.
+    pub table : IsPrefix s'.carrier.nodes s.nodes
 
   -- ---- the nodes
 
@@ -163,7 +159,7 @@ module _ {C J : Type 0} where
   Serves s k verdict s' =
       (backend : Backend Wire) × (link : LinkModel Wire) × (wire : Wire) × (values : List Value) × (done : List Execution)
       × (slice_get s.carrier.backends k ≡ Some backend) × (backend.link ≡ Some link) × (link.failure ≡ None)
-      × ServesNext s.carrier.nodes s.cluster link.port verdict s'.cluster wire values done
+      × ServesNext s.nodes s.cluster link.port verdict s'.cluster wire values done
       × (wire.values ≡ link.port.values ++ values)
       × (s' ≡ record s {
         cluster = s'.cluster;
@@ -176,7 +172,7 @@ module _ {C J : Type 0} where
   ServesLate s j verdict s' =
       (old : Wire) × (wire : Wire) × (values : List Value) × (done : List Execution)
       × (slice_get s.closed j ≡ Some old)
-      × ServesNext s.carrier.nodes s.cluster old verdict s'.cluster wire values done
+      × ServesNext s.nodes s.cluster old verdict s'.cluster wire values done
       × (wire.values ≡ [])
       × (s' ≡ record s { cluster = s'.cluster; closed = slice_set s.closed j wire; log = s.log ++ log_of done })
 

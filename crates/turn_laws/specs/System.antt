@@ -1,6 +1,7 @@
 -- The workers, the carrier, the lanes between them, the connections and the nodes.
 use Rattle.std.specs.Prelude.{ℕ, List, length, drop, map}
 use mathlib.Core.List.{IsPrefix}
+use Rattle.slot_map.specs.Table.{Endpoint}
 use Rattle.key_split.specs.PartModel.{PartModel}
 use Rattle.key_split.specs.declared.travel.Ticket.{Ticket}
 use Rattle.key_split.specs.declared.travel.Ended.{Ended}
@@ -29,6 +30,8 @@ pub record System (C J : Type 0) : Type 0 where
   -- how many connections were opened
   pub opened : ℕ
   pub cluster : ClusterModel
+  -- The endpoint of each node of the cluster. They have the order in which the carrier's table learns them; the others stand behind.
+  pub nodes : List Endpoint
   pub log : List Mark
 
 -- what was posted into a lane and not taken yet: the two ends agree on what was taken

@@ -4,7 +4,7 @@ ghost use Rattle.turn_laws.specs.Walks.{EveryWalk};
 ghost use Rattle.turn_laws.specs.Settling.{Settling, SettlingAfter};
 ghost use Rattle.turn_laws.specs.AnyPort.{AnyClients, AnyClientTurns, AnyPorts, WiresStand};
 ghost use Rattle.turn_laws.specs.Scripts.{GivesBack, LosesCommands, MovesUnderUse, PairsCommands};
-ghost use Rattle.turn_laws.specs.Refines.{CarrierRefines, MovesRefine, NodesRefine, Refines, StartsRefine, ThrownRefine, WorkersRefine};
+ghost use Rattle.turn_laws.specs.Refines.{CarrierRefines, MovesRefine, NamesStay, NodesRefine, Refines, StartsRefine, ThrownRefine, WorkersRefine};
 
 use crate::wired_port::WiredPort;
 use key_split::laws::parts_of_plans_are_plain;
@@ -23,7 +23,7 @@ pub fn settles_at_once()
     ensures after { SettlingAfter }
 {}
 
-/// A system that has done nothing stands for a world of the machine.
+/// A system that has done nothing stands for a world of the machine, and names nodes of the cluster.
 pub fn starts_refine<C: Drop, J: Naming>()
     ensures { StartsRefine C J }
 {}
@@ -40,6 +40,12 @@ pub fn workers_refine<C: Drop, J: Naming>()
 {
     parts_of_plans_are_plain();
 }
+
+/// Each node that is named is one of the cluster: in what is published, in what comes down to a worker, in what a command wants. So a run
+/// goes to a node that there is.
+pub fn names_stay<C: Drop, J: Naming>()
+    ensures { NamesStay C J }
+{}
 
 /// Each step of a move is the machine's, and throwing away a broken connection's requests is none.
 pub fn moves_refine<C: Drop, J: Naming>()
