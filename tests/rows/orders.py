@@ -7,6 +7,7 @@ In every other ten connections stand so many calls alone, so that commands are l
 
 import random
 import re
+from collections import Counter
 
 from answers import Fitting, one_of, slot_of, spelled
 from store import Store
@@ -82,12 +83,29 @@ def is_of_one_store(script, answer):
     return rest.startswith('" ')
 
 
-def add_whole_order(row, chance, order):
+class Seen(Counter):
+    """What happened in all orders, as a row's note."""
+
+    def __str__(self):
+        return ", ".join(f"{count} {what}" for what, count in self.items())
+
+
+def served_as_by_one_store(script, seen):
+    """What a client holds that shares no key."""
+
+    def test(answer):
+        seen["given up"] += answer.count(quoted(GAVE_UP)[1:-1])
+        return is_of_one_store(script, answer)
+
+    return Fitting("the replies of one store", test)
+
+
+def add_whole_order(row, chance, order, seen):
     """No connection breaks, and no two clients have a key in common: each is replied what one store replies."""
     scripts = [script_of(text, order) for text in OWN]
     add_order(row, chance, order, scripts)
     for (number, _), script in zip(clients_of(order), scripts):
-        row.call(f"turns held {number}", Fitting("the replies of one store", lambda answer, script=script: is_of_one_store(script, answer)))
+        row.call(f"turns held {number}", served_as_by_one_store(script, seen))
 
 
 def replies_in(answer):
@@ -109,11 +127,12 @@ def counts_well(scripts, held):
     return True
 
 
-def counted(scripts, held, client):
+def counted(scripts, held, client, seen):
     """What a client that counts holds: as many replies as it asked for, each a number or a loss; with the last client's, the counts."""
 
     def test(answer):
         held[client] = replies_in(answer)
+        seen["lost"] += held[client].count(LOST)
         if len(held[client]) != len(scripts[client]):
             return False
         return client + 1 < len(scripts) or counts_well(scripts, held.values())
@@ -121,23 +140,24 @@ def counted(scripts, held, client):
     return Fitting("a number or a loss for each, each number once, and as many as were executed", test)
 
 
-def add_broken_order(row, chance, order):
+def add_broken_order(row, chance, order, seen):
     """Connections break after so many calls, and all count the same keys up: each count is executed at most once."""
     row.call(f"nodes fail {chance.randrange(8, 60)}")
     scripts = [script_of(text, order) for text in SHARED]
     add_order(row, chance, order, scripts)
     held = {}
     for client, (number, _) in enumerate(clients_of(order)):
-        row.call(f"turns held {number}", counted(scripts, held, client))
+        row.call(f"turns held {number}", counted(scripts, held, client, seen))
 
 
 def ten_thousand_orders_of_turns():
     """Whatever the order of turns, moves and breaks, each client is served as by one store, and a lost count is none or one."""
-    row = Row("ten_thousand_orders_of_turns")
+    seen = Seen(orders=ORDERS)
+    row = Row("ten_thousand_orders_of_turns", note=seen)
     for order in range(ORDERS):
         if order and order % TOGETHER == 0:
             row.call("reset")
         add = add_broken_order if order // TOGETHER % 2 else add_whole_order
-        add(row, random.Random(order), order)
-    row.note = f"{ORDERS} orders, {len(row.calls)} calls"
+        add(row, random.Random(order), order, seen)
+    seen["calls"] = len(row.calls)
     return row

@@ -18,7 +18,7 @@ class Row:
     # Within how many seconds all of it has to be answered.
     seconds: float | None = None
     # What is printed of the row, such as how many cases it has.
-    note: str = ""
+    note: object = ""
 
     def call(self, call, wanted="ok"):
         self.calls.append(call)
