@@ -118,9 +118,9 @@ def read_changed_bytes(row, data, values, fault):
 BULK, LINE, ITEMS, SECONDS = 4_194_304, 65_536, 65_536, 60
 
 
-def read_in_pieces(name, text, size, value):
+def read_in_pieces(name, text, size, value, times=1):
     """A text in small pieces, with a look for a value after each: the work grows with the bytes alone."""
-    row = Row(name, seconds=SECONDS, note=f"{len(text)} bytes in pieces of {size}")
+    row = Row(name, times=times, seconds=SECONDS, note=f"{len(text)} bytes in pieces of {size}")
     row.call("reader new")
     for start in range(0, len(text), size):
         row.call("reader feed " + quoted(text[start : start + size]))
@@ -135,7 +135,7 @@ def long_texts_in_small_pieces():
     return [
         read_in_pieces("many_small_bulks_byte_by_byte", array, 1, items),
         read_in_pieces("large_bulk_in_pieces_of_seven", b"$%d\r\n" % BULK + bulk + b"\r\n", 7, f"bulk {bulk.decode()}"),
-        read_in_pieces("longest_line_byte_by_byte", 10 * (b"+" + line + b"\r\n"), 1, f"simple {line.decode()}"),
+        read_in_pieces("longest_line_byte_by_byte", b"+" + line + b"\r\n", 1, f"simple {line.decode()}", times=10),
     ]
 
 

@@ -56,6 +56,3 @@ fn run(
     }
     Ok(())
 }
-
-#[cfg(test)]
-mod tests;
