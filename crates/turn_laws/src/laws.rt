@@ -1,9 +1,9 @@
 //! Laws that join the turns of workers and carrier to the machine's events. Each is the contract of a function that does nothing.
 
 ghost use Rattle.turn_laws.specs.Walks.{EveryWalk};
-ghost use Rattle.turn_laws.specs.Settling.{Settling, SettlingAfter};
+ghost use Rattle.turn_laws.specs.Settling.{HeardAlike, Settling, SettlingAfter};
 ghost use Rattle.turn_laws.specs.AnyPort.{AnyClients, AnyClientTurns, AnyPorts, WiresStand};
-ghost use Rattle.turn_laws.specs.Scripts.{GivesBack, LosesCommands, MovesUnderUse, PairsCommands};
+ghost use Rattle.turn_laws.specs.Scripts.{GivesBack, LosesCommands, MisreadsLines, MovesUnderUse, PairsCommands};
 ghost use Rattle.turn_laws.specs.Refines.{CarrierRefines, MovesRefine, NamesStay, NodesRefine, Refines, StartsRefine, ThrownRefine, WorkersRefine};
 
 use crate::wired_port::WiredPort;
@@ -21,6 +21,11 @@ pub fn every_walk()
 pub fn settles_at_once()
     ensures at_once { Settling }
     ensures after { SettlingAfter }
+{}
+
+/// A command that hears a line that is unclear is where the machine's is, which was told TRYAGAIN.
+pub fn unclear_is_try_again()
+    ensures { HeardAlike }
 {}
 
 /// A system that has done nothing stands for a world of the machine, and names nodes of the cluster.
@@ -87,6 +92,7 @@ pub fn steps_happen<C: Drop, J: Naming>()
     ensures loses { LosesCommands C J }
     ensures gives_back { GivesBack C J }
     ensures pairs { PairsCommands C J }
+    ensures misreads { MisreadsLines C J }
 {
     front_is_whole();
 }
