@@ -19,7 +19,7 @@ use Rattle.proxy_lanes.specs.declared.ring.Numbered.{Numbered}
 use Rattle.proxy_turns.specs.declared.backend.Backend.{Backend}
 use Rattle.proxy_turns.specs.Backend.{new_backend, new_pending_told}
 use Rattle.proxy_turns.specs.ClientModel.{ClientModel}
-use Rattle.turn_laws.specs.Wire.{Wire, Runs}
+use Rattle.turn_laws.specs.Wire.{Wire, Runs, heard_in}
 use Rattle.turn_laws.specs.System.{System}
 use Rattle.turn_laws.specs.Steps.{SystemStep}
 use Rattle.turn_laws.specs.Scripts as script
@@ -30,7 +30,7 @@ use Rattle.turn_laws.proofs.ScriptFacts.{table, seed_alone, goes-alone}
 use Rattle.turn_laws.proofs.ScriptStates.{Pair, Posted, commands, wire, link, backend, pending, client}
 use Rattle.turn_laws.proofs.ScriptAsking.{log2}
 use Rattle.turn_laws.proofs.ScriptSetting.{idle, sent, n4}
-use Rattle.turn_laws.proofs.LossStates.{j0, v1, v2, d1, x2, x3, p2, p3, e3, e4, u4}
+use Rattle.turn_laws.proofs.LossStates.{j0, v1, v2, d1, x2, x3, p2, p3, e3, e4, u3, u4}
 use Rattle.turn_laws.proofs.LossSending.{ends, c, w, r0, r1, r2, r3, begins, fails, asks, comes-back}
 
 -- ---- the line
@@ -38,12 +38,12 @@ use Rattle.turn_laws.proofs.LossSending.{ends, c, w, r0, r1, r2, r3, begins, fai
 abbrev no-port : Value
 no-port = Error (codes "MOVED 1 b")
 
--- to the whole list of the nodes, and to the carrier's table
-unclear-there : told_by no-port 0 table ≡ (told.Unclear, table)
-unclear-there = refl
+-- the machine hears TRYAGAIN in it; the carrier can't read it, and learns no node from it
+hears : heard_in no-port 0 table ≡ (told.TryAgain, table)
+hears = refl
 
-unclear-here : told_by no-port 0 seed_alone ≡ (told.Unclear, seed_alone)
-unclear-here = refl
+unreadable : told_by no-port 0 seed_alone ≡ (told.Unclear, seed_alone)
+unreadable = refl
 
 does-nothing : DoesRun (deed_for j0 0 false (set ∷ []) TryAgain) j0 0 (set ∷ []) (told.TryAgain ∷ []) j0
 does-nothing = ((refl, tt), refl)
@@ -93,7 +93,7 @@ module _ {C J : Type 0} (port : C) where
       omega arith,
       posts v1 (plain 0 0 set),
       refl,
-    ) (put _ (e4 port) 0) (down-in {J = J} (ends port v1 d1) (w port _ v1 d1 0) _ refl ([], refl)) refl,
+    ) (put _ (e4 port) 0) (down-in {J = J} (ends port v1 d1) (w port (u3 port) v1 d1 0) _ refl ([], refl)) refl,
     (
       scene (w port (u4 port) v2 d1 0) (c port (ends port v2 d1) (pending (Some (plain 0 0 set)) ∷ []) (new_backend ∷ new_backend ∷ []) 3 []) [] 0 j0 log2,
       at-carrier (ends port v2 d1) (
@@ -142,7 +142,7 @@ module _ {C J : Type 0} (port : C) where
               refl,
               refl,
               refl,
-              inr (inl ([], (ticket 0, set) ∷ [], told.TryAgain ∷ [], refl, refl, does-nothing, (refl, tt), refl, refl)),
+              inr (inl ([], (ticket 0, set) ∷ [], told.TryAgain ∷ [], refl, refl, does-nothing, (hears, tt), refl, refl)),
               refl,
               refl,
             ),
@@ -159,7 +159,7 @@ module _ {C J : Type 0} (port : C) where
                   ticket 0,
                   told.Unclear,
                   refl,
-                  (refl, (no-port, refl, inr (refl, (refl, refl)), refl, unclear-here, refl)),
+                  (refl, (no-port, refl, inr (refl, (refl, refl)), refl, unreadable, refl)),
                   refl,
                 ),
                 refl,
@@ -180,7 +180,7 @@ module _ {C J : Type 0} (port : C) where
                     takes d1 (ticket 0, told.Unclear),
                     (true, (e4 port, waits port, put _ (e4 port) 0, (x3, (put p2 x3 0, refl, refl), refl), refl, refl)),
                     refl,
-                  ) refl (down-in (ends port v2 down) (w port (clients port) v2 down 0) _ refl ([], refl)) refl,
+                  ) refl (down-in {J = J} (ends port v2 down) (w port (clients port) v2 down 0) _ refl ([], refl)) refl,
                   refl,
                 ),
               ),
