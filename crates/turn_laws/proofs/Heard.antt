@@ -1,5 +1,5 @@
 -- The machine is told TRYAGAIN where a line is unclear: its command and the worker's stand at the same place.
-use Rattle.std.proofs.Common.{◌≡◌, List, [], ◌∷◌, refl, ap, ◌∙◌, sym}
+use Rattle.std.proofs.Common.{List, [], ◌∷◌, refl, ap, ◌∙◌, sym}
 use Rattle.std.specs.Prelude.{slice_set}
 use Rattle.key_split.specs.declared.travel.Ticket.{Ticket}
 use Rattle.key_split.specs.declared.travel.Told.{Told}
