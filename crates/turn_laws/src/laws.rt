@@ -5,6 +5,7 @@ ghost use Rattle.turn_laws.specs.Settling.{HeardAlike, Settling, SettlingAfter};
 ghost use Rattle.turn_laws.specs.AnyPort.{AnyClients, AnyClientTurns, AnyPorts, WiresStand};
 ghost use Rattle.turn_laws.specs.Scripts.{GivesBack, LosesCommands, MisreadsLines, MovesUnderUse, PairsCommands};
 ghost use Rattle.turn_laws.specs.Refines.{CarrierRefines, MovesRefine, NamesStay, NodesRefine, Refines, StartsRefine, ThrownRefine, WorkersRefine};
+ghost use Rattle.turn_laws.specs.Wire.{UnclearIsRefusal};
 
 use crate::wired_port::WiredPort;
 use key_split::laws::parts_of_plans_are_plain;
@@ -23,9 +24,10 @@ pub fn settles_at_once()
     ensures after { SettlingAfter }
 {}
 
-/// A command that hears a line that is unclear is where the machine's is, which was told TRYAGAIN.
+/// A command that hears a line that is unclear is where the machine's is, which was told TRYAGAIN. The node executed nothing.
 pub fn unclear_is_try_again()
-    ensures { HeardAlike }
+    ensures alike { HeardAlike }
+    ensures refusal { UnclearIsRefusal }
 {}
 
 /// A system that has done nothing stands for a world of the machine, and names nodes of the cluster.
