@@ -16,8 +16,9 @@ use Rattle.node_model.specs.Runs.{AllTold, AreReplies, DoesRun, deed_for}
 use Rattle.node_model.specs.declared.role.Deed.{Deed}
 use Rattle.node_model.specs.declared.role.Deed.TheVariants.{Executes, Says}
 use Rattle.world_laws.specs.declared.state.Arrival.{Arrival}
-use Rattle.turn_laws.specs.Wire.{Part, AreTold, ServesNext, UnclearIsRefusal, executed, executions, parts_in, plain_told}
-use Rattle.turn_laws.specs.Settling.{TellsAll, HeardAlike}
+use Rattle.turn_laws.specs.Wire.{Part, AreTold, ServesNext, executed, executions, parts_in, plain_told}
+use Rattle.turn_laws.specs.Unclear.{HeardAlike, UnclearIsRefusal}
+use Rattle.turn_laws.specs.Settling.{TellsAll}
 use Rattle.turn_laws.proofs.AtLanes.{nothing-there}
 
 pub heard-alike : HeardAlike

@@ -2,14 +2,12 @@
 use Rattle.std.specs.Prelude.{◌≡◌, ℕ, List, [], ◌∷◌, slice_set}
 use Rattle.key_split.specs.declared.travel.Ticket.{Ticket}
 use Rattle.key_split.specs.declared.travel.Told.{Told}
-use Rattle.command_future.specs.CommandModel.{CommandModel, progress_told}
 use Rattle.command_future.specs.declared.stage.Stage.TheVariants.{Awaits}
 use Rattle.world_laws.specs.State.{WorldModel, after_told}
 use Rattle.world_laws.specs.declared.state.Arrival.{Arrival}
 use Rattle.world_laws.specs.World.{WorldDoes, IsOf}
 use Rattle.world_laws.specs.declared.event.Event.{Event}
 use Rattle.turn_laws.specs.Walks.{ticked, Walk, IsWalked}
-use Rattle.turn_laws.specs.Wire.{plain_told}
 
 -- the command of this ticket, which awaits it, is told this
 abbrev pub Tells : List Arrival → Ticket × Told → List Arrival → Type 0
@@ -35,7 +33,3 @@ Settling = (w : WorldModel) → IsWalked w → (events : List Event) × (w' : Wo
 abbrev pub SettlingAfter : Type 0
 SettlingAfter = (w mid : WorldModel) (event : Event) → IsWalked w → WorldDoes (ticked w) event mid
     → (events : List Event) × (w' : WorldModel) × Walk w (event ∷ events) w' × Settles mid w' × IsWalked w'
-
--- a command that hears a line is where it would be, had it been told what the machine is told: in one stage, with one count
-abbrev pub HeardAlike : Type 0
-HeardAlike = (c : CommandModel) (told : Told) → progress_told c told ≡ progress_told c (plain_told told)

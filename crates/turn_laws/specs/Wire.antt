@@ -128,10 +128,3 @@ ServesNext table k old verdict k' new values done =
     × (new ≡ record old { items = rest; values = new.values; asking = false }))
     ⊎ ((rest : List Item) × (value : Value) × (old.items ≡ Lists ∷ rest) × (values ≡ value ∷ []) × (k' ≡ k) × (done ≡ [])
     × (new ≡ record old { items = rest; values = new.values }))
-
--- a node among whose values one is unclear executed nothing
-abbrev pub UnclearIsRefusal : Type 0
-UnclearIsRefusal =
-    (table : List Endpoint) (k : ClusterModel) (old : Wire) (verdict : Verdict) (k' : ClusterModel) (new : Wire) (values : List Value) (done : List Execution)
-    → ServesNext table k old verdict k' new values done
-    → (i : ℕ) (value : Value) → slice_get values i ≡ Some value → (told_by value old.node table).0 ≡ Unclear → (k' ≡ k) × (done ≡ [])

@@ -1,11 +1,11 @@
 //! Laws that join the turns of workers and carrier to the machine's events. Each is the contract of a function that does nothing.
 
 ghost use Rattle.turn_laws.specs.Walks.{EveryWalk};
-ghost use Rattle.turn_laws.specs.Settling.{HeardAlike, Settling, SettlingAfter};
+ghost use Rattle.turn_laws.specs.Settling.{Settling, SettlingAfter};
 ghost use Rattle.turn_laws.specs.AnyPort.{AnyClients, AnyClientTurns, AnyPorts, WiresStand};
 ghost use Rattle.turn_laws.specs.Scripts.{GivesBack, LosesCommands, MisreadsLines, MovesUnderUse, PairsCommands};
 ghost use Rattle.turn_laws.specs.Refines.{CarrierRefines, MovesRefine, NamesStay, NodesRefine, Refines, StartsRefine, ThrownRefine, WorkersRefine};
-ghost use Rattle.turn_laws.specs.Wire.{UnclearIsRefusal};
+ghost use Rattle.turn_laws.specs.Unclear.{HeardAlike, UnclearIsRefusal};
 
 use crate::wired_port::WiredPort;
 use key_split::laws::parts_of_plans_are_plain;
