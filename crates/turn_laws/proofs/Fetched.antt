@@ -20,7 +20,7 @@ use Rattle.world_laws.specs.declared.event.Event.TheVariants.{Fetch}
 use Rattle.world_laws.specs.Places.{total}
 use Rattle.world_laws.proofs.Tally.{total-append}
 use Rattle.turn_laws.specs.Walks.{Walk, IsWalked}
-use Rattle.turn_laws.specs.Wire.{Wire, Exchanges}
+use Rattle.turn_laws.specs.Wire.{Wire, Exchanges, plain_told}
 use Rattle.turn_laws.specs.System.{System}
 use Rattle.turn_laws.specs.Shadow.{IsShadow, IsWorking, LinksShadow, LaneShadow, OpenShadow, IsIdle, IsUnnumbered, Numbers, downs_of, downs_in, told_in, lost_in, lost_by}
 use Rattle.turn_laws.specs.Steps.{AtCarrier, CarrierStep, any_failures, any_garbled}
@@ -31,7 +31,8 @@ use Rattle.turn_laws.proofs.Carriers.{refusals, debts, bag-parts}
 use Rattle.turn_laws.proofs.Lines.{backend-changes}
 use Rattle.turn_laws.proofs.Fetching.{fetched-shadow, comes-first}
 use Rattle.turn_laws.proofs.Waiting.{now, same-closed, same-opened, not-idle}
-use Rattle.turn_laws.proofs.Settled.{goes-of, settles-so}
+use Rattle.turn_laws.proofs.Settled.{goes-of, settles-as}
+use Rattle.turn_laws.proofs.Heard.{told-alike}
 use Rattle.turn_laws.proofs.SameTold.{same-told}
 
 command-waits : (t : Ticket) → due.Command t ≡ due.Slots → ⊥
@@ -104,9 +105,9 @@ module _ {C J : Type 0} (s s' : System C J) (w : WorldModel) (h : IsShadow s w) 
   working : IsWorking s.carrier k link
   working = (backend, on.does.3, was, worked)
 
-  -- the machine was told so, by the whole list of the nodes
-  heard : (told_by value link.node s.nodes).0 ≡ told
-  heard =
+  -- the whole list of the nodes reads the same in it
+  reads : (told_by value link.node s.nodes).0 ≡ told
+  reads =
       let node : link.node ≡ k = ((h.links).backends k link working).0 in
       same-told s.nodes s.carrier.nodes s'.carrier.nodes value link.node told h.room h.table on.table (omega (arith, node, h.listed k backend link on.does.3 was)) says
 
@@ -136,7 +137,7 @@ module _ {C J : Type 0} (s s' : System C J) (w : WorldModel) (h : IsShadow s w) 
       let f = fetched-shadow s.nodes w.commands link link' l (due.Command ticket) value open' comes dues goes in
       let l' : Link = record l { backs = f.0 } in
       let links' : List Link = slice_set w.links i l' in
-      let first : l.backs ≡ To ticket told ∷ f.0 = f.1 ∙ ap (λ t. To ticket t ∷ f.0) heard in
+      let first : l.backs ≡ To ticket (plain_told told) ∷ f.0 = f.1 ∙ ap (λ t. To ticket (plain_told t) ∷ f.0) reads in
       let id : link'.port.id ≡ link.port.id = ap (λ (x : Wire). x.id) (comes-first link link'.port value comes).1 in
       let node : link'.node ≡ k = ap (λ (c : LinkModel Wire). c.node) goes ∙ ((h.links).backends k link working).0 in
       let w1 : WorldModel = record w { links = links' } in
@@ -149,8 +150,8 @@ module _ {C J : Type 0} (s s' : System C J) (w : WorldModel) (h : IsShadow s w) 
       (λ x m o. o) in
       let closed : s'.closed ≡ s.closed = same-closed (AtBackend Fetched) s s' on refl k backend backend' link link' on.does.3 backends was is worked works in
       let opened : s'.opened ≡ s.opened = same-opened (AtBackend Fetched) s s' on refl k backend backend' link link' on.does.3 backends was is worked works in
-      settles-so (Fetch i) s s' w w.ups links' ((ticket, told) ∷ []) walked h (goes-of (AtBackend Fetched) s s' on)
-      (l, at, open'.is_open, inr (f.0, ticket, told, first, refl))
+      settles-as (Fetch i) s s' w w.ups links' ((ticket, plain_told told) ∷ []) ((ticket, told) ∷ []) (told-alike ticket told) walked h (goes-of (AtBackend Fetched) s s' on)
+      (l, at, open'.is_open, inr (f.0, ticket, plain_told told, first, refl))
       (subst (λ xs. LinksShadow s.nodes s'.carrier xs s'.opened w1) (sym closed) (subst (λ n. LinksShadow s.nodes s'.carrier s.closed n w1) (sym opened) shadow))
       bag
       (same-seats s s' (ap length lanes) pending_runs)

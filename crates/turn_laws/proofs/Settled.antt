@@ -110,7 +110,32 @@ module _ {C J : Type 0} where
         log = subst (λ l. LogShadow l w') (sym log) (log-on s.log w w' same refl refl later h.log);
       }
 
-  -- one event of the machine, and what came down by it is told
+  -- one event of the machine, and what came down by it is told, as the workers will hear it
+  pub settles-as : (core : Event) (s s' : System C J) (w : WorldModel) (ups' : List Posted) (links' : List Link) (pairs said : List Pair)
+      → ((commands commands' : List Arrival) → TellsAll commands pairs commands' → TellsAll commands said commands')
+      → IsWalked w → IsShadow s w → Goes s s'
+      → WorldDoes (ticked w) core (record (ticked w) { ups = ups'; links = links'; downs = w.downs ++ pairs })
+      → LinksShadow s.nodes s'.carrier s'.closed s'.opened (record w { links = links' })
+      → SameBag (downs_of s ++ said) (downs_of s')
+      → Seats s s'
+      → ((k : ℕ) (model : WorkerModel C J) (lane : LaneEnds (Newcomer C J)) → slice_get s.workers k ≡ Some model → slice_get s'.carrier.lanes k ≡ Some lane → DownFits k model lane)
+      → UpsShadow s.workers s'.carrier (record w { ups = ups' })
+      → (events : List Event) × (w' : WorldModel) × Walk w events w' × IsShadow s' w'
+  settles-as core s s' w ups' links' pairs said alike walked h step does links bag lanes steps ups =
+      let mid : WorldModel = record (ticked w) { ups = ups'; links = links'; downs = w.downs ++ pairs } in
+      let r = settling-after w mid core walked does in
+      let came : w.downs ++ pairs ≡ pairs = ap (λ ps. ps ++ pairs) h.told in
+      let tells : TellsAll w.commands said r.3.0 = alike w.commands r.3.0 (subst (λ ps. TellsAll w.commands ps r.3.0) came r.3.2) in
+      let w' : WorldModel = record w { ups = ups'; links = links'; commands = r.3.0; downs = []; moment = r.3.1 } in
+      let is : r.1 ≡ w' = r.3.3 in
+      let later : w.moment ≤ r.3.1 = omega (arith, walk-later (core ∷ r.0) w r.1 r.2, ap (λ (x : WorldModel). x.moment) is) in (
+        core ∷ r.0,
+        w',
+        subst (λ x. Walk w (core ∷ r.0) x) is r.2,
+        settled-frame s s' w ups' links' said r.3.0 r.3.1 later (walked-sound w walked).placed h step links tells bag lanes steps ups,
+      )
+
+  -- where the workers will hear just that
   pub settles-so : (core : Event) (s s' : System C J) (w : WorldModel) (ups' : List Posted) (links' : List Link) (pairs : List Pair)
       → IsWalked w → IsShadow s w → Goes s s'
       → WorldDoes (ticked w) core (record (ticked w) { ups = ups'; links = links'; downs = w.downs ++ pairs })
@@ -120,16 +145,4 @@ module _ {C J : Type 0} where
       → ((k : ℕ) (model : WorkerModel C J) (lane : LaneEnds (Newcomer C J)) → slice_get s.workers k ≡ Some model → slice_get s'.carrier.lanes k ≡ Some lane → DownFits k model lane)
       → UpsShadow s.workers s'.carrier (record w { ups = ups' })
       → (events : List Event) × (w' : WorldModel) × Walk w events w' × IsShadow s' w'
-  settles-so core s s' w ups' links' pairs walked h step does links bag lanes steps ups =
-      let mid : WorldModel = record (ticked w) { ups = ups'; links = links'; downs = w.downs ++ pairs } in
-      let r = settling-after w mid core walked does in
-      let came : w.downs ++ pairs ≡ pairs = ap (λ ps. ps ++ pairs) h.told in
-      let tells : TellsAll w.commands pairs r.3.0 = subst (λ ps. TellsAll w.commands ps r.3.0) came r.3.2 in
-      let w' : WorldModel = record w { ups = ups'; links = links'; commands = r.3.0; downs = []; moment = r.3.1 } in
-      let is : r.1 ≡ w' = r.3.3 in
-      let later : w.moment ≤ r.3.1 = omega (arith, walk-later (core ∷ r.0) w r.1 r.2, ap (λ (x : WorldModel). x.moment) is) in (
-        core ∷ r.0,
-        w',
-        subst (λ x. Walk w (core ∷ r.0) x) is r.2,
-        settled-frame s s' w ups' links' pairs r.3.0 r.3.1 later (walked-sound w walked).placed h step links tells bag lanes steps ups,
-      )
+  settles-so core s s' w ups' links' pairs = settles-as core s s' w ups' links' pairs pairs (λ commands commands' tells. tells)

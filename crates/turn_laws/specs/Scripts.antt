@@ -2,7 +2,8 @@
 -- One worker serves, there are two nodes, and one key. The table begins with the first node alone, and learns the second from a redirect.
 -- In the first list a slot moves, in the second a command is lost: each kind of step stands in one of them, and each event of a worker, of
 -- the carrier and of a backend, but for a run that a full lane gives back.
--- That one stands in the third, from a start whose lane had carried 1,024 runs. In the fourth two commands go together.
+-- That one stands in the third, from a start whose lane had carried 1,024 runs. In the fourth two commands go together, and in the fifth
+-- a line is unclear.
 -- Memory runs out there only where nothing had come, and lanes are looked at only where nothing waits for them.
 use Rattle.std.specs.Prelude.{◌≡◌, ℕ, List, [], ◌∷◌, ◌++◌, Bool, true, false, Ok, codes, length}
 use Rattle.std.specs.List.{FoldsTo}
@@ -17,7 +18,7 @@ use Rattle.key_split.specs.declared.travel.Ticket.{Ticket}
 use Rattle.key_split.specs.declared.travel.Told.TheVariants.{Ask, Reply, Unsent}
 use Rattle.key_split.specs.declared.travel.Told.TheVariants as told
 use Rattle.key_split.specs.declared.travel.Ended.TheVariants as ended
-use Rattle.node_model.specs.declared.role.Verdict.TheVariants.{Plain}
+use Rattle.node_model.specs.declared.role.Verdict.TheVariants.{Plain, TryAgain}
 use Rattle.proxy_turns.specs.declared.backend_step.BackendStep.TheVariants as backend
 use Rattle.proxy_turns.specs.ClientTurn.{Pulled, Fed, Read, HandedOut, Followed, Looked, CameBack, Posted, Drained, Pushed, Tried, Parted, Dropped}
 use Rattle.proxy_turns.specs.WorkerModel.{Did, Finished, Took, FoundNone, Came, TurnedAway, FoundNobody, Left}
@@ -328,6 +329,28 @@ story_of_pair =
     ∷ Executed (did 0 set ok ∷ did 1 get five ∷ [])
     ∷ []
 
+-- ---- a line is unclear
+
+-- the first node sends the command on, but names no port: it is to be posted again
+abbrev pub misread : List SystemEvent
+misread =
+    AtWorker 0 (Did 0 (Posted (plain 0 0 set)))
+    ∷ AtCarrier carrier.Took
+    ∷ AtCarrier carrier.Opened
+    ∷ AtCarrier carrier.Sent
+    ∷ AtNode 0 TryAgain
+    ∷ AtCarrier (AtBackend backend.Fetched)
+    ∷ AtCarrier carrier.Gave
+    ∷ AtWorker 0 (Took (ticket 0) told.Unclear)
+    ∷ []
+
+abbrev pub misreads : List SystemEvent
+misreads = unreached ++ (asking ++ (unsent ++ misread))
+
+-- nothing was executed
+abbrev pub story_of_unclear : List Mark
+story_of_unclear = Arrived (ticket 0) set ∷ Arrived (ticket 1) get ∷ []
+
 -- from some start these steps can be made, one after another, and this is seen of them
 pub record Happens (C J : Type 0) (events : List SystemEvent) (marks : List Mark) : Type 0 where
   pub start : System C J
@@ -351,3 +374,7 @@ GivesBack C J = C → Happens C J full []
 -- two commands of a client go together, and the second reads what the first wrote
 abbrev pub PairsCommands : Type 0 → Type 0 → Type 0
 PairsCommands C J = C → Happens C J pairs story_of_pair
+
+-- a node refuses a command by a line that is unclear to the proxy
+abbrev pub MisreadsLines : Type 0 → Type 0 → Type 0
+MisreadsLines C J = C → Happens C J misreads story_of_unclear

@@ -16,7 +16,6 @@ use Rattle.command_future.specs.declared.stage.Stage.TheVariants.{Awaits, Over}
 use Rattle.slot_map.specs.Table.{Endpoint}
 use Rattle.node_link.specs.LinkModel.{LinkModel}
 use Rattle.node_link.specs.LinkCalls.{tickets_of}
-use Rattle.node_link.specs.Telling.{told_by}
 use Rattle.node_link.specs.declared.link.Due.{Due}
 use Rattle.node_link.specs.declared.link.Due.TheVariants as due
 use Rattle.node_link.specs.declared.link.Failure.{Failure}
@@ -49,7 +48,7 @@ use Rattle.node_model.specs.History.{EntryModel}
 use Rattle.resp_wire.specs.Seen.{data_of}
 use Rattle.world_laws.specs.World.{SameTurn, lies_in}
 use Rattle.world_laws.specs.Places.{total, is}
-use Rattle.turn_laws.specs.Wire.{Wire, Item, Part, Asks, Runs, Lists, tickets_for, Execution}
+use Rattle.turn_laws.specs.Wire.{Wire, Item, Part, Asks, Runs, Lists, tickets_for, heard_in, Execution}
 use Rattle.turn_laws.specs.System.{System, Mark, Arrived, Executed, Answered, between, IsInStep}
 
 -- ---- links
@@ -70,10 +69,10 @@ dues_of Lists = due.Slots ∷ []
 abbrev pub dues_in : List Item → List Due
 dues_in items = flat_map dues_of items
 
--- what values say to those who wait for them
+-- what the machine hears in values, for those who wait for them
 abbrev pub back_of : List Endpoint → ℕ → Due → Value → List LinkReply
 back_of table node due.Asking value = Welcome ∷ []
-back_of table node (due.Command ticket) value = To ticket (told_by value node table).0 ∷ []
+back_of table node (due.Command ticket) value = To ticket (heard_in value node table).0 ∷ []
 back_of table node due.Slots value = []
 
 abbrev pub backs_in : List Endpoint → ℕ → List Due → List Value → List LinkReply

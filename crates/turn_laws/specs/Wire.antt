@@ -85,12 +85,28 @@ executions [] tolds = []
 executions (part ∷ parts) [] = []
 executions (part ∷ parts) (told ∷ tolds) = executed part told ++ executions parts tolds
 
--- the values say this of the commands, as the table reads it in them
+-- what the machine is told of a line: of one that is unclear to the proxy, TRYAGAIN
+abbrev pub plain_told : Told → Told
+plain_told (Reply value) = Reply value
+plain_told (Moved slot node) = Moved slot node
+plain_told (Ask slot node) = Ask slot node
+plain_told TryAgain = TryAgain
+plain_told ClusterDown = ClusterDown
+plain_told Unclear = TryAgain
+plain_told Lost = Lost
+plain_told Unsent = Unsent
+
+-- what the machine hears in a value, and the table after it
+abbrev pub heard_in : Value → ℕ → List Endpoint → Told × List Endpoint
+heard_in value node table = (plain_told (told_by value node table).0, (told_by value node table).1)
+
+-- The values say this of the commands, as the machine hears it in them. An unclear line says TRYAGAIN, so only a node that executed
+-- nothing gives one; since any may say TRYAGAIN at any time, it stands for a MOVED or an ASK as well.
 abbrev pub AreTold : List Endpoint → ℕ → List Value → List Told → Type 0
 AreTold table node [] [] = Unit {0}
 AreTold table node [] (told ∷ tolds) = ⊥
 AreTold table node (value ∷ values) [] = ⊥
-AreTold table node (value ∷ values) (told ∷ tolds) = (told_by value node table ≡ (told, table)) × AreTold table node values tolds
+AreTold table node (value ∷ values) (told ∷ tolds) = (heard_in value node table ≡ (told, table)) × AreTold table node values tolds
 
 -- the tickets of commands, and their parts
 abbrev pub tickets_for : List Part → List Ticket
@@ -100,7 +116,7 @@ abbrev pub parts_in : List Part → List PartModel
 parts_in parts = map (λ (part : Part). part.1) parts
 
 -- The node serves the first item of the wire, with these values: `table` is the list of the cluster's endpoints. What it
--- says of a command is what the table reads in it. A run is served whole: all its commands, or none.
+-- says of a command is what the table reads in it, or TRYAGAIN by an unclear line. A run is served whole: all its commands, or none.
 abbrev pub ServesNext : List Endpoint → ClusterModel → Wire → Verdict → ClusterModel → Wire → List Value → List Execution → Type 0
 ServesNext table k old verdict k' new values done =
     ((rest : List Item) × (value : Value) × (old.items ≡ Asks ∷ rest) × (values ≡ value ∷ []) × (k' ≡ k) × (done ≡ [])

@@ -3,8 +3,9 @@
 ghost use Rattle.turn_laws.specs.Walks.{EveryWalk};
 ghost use Rattle.turn_laws.specs.Settling.{Settling, SettlingAfter};
 ghost use Rattle.turn_laws.specs.AnyPort.{AnyClients, AnyClientTurns, AnyPorts, WiresStand};
-ghost use Rattle.turn_laws.specs.Scripts.{GivesBack, LosesCommands, MovesUnderUse, PairsCommands};
+ghost use Rattle.turn_laws.specs.Scripts.{GivesBack, LosesCommands, MisreadsLines, MovesUnderUse, PairsCommands};
 ghost use Rattle.turn_laws.specs.Refines.{CarrierRefines, MovesRefine, NamesStay, NodesRefine, Refines, StartsRefine, ThrownRefine, WorkersRefine};
+ghost use Rattle.turn_laws.specs.Unclear.{HeardAlike, UnclearIsRefusal};
 
 use crate::wired_port::WiredPort;
 use key_split::laws::parts_of_plans_are_plain;
@@ -21,6 +22,12 @@ pub fn every_walk()
 pub fn settles_at_once()
     ensures at_once { Settling }
     ensures after { SettlingAfter }
+{}
+
+/// A command that hears a line that is unclear is where the machine's is, which was told TRYAGAIN. The node executed nothing.
+pub fn unclear_is_try_again()
+    ensures alike { HeardAlike }
+    ensures refusal { UnclearIsRefusal }
 {}
 
 /// A system that has done nothing stands for a world of the machine, and names nodes of the cluster.
@@ -87,6 +94,7 @@ pub fn steps_happen<C: Drop, J: Naming>()
     ensures loses { LosesCommands C J }
     ensures gives_back { GivesBack C J }
     ensures pairs { PairsCommands C J }
+    ensures misreads { MisreadsLines C J }
 {
     front_is_whole();
 }
