@@ -2,6 +2,7 @@
 
 ghost use Rattle.turn_laws.specs.Walks.{EveryWalk};
 ghost use Rattle.turn_laws.specs.Settling.{Settling, SettlingAfter};
+ghost use Rattle.turn_laws.specs.ClientOutput.{AllClientsAreWritten, ClientsAreWritten};
 ghost use Rattle.turn_laws.specs.AnyPort.{AnyClients, AnyClientTurns, AnyPorts, WiresStand};
 ghost use Rattle.turn_laws.specs.Scripts.{GivesBack, LosesCommands, MovesUnderUse, PairsCommands};
 ghost use Rattle.turn_laws.specs.Refines.{CarrierRefines, MovesRefine, NodesRefine, Refines, StartsRefine, ThrownRefine, WorkersRefine};
@@ -11,6 +12,7 @@ use key_split::laws::parts_of_plans_are_plain;
 use proxy_lanes::Naming;
 use proxy_turns::{ClientPort, Dial};
 use resp_wire::laws::front_is_whole;
+use session_order::drains_output;
 
 /// The headline holds after every schedule, however many events it has.
 pub fn every_walk()
@@ -82,5 +84,15 @@ pub fn steps_happen<C: Drop, J: Naming>()
     ensures gives_back { GivesBack C J }
     ensures pairs { PairsCommands C J }
 {
+    front_is_whole();
+}
+
+/// The bytes that go to a client are a front of the output of the requests that its own bytes spell and of the ends that it is told,
+/// whatever a worker does, and whatever a system does from its start.
+pub fn clients_are_written<C: Drop, J: Naming>()
+    ensures of_worker { ClientsAreWritten C J }
+    ensures of_system { AllClientsAreWritten C J }
+{
+    drains_output();
     front_is_whole();
 }

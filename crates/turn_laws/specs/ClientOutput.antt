@@ -1,0 +1,91 @@
+-- What each client is written: a front of the output of its requests and of the ends that it is told.
+-- A worker's turns are a list of events. One client saw three things of it: the bytes that came from it, the ends of its parts, and
+-- the bytes that went to it.
+use Rattle.std.specs.Prelude.{◌≡◌, ℕ, List, [], ◌∷◌, Bool, if◌then◌else◌, nat_eq}
+use Rattle.std.specs.List.{FoldsTo, flat_map}
+use Rattle.std.specs.FinMap.{empty}
+use mathlib.Core.List.{IsPrefix}
+use Rattle.resp_wire.specs.Data.{Data, items_of}
+use Rattle.resp_wire.specs.LimitsModel.{full}
+use Rattle.resp_wire.specs.Spelling.{SpellsAll}
+use Rattle.key_split.specs.declared.travel.Ticket.{Ticket}
+use Rattle.key_split.specs.declared.travel.Ended.{Ended}
+use Rattle.session_order.specs.Requests.{RequestKindModel, Words, Skipped, Refused, asked_of}
+use Rattle.session_order.specs.Output.{output_of}
+use Rattle.proxy_turns.specs.ClientTurn.{ClientEvent, Pulled, Pushed}
+use Rattle.proxy_turns.specs.WorkerModel.{WorkerModel, WorkerEvent, Did, Finished, WorkerDoes}
+use Rattle.turn_laws.specs.System.{System}
+use Rattle.turn_laws.specs.Steps.{SystemEvent, AtWorker, SystemStep, any_moves}
+use Rattle.turn_laws.specs.Refines.{IsStart}
+
+-- ---- what a client sees
+
+-- what this is to the client of this number, if it happened to that one
+abbrev pub if_own : {X : Type 0} → ℕ → ℕ → List X → List X
+if_own number other seen = if nat_eq other number then seen else []
+
+-- the bytes that come from a client
+abbrev pub pulled_by : ClientEvent → List ℕ
+pulled_by (Pulled bytes) = bytes
+pulled_by event = []
+
+-- the bytes that go to it
+abbrev pub pushed_by : ClientEvent → List ℕ
+pushed_by (Pushed bytes) = bytes
+pushed_by event = []
+
+-- the bytes that come from the client of this number
+abbrev pub bytes_from : ℕ → WorkerEvent → List ℕ
+bytes_from number (Did other event) = if_own number other (pulled_by event)
+bytes_from number event = []
+
+-- the ends of its parts, with their tickets
+abbrev pub ends_for : ℕ → WorkerEvent → List (Ticket × Ended)
+ends_for number (Finished other ticket end) = if_own number other ((ticket, end) ∷ [])
+ends_for number event = []
+
+-- the bytes that go to it
+abbrev pub bytes_to : ℕ → WorkerEvent → List ℕ
+bytes_to number (Did other event) = if_own number other (pushed_by event)
+bytes_to number event = []
+
+-- ---- what it is to see
+
+abbrev pub words_in : RequestKindModel → List (List (List ℕ))
+words_in (Words words) = words ∷ []
+words_in Skipped = []
+words_in Refused = []
+
+-- the requests among these values
+abbrev pub requests_in : List Data → List (List (List ℕ))
+requests_in values = flat_map (λ value. words_in (asked_of value)) values
+
+-- The bytes that came begin with the spellings of some values: their requests were read. The bytes that went are a front of the output
+-- of these requests and of the ends that were told, with a last error line where a fault was met.
+pub record IsWritten (came : List ℕ) (ends : List (Ticket × Ended)) (went : List ℕ) : Type 0 where
+  pub values : List Data
+  pub text : List ℕ
+  pub spelled : SpellsAll full full.depth text (items_of values)
+  pub read : IsPrefix text came
+  pub faulted : Bool
+  pub front : IsPrefix went (output_of (requests_in values) ends faulted)
+
+-- so it is with the client of this number after these events of a worker
+abbrev pub IsWrittenBy : List WorkerEvent → ℕ → Type 0
+IsWrittenBy events number = IsWritten (flat_map (bytes_from number) events) (flat_map (ends_for number) events) (flat_map (bytes_to number) events)
+
+-- the events of this worker
+abbrev pub events_at : ℕ → SystemEvent → List WorkerEvent
+events_at k (AtWorker other event) = if_own k other (event ∷ [])
+events_at k event = []
+
+module _ (C J : Type 0) where
+  -- Whatever a worker does that had no clients: each client is written a front of its output.
+  abbrev pub ClientsAreWritten : Type 0
+  ClientsAreWritten = (old new : WorkerModel C J) (events : List WorkerEvent) → old.clients ≡ empty → FoldsTo (WorkerDoes any_moves) old events new
+      → (number : ℕ) → IsWrittenBy events number
+
+  -- And so it is whatever a system does from its start.
+  abbrev pub AllClientsAreWritten : Type 0
+  AllClientsAreWritten = (s s' : System C J) (events : List SystemEvent) → IsStart s → FoldsTo SystemStep s events s'
+      → (k number : ℕ) → IsWrittenBy (flat_map (events_at k) events) number
