@@ -1,10 +1,9 @@
 -- A client's life, event by event: while it is there its session lives by calls, and what these drained went out or waits to be pushed.
-use Rattle.std.proofs.Common.{◌≡◌, ◌≢◌, ◌⊎◌, inl, inr, ◌++◌, ◌∷◌, [], ◌+◌, ◌-◌, ◌<◌, ◌≤◌, List, ℕ, refl, ap, sym, subst, ◌∙◌, Option, Some, None, Result, Ok, Err, Bool, true, false, cond, append_assoc, arith, length}
-use Rattle.std.specs.Prelude.{All, T, nat_le, slice_get, slice_index_or, if◌then◌else◌}
-use Rattle.std.specs.List.{flat_map}
-use Rattle.std.specs.FinMap.{FinMap, empty, get, insert, remove, get-empty, get-insert, get-remove}
+use Rattle.std.proofs.Common.{◌≡◌, ◌≢◌, ◌⊎◌, inl, inr, ◌++◌, ◌∷◌, [], ◌+◌, ◌-◌, List, ℕ, refl, ap, sym, subst, ◌∙◌, Option, Some, None, Result, Ok, Bool, true, false, cond, append_assoc, arith, length}
+use Rattle.std.specs.Prelude.{All, nat_le, slice_get, if◌then◌else◌}
+use Rattle.std.specs.FinMap.{FinMap, empty, get, insert, remove, get-empty, get-remove}
 use Rattle.std.specs.Ordering.{nat_cmp, eq_by_cmp}
-use Rattle.std.specs.Cmp.{nat_cmp_total, unsigned_ties, eq_by_cmp_equiv}
+use Rattle.std.specs.Cmp.{nat_cmp_total, eq_by_cmp_equiv}
 use Rattle.std.proofs.lemmas.Bool.{false≢true}
 use Rattle.std.proofs.lemmas.List.{append-nil}
 use Rattle.std.proofs.lemmas.List.Elements.{All-head, All-nil, All-push, All-tail, All-weaker}
@@ -236,7 +235,7 @@ module _ {C : Type 0} (law : DrainsOutput) (whole : FrontIsWhole) (came : List �
   fed-there result session does (here, lived, out) = (
     here,
     one-call came ends ends went old.session session old.unfed (left_of old.unfed result) old.unpushed old.unpushed (FedIn old.unfed result) lived does (sym (append-nil ends)) (sym (append-nil old.unpushed))
-    (λ read h. subst (λ all. HasRead came all session.incoming session.closing (left_of old.unfed result)) (sym (append-nil read)) (fed came read old.session old.unfed result session does h)),
+        (λ read h. subst (λ all. HasRead came all session.incoming session.closing (left_of old.unfed result)) (sym (append-nil read)) (fed came read old.session old.unfed result session does h)),
     out-kept old.session session old.commands (feed_keeps waits_for old.session old.unfed result session does) out,
   )
 
@@ -245,7 +244,7 @@ module _ {C : Type 0} (law : DrainsOutput) (whole : FrontIsWhole) (came : List �
       let by = law.reads old.session result session does in (
         here,
         one-call came ends ends went old.session session old.unfed old.unfed old.unpushed old.unpushed (ReadIn result by.0) lived by.1 (sym (append-nil ends)) (sym (append-nil old.unpushed))
-        (λ read h. reads whole came read old.session old.unfed result by.0 session by.1 h),
+            (λ read h. reads whole came read old.session old.unfed result by.0 session by.1 h),
         out-kept old.session session old.commands (read_keeps waits_for old.session result session does) out,
       )
 
@@ -255,10 +254,10 @@ module _ {C : Type 0} (law : DrainsOutput) (whole : FrontIsWhole) (came : List �
       let is = does.3 in (
         here,
         one-call came ends ends went old.session session old.unfed old.unfed old.unpushed old.unpushed (HandedIn (Some (ticket, part))) lived does (sym (append-nil ends)) (sym (append-nil old.unpushed))
-        (nothing-read came old.session session old.unfed (ap (λ (held : SessionModel). held.incoming) is) (λ e. sym (ap (λ (held : SessionModel). held.closing) is) ∙ e)),
+            (nothing-read came old.session session old.unfed (ap (λ (held : SessionModel). held.incoming) is) (λ e. sym (ap (λ (held : SessionModel). held.closing) is) ∙ e)),
         out-begun old.session session old.commands ticket part (ready_keeps waits_for waits_eases old.session (Some (ticket, part)) session does)
-        (out_in_order session ticket (ready_out old.session (Some (ticket, part)) session does).0)
-        (not-posted old.session old.commands does.0 ticket.part part does.1.2 (ap (λ (t : Ticket). t.part) does.2) out) out,
+            (out_in_order session ticket (ready_out old.session (Some (ticket, part)) session does).0)
+            (not-posted old.session old.commands does.0 ticket.part part does.1.2 (ap (λ (t : Ticket). t.part) does.2) out) out,
       )
 
   followed-there : (last ticket : Ticket) (part : PartModel) (session : SessionModel) → FollowerOutcome old.session last (Some (ticket, part)) session → IsThere came ends went old
@@ -267,10 +266,10 @@ module _ {C : Type 0} (law : DrainsOutput) (whole : FrontIsWhole) (came : List �
       let is = does.3 in (
         here,
         one-call came ends ends went old.session session old.unfed old.unfed old.unpushed old.unpushed (FollowedIn last (Some (ticket, part))) lived does (sym (append-nil ends)) (sym (append-nil old.unpushed))
-        (nothing-read came old.session session old.unfed (ap (λ (held : SessionModel). held.incoming) is) (λ e. sym (ap (λ (held : SessionModel). held.closing) is) ∙ e)),
+            (nothing-read came old.session session old.unfed (ap (λ (held : SessionModel). held.incoming) is) (λ e. sym (ap (λ (held : SessionModel). held.closing) is) ∙ e)),
         out-begun old.session session old.commands ticket part (follower_keeps waits_for waits_eases old.session last (Some (ticket, part)) session does)
-        (follower_out old.session last (Some (ticket, part)) session does).0
-        (not-posted old.session old.commands does.0 ticket.part part (does.1).waits (ap (λ (t : Ticket). t.part) does.2) out) out,
+            (follower_out old.session last (Some (ticket, part)) session does).0
+            (not-posted old.session old.commands does.0 ticket.part part (does.1).waits (ap (λ (t : Ticket). t.part) does.2) out) out,
       )
 
   drained-there : (n : ℕ) (session : SessionModel) (unpushed : List ℕ) → DrainOutcome most_drained old.session old.unpushed (Ok n) session unpushed → IsThere came ends went old
@@ -279,8 +278,8 @@ module _ {C : Type 0} (law : DrainsOutput) (whole : FrontIsWhole) (came : List �
       let is = drains.left in (
         here,
         one-call came ends ends went old.session session old.unfed old.unfed old.unpushed unpushed (DrainedIn most_drained (Ok n) bytes) lived (bytes, refl, count, drains) (sym (append-nil ends)) grown
-        (nothing-read came old.session session old.unfed (ap (λ (held : SessionModel). held.incoming) is)
-        (λ e. open-said (nat_le (length (old.session).requests) drains.count) (old.session).closing (sym (ap (λ (held : SessionModel). held.closing) is) ∙ e))),
+            (nothing-read came old.session session old.unfed (ap (λ (held : SessionModel). held.incoming) is)
+            (λ e. open-said (nat_le (length (old.session).requests) drains.count) (old.session).closing (sym (ap (λ (held : SessionModel). held.closing) is) ∙ e))),
         out-kept old.session session old.commands (drain_keeps waits_for most_drained old.session old.unpushed (Ok n) session unpushed (bytes, grown, count, drains)) out,
       )
 
@@ -305,8 +304,8 @@ module _ {C : Type 0} (law : DrainsOutput) (whole : FrontIsWhole) (came : List �
   finished-there ticket end port session has does (here, lived, out) = (
     here,
     one-call came ends (ends ++ (ticket, end) ∷ []) went old.session session old.unfed old.unfed old.unpushed old.unpushed (ToldIn ticket end) lived (ended-out old.session old.commands ticket end has out, does) refl
-    (sym (append-nil old.unpushed))
-    (nothing-read came old.session session old.unfed (ap (λ (held : SessionModel). held.incoming) does) (λ e. sym (ap (λ (held : SessionModel). held.closing) does) ∙ e)),
+        (sym (append-nil old.unpushed))
+        (nothing-read came old.session session old.unfed (ap (λ (held : SessionModel). held.incoming) does) (λ e. sym (ap (λ (held : SessionModel). held.closing) does) ∙ e)),
     out-ended old.session session old.commands ticket end has does out,
   )
 

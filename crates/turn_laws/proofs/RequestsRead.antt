@@ -1,7 +1,6 @@
 -- The requests that a session read are those that the bytes which came begin with.
-use Rattle.std.proofs.Common.{◌≡◌, ◌⊎◌, ◌++◌, ◌∷◌, [], ◌+◌, ◌^◌, List, ℕ, refl, ap, sym, subst, ◌∙◌, inl, inr, Option, Some, None, Result, Ok, Err, Bool, true, false, cond, length, drop, append_assoc, arith}
-use Rattle.std.specs.Prelude.{nat_le, if◌then◌else◌}
-use Rattle.std.specs.List.{flat_map}
+use Rattle.std.proofs.Common.{◌≡◌, ◌++◌, ◌∷◌, [], ◌+◌, ◌^◌, List, ℕ, refl, ap, sym, subst, ◌∙◌, inl, inr, Option, Some, None, Result, Ok, Err, Bool, true, false, length, drop, append_assoc}
+use Rattle.std.specs.Prelude.{nat_le}
 use Rattle.std.proofs.lemmas.Grind.{flat_map-append}
 use Rattle.std.proofs.lemmas.List.{append-nil}
 use mathlib.Core.List.{IsPrefix}
@@ -10,7 +9,6 @@ use Rattle.resp_wire.specs.Seen.{data_of}
 use Rattle.resp_wire.specs.LimitsModel.{LimitsModel, full}
 use Rattle.resp_wire.specs.Front.{front, Whole}
 use Rattle.resp_wire.specs.Laws.{FrontIsWhole}
-use Rattle.resp_wire.specs.Stream.{Begins}
 use Rattle.resp_wire.specs.Spelling.{Spells, SpellsAll}
 use Rattle.key_split.specs.declared.planned.Planned.{Planned}
 use Rattle.key_split.specs.declared.planned.Planned.TheVariants as planned
@@ -22,13 +20,12 @@ use Rattle.session_order.specs.declared.closing.Broken.TheVariants as broken
 use Rattle.session_order.specs.declared.fault.SessionFault.{SessionFault}
 use Rattle.session_order.specs.declared.fault.SessionFault.TheVariants as session_fault
 use Rattle.session_order.specs.declared.fault.SessionFault.TheVariants.{Wire, NotRequest}
-use Rattle.session_order.specs.Requests.{RequestKindModel, Words, Skipped, Refused, asked_of}
+use Rattle.session_order.specs.Requests.{RequestKindModel, Words, Skipped, asked_of}
 use Rattle.session_order.specs.RequestReaderModel.{RequestReaderModel, NextWords, TakesValue, KeepsWords}
 use Rattle.session_order.specs.PendingReply.{plan_for}
 use Rattle.session_order.specs.SessionModel.{SessionModel}
-use Rattle.session_order.specs.Replies.{said}
-use Rattle.session_order.specs.Steps.{FeedOutcome, ReadOutcome, FaultedBy, added, with_incoming, with_owed}
-use Rattle.session_order.specs.Life.{SessionCall, Read, Reads, read_by}
+use Rattle.session_order.specs.Steps.{FeedOutcome, added, with_incoming, with_owed}
+use Rattle.session_order.specs.Life.{Read, Reads, read_by}
 use Rattle.session_order.proofs.Told.{split_ok}
 use Rattle.proxy_turns.specs.ClientTurn.{left_of}
 use Rattle.turn_laws.specs.ClientOutput.{words_in, requests_in}

@@ -3,7 +3,7 @@
 use Rattle.std.proofs.Common.{◌≡◌, ◌≢◌, ◌⊎◌, inl, inr, ⊎_elim, ◌++◌, ◌∷◌, [], ◌<◌, List, ℕ, refl, ap, sym, subst, ◌∙◌, Option, Some, None, Bool, true, false, append_assoc, arith}
 use Rattle.std.specs.Prelude.{nat_eq, slice_get, slice_set, if◌then◌else◌}
 use Rattle.std.specs.List.{FoldsTo, flat_map}
-use Rattle.std.specs.FinMap.{FinMap, empty, get, insert, remove, get-empty}
+use Rattle.std.specs.FinMap.{FinMap, get, insert, remove, get-empty}
 use Rattle.std.specs.Ordering.{nat_cmp}
 use Rattle.std.proofs.lemmas.List.{append-nil}
 use Rattle.std.proofs.lemmas.Bool.Decides.{eqb_tells}
@@ -12,16 +12,14 @@ use Rattle.resp_wire.specs.LimitsModel.{full}
 use Rattle.key_split.specs.declared.travel.Ticket.{Ticket}
 use Rattle.key_split.specs.declared.travel.Told.{Told}
 use Rattle.key_split.specs.declared.travel.Ended.{Ended}
-use Rattle.node_model.specs.declared.role.Verdict.{Verdict}
 use Rattle.session_order.specs.Life.{DrainsOutput}
 use Rattle.proxy_turns.specs.Port.{Moves}
 use Rattle.proxy_turns.specs.ClientModel.{ClientModel, new_client}
-use Rattle.proxy_turns.specs.ClientTurn.{ClientContext, ClientEvent}
+use Rattle.proxy_turns.specs.ClientTurn.{ClientEvent}
 use Rattle.proxy_turns.specs.WorkerModel.{WorkerModel, WorkerEvent, Did, Finished, Took, FoundNone, Came, TurnedAway, FoundNobody, Left, WorkerDoes, IsAbove, Tells}
 use Rattle.world_laws.proofs.Recorded.{at-set, set-other, set-same}
 use Rattle.turn_laws.specs.System.{System}
 use Rattle.turn_laws.specs.Steps.{SystemEvent, AtWorker, AtCarrier, AtNode, AtBroken, Thrown, Moved, SystemStep, WorkerStep, any_moves}
-use Rattle.turn_laws.specs.Refines.{IsStart}
 use Rattle.turn_laws.specs.ClientOutput.{IsWritten, IsWrittenBy, bytes_from, bytes_to, ends_for, events_at, if_own, pulled_by, pushed_by, ClientsAreWritten, AllClientsAreWritten}
 use Rattle.turn_laws.proofs.Clients.{put-other, put-same}
 use Rattle.turn_laws.proofs.Ending.{removed-other}
