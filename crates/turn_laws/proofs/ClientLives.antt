@@ -7,7 +7,7 @@ use Rattle.std.specs.Cmp.{nat_cmp_total, eq_by_cmp_equiv}
 use Rattle.std.proofs.lemmas.Bool.{false≢true}
 use Rattle.std.proofs.lemmas.List.{append-nil}
 use Rattle.std.proofs.lemmas.List.Elements.{All-head, All-nil, All-push, All-tail, All-weaker}
-use Rattle.resp_wire.specs.Laws.{FrontIsWhole}
+use Rattle.resp_wire.specs.Laws.{FrontIsFaulty, FrontIsWhole}
 use Rattle.resp_wire.specs.LimitsModel.{full}
 use Rattle.key_split.specs.PartModel.{PartModel}
 use Rattle.key_split.specs.declared.travel.Ticket.{Ticket}
@@ -17,11 +17,12 @@ use Rattle.command_future.specs.CommandModel.{CommandModel, fresh as new_command
 use Rattle.session_order.specs.SessionModel.{SessionModel}
 use Rattle.session_order.specs.Turn.{waits_for}
 use Rattle.session_order.specs.declared.queue.PartStage.TheVariants.{Waiting, Out}
+use Rattle.session_order.specs.declared.closing.Broken.{Broken}
 use Rattle.session_order.specs.declared.closing.Closing.{Closing}
 use Rattle.session_order.specs.declared.closing.Closing.TheVariants.{Open, Quit, Faulted}
 use Rattle.session_order.specs.Replies.{said, DrainOutcome}
 use Rattle.session_order.specs.declared.fault.SessionFault.{SessionFault}
-use Rattle.session_order.specs.Steps.{EndOutcome, FeedOutcome, FollowerOutcome, IsHandedOut, IsOutInOrder, ReadOutcome, ReadyOutcome}
+use Rattle.session_order.specs.Steps.{FaultedBy, EndOutcome, FeedOutcome, FollowerOutcome, IsHandedOut, IsOutInOrder, ReadOutcome, ReadyOutcome}
 use Rattle.session_order.specs.Life.{DrainsOutput, fresh as new_session, Fed as FedIn, Read as ReadIn, Handed as HandedIn, Followed as FollowedIn, Told as ToldIn, Drained as DrainedIn}
 use Rattle.session_order.proofs.Keeping.{KeepsBy, drain_keeps, ended_keeps, feed_keeps, follower_keeps, follower_out, out_in_order, read_keeps, ready_keeps, ready_out, waits_eases}
 use Rattle.proxy_turns.specs.Port.{Moves}
@@ -31,7 +32,7 @@ use Rattle.proxy_turns.specs.ClientTurn.{ClientContext, ClientEvent, Pulled, Fed
 use Rattle.turn_laws.specs.ClientOutput.{IsWritten, pulled_by, pushed_by}
 use Rattle.turn_laws.proofs.Clients.{put-apart, put-other}
 use Rattle.turn_laws.proofs.OutputFronts.{written-on}
-use Rattle.turn_laws.proofs.RequestsRead.{HasRead, fed, kept, pulled, reads}
+use Rattle.turn_laws.proofs.RequestsRead.{AreCounted, HasRead, fed, kept, open-faulted, pulled, reads}
 use Rattle.turn_laws.proofs.SessionLives.{Lived, one-call, written}
 
 -- ---- commands
@@ -185,7 +186,9 @@ born worker number port = inl (
     lives = refl;
     told = refl;
     drained = refl;
-    read = record { values = []; text = []; spelled = refl; read_is = refl; first = ([], refl); rest = λ is. (refl, [], refl, refl) };
+    counted = (refl, refl);
+    met = λ e. absurd (false≢true e);
+    read = record { values = []; text = []; rest = []; spelled = refl; read_is = refl; are = refl; next = λ is. (refl, [], refl, refl); fault = λ why f. absurd (open-faulted why Open refl f) };
   },
   record {
     posted = λ q c there. absurd (none-some (get empty q) c (get-empty nat_cmp q) there);
@@ -203,10 +206,21 @@ hears {C} came ends went old new ticket told heard same (inr (gone, none, w)) = 
 -- ---- its events
 
 -- nothing is read by a call
-nothing-read : (came : List ℕ) (old new : SessionModel) (unfed : List ℕ) → new.incoming ≡ old.incoming → (new.closing ≡ Open → old.closing ≡ Open) → (read : List (List (List ℕ)))
+nothing-read : (came : List ℕ) (old new : SessionModel) (unfed : List ℕ) → new.incoming ≡ old.incoming → (new.closing ≡ Open → old.closing ≡ Open)
+    → ((why : Broken) → FaultedBy why new.closing → FaultedBy why old.closing) → (read : List (List (List ℕ))) → AreCounted read old
     → HasRead came read old.incoming old.closing unfed → HasRead came (read ++ []) new.incoming new.closing unfed
-nothing-read came old new unfed same opens read h =
-    subst (λ all. HasRead came all new.incoming new.closing unfed) (sym (append-nil read)) (kept came read old.incoming new.incoming old.closing new.closing unfed same opens h)
+nothing-read came old new unfed same opens faults read counted h =
+    subst (λ all. HasRead came all new.incoming new.closing unfed) (sym (append-nil read)) (kept came read old.incoming new.incoming old.closing new.closing unfed same opens faults h)
+
+stays-closed : (came : List ℕ) (old new : SessionModel) (unfed : List ℕ) → new.incoming ≡ old.incoming → new.closing ≡ old.closing → (read : List (List (List ℕ))) → AreCounted read old
+    → HasRead came read old.incoming old.closing unfed → HasRead came (read ++ []) new.incoming new.closing unfed
+stays-closed came old new unfed same closing = nothing-read came old new unfed same (λ e. sym closing ∙ e) (λ why f. subst (FaultedBy why) closing f)
+
+faulted-said : (b : Bool) (closing : Closing) (why : Broken) → FaultedBy why (if b then said closing else closing) → FaultedBy why closing
+faulted-said true Open why f = f
+faulted-said true Quit why f = f
+faulted-said true (Faulted own line) why (owed, is) = let same : own ≡ why = cc in (line, ap (λ w. Faulted w line) same)
+faulted-said false closing why f = f
 
 open-said : (b : Bool) (closing : Closing) → (if b then said closing else closing) ≡ Open → closing ≡ Open
 open-said true Open is = refl
@@ -214,7 +228,7 @@ open-said true Quit is = is
 open-said true (Faulted why owed) is = absurd (cc)
 open-said false closing is = is
 
-module _ {C : Type 0} (law : DrainsOutput) (whole : FrontIsWhole) (came : List ℕ) (ends : List (Ticket × Ended)) (went : List ℕ) (old : ClientModel C) where
+module _ {C : Type 0} (law : DrainsOutput) (whole : FrontIsWhole) (faulty : FrontIsFaulty) (came : List ℕ) (ends : List (Ticket × Ended)) (went : List ℕ) (old : ClientModel C) where
   pulled-there : (port : C) (bytes : List ℕ) → IsThere came ends went old → IsThere (came ++ bytes) ends went (record old { port = port; unfed = old.unfed ++ bytes })
   pulled-there port bytes (here, lived, out) = (
     here,
@@ -225,6 +239,8 @@ module _ {C : Type 0} (law : DrainsOutput) (whole : FrontIsWhole) (came : List �
       lives = lived.lives;
       told = lived.told;
       drained = lived.drained;
+      counted = lived.counted;
+      met = lived.met;
       read = pulled came _ (old.session).incoming (old.session).closing old.unfed bytes lived.read;
     },
     out,
@@ -235,7 +251,7 @@ module _ {C : Type 0} (law : DrainsOutput) (whole : FrontIsWhole) (came : List �
   fed-there result session does (here, lived, out) = (
     here,
     one-call came ends ends went old.session session old.unfed (left_of old.unfed result) old.unpushed old.unpushed (FedIn old.unfed result) lived does (sym (append-nil ends)) (sym (append-nil old.unpushed))
-        (λ read h. subst (λ all. HasRead came all session.incoming session.closing (left_of old.unfed result)) (sym (append-nil read)) (fed came read old.session old.unfed result session does h)),
+        (λ read counted h. subst (λ all. HasRead came all session.incoming session.closing (left_of old.unfed result)) (sym (append-nil read)) (fed came read old.session old.unfed result session does h)),
     out-kept old.session session old.commands (feed_keeps waits_for old.session old.unfed result session does) out,
   )
 
@@ -244,7 +260,7 @@ module _ {C : Type 0} (law : DrainsOutput) (whole : FrontIsWhole) (came : List �
       let by = law.reads old.session result session does in (
         here,
         one-call came ends ends went old.session session old.unfed old.unfed old.unpushed old.unpushed (ReadIn result by.0) lived by.1 (sym (append-nil ends)) (sym (append-nil old.unpushed))
-            (λ read h. reads whole came read old.session old.unfed result by.0 session by.1 h),
+            (λ read counted h. reads whole faulty came read old.session old.unfed result by.0 session counted by.1 h),
         out-kept old.session session old.commands (read_keeps waits_for old.session result session does) out,
       )
 
@@ -254,7 +270,7 @@ module _ {C : Type 0} (law : DrainsOutput) (whole : FrontIsWhole) (came : List �
       let is = does.3 in (
         here,
         one-call came ends ends went old.session session old.unfed old.unfed old.unpushed old.unpushed (HandedIn (Some (ticket, part))) lived does (sym (append-nil ends)) (sym (append-nil old.unpushed))
-            (nothing-read came old.session session old.unfed (ap (λ (held : SessionModel). held.incoming) is) (λ e. sym (ap (λ (held : SessionModel). held.closing) is) ∙ e)),
+            (stays-closed came old.session session old.unfed (ap (λ (held : SessionModel). held.incoming) is) (ap (λ (held : SessionModel). held.closing) is)),
         out-begun old.session session old.commands ticket part (ready_keeps waits_for waits_eases old.session (Some (ticket, part)) session does)
             (out_in_order session ticket (ready_out old.session (Some (ticket, part)) session does).0)
             (not-posted old.session old.commands does.0 ticket.part part does.1.2 (ap (λ (t : Ticket). t.part) does.2) out) out,
@@ -266,7 +282,7 @@ module _ {C : Type 0} (law : DrainsOutput) (whole : FrontIsWhole) (came : List �
       let is = does.3 in (
         here,
         one-call came ends ends went old.session session old.unfed old.unfed old.unpushed old.unpushed (FollowedIn last (Some (ticket, part))) lived does (sym (append-nil ends)) (sym (append-nil old.unpushed))
-            (nothing-read came old.session session old.unfed (ap (λ (held : SessionModel). held.incoming) is) (λ e. sym (ap (λ (held : SessionModel). held.closing) is) ∙ e)),
+            (stays-closed came old.session session old.unfed (ap (λ (held : SessionModel). held.incoming) is) (ap (λ (held : SessionModel). held.closing) is)),
         out-begun old.session session old.commands ticket part (follower_keeps waits_for waits_eases old.session last (Some (ticket, part)) session does)
             (follower_out old.session last (Some (ticket, part)) session does).0
             (not-posted old.session old.commands does.0 ticket.part part (does.1).waits (ap (λ (t : Ticket). t.part) does.2) out) out,
@@ -279,7 +295,8 @@ module _ {C : Type 0} (law : DrainsOutput) (whole : FrontIsWhole) (came : List �
         here,
         one-call came ends ends went old.session session old.unfed old.unfed old.unpushed unpushed (DrainedIn most_drained (Ok n) bytes) lived (bytes, refl, count, drains) (sym (append-nil ends)) grown
             (nothing-read came old.session session old.unfed (ap (λ (held : SessionModel). held.incoming) is)
-            (λ e. open-said (nat_le (length (old.session).requests) drains.count) (old.session).closing (sym (ap (λ (held : SessionModel). held.closing) is) ∙ e))),
+            (λ e. open-said (nat_le (length (old.session).requests) drains.count) (old.session).closing (sym (ap (λ (held : SessionModel). held.closing) is) ∙ e))
+            (λ why f. faulted-said (nat_le (length (old.session).requests) drains.count) (old.session).closing why (subst (FaultedBy why) (ap (λ (held : SessionModel). held.closing) is) f))),
         out-kept old.session session old.commands (drain_keeps waits_for most_drained old.session old.unpushed (Ok n) session unpushed (bytes, grown, count, drains)) out,
       )
 
@@ -293,6 +310,8 @@ module _ {C : Type 0} (law : DrainsOutput) (whole : FrontIsWhole) (came : List �
       lives = lived.lives;
       told = lived.told;
       drained = lived.drained ∙ ap (λ bs. went ++ bs) split ∙ sym (append_assoc went bytes unpushed);
+      counted = lived.counted;
+      met = lived.met;
       read = lived.read;
     },
     out,
@@ -305,7 +324,7 @@ module _ {C : Type 0} (law : DrainsOutput) (whole : FrontIsWhole) (came : List �
     here,
     one-call came ends (ends ++ (ticket, end) ∷ []) went old.session session old.unfed old.unfed old.unpushed old.unpushed (ToldIn ticket end) lived (ended-out old.session old.commands ticket end has out, does) refl
         (sym (append-nil old.unpushed))
-        (nothing-read came old.session session old.unfed (ap (λ (held : SessionModel). held.incoming) does) (λ e. sym (ap (λ (held : SessionModel). held.closing) does) ∙ e)),
+        (stays-closed came old.session session old.unfed (ap (λ (held : SessionModel). held.incoming) does) (ap (λ (held : SessionModel). held.closing) does)),
     out-ended old.session session old.commands ticket end has does out,
   )
 
@@ -330,27 +349,27 @@ module _ {C : Type 0} where
   abbrev client_in : ClientContext C → ClientModel C
   client_in context = context.client
 
-  module _ (moves : Moves C) (law : DrainsOutput) (whole : FrontIsWhole) where
+  module _ (moves : Moves C) (law : DrainsOutput) (whole : FrontIsWhole) (faulty : FrontIsFaulty) where
     -- an event of a client that is there
     there-on : (came : List ℕ) (ends : List (Ticket × Ended)) (went : List ℕ) (event : ClientEvent) (old new : ClientContext C) → ClientDoes moves old event new → IsThere came ends went old.client
         → LivesOn (came ++ pulled_by event) ends (went ++ pushed_by event) new.client
     there-on came ends went (Pulled bytes) old new (moved, is) there =
         subst (λ ws. LivesOn (came ++ bytes) ends ws new.client) (sym (append-nil went))
-        (subst (λ (x : ClientModel C). LivesOn (came ++ bytes) ends went x) (sym (ap client_in is)) (inl (pulled-there law whole came ends went old.client (new.client).port bytes there)))
-    there-on came ends went (Fed result) old new (does, is) there = becomes came ends went new _ (ap client_in is) (inl (fed-there law whole came ends went old.client result _ does there))
-    there-on came ends went (Read result) old new (does, is) there = becomes came ends went new _ (ap client_in is) (inl (read-there law whole came ends went old.client result _ does there))
+        (subst (λ (x : ClientModel C). LivesOn (came ++ bytes) ends went x) (sym (ap client_in is)) (inl (pulled-there law whole faulty came ends went old.client (new.client).port bytes there)))
+    there-on came ends went (Fed result) old new (does, is) there = becomes came ends went new _ (ap client_in is) (inl (fed-there law whole faulty came ends went old.client result _ does there))
+    there-on came ends went (Read result) old new (does, is) there = becomes came ends went new _ (ap client_in is) (inl (read-there law whole faulty came ends went old.client result _ does there))
     there-on came ends went (HandedOut ticket part) old new (here, none, does, is) there =
-        becomes came ends went new _ (ap client_in is) (inl (handed-there law whole came ends went old.client ticket part _ does there))
+        becomes came ends went new _ (ap client_in is) (inl (handed-there law whole faulty came ends went old.client ticket part _ does there))
     there-on came ends went (Followed ticket part) old new (here, (before, last, those, does), is) there =
-        becomes came ends went new _ (ap client_in is) (inl (followed-there law whole came ends went old.client last.ticket ticket part _ does there))
+        becomes came ends went new _ (ap client_in is) (inl (followed-there law whole faulty came ends went old.client last.ticket ticket part _ does there))
     there-on came ends went (Looked slot) old new (looks, is) there = becomes came ends went new _ (ap client_in is) (inl there)
     there-on came ends went (CameBack run) old new (posts, is) there = becomes came ends went new _ (ap client_in is) (inl there)
     there-on came ends went (Posted run) old new does (here, lived, out) =
         becomes came ends went new _ (ap client_in does.12) (inl (here, lived, out-run (old.client).session (old.client).commands does.0 does.1 does.2 does.3 out))
-    there-on came ends went (Drained n) old new (here, does, is) there = becomes came ends went new _ (ap client_in is) (inl (drained-there law whole came ends went old.client n _ _ does there))
+    there-on came ends went (Drained n) old new (here, does, is) there = becomes came ends went new _ (ap client_in is) (inl (drained-there law whole faulty came ends went old.client n _ _ does there))
     there-on came ends went (Pushed bytes) old new (moved, split, is) there =
         subst (λ cs. LivesOn cs ends (went ++ bytes) new.client) (sym (append-nil came))
-        (subst (λ (x : ClientModel C). LivesOn came ends (went ++ bytes) x) (sym (ap client_in is)) (inl (pushed-there law whole came ends went old.client (new.client).port bytes (new.client).unpushed split there)))
+        (subst (λ (x : ClientModel C). LivesOn came ends (went ++ bytes) x) (sym (ap client_in is)) (inl (pushed-there law whole faulty came ends went old.client (new.client).port bytes (new.client).unpushed split there)))
     there-on came ends went Tried old new (moved, is) there = becomes came ends went new _ (ap client_in is) (inl there)
     there-on came ends went Parted old new (here, hangs, is) there =
         becomes came ends went new _ (ap client_in is) (inr (refl, refl, lives-written law came ends went old.client (inl there)))
@@ -388,7 +407,7 @@ module _ {C : Type 0} where
     pub finishes : (came : List ℕ) (ends : List (Ticket × Ended)) (went : List ℕ) (old new : ClientModel C) (ticket : Ticket) (end : Ended) → Finishes moves old ticket end new → LivesOn came ends went old
         → LivesOn came (ends ++ (ticket, end) ∷ []) went new
     finishes came ends went old new ticket end (has, noted, does, is) (inl there) =
-        subst (λ (x : ClientModel C). LivesOn came (ends ++ (ticket, end) ∷ []) went x) (sym is) (inl (finished-there law whole came ends went old ticket end new.port new.session has does there))
+        subst (λ (x : ClientModel C). LivesOn came (ends ++ (ticket, end) ∷ []) went x) (sym is) (inl (finished-there law whole faulty came ends went old ticket end new.port new.session has does there))
     finishes came ends went old new ticket end (has, noted, does, is) (inr (gone, none, w)) =
         subst (λ (x : ClientModel C). LivesOn came (ends ++ (ticket, end) ∷ []) went x) (sym is)
         (inr (gone, none, subst (λ cs. IsWritten cs (ends ++ (ticket, end) ∷ []) went) (append-nil came) (written-on came ends went [] ((ticket, end) ∷ []) w)))

@@ -14,7 +14,7 @@ use Rattle.session_order.specs.PendingReply.{owed_for}
 use Rattle.session_order.specs.Replies.{bytes_of, spelling, joined, lines_owed}
 use Rattle.session_order.specs.Output.{ends_from, replies_told, output_of, until_quit}
 use Rattle.session_order.proofs.Told.{after, ends_more}
-use Rattle.turn_laws.specs.ClientOutput.{IsWritten}
+use Rattle.turn_laws.specs.ClientOutput.{BeginsWithFault, IsWritten, requests_of}
 
 -- more stands behind
 pub front-then : {A : Type 0} (xs ys more : List A) → IsPrefix xs ys → IsPrefix xs (ys ++ more)
@@ -42,12 +42,18 @@ output-more read told more faulted =
     let front = replies-more told more 0 owed (lines_owed faulted) in
     (bytes_of front.0, sym (flat_map-append spelling (replies_told told 0 owed (lines_owed faulted)) front.0) ∙ ap bytes_of front.1)
 
+-- a fault stays, whatever comes behind
+pub fault-then : (read : List (List (List ℕ))) (rest more : List ℕ) → BeginsWithFault read rest → BeginsWithFault read (rest ++ more)
+fault-then read rest more (bytes, front, is) = (bytes, front-then bytes rest more front, is)
+
 pub written-on : (came : List ℕ) (ends : List (Ticket × Ended)) (went bytes : List ℕ) (more : List (Ticket × Ended)) → IsWritten came ends went → IsWritten (came ++ bytes) (ends ++ more) went
 written-on came ends went bytes more w = record {
   values = w.values;
   text = w.text;
+  rest = w.rest ++ bytes;
   spelled = w.spelled;
-  read = front-then w.text came bytes w.read;
+  are = ap (λ front. front ++ bytes) w.are ∙ append_assoc w.text w.rest bytes;
   faulted = w.faulted;
+  fault = λ met. fault-then (requests_of w.values) w.rest bytes (w.fault met);
   front = front-of went _ _ w.front (output-more _ ends more w.faulted);
 }

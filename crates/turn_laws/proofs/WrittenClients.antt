@@ -6,8 +6,9 @@ use Rattle.std.specs.List.{FoldsTo, flat_map}
 use Rattle.std.specs.FinMap.{FinMap, get, insert, remove, get-empty}
 use Rattle.std.specs.Ordering.{nat_cmp}
 use Rattle.std.proofs.lemmas.List.{append-nil}
+use Rattle.std.proofs.lemmas.Bool.{false≢true}
 use Rattle.std.proofs.lemmas.Bool.Decides.{eqb_tells}
-use Rattle.resp_wire.specs.Laws.{FrontIsWhole}
+use Rattle.resp_wire.specs.Laws.{FrontIsFaulty, FrontIsWhole}
 use Rattle.resp_wire.specs.LimitsModel.{full}
 use Rattle.key_split.specs.declared.travel.Ticket.{Ticket}
 use Rattle.key_split.specs.declared.travel.Told.{Told}
@@ -37,7 +38,7 @@ rises None next number above past less = past tt
 rises (Some last) next number above past less = past (omega (arith, above, less))
 
 none-written : IsWritten [] [] []
-none-written = record { values = []; text = []; spelled = refl; read = ([], refl); faulted = false; front = ([], refl) }
+none-written = record { values = []; text = []; rest = []; spelled = refl; are = refl; faulted = false; fault = λ met. absurd (false≢true met); front = ([], refl) }
 
 module _ {C J : Type 0} (number : ℕ) where
   -- the client of this number is still to come,
@@ -90,7 +91,7 @@ module _ {C J : Type 0} (number : ℕ) where
       alter came (came ++ more) ends (ends ++ told) went (went ++ out) model (sym (append-nil came) ∙ ap (λ x. came ++ x) (sym p)) (sym (append-nil ends) ∙ ap (λ x. ends ++ x) (sym q))
       (sym (append-nil went) ∙ ap (λ x. went ++ x) (sym r)) stands
 
-  module _ (moves : Moves C) (law : DrainsOutput) (whole : FrontIsWhole) (came : List ℕ) (ends : List (Ticket × Ended)) (went : List ℕ) (old new : WorkerModel C J) where
+  module _ (moves : Moves C) (law : DrainsOutput) (whole : FrontIsWhole) (faulty : FrontIsFaulty) (came : List ℕ) (ends : List (Ticket × Ended)) (went : List ℕ) (old new : WorkerModel C J) where
     -- all is as it was, but for what is not seen
     as-it-was : new.clients ≡ old.clients → new.newest ≡ old.newest → Stands came ends went old → Stands (came ++ []) (ends ++ []) (went ++ []) new
     as-it-was clients newest stands =
@@ -102,7 +103,7 @@ module _ {C J : Type 0} (number : ℕ) where
         (λ (z : (nat_eq other number ≡ true) × (other ≡ number)).
         let it = here-is came ends went old client (ap (get old.clients) (sym z.1) ∙ at) stands in
         let there : get new.clients number ≡ Some client' = ap (λ (x : WorkerModel C J). get x.clients number) is ∙ ap (λ k. get (insert old.clients k client') number) z.1 ∙ put-same old.clients number client' in
-        let lives = lives-on moves law whole came ends went event (record { client = client; outlet = old.outlet; view = old.view }) (record { client = client'; outlet = new.outlet; view = new.view }) does it.1 in
+        let lives = lives-on moves law whole faulty came ends went event (record { client = client; outlet = old.outlet; view = old.view }) (record { client = client'; outlet = new.outlet; view = new.view }) does it.1 in
         alter (came ++ pulled_by event) (came ++ if_own number other (pulled_by event)) ends (ends ++ []) (went ++ pushed_by event) (went ++ if_own number other (pushed_by event)) new
         (ap (λ x. came ++ x) (sym (own number other (pulled_by event) z.0))) (sym (append-nil ends)) (ap (λ x. went ++ x) (sym (own number other (pushed_by event) z.0)))
         (inr (inl (λ above. it.0 (subst (λ o. IsAbove o number) (ap (λ (x : WorkerModel C J). x.newest) is) above), client', there, lives))))
@@ -120,7 +121,7 @@ module _ {C J : Type 0} (number : ℕ) where
         let there : get new.clients number ≡ Some client' = ap (λ (x : WorkerModel C J). get x.clients number) is ∙ ap (λ k. get (insert old.clients k client') number) z.1 ∙ put-same old.clients number client' in
         alter came (came ++ []) (ends ++ (ticket, end) ∷ []) (ends ++ if_own number other ((ticket, end) ∷ [])) went (went ++ []) new
         (sym (append-nil came)) (ap (λ x. ends ++ x) (sym (own number other ((ticket, end) ∷ []) z.0))) (sym (append-nil went))
-        (inr (inl (λ above. it.0 (subst (λ o. IsAbove o number) (ap (λ (x : WorkerModel C J). x.newest) is) above), client', there, finishes moves law whole came ends went client client' ticket end does it.1))))
+        (inr (inl (λ above. it.0 (subst (λ o. IsAbove o number) (ap (λ (x : WorkerModel C J). x.newest) is) above), client', there, finishes moves law whole faulty came ends went client client' ticket end does it.1))))
         (λ (z : (nat_eq other number ≡ false) × (other ≢ number)).
         unseen came [] ends (if_own number other ((ticket, end) ∷ [])) went [] new refl (not-own number other ((ticket, end) ∷ []) z.0) refl
         (aside came ends went old new (ap (λ (x : WorkerModel C J). get x.clients number) is ∙ put-other old.clients other number client' (λ e. z.1 (sym e)))
@@ -184,14 +185,14 @@ module _ {C J : Type 0} (number : ℕ) where
     one-event FoundNobody (takes, is) stands = as-it-was (ap (λ (x : WorkerModel C J). x.clients) is) (ap (λ (x : WorkerModel C J). x.newest) is) stands
     one-event (Left other) does stands = leaves other does stands
 
-  module _ (moves : Moves C) (law : DrainsOutput) (whole : FrontIsWhole) where
+  module _ (moves : Moves C) (law : DrainsOutput) (whole : FrontIsWhole) (faulty : FrontIsFaulty) where
     all-events : (events : List WorkerEvent) (came : List ℕ) (ends : List (Ticket × Ended)) (went : List ℕ) (old new : WorkerModel C J) → FoldsTo (WorkerDoes moves) old events new → Stands came ends went old
         → Stands (came ++ flat_map (bytes_from number) events) (ends ++ flat_map (ends_for number) events) (went ++ flat_map (bytes_to number) events) new
     all-events [] came ends went old new same stands = unseen came [] ends [] went [] new refl refl refl (subst (λ (x : WorkerModel C J). Stands came ends went x) same stands)
     all-events (event ∷ events) came ends went old new (mid, does, more) stands =
         alter _ _ _ _ _ _ new (append_assoc came (bytes_from number event) (flat_map (bytes_from number) events)) (append_assoc ends (ends_for number event) (flat_map (ends_for number) events))
         (append_assoc went (bytes_to number event) (flat_map (bytes_to number) events))
-        (all-events events (came ++ bytes_from number event) (ends ++ ends_for number event) (went ++ bytes_to number event) mid new more (one-event moves law whole came ends went old mid event does stands))
+        (all-events events (came ++ bytes_from number event) (ends ++ ends_for number event) (went ++ bytes_to number event) mid new more (one-event moves law whole faulty came ends went old mid event does stands))
 
 -- ---- a system's worker
 
@@ -258,14 +259,14 @@ module _ {C J : Type 0} where
   all-steps k (Moved event ∷ events) s s' (mid, step, more) = quiet k (Moved event) (flat_map (events_at k) events) s mid tt step (all-steps k events mid s' more)
 
 module _ (C J : Type 0) where
-  pub clients-are-written : DrainsOutput → FrontIsWhole → ClientsAreWritten C J
-  clients-are-written law whole old new events none does number =
+  pub clients-are-written : DrainsOutput → FrontIsWhole → FrontIsFaulty → ClientsAreWritten C J
+  clients-are-written law whole faulty old new events none does number =
       let start : Stands number [] [] [] old = inl (ap (λ (m : FinMap nat_cmp (ClientModel C)). get m number) none ∙ get-empty nat_cmp number, refl, refl, refl) in
-      stands-written number law (flat_map (bytes_from number) events) (flat_map (ends_for number) events) (flat_map (bytes_to number) events) new (all-events number any_moves law whole events [] [] [] old new does start)
+      stands-written number law (flat_map (bytes_from number) events) (flat_map (ends_for number) events) (flat_map (bytes_to number) events) new (all-events number any_moves law whole faulty events [] [] [] old new does start)
 
-  pub all-clients-are-written : DrainsOutput → FrontIsWhole → AllClientsAreWritten C J
-  all-clients-are-written law whole s s' events start steps k number = by (slice_get s.workers k) refl (all-steps k events s s' steps)
+  pub all-clients-are-written : DrainsOutput → FrontIsWhole → FrontIsFaulty → AllClientsAreWritten C J
+  all-clients-are-written law whole faulty s s' events start steps k number = by (slice_get s.workers k) refl (all-steps k events s s' steps)
     where
       by : (o : Option (WorkerModel C J)) → slice_get s.workers k ≡ o → Does k o (flat_map (events_at k) events) → IsWrittenBy (flat_map (events_at k) events) number
       by None none nothing = subst (λ es. IsWrittenBy es number) (sym nothing) none-written
-      by (Some old) at (new, does) = clients-are-written law whole old new (flat_map (events_at k) events) (start.idle k old at).1 does number
+      by (Some old) at (new, does) = clients-are-written law whole faulty old new (flat_map (events_at k) events) (start.idle k old at).1 does number

@@ -1,16 +1,20 @@
 -- What each client is written: a front of the output of its requests and of the ends that it is told.
 -- A worker's turns are a list of events. One client saw three things of it: the bytes that came from it, the ends of its parts, and
 -- the bytes that went to it.
-use Rattle.std.specs.Prelude.{◌≡◌, ℕ, List, [], ◌∷◌, Bool, if◌then◌else◌, nat_eq}
+use Rattle.std.specs.Prelude.{◌≡◌, ◌⊎◌, ◌<◌, ◌^◌, ℕ, List, [], ◌∷◌, ◌++◌, Bool, true, if◌then◌else◌, map, nat_eq}
 use Rattle.std.specs.List.{FoldsTo, flat_map}
 use Rattle.std.specs.FinMap.{empty}
 use mathlib.Core.List.{IsPrefix}
 use Rattle.resp_wire.specs.Data.{Data, items_of}
 use Rattle.resp_wire.specs.LimitsModel.{full}
-use Rattle.resp_wire.specs.Spelling.{SpellsAll}
+use Rattle.resp_wire.specs.Spelling.{Spells, SpellsAll}
+use Rattle.resp_wire.specs.Stream.{HasFault}
+use Rattle.resp_wire.specs.declared.fault.WireFault.{WireFault}
 use Rattle.key_split.specs.declared.travel.Ticket.{Ticket}
 use Rattle.key_split.specs.declared.travel.Ended.{Ended}
 use Rattle.session_order.specs.Requests.{RequestKindModel, Words, Skipped, Refused, asked_of}
+use Rattle.session_order.specs.PendingReply.{owed_for}
+use Rattle.session_order.specs.Replies.{parts_of}
 use Rattle.session_order.specs.Output.{output_of}
 use Rattle.proxy_turns.specs.ClientTurn.{ClientEvent, Pulled, Pushed}
 use Rattle.proxy_turns.specs.WorkerModel.{WorkerModel, WorkerEvent, Did, Finished, WorkerDoes}
@@ -51,24 +55,37 @@ bytes_to number event = []
 
 -- ---- what it is to see
 
-abbrev pub words_in : RequestKindModel → List (List (List ℕ))
-words_in (Words words) = words ∷ []
-words_in Skipped = []
-words_in Refused = []
+abbrev pub request_of : RequestKindModel → List (List (List ℕ))
+request_of (Words words) = words ∷ []
+request_of Skipped = []
+request_of Refused = []
 
 -- the requests among these values
-abbrev pub requests_in : List Data → List (List (List ℕ))
-requests_in values = flat_map (λ value. words_in (asked_of value)) values
+abbrev pub requests_of : List Data → List (List (List ℕ))
+requests_of values = flat_map (λ value. request_of (asked_of value)) values
 
--- The bytes that came begin with the spellings of some values: their requests were read. The bytes that went are a front of the output
--- of these requests and of the ends that were told, with a last error line where a fault was met.
+-- no request behind these: a value that is none, or one with more parts than can be numbered
+abbrev pub IsRefused : List (List (List ℕ)) → RequestKindModel → Type 0
+IsRefused read (Words words) = 2 ^ 48 < parts_of (map owed_for (read ++ words ∷ []))
+IsRefused read Skipped = ⊥
+IsRefused read Refused = Unit {0}
+
+-- what follows these requests is a fault of the client's: bytes that begin no value, or the spelling of a value that is refused
+abbrev pub BeginsWithFault : List (List (List ℕ)) → List ℕ → Type 0
+BeginsWithFault read rest =
+    (bytes : List ℕ) × IsPrefix bytes rest × (((fault : WireFault) × HasFault full bytes fault) ⊎ ((value : Data) × Spells full full.depth bytes value × IsRefused read (asked_of value)))
+
+-- The bytes that came are the spellings of some values, and a rest. The bytes that went are a front of the output of these requests
+-- and of the ends that were told, whose last error line stands for a fault at the front of the rest.
 pub record IsWritten (came : List ℕ) (ends : List (Ticket × Ended)) (went : List ℕ) : Type 0 where
   pub values : List Data
   pub text : List ℕ
+  pub rest : List ℕ
   pub spelled : SpellsAll full full.depth text (items_of values)
-  pub read : IsPrefix text came
+  pub are : came ≡ text ++ rest
   pub faulted : Bool
-  pub front : IsPrefix went (output_of (requests_in values) ends faulted)
+  pub fault : faulted ≡ true → BeginsWithFault (requests_of values) rest
+  pub front : IsPrefix went (output_of (requests_of values) ends faulted)
 
 -- so it is with the client of this number after these events of a worker
 abbrev pub IsWrittenBy : List WorkerEvent → ℕ → Type 0

@@ -11,7 +11,7 @@ use crate::wired_port::WiredPort;
 use key_split::laws::parts_of_plans_are_plain;
 use proxy_lanes::Naming;
 use proxy_turns::{ClientPort, Dial};
-use resp_wire::laws::front_is_whole;
+use resp_wire::laws::{front_is_faulty, front_is_whole};
 use session_order::drains_output;
 
 /// The headline holds after every schedule, however many events it has.
@@ -95,4 +95,5 @@ pub fn clients_are_written<C: Drop, J: Naming>()
 {
     drains_output();
     front_is_whole();
+    front_is_faulty();
 }
