@@ -46,7 +46,7 @@ output-more read told more faulted =
 pub fault-then : (read : List (List (List ℕ))) (rest more : List ℕ) → BeginsWithFault read rest → BeginsWithFault read (rest ++ more)
 fault-then read rest more (bytes, front, is) = (bytes, front-then bytes rest more front, is)
 
-pub written-on : (came : List ℕ) (ends : List (Ticket × Ended)) (went bytes : List ℕ) (more : List (Ticket × Ended)) → IsWritten came ends went → IsWritten (came ++ bytes) (ends ++ more) went
+pub written-on : (came : List ℕ) (ends : List (Ticket × Ended)) (went bytes : List ℕ) (more : List (Ticket × Ended)) → IsWritten IsPrefix came ends went → IsWritten IsPrefix (came ++ bytes) (ends ++ more) went
 written-on came ends went bytes more w = record {
   values = w.values;
   text = w.text;
@@ -55,5 +55,5 @@ written-on came ends went bytes more w = record {
   are = ap (λ front. front ++ bytes) w.are ∙ append_assoc w.text w.rest bytes;
   faulted = w.faulted;
   fault = λ met. fault-then (requests_of w.values) w.rest bytes (w.fault met);
-  front = front-of went _ _ w.front (output-more _ ends more w.faulted);
+  written = front-of went _ _ w.written (output-more _ ends more w.faulted);
 }

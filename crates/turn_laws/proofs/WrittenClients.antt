@@ -8,6 +8,7 @@ use Rattle.std.specs.Ordering.{nat_cmp}
 use Rattle.std.proofs.lemmas.List.{append-nil}
 use Rattle.std.proofs.lemmas.Bool.{false≢true}
 use Rattle.std.proofs.lemmas.Bool.Decides.{eqb_tells}
+use mathlib.Core.List.{IsPrefix}
 use Rattle.resp_wire.specs.Laws.{FrontIsFaulty, FrontIsWhole}
 use Rattle.resp_wire.specs.LimitsModel.{full}
 use Rattle.key_split.specs.declared.travel.Ticket.{Ticket}
@@ -23,8 +24,8 @@ use Rattle.turn_laws.specs.System.{System}
 use Rattle.turn_laws.specs.Steps.{SystemEvent, AtWorker, AtCarrier, AtNode, AtBroken, Thrown, Moved, SystemStep, WorkerStep, any_moves}
 use Rattle.turn_laws.specs.ClientOutput.{IsWritten, IsWrittenBy, bytes_from, bytes_to, ends_for, events_at, if_own, pulled_by, pushed_by, ClientsAreWritten, AllClientsAreWritten}
 use Rattle.turn_laws.proofs.Clients.{put-other, put-same}
-use Rattle.turn_laws.proofs.Ending.{removed-other}
-use Rattle.turn_laws.proofs.ClientLives.{LivesOn, born, finishes, hears, lives-on, lives-written, none-of, none-some, still-there}
+use Rattle.turn_laws.proofs.Ending.{one-of, removed-other}
+use Rattle.turn_laws.proofs.ClientLives.{LivesOn, served-written, born, finishes, hears, lives-on, lives-written, none-of, none-some, still-there}
 
 own : {X : Type 0} (number other : ℕ) (seen : List X) → nat_eq other number ≡ true → if_own number other seen ≡ seen
 own number other seen same = ap (λ b. if b then seen else []) same
@@ -37,8 +38,8 @@ rises : (newest : Option ℕ) (next number : ℕ) → IsAbove newest next → (I
 rises None next number above past less = past tt
 rises (Some last) next number above past less = past (omega (arith, above, less))
 
-none-written : IsWritten [] [] []
-none-written = record { values = []; text = []; rest = []; spelled = refl; are = refl; faulted = false; fault = λ met. absurd (false≢true met); front = ([], refl) }
+none-written : IsWritten IsPrefix [] [] []
+none-written = record { values = []; text = []; rest = []; spelled = refl; are = refl; faulted = false; fault = λ met. absurd (false≢true met); written = ([], refl) }
 
 module _ {C J : Type 0} (number : ℕ) where
   -- the client of this number is still to come,
@@ -51,14 +52,14 @@ module _ {C J : Type 0} (number : ℕ) where
 
   -- or it has left
   abbrev HasLeft : List ℕ → List (Ticket × Ended) → List ℕ → WorkerModel C J → Type 0
-  HasLeft came ends went model = (IsAbove model.newest number → ⊥) × (get model.clients number ≡ None) × IsWritten came ends went
+  HasLeft came ends went model = (IsAbove model.newest number → ⊥) × (get model.clients number ≡ None) × IsWritten IsPrefix came ends went
 
   abbrev Stands : List ℕ → List (Ticket × Ended) → List ℕ → WorkerModel C J → Type 0
   Stands came ends went model = IsToCome came ends went model ⊎ (IsHere came ends went model ⊎ HasLeft came ends went model)
 
-  stands-written : DrainsOutput → (came : List ℕ) (ends : List (Ticket × Ended)) (went : List ℕ) (model : WorkerModel C J) → Stands came ends went model → IsWritten came ends went
+  stands-written : DrainsOutput → (came : List ℕ) (ends : List (Ticket × Ended)) (went : List ℕ) (model : WorkerModel C J) → Stands came ends went model → IsWritten IsPrefix came ends went
   stands-written law came ends went model (inl (none, no-bytes, no-ends, no-more)) =
-      subst (λ ws. IsWritten came ends ws) (sym no-more) (subst (λ es. IsWritten came es []) (sym no-ends) (subst (λ cs. IsWritten cs [] []) (sym no-bytes) none-written))
+      subst (λ ws. IsWritten IsPrefix came ends ws) (sym no-more) (subst (λ es. IsWritten IsPrefix came es []) (sym no-ends) (subst (λ cs. IsWritten IsPrefix cs [] []) (sym no-bytes) none-written))
   stands-written law came ends went model (inr (inl (past, client, there, lives))) = lives-written law came ends went client lives
   stands-written law came ends went model (inr (inr (past, none, w))) = w
 
@@ -214,59 +215,63 @@ module _ {C J : Type 0} where
   workers-stay (Thrown j) s s' none step = ap workers_of step.2
   workers-stay (Moved event) s s' none step = ap workers_of step.1
 
-  -- Worker k, where there is one, does its own events, and where there is none nothing happens at it.
-  abbrev Does : ℕ → Option (WorkerModel C J) → List WorkerEvent → Type 0
-  Does k None events = events ≡ []
-  Does k (Some old) events = (new : WorkerModel C J) × FoldsTo (WorkerDoes any_moves) old events new
-
-  its-own : (k : ℕ) (old : WorkerModel C J) (event : WorkerEvent) (events : List WorkerEvent) (next : WorkerModel C J) (o : Option (WorkerModel C J)) → o ≡ Some old → WorkerDoes any_moves old event next
-      → Does k (Some next) events → Does k o (event ∷ events)
-  its-own k old event events next o is does (new, more) = subst (λ x. Does k x (event ∷ events)) (sym is) (new, (next, does, more))
-
-  does-none : (k : ℕ) (o : Option (WorkerModel C J)) → Does k o []
-  does-none k None = refl
-  does-none k (Some old) = (old, refl)
+  -- worker k does these events, up to this
+  abbrev Does : WorkerModel C J → Option (WorkerModel C J) → List WorkerEvent → Type 0
+  Does last o events = (old : WorkerModel C J) × (o ≡ Some old) × FoldsTo (WorkerDoes any_moves) old events last
 
   other-place : (xs : List (WorkerModel C J)) (j k : ℕ) (x : WorkerModel C J) → j ≢ k → slice_get (slice_set xs j x) k ≡ slice_get xs k
   other-place xs j k x ne = by (slice_get xs k) refl
     where
       by : (o : Option (WorkerModel C J)) → slice_get xs k ≡ o → slice_get (slice_set xs j x) k ≡ slice_get xs k
       by (Some y) is = set-other xs j x k y (λ e. ne (sym e)) is ∙ sym is
-      by None is = none-of (slice_get (slice_set xs j x) k) (λ y at. ⊎_elim (λ (z : (k ≡ j) × (y ≡ x)). ne (sym z.0)) (λ (z : (k ≢ j) × (slice_get xs k ≡ Some y)). none-some (slice_get xs k) y is z.1) (at-set xs j x k y at)) ∙ sym is
+      by None is =
+          none-of (slice_get (slice_set xs j x) k)
+              (λ y at. ⊎_elim (λ (z : (k ≡ j) × (y ≡ x)). ne (sym z.0)) (λ (z : (k ≢ j) × (slice_get xs k ≡ Some y)). none-some (slice_get xs k) y is z.1) (at-set xs j x k y at)) ∙ sym is
 
-  at-worker : (k j : ℕ) (event : WorkerEvent) (events : List WorkerEvent) (s s' : System C J) → WorkerStep s j event s' → Does k (slice_get s'.workers k) events
-      → Does k (slice_get s.workers k) (if_own k j (event ∷ []) ++ events)
-  at-worker k j event events s s' step more = ⊎_elim
+  -- an event of its own is the first of those that follow
+  its-own : (last old next : WorkerModel C J) (event : WorkerEvent) (events : List WorkerEvent) → WorkerDoes any_moves old event next → Does last (Some next) events → Does last (Some old) (event ∷ events)
+  its-own last old next event events does d =
+      let same : d.0 ≡ next = one-of (Some next) d.0 next d.1 refl in
+      (old, refl, (next, does, subst (λ (x : WorkerModel C J). FoldsTo (WorkerDoes any_moves) x events last) same d.2))
+
+  at-worker : (k j : ℕ) (last : WorkerModel C J) (event : WorkerEvent) (events : List WorkerEvent) (s s' : System C J) → WorkerStep s j event s' → Does last (slice_get s'.workers k) events
+      → Does last (slice_get s.workers k) (if_own k j (event ∷ []) ++ events)
+  at-worker k j last event events s s' step more = ⊎_elim
       (λ (z : (nat_eq j k ≡ true) × (j ≡ k)).
       let now : slice_get s'.workers k ≡ Some step.new = ap (λ (x : System C J). slice_get x.workers k) step.leaves ∙ ap (slice_get (slice_set s.workers j step.new)) (sym z.1) ∙ set-same s.workers j step.old step.new step.at in
-      subst (λ es. Does k (slice_get s.workers k) (es ++ events)) (sym (own k j (event ∷ []) z.0))
-      (its-own k step.old event events step.new (slice_get s.workers k) (ap (slice_get s.workers) (sym z.1) ∙ step.at) step.does (subst (λ o. Does k o events) now more)))
+      let was : slice_get s.workers k ≡ Some step.old = ap (slice_get s.workers) (sym z.1) ∙ step.at in
+      subst (λ es. Does last (slice_get s.workers k) (es ++ events)) (sym (own k j (event ∷ []) z.0))
+      (subst (λ o. Does last o (event ∷ events)) (sym was) (its-own last step.old step.new event events step.does (subst (λ o. Does last o events) now more))))
       (λ (z : (nat_eq j k ≡ false) × (j ≢ k)).
       let same : slice_get s'.workers k ≡ slice_get s.workers k = ap (λ (x : System C J). slice_get x.workers k) step.leaves ∙ other-place s.workers j k step.new z.1 in
-      subst (λ es. Does k (slice_get s.workers k) (es ++ events)) (sym (not-own k j (event ∷ []) z.0)) (subst (λ o. Does k o events) same more))
+      subst (λ es. Does last (slice_get s.workers k) (es ++ events)) (sym (not-own k j (event ∷ []) z.0)) (subst (λ o. Does last o events) same more))
       (eqb_tells j k)
 
-  quiet : (k : ℕ) (event : SystemEvent) (events : List WorkerEvent) (s s' : System C J) → IsNoWorkers event → SystemStep s event s' → Does k (slice_get s'.workers k) events → Does k (slice_get s.workers k) events
-  quiet k event events s s' none step more = subst (λ (ws : List (WorkerModel C J)). Does k (slice_get ws k) events) (workers-stay event s s' none step) more
+  quiet : (k : ℕ) (last : WorkerModel C J) (event : SystemEvent) (events : List WorkerEvent) (s s' : System C J) → IsNoWorkers event → SystemStep s event s' → Does last (slice_get s'.workers k) events
+      → Does last (slice_get s.workers k) events
+  quiet k last event events s s' none step more = subst (λ (ws : List (WorkerModel C J)). Does last (slice_get ws k) events) (workers-stay event s s' none step) more
 
-  all-steps : (k : ℕ) (events : List SystemEvent) (s s' : System C J) → FoldsTo SystemStep s events s' → Does k (slice_get s.workers k) (flat_map (events_at k) events)
-  all-steps k [] s s' same = does-none k (slice_get s.workers k)
-  all-steps k (AtWorker j event ∷ events) s s' (mid, step, more) = at-worker k j event (flat_map (events_at k) events) s mid step (all-steps k events mid s' more)
-  all-steps k (AtCarrier event ∷ events) s s' (mid, step, more) = quiet k (AtCarrier event) (flat_map (events_at k) events) s mid tt step (all-steps k events mid s' more)
-  all-steps k (AtNode j verdict ∷ events) s s' (mid, step, more) = quiet k (AtNode j verdict) (flat_map (events_at k) events) s mid tt step (all-steps k events mid s' more)
-  all-steps k (AtBroken j verdict ∷ events) s s' (mid, step, more) = quiet k (AtBroken j verdict) (flat_map (events_at k) events) s mid tt step (all-steps k events mid s' more)
-  all-steps k (Thrown j ∷ events) s s' (mid, step, more) = quiet k (Thrown j) (flat_map (events_at k) events) s mid tt step (all-steps k events mid s' more)
-  all-steps k (Moved event ∷ events) s s' (mid, step, more) = quiet k (Moved event) (flat_map (events_at k) events) s mid tt step (all-steps k events mid s' more)
+  all-steps : (k : ℕ) (last : WorkerModel C J) (events : List SystemEvent) (s s' : System C J) → FoldsTo SystemStep s events s' → slice_get s'.workers k ≡ Some last
+      → Does last (slice_get s.workers k) (flat_map (events_at k) events)
+  all-steps k last [] s s' same at = (last, ap (λ (x : System C J). slice_get x.workers k) same ∙ at, refl)
+  all-steps k last (AtWorker j event ∷ events) s s' (mid, step, more) at = at-worker k j last event (flat_map (events_at k) events) s mid step (all-steps k last events mid s' more at)
+  all-steps k last (AtCarrier event ∷ events) s s' (mid, step, more) at = quiet k last (AtCarrier event) (flat_map (events_at k) events) s mid tt step (all-steps k last events mid s' more at)
+  all-steps k last (AtNode j verdict ∷ events) s s' (mid, step, more) at = quiet k last (AtNode j verdict) (flat_map (events_at k) events) s mid tt step (all-steps k last events mid s' more at)
+  all-steps k last (AtBroken j verdict ∷ events) s s' (mid, step, more) at = quiet k last (AtBroken j verdict) (flat_map (events_at k) events) s mid tt step (all-steps k last events mid s' more at)
+  all-steps k last (Thrown j ∷ events) s s' (mid, step, more) at = quiet k last (Thrown j) (flat_map (events_at k) events) s mid tt step (all-steps k last events mid s' more at)
+  all-steps k last (Moved event ∷ events) s s' (mid, step, more) at = quiet k last (Moved event) (flat_map (events_at k) events) s mid tt step (all-steps k last events mid s' more at)
 
 module _ (C J : Type 0) where
   pub clients-are-written : DrainsOutput → FrontIsWhole → FrontIsFaulty → ClientsAreWritten C J
-  clients-are-written law whole faulty old new events none does number =
-      let start : Stands number [] [] [] old = inl (ap (λ (m : FinMap nat_cmp (ClientModel C)). get m number) none ∙ get-empty nat_cmp number, refl, refl, refl) in
-      stands-written number law (flat_map (bytes_from number) events) (flat_map (ends_for number) events) (flat_map (bytes_to number) events) new (all-events number any_moves law whole faulty events [] [] [] old new does start)
+  clients-are-written law whole faulty old new events none does = record {
+    front = λ number. stands-written number law _ _ _ new (stands number);
+    whole = λ number client at still served. served-written law _ _ _ client still served (here-is number _ _ _ new client at (stands number)).1;
+  }
+    where
+      stands : (number : ℕ) → Stands number (flat_map (bytes_from number) events) (flat_map (ends_for number) events) (flat_map (bytes_to number) events) new
+      stands number = all-events number any_moves law whole faulty events [] [] [] old new does (inl (ap (λ (m : FinMap nat_cmp (ClientModel C)). get m number) none ∙ get-empty nat_cmp number, refl, refl, refl))
 
   pub all-clients-are-written : DrainsOutput → FrontIsWhole → FrontIsFaulty → AllClientsAreWritten C J
-  all-clients-are-written law whole faulty s s' events start steps k number = by (slice_get s.workers k) refl (all-steps k events s s' steps)
-    where
-      by : (o : Option (WorkerModel C J)) → slice_get s.workers k ≡ o → Does k o (flat_map (events_at k) events) → IsWrittenBy (flat_map (events_at k) events) number
-      by None none nothing = subst (λ es. IsWrittenBy es number) (sym nothing) none-written
-      by (Some old) at (new, does) = clients-are-written law whole faulty old new (flat_map (events_at k) events) (start.idle k old at).1 does number
+  all-clients-are-written law whole faulty s s' events start steps k model at =
+      let (old, was, does) = all-steps k model events s s' steps at in
+      clients-are-written law whole faulty old model (flat_map (events_at k) events) (start.idle k old was).1 does

@@ -1,9 +1,9 @@
 -- What each client is written: a front of the output of its requests and of the ends that it is told.
 -- A worker's turns are a list of events. One client saw three things of it: the bytes that came from it, the ends of its parts, and
 -- the bytes that went to it.
-use Rattle.std.specs.Prelude.{◌≡◌, ◌⊎◌, ◌<◌, ◌^◌, ℕ, List, [], ◌∷◌, ◌++◌, Bool, true, if◌then◌else◌, map, nat_eq}
+use Rattle.std.specs.Prelude.{◌≡◌, ◌⊎◌, ◌<◌, ◌^◌, ℕ, List, [], ◌∷◌, ◌++◌, Bool, true, false, Some, if◌then◌else◌, map, nat_eq, slice_get}
 use Rattle.std.specs.List.{FoldsTo, flat_map}
-use Rattle.std.specs.FinMap.{empty}
+use Rattle.std.specs.FinMap.{empty, get}
 use mathlib.Core.List.{IsPrefix}
 use Rattle.resp_wire.specs.Data.{Data, items_of}
 use Rattle.resp_wire.specs.LimitsModel.{full}
@@ -16,6 +16,7 @@ use Rattle.session_order.specs.Requests.{RequestKindModel, Words, Skipped, Refus
 use Rattle.session_order.specs.PendingReply.{owed_for}
 use Rattle.session_order.specs.Replies.{parts_of}
 use Rattle.session_order.specs.Output.{output_of}
+use Rattle.proxy_turns.specs.ClientModel.{ClientModel, IsClientServed}
 use Rattle.proxy_turns.specs.ClientTurn.{ClientEvent, Pulled, Pushed}
 use Rattle.proxy_turns.specs.WorkerModel.{WorkerModel, WorkerEvent, Did, Finished, WorkerDoes}
 use Rattle.turn_laws.specs.System.{System}
@@ -55,6 +56,7 @@ bytes_to number event = []
 
 -- ---- what it is to see
 
+-- the request that a value asks for, if it asks for one
 abbrev pub request_of : RequestKindModel → List (List (List ℕ))
 request_of (Words words) = words ∷ []
 request_of Skipped = []
@@ -75,9 +77,9 @@ abbrev pub BeginsWithFault : List (List (List ℕ)) → List ℕ → Type 0
 BeginsWithFault read rest =
     (bytes : List ℕ) × IsPrefix bytes rest × (((fault : WireFault) × HasFault full bytes fault) ⊎ ((value : Data) × Spells full full.depth bytes value × IsRefused read (asked_of value)))
 
--- The bytes that came are the spellings of some values, and a rest. The bytes that went are a front of the output of these requests
--- and of the ends that were told, whose last error line stands for a fault at the front of the rest.
-pub record IsWritten (came : List ℕ) (ends : List (Ticket × Ended)) (went : List ℕ) : Type 0 where
+-- The bytes that came are the spellings of some values, and a rest. The bytes that went are so much of the output of the requests among
+-- them and of the ends that were told; its last error line stands for a fault at the front of the rest.
+pub record IsWritten (so_much : List ℕ → List ℕ → Type 0) (came : List ℕ) (ends : List (Ticket × Ended)) (went : List ℕ) : Type 0 where
   pub values : List Data
   pub text : List ℕ
   pub rest : List ℕ
@@ -85,11 +87,18 @@ pub record IsWritten (came : List ℕ) (ends : List (Ticket × Ended)) (went : L
   pub are : came ≡ text ++ rest
   pub faulted : Bool
   pub fault : faulted ≡ true → BeginsWithFault (requests_of values) rest
-  pub front : IsPrefix went (output_of (requests_of values) ends faulted)
+  pub written : so_much went (output_of (requests_of values) ends faulted)
 
 -- so it is with the client of this number after these events of a worker
-abbrev pub IsWrittenBy : List WorkerEvent → ℕ → Type 0
-IsWrittenBy events number = IsWritten (flat_map (bytes_from number) events) (flat_map (ends_for number) events) (flat_map (bytes_to number) events)
+abbrev pub IsWrittenBy : (List ℕ → List ℕ → Type 0) → List WorkerEvent → ℕ → Type 0
+IsWrittenBy so_much events number = IsWritten so_much (flat_map (bytes_from number) events) (flat_map (ends_for number) events) (flat_map (bytes_to number) events)
+
+-- what clients are written by these events, which led to this worker
+pub record AreWritten {C J : Type 0} (events : List WorkerEvent) (model : WorkerModel C J) : Type 0 where
+  -- each client that ever came a front of its output,
+  pub front : (number : ℕ) → IsWrittenBy IsPrefix events number
+  -- and one that is served, before it leaves, all of it
+  pub whole : (number : ℕ) (client : ClientModel C) → get model.clients number ≡ Some client → client.gone ≡ false → IsClientServed client → IsWrittenBy (λ went all. went ≡ all) events number
 
 -- the events of this worker
 abbrev pub events_at : ℕ → SystemEvent → List WorkerEvent
@@ -97,12 +106,11 @@ events_at k (AtWorker other event) = if_own k other (event ∷ [])
 events_at k event = []
 
 module _ (C J : Type 0) where
-  -- Whatever a worker does that had no clients: each client is written a front of its output.
+  -- whatever a worker does that had no clients
   abbrev pub ClientsAreWritten : Type 0
-  ClientsAreWritten = (old new : WorkerModel C J) (events : List WorkerEvent) → old.clients ≡ empty → FoldsTo (WorkerDoes any_moves) old events new
-      → (number : ℕ) → IsWrittenBy events number
+  ClientsAreWritten = (old new : WorkerModel C J) (events : List WorkerEvent) → old.clients ≡ empty → FoldsTo (WorkerDoes any_moves) old events new → AreWritten events new
 
-  -- And so it is whatever a system does from its start.
+  -- and whatever a system does from its start
   abbrev pub AllClientsAreWritten : Type 0
   AllClientsAreWritten = (s s' : System C J) (events : List SystemEvent) → IsStart s → FoldsTo SystemStep s events s'
-      → (k number : ℕ) → IsWrittenBy (flat_map (events_at k) events) number
+      → (k : ℕ) (model : WorkerModel C J) → slice_get s'.workers k ≡ Some model → AreWritten (flat_map (events_at k) events) model
