@@ -7,7 +7,6 @@ use Rattle.std.specs.Cmp.{nat_cmp_total, eq_by_cmp_equiv}
 use Rattle.std.proofs.lemmas.Bool.{false≢true}
 use Rattle.std.proofs.lemmas.List.{append-nil}
 use Rattle.std.proofs.lemmas.List.Elements.{All-head, All-nil, All-push, All-tail, All-weaker}
-use mathlib.Core.List.{IsPrefix}
 use Rattle.resp_wire.specs.Laws.{FrontIsFaulty, FrontIsWhole}
 use Rattle.resp_wire.specs.LimitsModel.{full}
 use Rattle.key_split.specs.PartModel.{PartModel}
@@ -30,9 +29,9 @@ use Rattle.proxy_turns.specs.Port.{Moves}
 use Rattle.proxy_turns.specs.Commands.{CommandsModel, HasEnd, Hears, TakesRun, awaiting, with_command, with_fresh, with_posted, with_run}
 use Rattle.proxy_turns.specs.ClientModel.{ClientModel, IsClientServed, new_client}
 use Rattle.proxy_turns.specs.ClientTurn.{ClientContext, ClientEvent, Pulled, Fed, Read, HandedOut, Followed, Looked, CameBack, Posted, Drained, Pushed, Tried, Parted, Dropped, ClientDoes, Finishes, left_of, most_drained}
-use Rattle.turn_laws.specs.ClientOutput.{IsWritten, pulled_by, pushed_by}
+use Rattle.turn_laws.specs.ClientOutput.{pulled_by, pushed_by}
 use Rattle.turn_laws.proofs.Clients.{put-apart, put-other}
-use Rattle.turn_laws.proofs.OutputFronts.{written-on}
+use Rattle.turn_laws.proofs.OutputFronts.{IsFront, IsWhole, written-on}
 use Rattle.turn_laws.proofs.RequestsRead.{AreCounted, HasRead, fed, kept, open-faulted, pulled, reads}
 use Rattle.turn_laws.proofs.SessionLives.{Lived, one-call, front-written, whole-written}
 
@@ -166,19 +165,19 @@ abbrev pub IsThere : {C : Type 0} → List ℕ → List (Ticket × Ended) → Li
 IsThere came ends went client = (client.gone ≡ false) × Lived came ends went client.session client.unfed client.unpushed × AreOut client.session client.commands
 
 abbrev pub IsGone : {C : Type 0} → List ℕ → List (Ticket × Ended) → List ℕ → ClientModel C → Type 0
-IsGone came ends went client = (client.gone ≡ true) × (client.unpushed ≡ []) × IsWritten IsPrefix came ends went
+IsGone came ends went client = (client.gone ≡ true) × (client.unpushed ≡ []) × IsFront came ends went
 
 abbrev pub LivesOn : {C : Type 0} → List ℕ → List (Ticket × Ended) → List ℕ → ClientModel C → Type 0
 LivesOn came ends went client = IsThere came ends went client ⊎ IsGone came ends went client
 
 -- so it is written a front of its output
-pub lives-written : DrainsOutput → {C : Type 0} (came : List ℕ) (ends : List (Ticket × Ended)) (went : List ℕ) (client : ClientModel C) → LivesOn came ends went client → IsWritten IsPrefix came ends went
+pub lives-written : DrainsOutput → {C : Type 0} (came : List ℕ) (ends : List (Ticket × Ended)) (went : List ℕ) (client : ClientModel C) → LivesOn came ends went client → IsFront came ends went
 lives-written law came ends went client (inl (here, lived, out)) = front-written law came ends went client.session client.unfed client.unpushed lived
 lives-written law came ends went client (inr (gone, none, w)) = w
 
 -- and all of it where it is served, and not gone
 pub served-written : DrainsOutput → {C : Type 0} (came : List ℕ) (ends : List (Ticket × Ended)) (went : List ℕ) (client : ClientModel C) → client.gone ≡ false → IsClientServed client
-    → LivesOn came ends went client → IsWritten (λ out all. out ≡ all) came ends went
+    → LivesOn came ends went client → IsWhole came ends went
 served-written law came ends went client still (finished, none) (inl (here, lived, out)) = whole-written law came ends went client.session client.unfed client.unpushed finished none lived
 served-written law came ends went client still served (inr (gone, none, w)) = absurd (false≢true (sym still ∙ gone))
 
@@ -388,7 +387,7 @@ module _ {C : Type 0} where
     gone-on came ends went (Pulled bytes) old new (moved, is) (gone, none, w) =
         subst (λ ws. LivesOn (came ++ bytes) ends ws new.client) (sym (append-nil went))
         (subst (λ (x : ClientModel C). LivesOn (came ++ bytes) ends went x) (sym (ap client_in is))
-        (inr (gone, none, subst (λ es. IsWritten IsPrefix (came ++ bytes) es went) (append-nil ends) (written-on came ends went bytes [] w))))
+        (inr (gone, none, subst (λ es. IsFront (came ++ bytes) es went) (append-nil ends) (written-on came ends went bytes [] w))))
     gone-on came ends went (Fed result) old new (does, is) (gone, none, w) = becomes came ends went new _ (ap client_in is) (inr (gone, none, w))
     gone-on came ends went (Read result) old new (does, is) (gone, none, w) = becomes came ends went new _ (ap client_in is) (inr (gone, none, w))
     gone-on came ends went (HandedOut ticket part) old new (here, none, does, is) (gone, empty-handed, w) = absurd (true-false (old.client).gone gone here)
@@ -417,4 +416,4 @@ module _ {C : Type 0} where
         subst (λ (x : ClientModel C). LivesOn came (ends ++ (ticket, end) ∷ []) went x) (sym is) (inl (finished-there law whole faulty came ends went old ticket end new.port new.session has does there))
     finishes came ends went old new ticket end (has, noted, does, is) (inr (gone, none, w)) =
         subst (λ (x : ClientModel C). LivesOn came (ends ++ (ticket, end) ∷ []) went x) (sym is)
-        (inr (gone, none, subst (λ cs. IsWritten IsPrefix cs (ends ++ (ticket, end) ∷ []) went) (append-nil came) (written-on came ends went [] ((ticket, end) ∷ []) w)))
+        (inr (gone, none, subst (λ cs. IsFront cs (ends ++ (ticket, end) ∷ []) went) (append-nil came) (written-on came ends went [] ((ticket, end) ∷ []) w)))

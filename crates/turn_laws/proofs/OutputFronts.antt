@@ -14,7 +14,7 @@ use Rattle.session_order.specs.PendingReply.{owed_for}
 use Rattle.session_order.specs.Replies.{bytes_of, spelling, joined, lines_owed}
 use Rattle.session_order.specs.Output.{ends_from, replies_told, output_of, until_quit}
 use Rattle.session_order.proofs.Told.{after, ends_more}
-use Rattle.turn_laws.specs.ClientOutput.{BeginsWithFault, IsWritten, requests_of}
+use Rattle.turn_laws.specs.ClientOutput.{BeginsWithFault, Pipeline, requests_of, whole_output}
 
 -- more stands behind
 pub front-then : {A : Type 0} (xs ys more : List A) → IsPrefix xs ys → IsPrefix xs (ys ++ more)
@@ -46,14 +46,24 @@ output-more read told more faulted =
 pub fault-then : (read : List (List (List ℕ))) (rest more : List ℕ) → BeginsWithFault read rest → BeginsWithFault read (rest ++ more)
 fault-then read rest more (bytes, front, is) = (bytes, front-then bytes rest more front, is)
 
-pub written-on : (came : List ℕ) (ends : List (Ticket × Ended)) (went bytes : List ℕ) (more : List (Ticket × Ended)) → IsWritten IsPrefix came ends went → IsWritten IsPrefix (came ++ bytes) (ends ++ more) went
-written-on came ends went bytes more w = record {
-  values = w.values;
-  text = w.text;
-  rest = w.rest ++ bytes;
-  spelled = w.spelled;
-  are = ap (λ front. front ++ bytes) w.are ∙ append_assoc w.text w.rest bytes;
-  faulted = w.faulted;
-  fault = λ met. fault-then (requests_of w.values) w.rest bytes (w.fault met);
-  written = front-of went _ _ w.written (output-more _ ends more w.faulted);
-}
+-- what went out is a front of the output for the pipeline that came
+abbrev pub IsFront : List ℕ → List (Ticket × Ended) → List ℕ → Type 0
+IsFront came ends went = (pipeline : Pipeline came) × IsPrefix went (whole_output pipeline ends)
+
+-- it is all of it
+abbrev pub IsWhole : List ℕ → List (Ticket × Ended) → List ℕ → Type 0
+IsWhole came ends went = (pipeline : Pipeline came) × (went ≡ whole_output pipeline ends)
+
+pub written-on : (came : List ℕ) (ends : List (Ticket × Ended)) (went bytes : List ℕ) (more : List (Ticket × Ended)) → IsFront came ends went → IsFront (came ++ bytes) (ends ++ more) went
+written-on came ends went bytes more (p, front) = (
+  record {
+    values = p.values;
+    text = p.text;
+    rest = p.rest ++ bytes;
+    spelled = p.spelled;
+    are = ap (λ before. before ++ bytes) p.are ∙ append_assoc p.text p.rest bytes;
+    faulted = p.faulted;
+    fault = λ met. fault-then (requests_of p.values) p.rest bytes (p.fault met);
+  },
+  front-of went (whole_output p ends) _ front (output-more (requests_of p.values) ends more p.faulted),
+)

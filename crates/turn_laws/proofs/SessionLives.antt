@@ -5,7 +5,6 @@ use Rattle.std.specs.List.{FoldsTo, flat_map, list_any}
 use Rattle.std.proofs.lemmas.Bool.{false≢true}
 use Rattle.std.proofs.lemmas.Grind.{flat_map-append}
 use Rattle.std.proofs.lemmas.List.{append-nil, length-map, length-set}
-use mathlib.Core.List.{IsPrefix}
 use Rattle.slot_hash.specs.Slot.{slot_of}
 use Rattle.resp_wire.specs.LimitsModel.{full}
 use Rattle.key_split.specs.declared.travel.Ticket.{Ticket}
@@ -31,7 +30,8 @@ use Rattle.session_order.specs.Life.{SessionCall, Fed, Read, Handed, Followed, T
 use Rattle.session_order.proofs.Added.{parts_of_push}
 use Rattle.session_order.proofs.Fewer.{parts_split}
 use Rattle.session_order.proofs.Told.{split_ok}
-use Rattle.turn_laws.specs.ClientOutput.{BeginsWithFault, IsWritten, requests_of}
+use Rattle.turn_laws.specs.ClientOutput.{BeginsWithFault, Pipeline, requests_of}
+use Rattle.turn_laws.proofs.OutputFronts.{IsFront, IsWhole}
 use Rattle.turn_laws.proofs.RequestsRead.{AreCounted, HasRead, open-faulted, parts-more}
 
 -- a fault was met
@@ -227,36 +227,42 @@ one-call came ends ends' went old new unfed unfed' unpushed unpushed' call l doe
   read = subst (λ rs. HasRead came rs new.incoming new.closing unfed') (sym (flat-push read_by l.calls call)) (reads (flat_map read_by l.calls) l.counted l.read);
 }
 
--- What went out is so much of the output: what waits to be pushed, and then what is next to be drained, stands behind it.
-written : DrainsOutput → (so_much : List ℕ → List ℕ → Type 0) (came : List ℕ) (ends : List (Ticket × Ended)) (went : List ℕ) (session : SessionModel) (unfed unpushed : List ℕ)
-    → ((all : List ℕ) → went ++ (unpushed ++ output session) ≡ all → so_much went all) → Lived came ends went session unfed unpushed → IsWritten so_much came ends went
-written law so_much came ends went session unfed unpushed stands l =
-    let all = law.balance l.worker l.number full l.calls session l.lives in
-    let faulted = list_any met_fault l.calls in
-    let same : output_of (flat_map read_by l.calls) (flat_map told_by l.calls) faulted ≡ output_of (requests_of (l.read).values) ends faulted = (λ i. output_of ((l.read).read_is i) (l.told i) faulted) in
-    record {
-      values = (l.read).values;
-      text = (l.read).text;
-      rest = (l.read).rest;
-      spelled = (l.read).spelled;
-      are = (l.read).are;
-      faulted = faulted;
-      fault = λ met. let (why, is) = l.met met in subst (λ rs. BeginsWithFault rs (l.read).rest) (l.read).read_is ((l.read).fault why is);
-      written = stands (output_of (requests_of (l.read).values) ends faulted) (sym (append_assoc went unpushed (output session)) ∙ ap (λ bytes. bytes ++ output session) (sym l.drained) ∙ all ∙ same);
-    }
+-- ---- what was written
 
--- it is a front of the output,
+-- the pipeline that was read
+abbrev pipeline : (came : List ℕ) (ends : List (Ticket × Ended)) (went : List ℕ) (session : SessionModel) (unfed unpushed : List ℕ) → Lived came ends went session unfed unpushed → Pipeline came
+pipeline came ends went session unfed unpushed l = record {
+  values = (l.read).values;
+  text = (l.read).text;
+  rest = (l.read).rest;
+  spelled = (l.read).spelled;
+  are = (l.read).are;
+  faulted = list_any met_fault l.calls;
+  fault = λ met. let (why, is) = l.met met in subst (λ rs. BeginsWithFault rs (l.read).rest) (l.read).read_is ((l.read).fault why is);
+}
+
+-- of its output, what waits to be pushed, and then what is next to be drained, stands behind what went out
+balance : DrainsOutput → (came : List ℕ) (ends : List (Ticket × Ended)) (went : List ℕ) (session : SessionModel) (unfed unpushed : List ℕ) (l : Lived came ends went session unfed unpushed)
+    → went ++ (unpushed ++ output session) ≡ output_of (requests_of (l.read).values) ends (list_any met_fault l.calls)
+balance law came ends went session unfed unpushed l =
+    sym (append_assoc went unpushed (output session)) ∙ ap (λ bytes. bytes ++ output session) (sym l.drained) ∙ law.balance l.worker l.number full l.calls session l.lives
+    ∙ (λ i. output_of ((l.read).read_is i) (l.told i) (list_any met_fault l.calls))
+
+-- so that is a front of the output,
 pub front-written : DrainsOutput → (came : List ℕ) (ends : List (Ticket × Ended)) (went : List ℕ) (session : SessionModel) (unfed unpushed : List ℕ) → Lived came ends went session unfed unpushed
-    → IsWritten IsPrefix came ends went
-front-written law came ends went session unfed unpushed = written law IsPrefix came ends went session unfed unpushed (λ all is. (unpushed ++ output session, is))
+    → IsFront came ends went
+front-written law came ends went session unfed unpushed l =
+    (pipeline came ends went session unfed unpushed l, (unpushed ++ output session, balance law came ends went session unfed unpushed l))
 
--- and all of it where the session is finished and nothing waits to be pushed
 none-next : (session : SessionModel) → IsFinished session → output session ≡ []
 none-next session (closed, none, no-line) =
     (λ i. bytes_of (replies (none i) session.stages session.ends (last_line session.closing))) ∙ ap bytes_of no-line
 
+-- and all of it where the session is finished and nothing waits to be pushed
 pub whole-written : DrainsOutput → (came : List ℕ) (ends : List (Ticket × Ended)) (went : List ℕ) (session : SessionModel) (unfed unpushed : List ℕ) → IsFinished session → unpushed ≡ []
-    → Lived came ends went session unfed unpushed → IsWritten (λ out all. out ≡ all) came ends went
-whole-written law came ends went session unfed unpushed finished none =
-    written law (λ out all. out ≡ all) came ends went session unfed unpushed
-    (λ all is. sym (append-nil went) ∙ ap (λ bytes. went ++ bytes) (sym (ap (λ bytes. bytes ++ output session) none ∙ none-next session finished)) ∙ is)
+    → Lived came ends went session unfed unpushed → IsWhole came ends went
+whole-written law came ends went session unfed unpushed finished none l =
+    let nothing : unpushed ++ output session ≡ [] = ap (λ bytes. bytes ++ output session) none ∙ none-next session finished in (
+      pipeline came ends went session unfed unpushed l,
+      sym (append-nil went) ∙ ap (λ bytes. went ++ bytes) (sym nothing) ∙ balance law came ends went session unfed unpushed l,
+    )

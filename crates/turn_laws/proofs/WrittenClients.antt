@@ -8,7 +8,6 @@ use Rattle.std.specs.Ordering.{nat_cmp}
 use Rattle.std.proofs.lemmas.List.{append-nil}
 use Rattle.std.proofs.lemmas.Bool.{false≢true}
 use Rattle.std.proofs.lemmas.Bool.Decides.{eqb_tells}
-use mathlib.Core.List.{IsPrefix}
 use Rattle.resp_wire.specs.Laws.{FrontIsFaulty, FrontIsWhole}
 use Rattle.resp_wire.specs.LimitsModel.{full}
 use Rattle.key_split.specs.declared.travel.Ticket.{Ticket}
@@ -22,9 +21,10 @@ use Rattle.proxy_turns.specs.WorkerModel.{WorkerModel, WorkerEvent, Did, Finishe
 use Rattle.world_laws.proofs.Recorded.{at-set, set-other, set-same}
 use Rattle.turn_laws.specs.System.{System}
 use Rattle.turn_laws.specs.Steps.{SystemEvent, AtWorker, AtCarrier, AtNode, AtBroken, Thrown, Moved, SystemStep, WorkerStep, any_moves}
-use Rattle.turn_laws.specs.ClientOutput.{IsWritten, IsWrittenBy, bytes_from, bytes_to, ends_for, events_at, if_own, pulled_by, pushed_by, ClientsAreWritten, AllClientsAreWritten}
+use Rattle.turn_laws.specs.ClientOutput.{bytes_from, bytes_to, ends_for, events_at, if_own, pulled_by, pushed_by, ClientsAreWritten, AllClientsAreWritten}
 use Rattle.turn_laws.proofs.Clients.{put-other, put-same}
 use Rattle.turn_laws.proofs.Ending.{one-of, removed-other}
+use Rattle.turn_laws.proofs.OutputFronts.{IsFront}
 use Rattle.turn_laws.proofs.ClientLives.{LivesOn, served-written, born, finishes, hears, lives-on, lives-written, none-of, none-some, still-there}
 
 own : {X : Type 0} (number other : ℕ) (seen : List X) → nat_eq other number ≡ true → if_own number other seen ≡ seen
@@ -38,8 +38,8 @@ rises : (newest : Option ℕ) (next number : ℕ) → IsAbove newest next → (I
 rises None next number above past less = past tt
 rises (Some last) next number above past less = past (omega (arith, above, less))
 
-none-written : IsWritten IsPrefix [] [] []
-none-written = record { values = []; text = []; rest = []; spelled = refl; are = refl; faulted = false; fault = λ met. absurd (false≢true met); written = ([], refl) }
+none-written : IsFront [] [] []
+none-written = (record { values = []; text = []; rest = []; spelled = refl; are = refl; faulted = false; fault = λ met. absurd (false≢true met) }, ([], refl))
 
 module _ {C J : Type 0} (number : ℕ) where
   -- the client of this number is still to come,
@@ -52,14 +52,14 @@ module _ {C J : Type 0} (number : ℕ) where
 
   -- or it has left
   abbrev HasLeft : List ℕ → List (Ticket × Ended) → List ℕ → WorkerModel C J → Type 0
-  HasLeft came ends went model = (IsAbove model.newest number → ⊥) × (get model.clients number ≡ None) × IsWritten IsPrefix came ends went
+  HasLeft came ends went model = (IsAbove model.newest number → ⊥) × (get model.clients number ≡ None) × IsFront came ends went
 
   abbrev Stands : List ℕ → List (Ticket × Ended) → List ℕ → WorkerModel C J → Type 0
   Stands came ends went model = IsToCome came ends went model ⊎ (IsHere came ends went model ⊎ HasLeft came ends went model)
 
-  stands-written : DrainsOutput → (came : List ℕ) (ends : List (Ticket × Ended)) (went : List ℕ) (model : WorkerModel C J) → Stands came ends went model → IsWritten IsPrefix came ends went
+  stands-written : DrainsOutput → (came : List ℕ) (ends : List (Ticket × Ended)) (went : List ℕ) (model : WorkerModel C J) → Stands came ends went model → IsFront came ends went
   stands-written law came ends went model (inl (none, no-bytes, no-ends, no-more)) =
-      subst (λ ws. IsWritten IsPrefix came ends ws) (sym no-more) (subst (λ es. IsWritten IsPrefix came es []) (sym no-ends) (subst (λ cs. IsWritten IsPrefix cs [] []) (sym no-bytes) none-written))
+      subst (λ ws. IsFront came ends ws) (sym no-more) (subst (λ es. IsFront came es []) (sym no-ends) (subst (λ cs. IsFront cs [] []) (sym no-bytes) none-written))
   stands-written law came ends went model (inr (inl (past, client, there, lives))) = lives-written law came ends went client lives
   stands-written law came ends went model (inr (inr (past, none, w))) = w
 
@@ -226,7 +226,7 @@ module _ {C J : Type 0} where
       by (Some y) is = set-other xs j x k y (λ e. ne (sym e)) is ∙ sym is
       by None is =
           none-of (slice_get (slice_set xs j x) k)
-              (λ y at. ⊎_elim (λ (z : (k ≡ j) × (y ≡ x)). ne (sym z.0)) (λ (z : (k ≢ j) × (slice_get xs k ≡ Some y)). none-some (slice_get xs k) y is z.1) (at-set xs j x k y at)) ∙ sym is
+          (λ y at. ⊎_elim (λ (z : (k ≡ j) × (y ≡ x)). ne (sym z.0)) (λ (z : (k ≢ j) × (slice_get xs k ≡ Some y)). none-some (slice_get xs k) y is z.1) (at-set xs j x k y at)) ∙ sym is
 
   -- an event of its own is the first of those that follow
   its-own : (last old next : WorkerModel C J) (event : WorkerEvent) (events : List WorkerEvent) → WorkerDoes any_moves old event next → Does last (Some next) events → Does last (Some old) (event ∷ events)

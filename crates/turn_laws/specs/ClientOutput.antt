@@ -77,9 +77,9 @@ abbrev pub BeginsWithFault : List (List (List ℕ)) → List ℕ → Type 0
 BeginsWithFault read rest =
     (bytes : List ℕ) × IsPrefix bytes rest × (((fault : WireFault) × HasFault full bytes fault) ⊎ ((value : Data) × Spells full full.depth bytes value × IsRefused read (asked_of value)))
 
--- The bytes that came are the spellings of some values, and a rest. The bytes that went are so much of the output of the requests among
--- them and of the ends that were told; its last error line stands for a fault at the front of the rest.
-pub record IsWritten (so_much : List ℕ → List ℕ → Type 0) (came : List ℕ) (ends : List (Ticket × Ended)) (went : List ℕ) : Type 0 where
+-- The pipeline of requests that a client's bytes are, as far as it was read: the spellings of some values, and a rest. Where a fault was
+-- met, the rest begins with one.
+pub record Pipeline (came : List ℕ) : Type 0 where
   pub values : List Data
   pub text : List ℕ
   pub rest : List ℕ
@@ -87,18 +87,18 @@ pub record IsWritten (so_much : List ℕ → List ℕ → Type 0) (came : List �
   pub are : came ≡ text ++ rest
   pub faulted : Bool
   pub fault : faulted ≡ true → BeginsWithFault (requests_of values) rest
-  pub written : so_much went (output_of (requests_of values) ends faulted)
 
--- so it is with the client of this number after these events of a worker
-abbrev pub IsWrittenBy : (List ℕ → List ℕ → Type 0) → List WorkerEvent → ℕ → Type 0
-IsWrittenBy so_much events number = IsWritten so_much (flat_map (bytes_from number) events) (flat_map (ends_for number) events) (flat_map (bytes_to number) events)
+-- the output for a pipeline, by the ends that were told
+abbrev pub whole_output : {came : List ℕ} → Pipeline came → List (Ticket × Ended) → List ℕ
+whole_output pipeline ends = output_of (requests_of pipeline.values) ends pipeline.faulted
 
 -- what clients are written by these events, which led to this worker
 pub record AreWritten {C J : Type 0} (events : List WorkerEvent) (model : WorkerModel C J) : Type 0 where
   -- each client that ever came a front of its output,
-  pub front : (number : ℕ) → IsWrittenBy IsPrefix events number
+  pub front : (number : ℕ) → (pipeline : Pipeline (flat_map (bytes_from number) events)) × IsPrefix (flat_map (bytes_to number) events) (whole_output pipeline (flat_map (ends_for number) events))
   -- and one that is served, before it leaves, all of it
-  pub whole : (number : ℕ) (client : ClientModel C) → get model.clients number ≡ Some client → client.gone ≡ false → IsClientServed client → IsWrittenBy (λ went all. went ≡ all) events number
+  pub whole : (number : ℕ) (client : ClientModel C) → get model.clients number ≡ Some client → client.gone ≡ false → IsClientServed client
+      → (pipeline : Pipeline (flat_map (bytes_from number) events)) × (flat_map (bytes_to number) events ≡ whole_output pipeline (flat_map (ends_for number) events))
 
 -- the events of this worker
 abbrev pub events_at : ℕ → SystemEvent → List WorkerEvent
