@@ -1,6 +1,7 @@
 -- The requests that a session read are those that the bytes which came begin with.
 use Rattle.std.proofs.Common.{◌≡◌, ◌++◌, ◌∷◌, [], ◌+◌, ◌^◌, List, ℕ, ◌<◌, refl, ap, sym, arith, subst, ◌∙◌, inl, inr, Option, Some, None, Result, Ok, Err, Bool, true, false, length, drop, append_assoc}
 use Rattle.std.specs.Prelude.{cond, map, nat_le}
+use Rattle.std.proofs.Math.Seq.{drop-length}
 use Rattle.std.proofs.lemmas.Grind.{flat_map-append}
 use Rattle.std.proofs.lemmas.List.{append-nil, map-append}
 use Rattle.resp_wire.specs.Data.{Data, items_of}
@@ -95,10 +96,6 @@ fed-open : (came text : List ℕ) (old new : SessionModel) (unfed : List ℕ) �
 fed-open came text old new unfed is (bounds, ahead, its, all) =
     subst (λ now. IsNext came text now []) (sym is) (bounds, ahead, its, all ∙ ap (λ more. text ++ (ahead ++ more)) (sym (append-nil (old.incoming.input.unread ++ unfed))))
 
-drop-all : {A : Type 0} (xs : List A) → drop (length xs) xs ≡ []
-drop-all [] = refl
-drop-all (x ∷ xs) = drop-all xs
-
 quit-open : Quit ≡ Open → ⊥
 quit-open e = absurd (cc)
 
@@ -123,7 +120,7 @@ pub fed : (came : List ℕ) (read : List (List (List ℕ))) (old : SessionModel)
     → HasRead came read old.incoming old.closing unfed → HasRead came read new.incoming new.closing (left_of unfed result)
 fed came read old unfed (Ok n) new (inl (full-up, none, is, unfaulted)) h = same-read came read old new (drop n unfed) is (subst (λ m. HasRead came read old.incoming old.closing (drop m unfed)) (sym none) h)
 fed came read old unfed (Ok n) new (inr (few, all, inl (opened, is))) h =
-    let none : drop n unfed ≡ [] = ap (λ m. drop m unfed) all ∙ drop-all unfed in
+    let none : drop n unfed ≡ [] = ap (λ m. drop m unfed) all ∙ drop-length unfed in
     subst (λ left. HasRead came read new.incoming new.closing left) (sym none)
     (feeds came read old new unfed [] (ap (λ (held : SessionModel). held.closing) is) h (λ still. fed-open came h.text old new unfed (ap (λ (held : SessionModel). held.incoming) is) (h.next opened)))
 fed came read old unfed (Ok n) new (inr (few, all, inr (quit, is))) h =

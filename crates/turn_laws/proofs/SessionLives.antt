@@ -1,42 +1,22 @@
 -- The life of a client's session, by what the client sees: the bytes that came from it, the ends that it was told, and the bytes that went to it.
-use Rattle.std.proofs.Common.{◌≡◌, ◌⊎◌, inl, inr, ◌++◌, ◌∷◌, [], ◌+◌, ◌-◌, ◌^◌, ◌||◌, List, ℕ, refl, ap, sym, subst, ◌∙◌, append_assoc, arith, Option, Some, None, Result, Ok, Err, Bool, true, false, length, take, length-append, length-drop}
-use Rattle.std.specs.Prelude.{if◌then◌else◌, map, nat_le, slice_set}
+use Rattle.std.proofs.Common.{◌≡◌, ◌⊎◌, inl, inr, ◌++◌, ◌∷◌, [], ◌||◌, List, ℕ, refl, ap, sym, subst, ◌∙◌, append_assoc, Bool, true, false}
 use Rattle.std.specs.List.{FoldsTo, flat_map, list_any}
-use Rattle.std.proofs.lemmas.Bool.{false≢true}
+use Rattle.std.proofs.Math.Bool.{or-false}
 use Rattle.std.proofs.lemmas.Grind.{flat_map-append}
-use Rattle.std.proofs.lemmas.List.{append-nil, length-map, length-set}
-use Rattle.slot_hash.specs.Slot.{slot_of}
+use Rattle.std.proofs.lemmas.List.{append-nil}
+use Rattle.std.proofs.lemmas.List.Folds.{list_any-append}
 use Rattle.resp_wire.specs.LimitsModel.{full}
 use Rattle.key_split.specs.declared.travel.Ticket.{Ticket}
 use Rattle.key_split.specs.declared.travel.Ended.{Ended}
-use Rattle.key_split.specs.declared.planned.Planned.{Planned}
-use Rattle.key_split.specs.declared.planned.Planned.TheVariants as planned
-use Rattle.key_split.specs.declared.planned.PlanFault.{PlanFault}
 use Rattle.session_order.specs.SessionModel.{SessionModel}
-use Rattle.session_order.specs.declared.queue.PartStage.{PartStage}
-use Rattle.session_order.specs.declared.queue.PartStage.TheVariants.{Waiting, Out, Done}
-use Rattle.session_order.specs.declared.closing.Closing.{Closing}
-use Rattle.session_order.specs.declared.closing.Closing.TheVariants.{Open, Quit, Faulted}
-use Rattle.session_order.specs.declared.closing.Broken.{Broken}
-use Rattle.session_order.specs.declared.closing.Broken.TheVariants as broken
-use Rattle.session_order.specs.declared.fault.SessionFault.{SessionFault}
-use Rattle.session_order.specs.declared.fault.SessionFault.TheVariants as session_fault
-use Rattle.session_order.specs.declared.fault.SessionFault.TheVariants.{Wire, NotRequest}
-use Rattle.session_order.specs.PendingReply.{owed_by, plan_for}
-use Rattle.session_order.specs.Replies.{bytes_of, last_line, output, parts_of, replies, said, without}
-use Rattle.session_order.specs.Steps.{FaultedBy, IsFinished, added, with_incoming, with_owed}
+use Rattle.session_order.specs.Replies.{bytes_of, last_line, output, replies}
+use Rattle.session_order.specs.Steps.{IsFinished}
 use Rattle.session_order.specs.Output.{output_of}
-use Rattle.session_order.specs.Life.{SessionCall, Fed, Read, Handed, Followed, Told, Drained, Reads, SessionDoes, fresh, read_by, told_by, drained_by, met_fault, DrainsOutput}
-use Rattle.session_order.proofs.Added.{parts_of_push}
-use Rattle.session_order.proofs.Fewer.{parts_split}
-use Rattle.session_order.proofs.Told.{split_ok}
+use Rattle.session_order.specs.Life.{SessionCall, SessionDoes, fresh, read_by, told_by, drained_by, met_fault, DrainsOutput}
 use Rattle.turn_laws.specs.ClientOutput.{BeginsWithFault, Pipeline, requests_of}
 use Rattle.turn_laws.proofs.OutputFronts.{IsFront, IsWhole}
-use Rattle.turn_laws.proofs.RequestsRead.{AreCounted, HasRead, open-faulted, parts-more}
-
--- a fault was met
-abbrev pub IsFaulted : Closing → Type 0
-IsFaulted closing = (why : Broken) × FaultedBy why closing
+use Rattle.turn_laws.proofs.RequestsRead.{AreCounted, HasRead}
+use Rattle.turn_laws.proofs.SessionKeeps.{IsFaulted, keeps}
 
 -- The calls that led to the session. What they drained went out, or waits to be pushed.
 pub record Lived (came : List ℕ) (ends : List (Ticket × Ended)) (went : List ℕ) (session : SessionModel) (unfed unpushed : List ℕ) : Type 0 where
@@ -57,155 +37,12 @@ folds-push does (y ∷ xs) x a b c (mid, first, rest) last = (mid, first, folds-
 flat-push : {X A : Type 0} (f : X → List A) (xs : List X) (x : X) → flat_map f (xs ++ x ∷ []) ≡ flat_map f xs ++ f x
 flat-push f xs x = flat_map-append f xs (x ∷ []) ∙ ap (λ last. flat_map f xs ++ last) (append-nil (f x))
 
--- ---- parts are counted
-
-alike : (read : List (List (List ℕ))) (old new : SessionModel) → new.first ≡ old.first → length new.stages ≡ length old.stages → new.requests ≡ old.requests → AreCounted read old → AreCounted (read ++ []) new
-alike read old new first long same (all, owed) =
-    subst (λ rs. AreCounted rs new) (sym (append-nil read)) (omega (arith, first, long, all), ap parts_of same ∙ owed ∙ sym long)
-
-abbrev Adds : SessionModel → Result Planned PlanFault → SessionModel → Type 0
-Adds old plan new = (new.first ≡ old.first) × (length new.stages ≡ length old.stages + parts_of (owed_by plan ∷ [])) × (parts_of new.requests ≡ parts_of old.requests + parts_of (owed_by plan ∷ []))
-
-adds : (old : SessionModel) (plan : Result Planned PlanFault) (new : SessionModel) → added old plan ≡ Ok new → Adds old plan new
-adds old (Err fault) new is = subst (Adds old (Err fault)) (sym (split_ok true (with_owed old (Err fault)) new is)) (refl, omega arith, parts_of_push old.requests (owed_by (Err fault)))
-adds old (Ok (planned.Local value)) new is =
-    subst (Adds old (Ok (planned.Local value))) (sym (split_ok true (with_owed old (Ok (planned.Local value))) new is)) (refl, omega arith, parts_of_push old.requests (owed_by (Ok (planned.Local value))))
-adds old (Ok planned.Close) new is =
-    subst (Adds old (Ok planned.Close)) (sym (split_ok true (record (with_owed old (Ok planned.Close)) { closing = Quit }) new is)) (refl, omega arith, parts_of_push old.requests (owed_by (Ok planned.Close)))
-adds old (Ok (planned.Parts how parts)) new is =
-    subst (Adds old (Ok (planned.Parts how parts))) (sym (split_ok (nat_le (old.first + length old.stages + length parts) (2 ^ 48)) _ new is))
-    (refl, omega (arith, length-append old.stages (map Waiting parts), length-map parts Waiting), parts_of_push old.requests (owed_by (Ok (planned.Parts how parts))))
-
-drops : (read : List (List (List ℕ))) (old new : SessionModel) (count : ℕ) → new ≡ without old (count, parts_of (take count old.requests)) → AreCounted read old → AreCounted (read ++ []) new
-drops read old new count is (all, owed) =
-    let m : ℕ = parts_of (take count old.requests) in
-    let split = parts_split count old.requests in
-    let long = length-drop m old.stages in
-    subst (λ held. AreCounted (read ++ []) held) (sym is) (subst (λ rs. AreCounted rs (without old (count, m))) (sym (append-nil read)) (omega (arith, all, owed, split, long), omega (arith, owed, split, long)))
-
-count-read : (read : List (List (List ℕ))) (result : Result Bool SessionFault) (words : Option (List (List ℕ))) (old new : SessionModel) → Reads old result words new → AreCounted read old → AreCounted (read ++ read_by (Read result words)) new
-count-read read (Ok true) (Some words) old new (may, rest, (next, is)) (all, owed) =
-    let (first, long, requests) = adds (with_incoming old rest) (plan_for words) new is in
-    (omega (arith, all, first, long, parts-more read words), omega (arith, owed, long, requests))
-count-read read (Ok true) None old new (may, takes, is) c = alike read old new (ap (λ (s : SessionModel). s.first) is) (ap (λ (s : SessionModel). length s.stages) is) (ap (λ (s : SessionModel). s.requests) is) c
-count-read read (Ok false) None old new (is, why) c = alike read old new (ap (λ (s : SessionModel). s.first) is) (ap (λ (s : SessionModel). length s.stages) is) (ap (λ (s : SessionModel). s.requests) is) c
-count-read read (Ok false) (Some words) old new does c = absurd does
-count-read read (Err session_fault.NoMemory) None old new (may, keeps, is) c = alike read old new (ap (λ (s : SessionModel). s.first) is) (ap (λ (s : SessionModel). length s.stages) is) (ap (λ (s : SessionModel). s.requests) is) c
-count-read read (Err (Wire fault)) None old new (inl (faulted, is)) c = alike read old new (ap (λ (s : SessionModel). s.first) is) (ap (λ (s : SessionModel). length s.stages) is) (ap (λ (s : SessionModel). s.requests) is) c
-count-read read (Err (Wire fault)) None old new (inr (may, garbled, is)) c = alike read old new (ap (λ (s : SessionModel). s.first) is) (ap (λ (s : SessionModel). length s.stages) is) (ap (λ (s : SessionModel). s.requests) is) c
-count-read read (Err NotRequest) None old new (inl (faulted, is)) c = alike read old new (ap (λ (s : SessionModel). s.first) is) (ap (λ (s : SessionModel). length s.stages) is) (ap (λ (s : SessionModel). s.requests) is) c
-count-read read (Err NotRequest) None old new (inr (inl (may, takes, is))) c = alike read old new (ap (λ (s : SessionModel). s.first) is) (ap (λ (s : SessionModel). length s.stages) is) (ap (λ (s : SessionModel). s.requests) is) c
-count-read read (Err NotRequest) None old new (inr (inr (may, words, rest, refused, is))) c = alike read old new (ap (λ (s : SessionModel). s.first) is) (ap (λ (s : SessionModel). length s.stages) is) (ap (λ (s : SessionModel). s.requests) is) c
-count-read read (Err session_fault.NoMemory) (Some words) old new does c = absurd does
-count-read read (Err (Wire fault)) (Some words) old new does c = absurd does
-count-read read (Err NotRequest) (Some words) old new does c = absurd does
-
--- ---- faults stay
-
-still-faulted : (old new : SessionModel) → new.closing ≡ old.closing → IsFaulted old.closing → IsFaulted new.closing
-still-faulted old new same faulted = subst IsFaulted (sym same) faulted
-
--- this call is no call of read
-abbrev IsNoRead : SessionCall → Type 0
-IsNoRead (Read result words) = ⊥
-IsNoRead call = Unit {0}
-
-said-faulted : (b : Bool) (closing : Closing) → IsFaulted closing → IsFaulted (if b then said closing else closing)
-said-faulted true Open (why, (owed, is)) = absurd (cc)
-said-faulted true Quit (why, (owed, is)) = absurd (cc)
-said-faulted true (Faulted own line) faulted = (own, (false, refl))
-said-faulted false closing faulted = faulted
-
-read-stays : (result : Result Bool SessionFault) (words : Option (List (List ℕ))) (old new : SessionModel) → Reads old result words new → IsFaulted old.closing → IsFaulted new.closing
-read-stays (Ok true) (Some words) old new (may, rest, reads) faulted = absurd (open-faulted faulted.0 old.closing may.0 faulted.1)
-read-stays (Ok true) None old new (may, takes, is) faulted = absurd (open-faulted faulted.0 old.closing may.0 faulted.1)
-read-stays (Ok false) None old new (is, why) faulted = still-faulted old new (ap (λ (s : SessionModel). s.closing) is) faulted
-read-stays (Ok false) (Some words) old new does faulted = absurd does
-read-stays (Err session_fault.NoMemory) None old new (may, keeps, is) faulted = absurd (open-faulted faulted.0 old.closing may.0 faulted.1)
-read-stays (Err (Wire fault)) None old new (inl (was, is)) faulted = still-faulted old new (ap (λ (s : SessionModel). s.closing) is) faulted
-read-stays (Err (Wire fault)) None old new (inr (may, garbled, is)) faulted = absurd (open-faulted faulted.0 old.closing may.0 faulted.1)
-read-stays (Err NotRequest) None old new (inl (was, is)) faulted = still-faulted old new (ap (λ (s : SessionModel). s.closing) is) faulted
-read-stays (Err NotRequest) None old new (inr (inl (may, takes, is))) faulted = absurd (open-faulted faulted.0 old.closing may.0 faulted.1)
-read-stays (Err NotRequest) None old new (inr (inr (may, words, rest, refused, is))) faulted = absurd (open-faulted faulted.0 old.closing may.0 faulted.1)
-read-stays (Err session_fault.NoMemory) (Some words) old new does faulted = absurd does
-read-stays (Err (Wire fault)) (Some words) old new does faulted = absurd does
-read-stays (Err NotRequest) (Some words) old new does faulted = absurd does
-
-read-meets : (result : Result Bool SessionFault) (words : Option (List (List ℕ))) (old new : SessionModel) → Reads old result words new → met_fault (Read result words) ≡ true → IsFaulted new.closing
-read-meets (Ok read) words old new does met = absurd (cc)
-read-meets (Err session_fault.NoMemory) words old new does met = absurd (cc)
-read-meets (Err (Wire fault)) None old new (inl (was, is)) met = still-faulted old new (ap (λ (s : SessionModel). s.closing) is) (broken.Wire fault, was)
-read-meets (Err (Wire fault)) None old new (inr (may, garbled, is)) met = (broken.Wire fault, (true, ap (λ (s : SessionModel). s.closing) is))
-read-meets (Err NotRequest) None old new (inl (was, is)) met = still-faulted old new (ap (λ (s : SessionModel). s.closing) is) (broken.NotRequest, was)
-read-meets (Err NotRequest) None old new (inr (inl (may, takes, is))) met = (broken.NotRequest, (true, ap (λ (s : SessionModel). s.closing) is))
-read-meets (Err NotRequest) None old new (inr (inr (may, words, rest, refused, is))) met = (broken.NotRequest, (true, ap (λ (s : SessionModel). s.closing) is))
-read-meets (Err (Wire fault)) (Some words) old new does met = absurd does
-read-meets (Err NotRequest) (Some words) old new does met = absurd does
-
--- ---- a call
-
--- what a call keeps of both
-record Keeps (read : List (List (List ℕ))) (call : SessionCall) (old new : SessionModel) : Type 0 where
-  counted : AreCounted read old → AreCounted (read ++ read_by call) new
-  stays : IsFaulted old.closing → IsFaulted new.closing
-  meets : met_fault call ≡ true → IsFaulted new.closing
-
--- a call that reads nothing, and leaves how the session is closed
-quiet : (read : List (List (List ℕ))) (call : SessionCall) (old new : SessionModel) → read_by call ≡ [] → met_fault call ≡ false → new.first ≡ old.first → length new.stages ≡ length old.stages
-    → new.requests ≡ old.requests → new.closing ≡ old.closing → Keeps read call old new
-quiet read call old new none unmet first long same closing = record {
-  counted = λ c. subst (λ rs. AreCounted (read ++ rs) new) (sym none) (alike read old new first long same c);
-  stays = still-faulted old new closing;
-  meets = λ met. absurd (false≢true (sym unmet ∙ met));
-}
-
-unchanged : (read : List (List (List ℕ))) (call : SessionCall) (old new : SessionModel) → read_by call ≡ [] → met_fault call ≡ false → new ≡ old → Keeps read call old new
-unchanged read call old new none unmet is =
-    quiet read call old new none unmet (ap (λ (s : SessionModel). s.first) is) (ap (λ (s : SessionModel). length s.stages) is) (ap (λ (s : SessionModel). s.requests) is) (ap (λ (s : SessionModel). s.closing) is)
-
--- a part changes at its place
-at-place : (read : List (List (List ℕ))) (call : SessionCall) (old new : SessionModel) (i : ℕ) (stage : PartStage) → read_by call ≡ [] → met_fault call ≡ false → new.first ≡ old.first → new.stages ≡ slice_set old.stages i stage
-    → new.requests ≡ old.requests → new.closing ≡ old.closing → Keeps read call old new
-at-place read call old new i stage none unmet first stages same closing = quiet read call old new none unmet first (ap length stages ∙ length-set old.stages i stage) same closing
-
-keeps : (read : List (List (List ℕ))) (call : SessionCall) (old new : SessionModel) → SessionDoes old call new → Keeps read call old new
-keeps read (Fed piece (Ok n)) old new (inl (full-up, none, is, opened)) = unchanged read (Fed piece (Ok n)) old new refl refl is
-keeps read (Fed piece (Ok n)) old new (inr (few, all, inl (opened, is))) =
-    quiet read (Fed piece (Ok n)) old new refl refl (ap (λ (s : SessionModel). s.first) is) (ap (λ (s : SessionModel). length s.stages) is) (ap (λ (s : SessionModel). s.requests) is) (ap (λ (s : SessionModel). s.closing) is)
-keeps read (Fed piece (Ok n)) old new (inr (few, all, inr (quit, is))) = unchanged read (Fed piece (Ok n)) old new refl refl is
-keeps read (Fed piece (Err session_fault.NoMemory)) old new (may, is) = unchanged read (Fed piece (Err session_fault.NoMemory)) old new refl refl is
-keeps read (Fed piece (Err (Wire fault))) old new (faulted, is) = unchanged read (Fed piece (Err (Wire fault))) old new refl refl is
-keeps read (Fed piece (Err NotRequest)) old new (faulted, is) = unchanged read (Fed piece (Err NotRequest)) old new refl refl is
-keeps read (Read result words) old new does = record { counted = count-read read result words old new does; stays = read-stays result words old new does; meets = read-meets result words old new does }
-keeps read (Handed None) old new (none, is) = unchanged read (Handed None) old new refl refl is
-keeps read (Handed (Some (ticket, part))) old new (i, next, numbered, is) =
-    at-place read (Handed (Some (ticket, part))) old new i (Out (slot_of part.key)) refl refl (ap (λ (s : SessionModel). s.first) is) (ap (λ (s : SessionModel). s.stages) is) (ap (λ (s : SessionModel). s.requests) is) (ap (λ (s : SessionModel). s.closing) is)
-keeps read (Followed last None) old new (none, is) = unchanged read (Followed last None) old new refl refl is
-keeps read (Followed last (Some (ticket, part))) old new (i, next, numbered, is) =
-    at-place read (Followed last (Some (ticket, part))) old new i (Out (slot_of part.key)) refl refl (ap (λ (s : SessionModel). s.first) is) (ap (λ (s : SessionModel). s.stages) is) (ap (λ (s : SessionModel). s.requests) is) (ap (λ (s : SessionModel). s.closing) is)
-keeps read (Told ticket end) old new (out, is) =
-    at-place read (Told ticket end) old new (ticket.part - old.first) Done refl refl (ap (λ (s : SessionModel). s.first) is) (ap (λ (s : SessionModel). s.stages) is) (ap (λ (s : SessionModel). s.requests) is) (ap (λ (s : SessionModel). s.closing) is)
-keeps read (Drained most (Ok n) bytes) old new (own, is-own, count, drains) = record {
-  counted = drops read old new drains.count drains.left;
-  stays = λ faulted. subst IsFaulted (sym (ap (λ (s : SessionModel). s.closing) drains.left)) (said-faulted (nat_le (length old.requests) drains.count) old.closing faulted);
-  meets = λ met. absurd (false≢true met);
-}
-keeps read (Drained most (Err refused) bytes) old new (none, is) = unchanged read (Drained most (Err refused) bytes) old new refl refl is
-
 or-cases : (a b : Bool) → (a || b) ≡ true → (a ≡ true) ⊎ (b ≡ true)
 or-cases true b e = inl refl
 or-cases false b e = inr e
 
-or-more : (a b : Bool) → b ≡ true → (a || b) ≡ true
-or-more true b e = refl
-or-more false b e = e
-
 any-last : {X : Type 0} (p : X → Bool) (xs : List X) (x : X) → list_any p (xs ++ x ∷ []) ≡ true → (list_any p xs ≡ true) ⊎ (p x ≡ true)
-any-last p [] x e = elim (or-cases (p x) false e) [ inl one ↦ inr one | inr none ↦ absurd (false≢true none) ]
-any-last p (y ∷ xs) x e = elim (or-cases (p y) (list_any p (xs ++ x ∷ [])) e) [
-  | inl one ↦ inl (ap (λ b. b || list_any p xs) one)
-  | inr more ↦ elim (any-last p xs x more) [ inl all ↦ inl (or-more (p y) (list_any p xs) all) | inr last ↦ inr last ]
-]
+any-last p xs x e = elim (or-cases (list_any p xs) (p x || false) (sym (list_any-append p xs (x ∷ [])) ∙ e)) [ inl before ↦ inl before | inr now ↦ inr (sym (or-false (p x)) ∙ now) ]
 
 -- one more call of the session
 pub one-call : (came : List ℕ) (ends ends' : List (Ticket × Ended)) (went : List ℕ) (old new : SessionModel) (unfed unfed' unpushed unpushed' : List ℕ) (call : SessionCall)

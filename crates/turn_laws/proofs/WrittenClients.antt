@@ -25,7 +25,8 @@ use Rattle.turn_laws.specs.ClientOutput.{bytes_from, bytes_to, ends_for, events_
 use Rattle.turn_laws.proofs.Clients.{put-other, put-same}
 use Rattle.turn_laws.proofs.Ending.{one-of, removed-other}
 use Rattle.turn_laws.proofs.OutputFronts.{IsFront}
-use Rattle.turn_laws.proofs.ClientLives.{LivesOn, served-written, born, finishes, hears, lives-on, lives-written, none-of, none-some, still-there}
+use Rattle.turn_laws.proofs.CommandsOut.{none-of, none-some, still-there}
+use Rattle.turn_laws.proofs.ClientLives.{LivesOn, served-written, born, finishes, hears, lives-on, lives-written}
 
 own : {X : Type 0} (number other : ℕ) (seen : List X) → nat_eq other number ≡ true → if_own number other seen ≡ seen
 own number other seen same = ap (λ b. if b then seen else []) same
