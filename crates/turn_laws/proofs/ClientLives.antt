@@ -31,26 +31,29 @@ use Rattle.turn_laws.specs.ClientOutput.{pulled_by, pushed_by}
 use Rattle.turn_laws.proofs.OutputFronts.{IsFront, IsWhole, written-on}
 use Rattle.turn_laws.proofs.RequestsRead.{AreCounted, HasRead, fed, kept, open-faulted, pulled, reads}
 use Rattle.turn_laws.proofs.SessionLives.{Lived, one-call, front-written, whole-written}
-use Rattle.turn_laws.proofs.CommandsOut.{AreOut, ended-out, none-some, not-posted, out-begun, out-ended, out-kept, out-put, out-run}
+use Rattle.turn_laws.proofs.Ending.{none-some}
+use Rattle.turn_laws.proofs.CommandsOut.{AreOut, ended-out, not-posted, out-begun, out-ended, out-kept, out-put, out-run}
 
 -- ---- one client
 
--- It is there, and its session lives; or it is gone, and nothing more goes out.
+-- it is there, and its session lives,
 abbrev pub IsThere : {C : Type 0} → List ℕ → List (Ticket × Ended) → List ℕ → ClientModel C → Type 0
 IsThere came ends went client = (client.gone ≡ false) × Lived came ends went client.session client.unfed client.unpushed × AreOut client.session client.commands
 
+-- or it is gone, and nothing more goes out
 abbrev pub IsGone : {C : Type 0} → List ℕ → List (Ticket × Ended) → List ℕ → ClientModel C → Type 0
 IsGone came ends went client = (client.gone ≡ true) × (client.unpushed ≡ []) × IsFront came ends went
 
+-- one of these
 abbrev pub LivesOn : {C : Type 0} → List ℕ → List (Ticket × Ended) → List ℕ → ClientModel C → Type 0
 LivesOn came ends went client = IsThere came ends went client ⊎ IsGone came ends went client
 
--- so it is written a front of its output
+-- it is written a front of its output,
 pub lives-written : DrainsOutput → {C : Type 0} (came : List ℕ) (ends : List (Ticket × Ended)) (went : List ℕ) (client : ClientModel C) → LivesOn came ends went client → IsFront came ends went
 lives-written law came ends went client (inl (here, lived, out)) = front-written law came ends went client.session client.unfed client.unpushed lived
 lives-written law came ends went client (inr (gone, none, w)) = w
 
--- and all of it where it is served, and not gone
+-- and all of it where it is served and not gone
 pub served-written : DrainsOutput → {C : Type 0} (came : List ℕ) (ends : List (Ticket × Ended)) (went : List ℕ) (client : ClientModel C) → client.gone ≡ false → IsClientServed client
     → LivesOn came ends went client → IsWhole came ends went
 served-written law came ends went client still (finished, none) (inl (here, lived, out)) = whole-written law came ends went client.session client.unfed client.unpushed finished none lived

@@ -17,15 +17,14 @@ use Rattle.session_order.specs.Steps.{EndOutcome, IsHandedOut, IsOutInOrder}
 use Rattle.session_order.proofs.Keeping.{KeepsBy, ended_keeps, waits_eases}
 use Rattle.proxy_turns.specs.Commands.{CommandsModel, HasEnd, TakesRun, awaiting, with_command, with_fresh, with_posted, with_run}
 use Rattle.turn_laws.proofs.Clients.{put-apart, put-other}
+use Rattle.turn_laws.proofs.Ending.{none-some, removed-none}
 
 -- Each command is of a part that is out in order, and those that were not posted are of no posted part.
 pub record AreOut (session : SessionModel) (commands : CommandsModel) : Type 0 where
   pub posted : (number : ℕ) (c : CommandModel) → get commands.posted number ≡ Some c → (c.ticket.part ≡ number) × IsOutInOrder session c.ticket
   pub fresh : All (λ c. IsOutInOrder session c.ticket × (get commands.posted c.ticket.part ≡ None)) commands.fresh
 
-pub none-some : {X : Type 0} (o : Option X) (x : X) → o ≡ None → o ≡ Some x → ⊥
-none-some o x p q = let e = sym p ∙ q in cc
-
+-- it is none, since it is none of these
 pub none-of : {X : Type 0} (o : Option X) → ((x : X) → o ≡ Some x → ⊥) → o ≡ None
 none-of None none = refl
 none-of (Some x) none = absurd (none x refl)
@@ -56,10 +55,6 @@ out-begun old new commands ticket part keeps here none out =
       fresh = All-push (λ c. IsOutInOrder new c.ticket × (get commands.posted c.ticket.part ≡ None)) commands.fresh (new_command ticket part) on.fresh (here, none);
     }
 
--- those that were not posted yet are dropped
-out-dropped : (session : SessionModel) (commands : CommandsModel) → AreOut session commands → AreOut session (record commands { fresh = [] })
-out-dropped session commands out = record { posted = out.posted; fresh = All-nil (λ c. IsOutInOrder session c.ticket × (get commands.posted c.ticket.part ≡ None)) }
-
 -- a posted command changes, and its ticket stays
 pub out-put : (session : SessionModel) (commands : CommandsModel) (number : ℕ) (c c' : CommandModel) → get commands.posted number ≡ Some c → c'.ticket ≡ c.ticket → AreOut session commands
     → AreOut session (with_command commands number c')
@@ -75,7 +70,7 @@ out-put session commands number c c' there same out = record {
       (λ d its. (its.0, put-other commands.posted number d.ticket.part c' (λ e. none-some (get commands.posted number) c (ap (get commands.posted) (sym e) ∙ its.1) there) ∙ its.1)) commands.fresh out.fresh;
 }
 
--- all that were not posted yet are
+-- all that were not posted yet are posted
 all-posted : (session : SessionModel) (posted : FinMap nat_cmp CommandModel) (cs : List CommandModel) → ((q : ℕ) (d : CommandModel) → get posted q ≡ Some d → (d.ticket.part ≡ q) × IsOutInOrder session d.ticket)
     → All (λ c. IsOutInOrder session c.ticket) cs → (q : ℕ) (d : CommandModel) → get (with_posted posted cs) q ≡ Some d → (d.ticket.part ≡ q) × IsOutInOrder session d.ticket
 all-posted session posted [] were own q d at = were q d at
@@ -114,16 +109,14 @@ still-there {X} m k q d there = by (eq_by_cmp nat_cmp q k) refl
     by true same = absurd (none-some (get (remove m k) q) d (at ∙ ap (λ b. cond b None (get m q)) same) there)
     by false apart = (sym (at ∙ ap (λ b. cond b None (get m q)) apart) ∙ there, λ e. false≢true (sym apart ∙ ap (eq_by_cmp nat_cmp q) (sym e) ∙ (eq_by_cmp_equiv nat_cmp_total).refl q))
 
-none-left : (m : FinMap nat_cmp CommandModel) (k q : ℕ) → get m q ≡ None → get (remove m k) q ≡ None
-none-left m k q none = none-of (get (remove m k) q) (λ d there. none-some (get m q) d none (still-there m k q d there).0)
-
--- a part ends
+-- a command that has ended is of a part that was handed out
 handed : (session : SessionModel) (ticket : Ticket) → IsOutInOrder session ticket → IsHandedOut session ticket
 handed session ticket (slot, low, at, worker, client, order) = (slot, low, at, worker, client)
 
 pub ended-out : (session : SessionModel) (commands : CommandsModel) (ticket : Ticket) (end : Ended) → HasEnd commands ticket.part ticket end → AreOut session commands → IsHandedOut session ticket
 ended-out session commands ticket end (c, there, named, over) out = handed session ticket (subst (IsOutInOrder session) named (out.posted ticket.part c there).1)
 
+-- its part ends
 pub out-ended : (old new : SessionModel) (commands : CommandsModel) (ticket : Ticket) (end : Ended) → HasEnd commands ticket.part ticket end → EndOutcome old ticket end new → AreOut old commands
     → AreOut new (record commands { posted = remove commands.posted ticket.part })
 out-ended old new commands ticket end has ends out =
@@ -135,6 +128,6 @@ out-ended old new commands ticket end has ends out =
           let its = out.posted q d was.0 in
           (its.0, keeps d.ticket (λ e. was.1 (sym its.0 ∙ e)) its.1);
       fresh = All-weaker (λ c. IsOutInOrder old c.ticket × (get commands.posted c.ticket.part ≡ None)) (λ c. IsOutInOrder new c.ticket × (get (remove commands.posted ticket.part) c.ticket.part ≡ None))
-          (λ c its. (keeps c.ticket (λ e. none-some (get commands.posted ticket.part) has.0 (ap (get commands.posted) (sym e) ∙ its.1) has.1) its.0, none-left commands.posted ticket.part c.ticket.part its.1))
+          (λ c its. (keeps c.ticket (λ e. none-some (get commands.posted ticket.part) has.0 (ap (get commands.posted) (sym e) ∙ its.1) has.1) its.0, removed-none commands.posted ticket.part c.ticket.part its.1))
           commands.fresh out.fresh;
     }

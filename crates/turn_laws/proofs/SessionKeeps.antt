@@ -28,12 +28,13 @@ use Rattle.turn_laws.proofs.RequestsRead.{AreCounted, open-faulted, parts-more}
 abbrev pub IsFaulted : Closing → Type 0
 IsFaulted closing = (why : Broken) × FaultedBy why closing
 
+-- what a call keeps of both
 pub record Keeps (read : List (List (List ℕ))) (call : SessionCall) (old new : SessionModel) : Type 0 where
   pub counted : AreCounted read old → AreCounted (read ++ read_by call) new
   pub stays : IsFaulted old.closing → IsFaulted new.closing
   pub meets : met_fault call ≡ true → IsFaulted new.closing
 
--- it is this session
+-- the session is this one
 by : {read : List (List (List ℕ))} {call : SessionCall} {old new other : SessionModel} → new ≡ other → Keeps read call old other → Keeps read call old new
 by {read} {call} {old} is keeps = subst (Keeps read call old) (sym is) keeps
 

@@ -23,9 +23,9 @@ use Rattle.turn_laws.specs.System.{System}
 use Rattle.turn_laws.specs.Steps.{SystemEvent, AtWorker, AtCarrier, AtNode, AtBroken, Thrown, Moved, SystemStep, WorkerStep, any_moves}
 use Rattle.turn_laws.specs.ClientOutput.{bytes_from, bytes_to, ends_for, events_at, if_own, pulled_by, pushed_by, ClientsAreWritten, AllClientsAreWritten}
 use Rattle.turn_laws.proofs.Clients.{put-other, put-same}
-use Rattle.turn_laws.proofs.Ending.{one-of, removed-other}
+use Rattle.turn_laws.proofs.Ending.{none-some, one-of, removed-other}
 use Rattle.turn_laws.proofs.OutputFronts.{IsFront}
-use Rattle.turn_laws.proofs.CommandsOut.{none-of, none-some, still-there}
+use Rattle.turn_laws.proofs.CommandsOut.{none-of, still-there}
 use Rattle.turn_laws.proofs.ClientLives.{LivesOn, served-written, born, finishes, hears, lives-on, lives-written}
 
 own : {X : Type 0} (number other : ℕ) (seen : List X) → nat_eq other number ≡ true → if_own number other seen ≡ seen
@@ -55,6 +55,7 @@ module _ {C J : Type 0} (number : ℕ) where
   abbrev HasLeft : List ℕ → List (Ticket × Ended) → List ℕ → WorkerModel C J → Type 0
   HasLeft came ends went model = (IsAbove model.newest number → ⊥) × (get model.clients number ≡ None) × IsFront came ends went
 
+  -- one of these
   abbrev Stands : List ℕ → List (Ticket × Ended) → List ℕ → WorkerModel C J → Type 0
   Stands came ends went model = IsToCome came ends went model ⊎ (IsHere came ends went model ⊎ HasLeft came ends went model)
 
