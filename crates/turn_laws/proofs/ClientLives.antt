@@ -71,6 +71,7 @@ born worker number port = inl (
     told = refl;
     drained = refl;
     counted = (refl, refl);
+    held = (tt, λ part le. refl);
     met = λ e. absurd (false≢true e);
     read = record { values = []; text = []; rest = []; spelled = refl; read_is = refl; are = refl; next = λ is. (refl, [], refl, refl); fault = λ why f. absurd (open-faulted why Open refl f) };
   },
@@ -124,6 +125,7 @@ module _ {C : Type 0} (law : DrainsOutput) (whole : FrontIsWhole) (faulty : Fron
       told = lived.told;
       drained = lived.drained;
       counted = lived.counted;
+      held = lived.held;
       met = lived.met;
       read = pulled came _ (old.session).incoming (old.session).closing old.unfed bytes lived.read;
     },
@@ -195,6 +197,7 @@ module _ {C : Type 0} (law : DrainsOutput) (whole : FrontIsWhole) (faulty : Fron
       told = lived.told;
       drained = lived.drained ∙ ap (λ bs. went ++ bs) split ∙ sym (append_assoc went bytes unpushed);
       counted = lived.counted;
+      held = lived.held;
       met = lived.met;
       read = lived.read;
     },

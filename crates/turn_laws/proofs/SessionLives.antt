@@ -17,6 +17,7 @@ use Rattle.turn_laws.specs.ClientOutput.{BeginsWithFault, Pipeline, requests_of}
 use Rattle.turn_laws.proofs.OutputFronts.{IsFront, IsWhole}
 use Rattle.turn_laws.proofs.RequestsRead.{AreCounted, HasRead}
 use Rattle.turn_laws.proofs.SessionKeeps.{IsFaulted, keeps}
+use Rattle.turn_laws.proofs.SessionTells.{HasTold, tells as told-on}
 
 -- The calls that led to the session. What they drained went out, or waits to be pushed.
 pub record Lived (came : List ℕ) (ends : List (Ticket × Ended)) (went : List ℕ) (session : SessionModel) (unfed unpushed : List ℕ) : Type 0 where
@@ -27,6 +28,7 @@ pub record Lived (came : List ℕ) (ends : List (Ticket × Ended)) (went : List 
   pub told : flat_map told_by calls ≡ ends
   pub drained : flat_map drained_by calls ≡ went ++ unpushed
   pub counted : AreCounted (flat_map read_by calls) session
+  pub held : HasTold ends session
   pub met : list_any met_fault calls ≡ true → IsFaulted session.closing
   pub read : HasRead came (flat_map read_by calls) session.incoming session.closing unfed
 
@@ -57,6 +59,7 @@ one-call came ends ends' went old new unfed unfed' unpushed unpushed' call l doe
   told = flat-push told_by l.calls call ∙ ap (λ es. es ++ told_by call) l.told ∙ sym tells;
   drained = flat-push drained_by l.calls call ∙ ap (λ bytes. bytes ++ drained_by call) l.drained ∙ append_assoc went unpushed (drained_by call) ∙ ap (λ bytes. went ++ bytes) (sym drains);
   counted = subst (λ rs. AreCounted rs new) (sym (flat-push read_by l.calls call)) ((keeps (flat_map read_by l.calls) call old new does).counted l.counted);
+  held = subst (λ es. HasTold es new) (sym tells) (told-on ends call old new does l.held);
   met = λ met. elim (any-last met_fault l.calls call met) [
     | inl before ↦ (keeps (flat_map read_by l.calls) call old new does).stays (l.met before)
     | inr now ↦ (keeps (flat_map read_by l.calls) call old new does).meets now
