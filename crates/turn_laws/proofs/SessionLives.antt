@@ -32,11 +32,11 @@ pub record Lived (came : List ℕ) (ends : List (Ticket × Ended)) (went : List 
   pub met : list_any met_fault calls ≡ true → IsFaulted session.closing
   pub read : HasRead came (flat_map read_by calls) session.incoming session.closing unfed
 
-folds-push : {S X : Type 0} (does : S → X → S → Type 0) (xs : List X) (x : X) (a b c : S) → FoldsTo does a xs b → does b x c → FoldsTo does a (xs ++ x ∷ []) c
+pub folds-push : {S X : Type 0} (does : S → X → S → Type 0) (xs : List X) (x : X) (a b c : S) → FoldsTo does a xs b → does b x c → FoldsTo does a (xs ++ x ∷ []) c
 folds-push {S} does [] x a b c same last = (c, subst (λ (s : S). does s x c) (sym same) last, refl)
 folds-push does (y ∷ xs) x a b c (mid, first, rest) last = (mid, first, folds-push does xs x mid b c rest last)
 
-flat-push : {X A : Type 0} (f : X → List A) (xs : List X) (x : X) → flat_map f (xs ++ x ∷ []) ≡ flat_map f xs ++ f x
+pub flat-push : {X A : Type 0} (f : X → List A) (xs : List X) (x : X) → flat_map f (xs ++ x ∷ []) ≡ flat_map f xs ++ f x
 flat-push f xs x = flat_map-append f xs (x ∷ []) ∙ ap (λ last. flat_map f xs ++ last) (append-nil (f x))
 
 or-cases : (a b : Bool) → (a || b) ≡ true → (a ≡ true) ⊎ (b ≡ true)

@@ -1,5 +1,5 @@
 -- The ends that a session holds at the places of its parts are those that it was told.
-use Rattle.std.proofs.Common.{◌≡◌, inl, inr, ◌++◌, ◌∷◌, [], ◌+◌, ◌-◌, ◌≤◌, ◌^◌, List, ℕ, refl, ap, sym, subst, ◌∙◌, arith, Option, Some, None, Result, Ok, Err, Bool, true, false, length, take, drop, length-append, length-drop}
+use Rattle.std.proofs.Common.{◌≡◌, inl, inr, ◌++◌, ◌∷◌, [], ◌+◌, ◌-◌, ◌≤◌, ◌^◌, List, ℕ, refl, sym, subst, ◌∙◌, arith, Option, Some, None, Result, Ok, Err, Bool, true, false, length, take, length-append, length-drop}
 use Rattle.std.specs.Prelude.{map, nat_le, replicate, slice_get, slice_set}
 use Rattle.std.proofs.lemmas.List.{append-nil, length-map, length-set}
 use Rattle.std.proofs.lemmas.Option.{slice_get_within}
@@ -12,7 +12,6 @@ use Rattle.key_split.specs.declared.travel.Ticket.{Ticket}
 use Rattle.key_split.specs.declared.travel.Ended.{Ended}
 use Rattle.key_split.specs.declared.travel.Ended.TheVariants.{Lost}
 use Rattle.session_order.specs.SessionModel.{SessionModel}
-use Rattle.session_order.specs.declared.queue.PartStage.{PartStage}
 use Rattle.session_order.specs.declared.queue.PartStage.TheVariants.{Waiting, Out, Done}
 use Rattle.session_order.specs.declared.closing.Closing.TheVariants.{Quit}
 use Rattle.session_order.specs.declared.fault.SessionFault.{SessionFault}

@@ -44,19 +44,19 @@ none-written = (record { values = []; text = []; rest = []; spelled = refl; are 
 
 module _ {C J : Type 0} (number : ℕ) where
   -- the client of this number is still to come,
-  abbrev IsToCome : List ℕ → List (Ticket × Ended) → List ℕ → WorkerModel C J → Type 0
+  abbrev pub IsToCome : List ℕ → List (Ticket × Ended) → List ℕ → WorkerModel C J → Type 0
   IsToCome came ends went model = (get model.clients number ≡ None) × (came ≡ []) × (ends ≡ []) × (went ≡ [])
 
   -- or it is here,
-  abbrev IsHere : List ℕ → List (Ticket × Ended) → List ℕ → WorkerModel C J → Type 0
+  abbrev pub IsHere : List ℕ → List (Ticket × Ended) → List ℕ → WorkerModel C J → Type 0
   IsHere came ends went model = (IsAbove model.newest number → ⊥) × (client : ClientModel C) × (get model.clients number ≡ Some client) × LivesOn came ends went client
 
   -- or it has left
-  abbrev HasLeft : List ℕ → List (Ticket × Ended) → List ℕ → WorkerModel C J → Type 0
+  abbrev pub HasLeft : List ℕ → List (Ticket × Ended) → List ℕ → WorkerModel C J → Type 0
   HasLeft came ends went model = (IsAbove model.newest number → ⊥) × (get model.clients number ≡ None) × IsFront came ends went
 
   -- one of these
-  abbrev Stands : List ℕ → List (Ticket × Ended) → List ℕ → WorkerModel C J → Type 0
+  abbrev pub Stands : List ℕ → List (Ticket × Ended) → List ℕ → WorkerModel C J → Type 0
   Stands came ends went model = IsToCome came ends went model ⊎ (IsHere came ends went model ⊎ HasLeft came ends went model)
 
   stands-written : DrainsOutput → (came : List ℕ) (ends : List (Ticket × Ended)) (went : List ℕ) (model : WorkerModel C J) → Stands came ends went model → IsFront came ends went
@@ -71,7 +71,7 @@ module _ {C J : Type 0} (number : ℕ) where
       subst (λ ws. Stands came' ends' ws model) r (subst (λ es. Stands came' es went model) q (subst (λ cs. Stands cs ends went model) p stands))
 
   -- the client of this number, which is here
-  here-is : (came : List ℕ) (ends : List (Ticket × Ended)) (went : List ℕ) (model : WorkerModel C J) (client : ClientModel C) → get model.clients number ≡ Some client → Stands came ends went model
+  pub here-is : (came : List ℕ) (ends : List (Ticket × Ended)) (went : List ℕ) (model : WorkerModel C J) (client : ClientModel C) → get model.clients number ≡ Some client → Stands came ends went model
       → (IsAbove model.newest number → ⊥) × LivesOn came ends went client
   here-is came ends went model client at (inl (none, no-bytes, no-ends, no-more)) = absurd (none-some (get model.clients number) client none at)
   here-is came ends went model client at (inr (inl (past, was, there, lives))) =
@@ -189,7 +189,7 @@ module _ {C J : Type 0} (number : ℕ) where
     one-event (Left other) does stands = leaves other does stands
 
   module _ (moves : Moves C) (law : DrainsOutput) (whole : FrontIsWhole) (faulty : FrontIsFaulty) where
-    all-events : (events : List WorkerEvent) (came : List ℕ) (ends : List (Ticket × Ended)) (went : List ℕ) (old new : WorkerModel C J) → FoldsTo (WorkerDoes moves) old events new → Stands came ends went old
+    pub all-events : (events : List WorkerEvent) (came : List ℕ) (ends : List (Ticket × Ended)) (went : List ℕ) (old new : WorkerModel C J) → FoldsTo (WorkerDoes moves) old events new → Stands came ends went old
         → Stands (came ++ flat_map (bytes_from number) events) (ends ++ flat_map (ends_for number) events) (went ++ flat_map (bytes_to number) events) new
     all-events [] came ends went old new same stands = unseen came [] ends [] went [] new refl refl refl (subst (λ (x : WorkerModel C J). Stands came ends went x) same stands)
     all-events (event ∷ events) came ends went old new (mid, does, more) stands =
@@ -218,7 +218,7 @@ module _ {C J : Type 0} where
   workers-stay (Moved event) s s' none step = ap workers_of step.1
 
   -- worker k does these events, up to this
-  abbrev Does : WorkerModel C J → Option (WorkerModel C J) → List WorkerEvent → Type 0
+  abbrev pub Does : WorkerModel C J → Option (WorkerModel C J) → List WorkerEvent → Type 0
   Does last o events = (old : WorkerModel C J) × (o ≡ Some old) × FoldsTo (WorkerDoes any_moves) old events last
 
   other-place : (xs : List (WorkerModel C J)) (j k : ℕ) (x : WorkerModel C J) → j ≢ k → slice_get (slice_set xs j x) k ≡ slice_get xs k
@@ -253,7 +253,7 @@ module _ {C J : Type 0} where
       → Does last (slice_get s.workers k) events
   quiet k last event events s s' none step more = subst (λ (ws : List (WorkerModel C J)). Does last (slice_get ws k) events) (workers-stay event s s' none step) more
 
-  all-steps : (k : ℕ) (last : WorkerModel C J) (events : List SystemEvent) (s s' : System C J) → FoldsTo SystemStep s events s' → slice_get s'.workers k ≡ Some last
+  pub all-steps : (k : ℕ) (last : WorkerModel C J) (events : List SystemEvent) (s s' : System C J) → FoldsTo SystemStep s events s' → slice_get s'.workers k ≡ Some last
       → Does last (slice_get s.workers k) (flat_map (events_at k) events)
   all-steps k last [] s s' same at = (last, ap (λ (x : System C J). slice_get x.workers k) same ∙ at, refl)
   all-steps k last (AtWorker j event ∷ events) s s' (mid, step, more) at = at-worker k j last event (flat_map (events_at k) events) s mid step (all-steps k last events mid s' more at)

@@ -15,11 +15,11 @@ use Rattle.key_split.specs.declared.travel.Ended.{Ended}
 use Rattle.session_order.specs.Requests.{RequestKindModel, Words, Skipped, Refused, asked_of}
 use Rattle.session_order.specs.PendingReply.{owed_for}
 use Rattle.session_order.specs.Replies.{parts_of}
-use Rattle.session_order.specs.Output.{output_of}
+use Rattle.session_order.specs.Output.{end_of, output_of}
 use Rattle.proxy_turns.specs.ClientModel.{ClientModel, IsClientServed}
 use Rattle.proxy_turns.specs.ClientTurn.{ClientEvent, Pulled, Pushed}
 use Rattle.proxy_turns.specs.WorkerModel.{WorkerModel, WorkerEvent, Did, Finished, WorkerDoes}
-use Rattle.turn_laws.specs.System.{System}
+use Rattle.turn_laws.specs.System.{System, Answered}
 use Rattle.turn_laws.specs.Steps.{SystemEvent, AtWorker, SystemStep, any_moves}
 use Rattle.turn_laws.specs.Refines.{IsStart}
 
@@ -114,3 +114,9 @@ module _ (C J : Type 0) where
   abbrev pub AllClientsAreWritten : Type 0
   AllClientsAreWritten = (s s' : System C J) (events : List SystemEvent) → IsStart s → FoldsTo SystemStep s events s'
       → (k : ℕ) (model : WorkerModel C J) → slice_get s'.workers k ≡ Some model → AreWritten (flat_map (events_at k) events) model
+
+  -- And the ends by which it is written are those of the log: what was answered is what the client was told of that part.
+  abbrev pub AnswersWereTold : Type 0
+  AnswersWereTold = (s s' : System C J) (events : List SystemEvent) → IsStart s → FoldsTo SystemStep s events s'
+      → (i : ℕ) (ticket : Ticket) (end : Ended) → slice_get s'.log i ≡ Some (Answered ticket end)
+      → end_of (flat_map (ends_for ticket.client) (flat_map (events_at ticket.worker) events)) ticket.part ≡ Some end

@@ -2,7 +2,7 @@
 
 ghost use Rattle.turn_laws.specs.Walks.{EveryWalk};
 ghost use Rattle.turn_laws.specs.Settling.{Settling, SettlingAfter};
-ghost use Rattle.turn_laws.specs.ClientOutput.{AllClientsAreWritten, ClientsAreWritten};
+ghost use Rattle.turn_laws.specs.ClientOutput.{AllClientsAreWritten, AnswersWereTold, ClientsAreWritten};
 ghost use Rattle.turn_laws.specs.AnyPort.{AnyClients, AnyClientTurns, AnyPorts, WiresStand};
 ghost use Rattle.turn_laws.specs.Scripts.{GivesBack, LosesCommands, MovesUnderUse, PairsCommands};
 ghost use Rattle.turn_laws.specs.Refines.{CarrierRefines, MovesRefine, NodesRefine, Refines, StartsRefine, ThrownRefine, WorkersRefine};
@@ -96,4 +96,14 @@ pub fn clients_are_written<C: Drop, J: Naming>()
     drains_output();
     front_is_whole();
     front_is_faulty();
+}
+
+/// The ends by which a client's output is made are those of the log: what it says was answered is what the client was told of that part.
+pub fn answers_were_told<C: Drop, J: Naming>()
+    ensures { AnswersWereTold C J }
+{
+    drains_output();
+    front_is_whole();
+    front_is_faulty();
+    parts_of_plans_are_plain();
 }
