@@ -1,6 +1,6 @@
 -- What each client is written: a front of the output of its requests and of the ends that it is told.
--- A worker's turns are a list of events. One client saw three things of it: the bytes that came from it, the ends of its parts, and
--- the bytes that went to it.
+-- A worker's turns are a list of events. One client sees three things of it: its bytes come, its parts end, and bytes go to it. The
+-- requests are those that its own bytes spell; what its output is says session_order's Output.antt.
 use Rattle.std.specs.Prelude.{◌≡◌, ◌⊎◌, ◌<◌, ◌^◌, ℕ, List, [], ◌∷◌, ◌++◌, Bool, true, false, Some, if◌then◌else◌, map, nat_eq, slice_get}
 use Rattle.std.specs.List.{FoldsTo, flat_map}
 use Rattle.std.specs.FinMap.{empty, get}
@@ -25,7 +25,7 @@ use Rattle.turn_laws.specs.Refines.{IsStart}
 
 -- ---- what a client sees
 
--- what this is to the client of this number, if it happened to that one
+-- what is seen by the one of this number of what happens to the other
 abbrev pub if_own : {X : Type 0} → ℕ → ℕ → List X → List X
 if_own number other seen = if nat_eq other number then seen else []
 
@@ -66,13 +66,13 @@ request_of Refused = []
 abbrev pub requests_of : List Data → List (List (List ℕ))
 requests_of values = flat_map (λ value. request_of (asked_of value)) values
 
--- no request behind these: a value that is none, or one with more parts than can be numbered
+-- refused behind these requests: a value that is no request, or one with more parts than can be numbered
 abbrev pub IsRefused : List (List (List ℕ)) → RequestKindModel → Type 0
 IsRefused read (Words words) = 2 ^ 48 < parts_of (map owed_for (read ++ words ∷ []))
 IsRefused read Skipped = ⊥
 IsRefused read Refused = Unit {0}
 
--- what follows these requests is a fault of the client's: bytes that begin no value, or the spelling of a value that is refused
+-- what follows these requests begins with a fault of the client's: bytes that begin no value, or the spelling of a value that is refused
 abbrev pub BeginsWithFault : List (List (List ℕ)) → List ℕ → Type 0
 BeginsWithFault read rest =
     (bytes : List ℕ) × IsPrefix bytes rest × (((fault : WireFault) × HasFault full bytes fault) ⊎ ((value : Data) × Spells full full.depth bytes value × IsRefused read (asked_of value)))
