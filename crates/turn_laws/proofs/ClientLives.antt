@@ -73,6 +73,7 @@ born worker number port = inl (
     counted = (refl, refl);
     held = (tt, λ part le. refl);
     met = λ e. absurd (false≢true e);
+    closed = tt;
     read = record { values = []; text = []; rest = []; spelled = refl; read_is = refl; are = refl; next = λ is. (refl, [], refl, refl); fault = λ why f. absurd (open-faulted why Open refl f) };
   },
   record {
@@ -127,6 +128,7 @@ module _ {C : Type 0} (law : DrainsOutput) (whole : FrontIsWhole) (faulty : Fron
       counted = lived.counted;
       held = lived.held;
       met = lived.met;
+      closed = lived.closed;
       read = pulled came _ (old.session).incoming (old.session).closing old.unfed bytes lived.read;
     },
     out,
@@ -199,6 +201,7 @@ module _ {C : Type 0} (law : DrainsOutput) (whole : FrontIsWhole) (faulty : Fron
       counted = lived.counted;
       held = lived.held;
       met = lived.met;
+      closed = lived.closed;
       read = lived.read;
     },
     out,

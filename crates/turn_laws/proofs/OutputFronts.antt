@@ -14,7 +14,7 @@ use Rattle.session_order.specs.PendingReply.{owed_for}
 use Rattle.session_order.specs.Replies.{bytes_of, spelling, joined, lines_owed}
 use Rattle.session_order.specs.Output.{ends_from, replies_told, output_of, until_quit}
 use Rattle.session_order.proofs.Told.{after, ends_more}
-use Rattle.turn_laws.specs.ClientOutput.{BeginsWithFault, Pipeline, requests_of, whole_output}
+use Rattle.turn_laws.specs.ClientOutput.{BeginsWithFault, IsClosed, Pipeline, requests_of, whole_output}
 
 -- more stands behind
 pub front-then : {A : Type 0} (xs ys more : List A) → IsPrefix xs ys → IsPrefix xs (ys ++ more)
@@ -50,9 +50,9 @@ fault-then read rest more (bytes, front, is) = (bytes, front-then bytes rest mor
 abbrev pub IsFront : List ℕ → List (Ticket × Ended) → List ℕ → Type 0
 IsFront came ends went = (pipeline : Pipeline came) × IsPrefix went (whole_output pipeline ends)
 
--- it is all of it
+-- it is all of it, and the pipeline is closed
 abbrev pub IsWhole : List ℕ → List (Ticket × Ended) → List ℕ → Type 0
-IsWhole came ends went = (pipeline : Pipeline came) × (went ≡ whole_output pipeline ends)
+IsWhole came ends went = (pipeline : Pipeline came) × IsClosed pipeline × (went ≡ whole_output pipeline ends)
 
 pub written-on : (came : List ℕ) (ends : List (Ticket × Ended)) (went bytes : List ℕ) (more : List (Ticket × Ended)) → IsFront came ends went → IsFront (came ++ bytes) (ends ++ more) went
 written-on came ends went bytes more (p, front) = (

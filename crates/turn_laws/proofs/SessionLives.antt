@@ -9,14 +9,16 @@ use Rattle.resp_wire.specs.LimitsModel.{full}
 use Rattle.key_split.specs.declared.travel.Ticket.{Ticket}
 use Rattle.key_split.specs.declared.travel.Ended.{Ended}
 use Rattle.session_order.specs.SessionModel.{SessionModel}
+use Rattle.session_order.specs.declared.closing.Closing.{Closing}
+use Rattle.session_order.specs.declared.closing.Closing.TheVariants.{Open, Quit, Faulted}
 use Rattle.session_order.specs.Replies.{bytes_of, last_line, output, replies}
 use Rattle.session_order.specs.Steps.{IsFinished}
 use Rattle.session_order.specs.Output.{output_of}
 use Rattle.session_order.specs.Life.{SessionCall, SessionDoes, fresh, read_by, told_by, drained_by, met_fault, DrainsOutput}
-use Rattle.turn_laws.specs.ClientOutput.{BeginsWithFault, Pipeline, requests_of}
+use Rattle.turn_laws.specs.ClientOutput.{BeginsWithFault, Pipeline, ends_it, requests_of}
 use Rattle.turn_laws.proofs.OutputFronts.{IsFront, IsWhole}
 use Rattle.turn_laws.proofs.RequestsRead.{AreCounted, HasRead}
-use Rattle.turn_laws.proofs.SessionKeeps.{IsFaulted, keeps}
+use Rattle.turn_laws.proofs.SessionKeeps.{ClosedBy, IsFaulted, keeps}
 use Rattle.turn_laws.proofs.SessionTells.{HasTold, tells as told-on}
 
 -- The calls that led to the session. What they drained went out, or waits to be pushed.
@@ -30,6 +32,7 @@ pub record Lived (came : List ℕ) (ends : List (Ticket × Ended)) (went : List 
   pub counted : AreCounted (flat_map read_by calls) session
   pub held : HasTold ends session
   pub met : list_any met_fault calls ≡ true → IsFaulted session.closing
+  pub closed : ClosedBy (flat_map read_by calls) (list_any met_fault calls) session.closing
   pub read : HasRead came (flat_map read_by calls) session.incoming session.closing unfed
 
 pub folds-push : {S X : Type 0} (does : S → X → S → Type 0) (xs : List X) (x : X) (a b c : S) → FoldsTo does a xs b → does b x c → FoldsTo does a (xs ++ x ∷ []) c
@@ -43,8 +46,11 @@ or-cases : (a b : Bool) → (a || b) ≡ true → (a ≡ true) ⊎ (b ≡ true)
 or-cases true b e = inl refl
 or-cases false b e = inr e
 
+any-push : {X : Type 0} (p : X → Bool) (xs : List X) (x : X) → list_any p (xs ++ x ∷ []) ≡ (list_any p xs || p x)
+any-push p xs x = list_any-append p xs (x ∷ []) ∙ ap (λ b. list_any p xs || b) (or-false (p x))
+
 any-last : {X : Type 0} (p : X → Bool) (xs : List X) (x : X) → list_any p (xs ++ x ∷ []) ≡ true → (list_any p xs ≡ true) ⊎ (p x ≡ true)
-any-last p xs x e = elim (or-cases (list_any p xs) (p x || false) (sym (list_any-append p xs (x ∷ [])) ∙ e)) [ inl before ↦ inl before | inr now ↦ inr (sym (or-false (p x)) ∙ now) ]
+any-last p xs x e = or-cases (list_any p xs) (p x) (sym (any-push p xs x) ∙ e)
 
 -- one more call of the session
 pub one-call : (came : List ℕ) (ends ends' : List (Ticket × Ended)) (went : List ℕ) (old new : SessionModel) (unfed unfed' unpushed unpushed' : List ℕ) (call : SessionCall)
@@ -64,6 +70,9 @@ one-call came ends ends' went old new unfed unfed' unpushed unpushed' call l doe
     | inl before ↦ (keeps (flat_map read_by l.calls) call old new does).stays (l.met before)
     | inr now ↦ (keeps (flat_map read_by l.calls) call old new does).meets now
   ];
+  closed = subst (λ b. ClosedBy (flat_map read_by (l.calls ++ call ∷ [])) b new.closing) (sym (any-push met_fault l.calls call))
+      (subst (λ rs. ClosedBy rs (list_any met_fault l.calls || met_fault call) new.closing) (sym (flat-push read_by l.calls call))
+      ((keeps (flat_map read_by l.calls) call old new does).closes (list_any met_fault l.calls) l.closed));
   read = subst (λ rs. HasRead came rs new.incoming new.closing unfed') (sym (flat-push read_by l.calls call)) (reads (flat_map read_by l.calls) l.counted l.read);
 }
 
@@ -98,11 +107,19 @@ none-next : (session : SessionModel) → IsFinished session → output session �
 none-next session (closed, none, no-line) =
     (λ i. bytes_of (replies (none i) session.stages session.ends (last_line session.closing))) ∙ ap bytes_of no-line
 
+-- a session that is finished is closed
+ended : (read : List (List (List ℕ))) (faulted : Bool) (closing : Closing) → (closing ≡ Open → ⊥) → ClosedBy read faulted closing → (list_any ends_it read ≡ true) ⊎ (faulted ≡ true)
+ended read faulted Open closed c = absurd (closed refl)
+ended read faulted Quit closed c = inl c
+ended read faulted (Faulted why owed) closed c = inr c
+
 -- and all of it where the session is finished and nothing waits to be pushed
 pub whole-written : DrainsOutput → (came : List ℕ) (ends : List (Ticket × Ended)) (went : List ℕ) (session : SessionModel) (unfed unpushed : List ℕ) → IsFinished session → unpushed ≡ []
     → Lived came ends went session unfed unpushed → IsWhole came ends went
 whole-written law came ends went session unfed unpushed finished none l =
     let nothing : unpushed ++ output session ≡ [] = ap (λ bytes. bytes ++ output session) none ∙ none-next session finished in (
       pipeline came ends went session unfed unpushed l,
+      subst (λ rs. (list_any ends_it rs ≡ true) ⊎ (list_any met_fault l.calls ≡ true)) (l.read).read_is
+          (ended (flat_map read_by l.calls) (list_any met_fault l.calls) session.closing finished.0 l.closed),
       sym (append-nil went) ∙ ap (λ bytes. went ++ bytes) (sym nothing) ∙ balance law came ends went session unfed unpushed l,
     )

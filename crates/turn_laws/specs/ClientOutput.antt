@@ -2,7 +2,7 @@
 -- A worker's turns are a list of events. One client sees three things of it: its bytes come, its parts end, and bytes go to it. The
 -- requests are those that its own bytes spell; what its output is says session_order's Output.antt.
 use Rattle.std.specs.Prelude.{◌≡◌, ◌⊎◌, ◌<◌, ◌^◌, ℕ, List, [], ◌∷◌, ◌++◌, Bool, true, false, Some, if◌then◌else◌, map, nat_eq, slice_get}
-use Rattle.std.specs.List.{FoldsTo, flat_map}
+use Rattle.std.specs.List.{FoldsTo, flat_map, list_any}
 use Rattle.std.specs.FinMap.{empty, get}
 use mathlib.Core.List.{IsPrefix}
 use Rattle.resp_wire.specs.Data.{Data, items_of}
@@ -13,7 +13,7 @@ use Rattle.resp_wire.specs.declared.fault.WireFault.{WireFault}
 use Rattle.key_split.specs.declared.travel.Ticket.{Ticket}
 use Rattle.key_split.specs.declared.travel.Ended.{Ended}
 use Rattle.session_order.specs.Requests.{RequestKindModel, Words, Skipped, Refused, asked_of}
-use Rattle.session_order.specs.PendingReply.{owed_for}
+use Rattle.session_order.specs.PendingReply.{ends_session, owed_for, plan_for}
 use Rattle.session_order.specs.Replies.{parts_of}
 use Rattle.session_order.specs.Output.{end_of, output_of}
 use Rattle.proxy_turns.specs.ClientModel.{ClientModel, IsClientServed}
@@ -77,6 +77,10 @@ abbrev pub BeginsWithFault : List (List (List ℕ)) → List ℕ → Type 0
 BeginsWithFault read rest =
     (bytes : List ℕ) × IsPrefix bytes rest × (((fault : WireFault) × HasFault full bytes fault) ⊎ ((value : Data) × Spells full full.depth bytes value × IsRefused read (asked_of value)))
 
+-- a request that ends the session
+abbrev pub ends_it : List (List ℕ) → Bool
+ends_it words = ends_session (plan_for words)
+
 -- The pipeline of requests that a client's bytes are, as far as it was read: the spellings of some values, and a rest. Where a fault was
 -- met, the rest begins with one.
 pub record Pipeline (came : List ℕ) : Type 0 where
@@ -92,13 +96,17 @@ pub record Pipeline (came : List ℕ) : Type 0 where
 abbrev pub whole_output : {came : List ℕ} → Pipeline came → List (Ticket × Ended) → List ℕ
 whole_output pipeline ends = output_of (requests_of pipeline.values) ends pipeline.faulted
 
+-- it is closed: by a request that ends the session, or by a fault
+abbrev pub IsClosed : {came : List ℕ} → Pipeline came → Type 0
+IsClosed pipeline = (list_any ends_it (requests_of pipeline.values) ≡ true) ⊎ (pipeline.faulted ≡ true)
+
 -- what clients are written by these events, which led to this worker
 pub record AreWritten {C J : Type 0} (events : List WorkerEvent) (model : WorkerModel C J) : Type 0 where
   -- each client that ever came a front of its output,
   pub front : (number : ℕ) → (pipeline : Pipeline (flat_map (bytes_from number) events)) × IsPrefix (flat_map (bytes_to number) events) (whole_output pipeline (flat_map (ends_for number) events))
-  -- and one that is served, before it leaves, all of it
+  -- and one that is served, before it leaves, all of it, up to the request or the fault that ended its session
   pub whole : (number : ℕ) (client : ClientModel C) → get model.clients number ≡ Some client → client.gone ≡ false → IsClientServed client
-      → (pipeline : Pipeline (flat_map (bytes_from number) events)) × (flat_map (bytes_to number) events ≡ whole_output pipeline (flat_map (ends_for number) events))
+      → (pipeline : Pipeline (flat_map (bytes_from number) events)) × IsClosed pipeline × (flat_map (bytes_to number) events ≡ whole_output pipeline (flat_map (ends_for number) events))
 
 -- the events of this worker
 abbrev pub events_at : ℕ → SystemEvent → List WorkerEvent

@@ -87,8 +87,9 @@ pub fn steps_happen<C: Drop, J: Naming>()
     front_is_whole();
 }
 
-/// The bytes that go to a client are a front of the output of the requests that its own bytes spell and of the ends that it is told, and
-/// all of it where the client is served and not gone: whatever a worker does, and whatever a system does from its start.
+/// The bytes that go to a client are a front of the output of the requests that its own bytes spell and of the ends that it is told. Where
+/// the client is served and not gone they are all of it, up to the request or the fault that ended its session. So it is whatever a worker
+/// does, and whatever a system does from its start.
 pub fn clients_are_written<C: Drop, J: Naming>()
     ensures of_worker { ClientsAreWritten C J }
     ensures of_system { AllClientsAreWritten C J }
