@@ -19,6 +19,7 @@ use Rattle.turn_laws.specs.ClientOutput.{BeginsWithFault, Pipeline, ends_it, req
 use Rattle.turn_laws.proofs.OutputFronts.{IsFront, IsWhole}
 use Rattle.turn_laws.proofs.RequestsRead.{AreCounted, HasRead}
 use Rattle.turn_laws.proofs.SessionKeeps.{ClosedBy, IsFaulted, keeps}
+use Rattle.turn_laws.proofs.DrainedReplies.{DrainedBy, agree, split-known, first-known}
 use Rattle.turn_laws.proofs.SessionTells.{HasTold, tells as told-on}
 
 -- The calls that led to the session. What they drained went out, or waits to be pushed.
