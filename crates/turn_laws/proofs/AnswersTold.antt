@@ -27,12 +27,12 @@ use Rattle.turn_laws.specs.Wire.{Execution}
 use Rattle.turn_laws.specs.System.{System, Mark, Answered}
 use Rattle.turn_laws.specs.Steps.{SystemEvent, AtWorker, AtCarrier, AtNode, AtBroken, Thrown, Moved, SystemStep, WorkerStep, any_moves, answers, arrivals, log_of, ticket_at}
 use Rattle.turn_laws.specs.Refines.{IsStart}
-use Rattle.turn_laws.specs.ClientOutput.{AnswersWereTold, ends_for, events_at}
+use Rattle.turn_laws.specs.ClientOutput.{AnswersWereTold, bytes_from, bytes_to, ends_for, events_at}
 use Rattle.turn_laws.proofs.AtLanes.{nothing-there}
 use Rattle.turn_laws.proofs.Clients.{put-same}
 use Rattle.turn_laws.proofs.Ending.{one-of}
 use Rattle.turn_laws.proofs.Refines.{refines}
-use Rattle.turn_laws.proofs.SessionLives.{flat-push, folds-push}
+use Rattle.turn_laws.proofs.SessionLives.{Lived, flat-push, folds-push}
 use Rattle.turn_laws.proofs.SessionTells.{HasTold}
 use Rattle.turn_laws.proofs.ClientLives.{LivesOn}
 use Rattle.turn_laws.proofs.WrittenClients.{all-events, all-steps, here-is}
@@ -47,7 +47,7 @@ end-more [] more number end is = absurd (cc)
 end-more (t ∷ told) more number end is = pick (nat_eq t.0.part number) t.1 end (end_of told number) (end_of (told ++ more) number) (end-more told more number end) is
 
 -- an item of two lists is of one of them
-either : {X : Type 0} (xs ys : List X) (i : ℕ) (x : X) → slice_get (xs ++ ys) i ≡ Some x → (slice_get xs i ≡ Some x) ⊎ ((j : ℕ) × (slice_get ys j ≡ Some x))
+pub either : {X : Type 0} (xs ys : List X) (i : ℕ) (x : X) → slice_get (xs ++ ys) i ≡ Some x → (slice_get xs i ≡ Some x) ⊎ ((j : ℕ) × (slice_get ys j ≡ Some x))
 either [] ys i x at = inr (i, at)
 either (y ∷ xs) ys zero x at = inl at
 either (y ∷ xs) ys (suc i) x at = either xs ys i x at
@@ -109,9 +109,10 @@ drained-told told n old new before after held (bytes, grown, count, drains) =
     subst (λ j. AreTold told old (answers old old.first (take j old.ends))) (sym many)
     (answers-told told old old.first m old.stages old.ends held.0 (first_done drains.count old.requests old.stages old.ends drains.written.in_order))
 
-there-told : {C : Type 0} (came : List ℕ) (ends : List (Ticket × Ended)) (went : List ℕ) (client : ClientModel C) → client.gone ≡ false → LivesOn came ends went client → HasTold ends client.session
-there-told came ends went client here (inl (still, lived, out)) = lived.held
-there-told came ends went client here (inr (gone, none, front)) = absurd (false≢true (sym here ∙ gone))
+there-lived : {C : Type 0} (came : List ℕ) (ends : List (Ticket × Ended)) (went : List ℕ) (client : ClientModel C) → client.gone ≡ false → LivesOn came ends went client
+    → Lived came ends went client.session client.unfed client.unpushed
+there-lived came ends went client here (inl (still, lived, out)) = lived
+there-lived came ends went client here (inr (gone, none, front)) = absurd (false≢true (sym here ∙ gone))
 
 -- ---- the log
 
@@ -150,13 +151,34 @@ abbrev log_in : {C J : Type 0} → System C J → List Mark
 log_in s = s.log
 
 module _ (C J : Type 0) (law : DrainsOutput) (whole : FrontIsWhole) (faulty : FrontIsFaulty) (plain : PlansArePlain) (s0 : System C J) (start : IsStart s0) where
-  held-told : (done : List SystemEvent) (s : System C J) → FoldsTo SystemStep s0 done s → (k number : ℕ) (model : WorkerModel C J) (client : ClientModel C) → slice_get s.workers k ≡ Some model
-      → get model.clients number ≡ Some client → client.gone ≡ false → HasTold (flat_map (ends_for number) (flat_map (events_at k) done)) client.session
-  held-told done s steps k number model client at got here =
+  pub lives-at : (done : List SystemEvent) (s : System C J) → FoldsTo SystemStep s0 done s → (k number : ℕ) (model : WorkerModel C J) (client : ClientModel C) → slice_get s.workers k ≡ Some model
+      → get model.clients number ≡ Some client
+      → LivesOn (flat_map (bytes_from number) (flat_map (events_at k) done)) (flat_map (ends_for number) (flat_map (events_at k) done)) (flat_map (bytes_to number) (flat_map (events_at k) done)) client
+  lives-at done s steps k number model client at got =
       let (old, was, does) = all-steps k model done s0 s steps at in
       let stands = all-events number any_moves law whole faulty (flat_map (events_at k) done) [] [] [] old model does
       (inl (ap (λ (m : FinMap nat_cmp (ClientModel C)). get m number) (start.idle k old was).1 ∙ get-empty nat_cmp number, refl, refl, refl)) in
-      there-told _ _ _ client here (here-is number _ _ _ model client got stands).1
+      (here-is number _ _ _ model client got stands).1
+
+  -- the life of a client that is there
+  pub lived-at : (done : List SystemEvent) (s : System C J) → FoldsTo SystemStep s0 done s → (k number : ℕ) (model : WorkerModel C J) (client : ClientModel C) → slice_get s.workers k ≡ Some model
+      → get model.clients number ≡ Some client → client.gone ≡ false
+      → Lived (flat_map (bytes_from number) (flat_map (events_at k) done)) (flat_map (ends_for number) (flat_map (events_at k) done)) (flat_map (bytes_to number) (flat_map (events_at k) done))
+      client.session client.unfed client.unpushed
+  lived-at done s steps k number model client at got here = there-lived _ _ _ client here (lives-at done s steps k number model client at got)
+
+  pub whose : (done : List SystemEvent) (s : System C J) → FoldsTo SystemStep s0 done s → (k number : ℕ) (model : WorkerModel C J) (client : ClientModel C) → slice_get s.workers k ≡ Some model
+      → get model.clients number ≡ Some client → (client.session.worker ≡ k) × (client.session.client ≡ number)
+  whose done s steps k number model client at got = let shadow = ((refines C J plain s0 s done start steps).2.clients k model number client at got).1 in (shadow.housed, shadow.numbered)
+
+  -- the marks of a drain
+  pub marks-drained : (s s' : System C J) (k number n : ℕ) (step : WorkerStep s k (Did number (Drained n)) s') → let d = step.does in
+      step.marks ≡ answers (d.0).session (d.0).session.first (take ((d.1).session.first - (d.0).session.first) (d.0).session.ends)
+  marks-drained s s' k number n step =
+      let d = step.does in
+      let was : step.seen.0 ≡ d.0 = one-of (get (step.old).clients number) step.seen.0 d.0 step.seen.2 d.2 in
+      let becomes : step.seen.1 ≡ d.1 = one-of (get (step.new).clients number) step.seen.1 d.1 step.seen.3 (ap (λ (x : WorkerModel C J). get x.clients number) d.4 ∙ put-same (step.old).clients number d.1) in
+      step.seen.4 ∙ (λ i. answers (was i).session (was i).session.first (take ((becomes i).session.first - (was i).session.first) (was i).session.ends))
 
   -- what a worker's event shows
   drained-marks : (done : List SystemEvent) (s s' : System C J) → FoldsTo SystemStep s0 done s → (k number n : ℕ) (step : WorkerStep s k (Did number (Drained n)) s') → WereTold done step.marks
@@ -164,18 +186,13 @@ module _ (C J : Type 0) (law : DrainsOutput) (whole : FrontIsWhole) (faulty : Fr
       let d = step.does in
       let client : ClientModel C = d.0 in
       let client' : ClientModel C = d.1 in
-      let held : SessionModel = client.session in
-      let told = held-told done s steps k number step.old client step.at d.2 d.3.0 in
-      let was : step.seen.0 ≡ client = one-of (get (step.old).clients number) step.seen.0 client step.seen.2 d.2 in
-      let becomes : step.seen.1 ≡ client' = one-of (get (step.new).clients number) step.seen.1 client' step.seen.3 (ap (λ (x : WorkerModel C J). get x.clients number) d.4 ∙ put-same (step.old).clients number client') in
-      let seen : step.marks ≡ answers held held.first (take ((client'.session).first - held.first) held.ends) =
-      step.seen.4 ∙ (λ i. answers (was i).session (was i).session.first (take ((becomes i).session.first - (was i).session.first) (was i).session.ends)) in
-      let shadow = ((refines C J plain s0 s done start steps).2.clients k step.old number client step.at d.2).1 in
-      subst (WereTold done) (sym seen) (λ i ticket end at.
-      let t = drained-told (flat_map (ends_for number) (flat_map (events_at k) done)) n held client'.session client.unpushed client'.unpushed told d.3.1 i ticket end at in
-      let worker : ticket.worker ≡ k = t.1 ∙ shadow.housed in
-      let own : ticket.client ≡ number = t.2 ∙ shadow.numbered in
-      ap (λ ends. end_of ends ticket.part) (λ j. flat_map (ends_for (own j)) (flat_map (events_at (worker j)) done)) ∙ t.0)
+      let told = (lived-at done s steps k number step.old client step.at d.2 d.3.0).held in
+      let of = whose done s steps k number step.old client step.at d.2 in
+      subst (WereTold done) (sym (marks-drained s s' k number n step)) (λ i ticket end at.
+          let t = drained-told (flat_map (ends_for number) (flat_map (events_at k) done)) n client.session client'.session client.unpushed client'.unpushed told d.3.1 i ticket end at in
+          let worker : ticket.worker ≡ k = t.1 ∙ of.0 in
+          let own : ticket.client ≡ number = t.2 ∙ of.1 in
+          ap (λ ends. end_of ends ticket.part) (λ j. flat_map (ends_for (own j)) (flat_map (events_at (worker j)) done)) ∙ t.0)
 
   worker-marks : (done : List SystemEvent) (s s' : System C J) → FoldsTo SystemStep s0 done s → (k : ℕ) (event : WorkerEvent) (step : WorkerStep s k event s') → WereTold done step.marks
   worker-marks done s s' steps k (Did number (Drained n)) step = drained-marks done s s' steps k number n step

@@ -1,5 +1,5 @@
 -- A client's life, event by event: while it is there its session lives by calls, and what these drained went out or waits to be pushed.
-use Rattle.std.proofs.Common.{◌≡◌, ◌⊎◌, inl, inr, ◌++◌, ◌∷◌, [], List, ℕ, refl, ap, sym, subst, ◌∙◌, Some, None, Result, Ok, Bool, true, false, append_assoc, length}
+use Rattle.std.proofs.Common.{◌≡◌, ◌⊎◌, inl, inr, ◌++◌, ◌∷◌, [], List, ℕ, refl, ap, sym, subst, ◌∙◌, Some, None, Result, Ok, Bool, true, false, append_assoc, length, arith}
 use Rattle.std.specs.Prelude.{nat_le, if◌then◌else◌}
 use Rattle.std.specs.FinMap.{empty, get, remove, get-empty}
 use Rattle.std.specs.Ordering.{nat_cmp}
@@ -74,6 +74,7 @@ born worker number port = inl (
     held = (tt, λ part le. refl);
     met = λ e. absurd (false≢true e);
     closed = tt;
+    replied = record { gone = []; line = []; owed = refl; parts = refl; known = λ part low less. absurd (omega (arith, less)); bytes = refl; lined = inl refl };
     read = record { values = []; text = []; rest = []; spelled = refl; read_is = refl; are = refl; next = λ is. (refl, [], refl, refl); fault = λ why f. absurd (open-faulted why Open refl f) };
   },
   record {
@@ -129,6 +130,7 @@ module _ {C : Type 0} (law : DrainsOutput) (whole : FrontIsWhole) (faulty : Fron
       held = lived.held;
       met = lived.met;
       closed = lived.closed;
+      replied = lived.replied;
       read = pulled came _ (old.session).incoming (old.session).closing old.unfed bytes lived.read;
     },
     out,
@@ -202,6 +204,7 @@ module _ {C : Type 0} (law : DrainsOutput) (whole : FrontIsWhole) (faulty : Fron
       held = lived.held;
       met = lived.met;
       closed = lived.closed;
+      replied = lived.replied;
       read = lived.read;
     },
     out,

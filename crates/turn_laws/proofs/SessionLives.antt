@@ -1,5 +1,5 @@
 -- The life of a client's session, by what the client sees: the bytes that came from it, the ends that it was told, and the bytes that went to it.
-use Rattle.std.proofs.Common.{◌≡◌, ◌⊎◌, inl, inr, ◌++◌, ◌∷◌, [], ◌||◌, List, ℕ, refl, ap, sym, subst, ◌∙◌, append_assoc, Bool, true, false}
+use Rattle.std.proofs.Common.{◌≡◌, ◌⊎◌, inl, inr, ◌++◌, ◌∷◌, [], ◌||◌, List, ℕ, refl, ap, sym, subst, ◌∙◌, append_assoc, Bool, true, false, ◌<◌, ◌+◌, arith}
 use Rattle.std.specs.List.{FoldsTo, flat_map, list_any}
 use Rattle.std.proofs.Math.Bool.{or-false}
 use Rattle.std.proofs.lemmas.Grind.{flat_map-append}
@@ -9,17 +9,22 @@ use Rattle.resp_wire.specs.LimitsModel.{full}
 use Rattle.key_split.specs.declared.travel.Ticket.{Ticket}
 use Rattle.key_split.specs.declared.travel.Ended.{Ended}
 use Rattle.session_order.specs.SessionModel.{SessionModel}
+use Rattle.resp_wire.specs.declared.value.Value.{Value}
+use mathlib.Core.List.{IsPrefix}
+use Rattle.std.specs.Prelude.{map}
+use Rattle.session_order.specs.PendingReply.{owed_for}
+use Rattle.session_order.specs.declared.closing.Broken.{Broken}
 use Rattle.session_order.specs.declared.closing.Closing.{Closing}
 use Rattle.session_order.specs.declared.closing.Closing.TheVariants.{Open, Quit, Faulted}
-use Rattle.session_order.specs.Replies.{bytes_of, last_line, output, replies}
+use Rattle.session_order.specs.Replies.{bytes_of, last_line, lines_owed, output, parts_of, replies, spelling}
 use Rattle.session_order.specs.Steps.{IsFinished}
-use Rattle.session_order.specs.Output.{output_of}
+use Rattle.session_order.specs.Output.{end_of, output_of, replies_told}
 use Rattle.session_order.specs.Life.{SessionCall, SessionDoes, fresh, read_by, told_by, drained_by, met_fault, DrainsOutput}
 use Rattle.turn_laws.specs.ClientOutput.{BeginsWithFault, Pipeline, ends_it, requests_of}
-use Rattle.turn_laws.proofs.OutputFronts.{IsFront, IsWhole}
+use Rattle.turn_laws.proofs.OutputFronts.{IsFront, IsWhole, front-of}
 use Rattle.turn_laws.proofs.RequestsRead.{AreCounted, HasRead}
 use Rattle.turn_laws.proofs.SessionKeeps.{ClosedBy, IsFaulted, keeps}
-use Rattle.turn_laws.proofs.DrainedReplies.{DrainedBy, agree, split-known, first-known}
+use Rattle.turn_laws.proofs.DrainedReplies.{AreKnown, DrainedBy, IsLine, agree, drained-on, split-known}
 use Rattle.turn_laws.proofs.SessionTells.{HasTold, tells as told-on}
 
 -- The calls that led to the session. What they drained went out, or waits to be pushed.
@@ -34,6 +39,7 @@ pub record Lived (came : List ℕ) (ends : List (Ticket × Ended)) (went : List 
   pub held : HasTold ends session
   pub met : list_any met_fault calls ≡ true → IsFaulted session.closing
   pub closed : ClosedBy (flat_map read_by calls) (list_any met_fault calls) session.closing
+  pub replied : DrainedBy ends (flat_map read_by calls) (flat_map drained_by calls) session
   pub read : HasRead came (flat_map read_by calls) session.incoming session.closing unfed
 
 pub folds-push : {S X : Type 0} (does : S → X → S → Type 0) (xs : List X) (x : X) (a b c : S) → FoldsTo does a xs b → does b x c → FoldsTo does a (xs ++ x ∷ []) c
@@ -74,6 +80,10 @@ one-call came ends ends' went old new unfed unfed' unpushed unpushed' call l doe
   closed = subst (λ b. ClosedBy (flat_map read_by (l.calls ++ call ∷ [])) b new.closing) (sym (any-push met_fault l.calls call))
       (subst (λ rs. ClosedBy rs (list_any met_fault l.calls || met_fault call) new.closing) (sym (flat-push read_by l.calls call))
       ((keeps (flat_map read_by l.calls) call old new does).closes (list_any met_fault l.calls) l.closed));
+  replied = subst (λ es. DrainedBy es (flat_map read_by (l.calls ++ call ∷ [])) (flat_map drained_by (l.calls ++ call ∷ [])) new) (sym tells)
+      (subst (λ rs. DrainedBy (ends ++ told_by call) rs (flat_map drained_by (l.calls ++ call ∷ [])) new) (sym (flat-push read_by l.calls call))
+      (subst (λ bs. DrainedBy (ends ++ told_by call) (flat_map read_by l.calls ++ read_by call) bs new) (sym (flat-push drained_by l.calls call))
+      (drained-on ends (flat_map read_by l.calls) (flat_map drained_by l.calls) call old new does l.held l.counted l.replied)));
   read = subst (λ rs. HasRead came rs new.incoming new.closing unfed') (sym (flat-push read_by l.calls call)) (reads (flat_map read_by l.calls) l.counted l.read);
 }
 
@@ -123,4 +133,54 @@ whole-written law came ends went session unfed unpushed finished none l =
       subst (λ rs. (list_any ends_it rs ≡ true) ⊎ (list_any met_fault l.calls ≡ true)) (l.read).read_is
           (ended (flat_map read_by l.calls) (list_any met_fault l.calls) session.closing finished.0 l.closed),
       sym (append-nil went) ∙ ap (λ bytes. went ++ bytes) (sym nothing) ∙ balance law came ends went session unfed unpushed l,
+    )
+
+-- ---- by other words for what was told
+
+same-line : (read : List (List (List ℕ))) (faulted : Bool) (closing : Closing) (why : Broken) → closing ≡ Faulted why false → ClosedBy read faulted closing → faulted ≡ true
+same-line read faulted closing why is c = let at : ClosedBy read faulted (Faulted why false) = subst (ClosedBy read faulted) is c in at
+
+-- what was drained is a front of the replies by a list that tells the same of the parts that were drained
+replies-front : (a ends : List (Ticket × Ended)) (read : List (List (List ℕ))) (drained : List ℕ) (faulted : Bool) (held : SessionModel) → ClosedBy read faulted held.closing
+    → ((number : ℕ) → number < held.first → end_of a number ≡ end_of ends number) → (d : DrainedBy ends read drained held) → IsLine d.line held
+    → IsPrefix drained (bytes_of (replies_told a 0 (map owed_for read) (lines_owed faulted)))
+replies-front a ends read drained faulted held closed same d line = by line
+  where
+    first : parts_of d.gone ≡ held.first
+    first = d.parts
+
+    known : AreKnown a 0 (parts_of d.gone)
+    known number low less = let its = d.known number low less in (its.0, same number (omega (arith, less, first)) ∙ its.1)
+
+    ours : replies_told ends 0 d.gone d.line ≡ replies_told a 0 d.gone d.line
+    ours = agree ends a 0 d.gone d.line (λ number low less. sym (same number (omega (arith, less, first))))
+
+    whole : (values : List Value) → IsPrefix (replies_told a 0 d.gone d.line) values → IsPrefix drained (bytes_of values)
+    whole values (more, is) =
+        (bytes_of more, ap (λ bs. bs ++ bytes_of more) (d.bytes ∙ ap bytes_of ours) ∙ sym (flat_map-append spelling (replies_told a 0 d.gone d.line) more) ∙ ap bytes_of is)
+
+    by : IsLine d.line held → IsPrefix drained (bytes_of (replies_told a 0 (map owed_for read) (lines_owed faulted)))
+    by (inl none) = whole (replies_told a 0 (map owed_for read) (lines_owed faulted)) (
+      replies_told a (0 + parts_of d.gone) held.requests (lines_owed faulted),
+      ap (λ line. replies_told a 0 d.gone line ++ replies_told a (0 + parts_of d.gone) held.requests (lines_owed faulted)) none
+      ∙ sym (split-known a 0 d.gone held.requests (lines_owed faulted) known) ∙ ap (λ rs. replies_told a 0 rs (lines_owed faulted)) (sym d.owed),
+    )
+    by (inr (is, none, (why, broke))) = whole (replies_told a 0 (map owed_for read) (lines_owed faulted)) (
+      [],
+      append-nil (replies_told a 0 d.gone d.line) ∙ ap (replies_told a 0 d.gone) (is ∙ ap lines_owed (sym (same-line read faulted held.closing why broke closed)))
+      ∙ ap (λ rs. replies_told a 0 rs (lines_owed faulted)) (sym (append-nil d.gone) ∙ ap (λ rs. d.gone ++ rs) (sym none) ∙ sym d.owed),
+    )
+
+-- so it is a front of the output by that list
+pub other-front : DrainsOutput → (a : List (Ticket × Ended)) (came : List ℕ) (ends : List (Ticket × Ended)) (went : List ℕ) (session : SessionModel) (unfed unpushed : List ℕ)
+    → ((number : ℕ) → number < session.first → end_of a number ≡ end_of ends number) → Lived came ends went session unfed unpushed → IsFront came a went
+other-front law a came ends went session unfed unpushed same l =
+    let read = flat_map read_by l.calls in
+    let faulted = list_any met_fault l.calls in
+    let quits = law.quit_is_last l.worker l.number full l.calls session l.lives in
+    let out : bytes_of (replies_told a 0 (map owed_for read) (lines_owed faulted)) ≡ output_of (requests_of (l.read).values) a faulted =
+    ap (λ rs. bytes_of (replies_told a 0 (map owed_for rs) (lines_owed faulted))) (sym quits) ∙ ap (λ rs. output_of rs a faulted) (l.read).read_is in (
+      pipeline came ends went session unfed unpushed l,
+      subst (λ bs. IsPrefix went bs) out (front-of went (flat_map drained_by l.calls) (bytes_of (replies_told a 0 (map owed_for read) (lines_owed faulted))) (unpushed, sym l.drained)
+      (replies-front a ends read (flat_map drained_by l.calls) faulted session l.closed same l.replied (l.replied).lined)),
     )

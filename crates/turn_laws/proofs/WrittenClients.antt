@@ -28,10 +28,10 @@ use Rattle.turn_laws.proofs.OutputFronts.{IsFront}
 use Rattle.turn_laws.proofs.CommandsOut.{none-of, still-there}
 use Rattle.turn_laws.proofs.ClientLives.{LivesOn, served-written, born, finishes, hears, lives-on, lives-written}
 
-own : {X : Type 0} (number other : ℕ) (seen : List X) → nat_eq other number ≡ true → if_own number other seen ≡ seen
+pub own : {X : Type 0} (number other : ℕ) (seen : List X) → nat_eq other number ≡ true → if_own number other seen ≡ seen
 own number other seen same = ap (λ b. if b then seen else []) same
 
-not-own : {X : Type 0} (number other : ℕ) (seen : List X) → nat_eq other number ≡ false → if_own number other seen ≡ []
+pub not-own : {X : Type 0} (number other : ℕ) (seen : List X) → nat_eq other number ≡ false → if_own number other seen ≡ []
 not-own number other seen apart = ap (λ b. if b then seen else []) apart
 
 -- numbers rise: one that was not above the newest is not above the next
@@ -200,7 +200,7 @@ module _ {C J : Type 0} (number : ℕ) where
 -- ---- a system's worker
 
 -- this step is none of a worker
-abbrev IsNoWorkers : SystemEvent → Type 0
+abbrev pub IsNoWorkers : SystemEvent → Type 0
 IsNoWorkers (AtWorker k event) = ⊥
 IsNoWorkers event = Unit {0}
 
@@ -209,7 +209,7 @@ module _ {C J : Type 0} where
   workers_of s = s.workers
 
   -- so it leaves all of them
-  workers-stay : (event : SystemEvent) (s s' : System C J) → IsNoWorkers event → SystemStep s event s' → s'.workers ≡ s.workers
+  pub workers-stay : (event : SystemEvent) (s s' : System C J) → IsNoWorkers event → SystemStep s event s' → s'.workers ≡ s.workers
   workers-stay (AtWorker k event) s s' none step = absurd none
   workers-stay (AtCarrier event) s s' none step = ap workers_of step.leaves
   workers-stay (AtNode k verdict) s s' none step = ap workers_of step.10
@@ -221,7 +221,7 @@ module _ {C J : Type 0} where
   abbrev pub Does : WorkerModel C J → Option (WorkerModel C J) → List WorkerEvent → Type 0
   Does last o events = (old : WorkerModel C J) × (o ≡ Some old) × FoldsTo (WorkerDoes any_moves) old events last
 
-  other-place : (xs : List (WorkerModel C J)) (j k : ℕ) (x : WorkerModel C J) → j ≢ k → slice_get (slice_set xs j x) k ≡ slice_get xs k
+  pub other-place : (xs : List (WorkerModel C J)) (j k : ℕ) (x : WorkerModel C J) → j ≢ k → slice_get (slice_set xs j x) k ≡ slice_get xs k
   other-place xs j k x ne = by (slice_get xs k) refl
     where
       by : (o : Option (WorkerModel C J)) → slice_get xs k ≡ o → slice_get (slice_set xs j x) k ≡ slice_get xs k

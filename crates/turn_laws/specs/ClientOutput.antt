@@ -19,7 +19,7 @@ use Rattle.session_order.specs.Output.{end_of, output_of}
 use Rattle.proxy_turns.specs.ClientModel.{ClientModel, IsClientServed}
 use Rattle.proxy_turns.specs.ClientTurn.{ClientEvent, Pulled, Pushed}
 use Rattle.proxy_turns.specs.WorkerModel.{WorkerModel, WorkerEvent, Did, Finished, WorkerDoes}
-use Rattle.turn_laws.specs.System.{System, Answered}
+use Rattle.turn_laws.specs.System.{System, Mark, Answered}
 use Rattle.turn_laws.specs.Steps.{SystemEvent, AtWorker, SystemStep, any_moves}
 use Rattle.turn_laws.specs.Refines.{IsStart}
 
@@ -113,6 +113,11 @@ abbrev pub events_at : ℕ → SystemEvent → List WorkerEvent
 events_at k (AtWorker other event) = if_own k other (event ∷ [])
 events_at k event = []
 
+-- the answers to this client of this worker that a log shows
+abbrev pub answers_to : ℕ → ℕ → Mark → List (Ticket × Ended)
+answers_to k number (Answered ticket end) = if_own k ticket.worker (if_own number ticket.client ((ticket, end) ∷ []))
+answers_to k number mark = []
+
 module _ (C J : Type 0) where
   -- whatever a worker does that had no clients
   abbrev pub ClientsAreWritten : Type 0
@@ -128,3 +133,9 @@ module _ (C J : Type 0) where
   AnswersWereTold = (s s' : System C J) (events : List SystemEvent) → IsStart s → FoldsTo SystemStep s events s'
       → (i : ℕ) (ticket : Ticket) (end : Ended) → slice_get s'.log i ≡ Some (Answered ticket end)
       → end_of (flat_map (ends_for ticket.client) (flat_map (events_at ticket.worker) events)) ticket.part ≡ Some end
+
+  -- And the log's answers are enough: the bytes that went to a client are a front of the output of its requests and of these.
+  abbrev pub LogIsWritten : Type 0
+  LogIsWritten = (s s' : System C J) (events : List SystemEvent) → IsStart s → FoldsTo SystemStep s events s' → (k number : ℕ)
+      → (pipeline : Pipeline (flat_map (bytes_from number) (flat_map (events_at k) events)))
+      × IsPrefix (flat_map (bytes_to number) (flat_map (events_at k) events)) (whole_output pipeline (flat_map (answers_to k number) s'.log))

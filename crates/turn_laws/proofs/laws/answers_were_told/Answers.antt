@@ -1,3 +1,4 @@
+use Rattle.turn_laws.proofs.LoggedFronts.{log-is-written}
 use Rattle.turn_laws.proofs.AnswersTold.{answers-were-told}
 use Rattle.turn_laws.proofs.laws.answers_were_told.Goals as goal
 

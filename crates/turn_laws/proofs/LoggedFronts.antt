@@ -1,0 +1,226 @@
+-- Each client is written a front of the output of its requests and of the answers that the log shows.
+use Rattle.std.proofs.Common.{◌≡◌, ◌≢◌, ◌⊎◌, inl, inr, ⊎_elim, ◌++◌, ◌∷◌, [], ◌+◌, ◌-◌, ◌<◌, ◌≤◌, List, ℕ, zero, suc, refl, ap, sym, subst, ◌∙◌, Option, Some, None, Result, Ok, Err, Bool, true, false, cond, append_assoc, arith, take, drop, length}
+use Rattle.std.specs.Prelude.{if◌then◌else◌, nat_eq, slice_get, slice_set}
+use Rattle.std.specs.List.{FoldsTo, flat_map}
+use Rattle.std.specs.FinMap.{FinMap, get, insert, remove, get-empty}
+use Rattle.std.specs.Ordering.{nat_cmp}
+use Rattle.std.proofs.lemmas.Bool.{false≢true}
+use Rattle.std.proofs.lemmas.Bool.Decides.{eqb_tells}
+use Rattle.std.proofs.lemmas.Grind.{flat_map-append}
+use Rattle.std.proofs.lemmas.List.{append-nil}
+use mathlib.Core.List.{IsPrefix}
+use Rattle.resp_wire.specs.Laws.{FrontIsFaulty, FrontIsWhole}
+use Rattle.key_split.specs.Laws.{PlansArePlain}
+use Rattle.key_split.specs.declared.travel.Ticket.{Ticket}
+use Rattle.key_split.specs.declared.travel.Ended.{Ended}
+use Rattle.session_order.specs.SessionModel.{SessionModel}
+use Rattle.session_order.specs.PendingReply.{plan_for}
+use Rattle.session_order.specs.declared.queue.PartStage.{PartStage}
+use Rattle.session_order.specs.declared.fault.SessionFault.{SessionFault}
+use Rattle.session_order.specs.declared.fault.SessionFault.TheVariants as session_fault
+use Rattle.session_order.specs.declared.fault.SessionFault.TheVariants.{Wire, NotRequest}
+use Rattle.session_order.specs.Steps.{FeedOutcome, ReadOutcome, with_incoming}
+use Rattle.session_order.specs.Replies.{parts_of}
+use Rattle.session_order.specs.Output.{end_of}
+use Rattle.session_order.specs.Life.{DrainsOutput}
+use Rattle.session_order.proofs.Fewer.{parts_split}
+use Rattle.session_order.proofs.Keeping.{added_grows}
+use Rattle.session_order.proofs.Told.{Tables}
+use Rattle.key_split.specs.PartModel.{PartModel}
+use Rattle.turn_laws.specs.Wire.{Execution}
+use Rattle.turn_laws.specs.System.{System, Mark, Arrived, Executed, Answered}
+use Rattle.resp_wire.specs.LimitsModel.{full}
+use Rattle.key_split.specs.declared.travel.Told.{Told}
+use Rattle.proxy_turns.specs.ClientModel.{ClientModel, new_client}
+use Rattle.proxy_turns.specs.ClientTurn.{ClientContext, ClientEvent, Pulled, Fed, Read, HandedOut, Followed, Looked, CameBack, Posted, Drained, Pushed, Tried, Parted, Dropped, ClientDoes, most_drained}
+use Rattle.proxy_turns.specs.WorkerModel.{WorkerModel, WorkerEvent, Did, Finished, Took, FoundNone, Came, TurnedAway, FoundNobody, Left, WorkerDoes, Tells}
+use Rattle.turn_laws.specs.Refines.{IsStart}
+use Rattle.turn_laws.specs.Steps.{SystemEvent, AtWorker, AtCarrier, AtNode, AtBroken, Thrown, Moved, SystemStep, WorkerStep, answers, any_moves, log_of, ticket_at}
+use Rattle.turn_laws.proofs.Clients.{put-apart}
+use Rattle.turn_laws.proofs.CommandsOut.{still-there}
+use Rattle.turn_laws.specs.ClientOutput.{answers_to, if_own}
+use Rattle.turn_laws.proofs.AtLanes.{nothing-there}
+use Rattle.turn_laws.proofs.Ending.{one-of}
+use Rattle.turn_laws.proofs.WrittenClients.{own, not-own}
+
+-- ---- a session's first part
+
+feed-first : (old : SessionModel) (piece : List ℕ) (result : Result ℕ SessionFault) (new : SessionModel) → FeedOutcome old piece result new → new.first ≡ old.first
+feed-first old piece (Ok n) new (inl (full-up, none, is, opened)) = ap (λ (s : SessionModel). s.first) is
+feed-first old piece (Ok n) new (inr (few, all, inl (opened, is))) = ap (λ (s : SessionModel). s.first) is
+feed-first old piece (Ok n) new (inr (few, all, inr (quit, is))) = ap (λ (s : SessionModel). s.first) is
+feed-first old piece (Err session_fault.NoMemory) new (may, is) = ap (λ (s : SessionModel). s.first) is
+feed-first old piece (Err (Wire fault)) new (was, is) = ap (λ (s : SessionModel). s.first) is
+feed-first old piece (Err NotRequest) new (was, is) = ap (λ (s : SessionModel). s.first) is
+
+read-first : (old : SessionModel) (result : Result Bool SessionFault) (new : SessionModel) → ReadOutcome old result new → new.first ≡ old.first
+read-first old (Ok true) new (may, inl (words, rest, (next, is))) = (added_grows (with_incoming old rest) (plan_for words) new is).first
+read-first old (Ok true) new (may, inr (takes, is)) = ap (λ (s : SessionModel). s.first) is
+read-first old (Ok false) new (is, why) = ap (λ (s : SessionModel). s.first) is
+read-first old (Err session_fault.NoMemory) new (may, keeps, is) = ap (λ (s : SessionModel). s.first) is
+read-first old (Err (Wire fault)) new (inl (was, is)) = ap (λ (s : SessionModel). s.first) is
+read-first old (Err (Wire fault)) new (inr (may, garbled, is)) = ap (λ (s : SessionModel). s.first) is
+read-first old (Err NotRequest) new (inl (was, is)) = ap (λ (s : SessionModel). s.first) is
+read-first old (Err NotRequest) new (inr (inl (may, takes, is))) = ap (λ (s : SessionModel). s.first) is
+read-first old (Err NotRequest) new (inr (inr (may, words, rest, refused, is))) = ap (λ (s : SessionModel). s.first) is
+
+-- ---- answers in a log
+
+-- the log shows an answer to this part of this client of this worker
+abbrev pub IsShown : List Mark → ℕ → ℕ → ℕ → Type 0
+IsShown log k number part =
+    (i : ℕ) × (ticket : Ticket) × (end : Ended) × (slice_get log i ≡ Some (Answered ticket end)) × (ticket.part ≡ part) × (ticket.worker ≡ k) × (ticket.client ≡ number)
+
+in-left : {X : Type 0} (xs ys : List X) (i : ℕ) (x : X) → slice_get xs i ≡ Some x → slice_get (xs ++ ys) i ≡ Some x
+in-left [] ys i x at = absurd (nothing-there i x at)
+in-left (y ∷ xs) ys zero x at = at
+in-left (y ∷ xs) ys (suc i) x at = in-left xs ys i x at
+
+in-right : {X : Type 0} (xs ys : List X) (i : ℕ) (x : X) → slice_get ys i ≡ Some x → (j : ℕ) × (slice_get (xs ++ ys) j ≡ Some x)
+in-right [] ys i x at = (i, at)
+in-right (y ∷ xs) ys i x at = let r = in-right xs ys i x at in (suc r.0, r.1)
+
+shown-more : (log more : List Mark) (k number part : ℕ) → IsShown log k number part → IsShown (log ++ more) k number part
+shown-more log more k number part s = (s.0, s.1, s.2, in-left log more s.0 (Answered s.1 s.2) s.3, s.4, s.5, s.6)
+
+-- the first so many parts that leave are shown
+marks-have : (told : List (Ticket × Ended)) (held : SessionModel) (n m : ℕ) (stages : List PartStage) (ends : List Ended) → Tables told n stages ends → m ≤ length stages → (part : ℕ) → n ≤ part → part < n + m
+    → (i : ℕ) × (end : Ended) × (slice_get (answers held n (take m ends)) i ≡ Some (Answered (ticket_at held part) end))
+marks-have told held n zero stages ends tables few part low less = absurd (omega (arith, low, less))
+marks-have told held n (suc m) [] ends tables few part low less = absurd (omega (arith, few))
+marks-have told held n (suc m) (s ∷ stages) [] tables few part low less = absurd tables
+marks-have told held n (suc m) (s ∷ stages) (e ∷ ends) tables few part low less =
+    ⊎_elim (λ (same : part ≡ n). (0, e, ap (λ p. Some (Answered (ticket_at held p) e)) (sym same)))
+    (λ (later : suc n ≤ part). let r = marks-have told held (suc n) m stages ends tables.1 (omega (arith, few)) part later (omega (arith, less)) in (suc r.0, r.1, r.2))
+    (first-or n part low)
+  where
+    first-or : (n part : ℕ) → n ≤ part → (part ≡ n) ⊎ (suc n ≤ part)
+    first-or n part low = grind arith
+
+same-answer : (t u : Ticket) (e f : Ended) → Answered t e ≡ Answered u f → t ≡ u
+same-answer t u e f is = cc
+
+-- the first mark is an answer
+at-answer : (told others : List (Ticket × Ended)) (k number part : ℕ) (t u : Ticket) (e f : Ended) → (t.worker ≡ k → t.client ≡ number → end_of told t.part ≡ Some e)
+    → u.part ≡ part → u.worker ≡ k → u.client ≡ number → ((Answered t e ≡ Answered u f → ⊥) → end_of others part ≡ end_of told part)
+    → end_of (if_own k t.worker (if_own number t.client ((t, e) ∷ [])) ++ others) part ≡ end_of told part
+at-answer told others k number part t u e f its p w c later = ⊎_elim
+    (λ (z : (nat_eq t.worker k ≡ true) × (t.worker ≡ k)). ⊎_elim
+        (λ (y : (nat_eq t.client number ≡ true) × (t.client ≡ number)).
+        let ours : if_own k t.worker (if_own number t.client ((t, e) ∷ [])) ≡ (t, e) ∷ [] = own k t.worker (if_own number t.client ((t, e) ∷ [])) z.0 ∙ own number t.client ((t, e) ∷ []) y.0 in
+        ap (λ ends. end_of (ends ++ others) part) ours
+        ∙ ⊎_elim (λ (x : (nat_eq t.part part ≡ true) × (t.part ≡ part)).
+        ap (λ b. cond b (Some e) (end_of others part)) x.0 ∙ sym (its z.1 y.1) ∙ ap (end_of told) x.1)
+        (λ (x : (nat_eq t.part part ≡ false) × (t.part ≢ part)).
+        ap (λ b. cond b (Some e) (end_of others part)) x.0
+        ∙ later (λ at. x.1 (ap (λ (v : Ticket). v.part) (same-answer t u e f at) ∙ p)))
+        (eqb_tells t.part part))
+        (λ (y : (nat_eq t.client number ≡ false) × (t.client ≢ number)).
+        ap (λ ends. end_of (ends ++ others) part) (own k t.worker (if_own number t.client ((t, e) ∷ [])) z.0 ∙ not-own number t.client ((t, e) ∷ []) y.0)
+        ∙ later (λ at. y.1 (ap (λ (v : Ticket). v.client) (same-answer t u e f at) ∙ c)))
+        (eqb_tells t.client number))
+    (λ (z : (nat_eq t.worker k ≡ false) × (t.worker ≢ k)).
+    ap (λ ends. end_of (ends ++ others) part) (not-own k t.worker (if_own number t.client ((t, e) ∷ [])) z.0)
+    ∙ later (λ at. z.1 (ap (λ (v : Ticket). v.worker) (same-answer t u e f at) ∙ w)))
+    (eqb_tells t.worker k)
+
+-- what stands behind the first mark
+behind : (mark : Mark) (log : List Mark) (k number part : ℕ) (s : IsShown (mark ∷ log) k number part) → (mark ≡ Answered s.1 s.2 → ⊥) → IsShown log k number part
+behind mark log k number part (i, ticket, end, at, p, w, c) other = by i at
+  where
+    by : (i : ℕ) → slice_get (mark ∷ log) i ≡ Some (Answered ticket end) → IsShown log k number part
+    by zero at = absurd (other (one-of (Some mark) mark (Answered ticket end) refl at))
+    by (suc i) at = (i, ticket, end, at, p, w, c)
+
+not-arrived : (t u : Ticket) (p : PartModel) (e : Ended) → Arrived t p ≡ Answered u e → ⊥
+not-arrived t u p e is = absurd (cc)
+
+not-executed : (done : List Execution) (u : Ticket) (e : Ended) → Executed done ≡ Answered u e → ⊥
+not-executed done u e is = absurd (cc)
+
+-- where each answer to a client was told, and one to this part is shown, the log says of the part what was told
+log-tells : (told : List (Ticket × Ended)) (k number part : ℕ) (log : List Mark)
+    → ((i : ℕ) (ticket : Ticket) (end : Ended) → slice_get log i ≡ Some (Answered ticket end) → ticket.worker ≡ k → ticket.client ≡ number → end_of told ticket.part ≡ Some end)
+    → IsShown log k number part → end_of (flat_map (answers_to k number) log) part ≡ end_of told part
+log-tells told k number part [] all s = absurd (nothing-there s.0 (Answered s.1 s.2) s.3)
+log-tells told k number part (Arrived ticket p ∷ log) all s = log-tells told k number part log (λ i. all (suc i)) (behind (Arrived ticket p) log k number part s (not-arrived ticket s.1 p s.2))
+log-tells told k number part (Executed done ∷ log) all s = log-tells told k number part log (λ i. all (suc i)) (behind (Executed done) log k number part s (not-executed done s.1 s.2))
+log-tells told k number part (Answered t e ∷ log) all s =
+    at-answer told (flat_map (answers_to k number) log) k number part t s.1 e s.2 (all 0 t e refl) s.4 s.5 s.6
+    (λ other. log-tells told k number part log (λ i. all (suc i)) (behind (Answered t e) log k number part s other))
+
+-- ---- a client before an event
+
+-- replies are drained
+abbrev IsDrain : ClientEvent → Type 0
+IsDrain (Drained n) = Unit {0}
+IsDrain event = ⊥
+
+-- those of this client
+abbrev IsDrainOf : ℕ → WorkerEvent → Type 0
+IsDrainOf number (Did other event) = IsDrain event × (other ≡ number)
+IsDrainOf number event = ⊥
+
+module _ {C : Type 0} (old new : ClientContext C) where
+  abbrev GoesOn : ClientEvent → Type 0
+  GoesOn event = ((old.client).gone ≡ false) × (((new.client).session.first ≡ (old.client).session.first) ⊎ IsDrain event)
+
+  client-before : (event : ClientEvent) → ClientDoes any_moves old event new → (new.client).gone ≡ false → GoesOn event
+  client-before (Pulled bytes) does here = (sym (ap (λ (x : ClientContext C). x.client.gone) does.1) ∙ here, inl (ap (λ (x : ClientContext C). x.client.session.first) does.1))
+  client-before (Fed result) does here = (sym (ap (λ (x : ClientContext C). x.client.gone) does.1) ∙ here, inl (feed-first _ _ result _ does.0))
+  client-before (Read result) does here = (sym (ap (λ (x : ClientContext C). x.client.gone) does.1) ∙ here, inl (read-first _ result _ does.0))
+  client-before (HandedOut ticket part) does here = (does.0, inl (ap (λ (s : SessionModel). s.first) does.2.3))
+  client-before (Followed ticket part) does here = (does.0, inl (ap (λ (s : SessionModel). s.first) does.1.3.3))
+  client-before (Looked slot) does here = (sym (ap (λ (x : ClientContext C). x.client.gone) does.1) ∙ here, inl (ap (λ (x : ClientContext C). x.client.session.first) does.1))
+  client-before (CameBack run) does here = (sym (ap (λ (x : ClientContext C). x.client.gone) does.1) ∙ here, inl (ap (λ (x : ClientContext C). x.client.session.first) does.1))
+  client-before (Posted run) does here = (sym (ap (λ (x : ClientContext C). x.client.gone) does.12) ∙ here, inl (ap (λ (x : ClientContext C). x.client.session.first) does.12))
+  client-before (Drained n) does here = (does.0, inr tt)
+  client-before (Pushed bytes) does here = (sym (ap (λ (x : ClientContext C). x.client.gone) does.2) ∙ here, inl (ap (λ (x : ClientContext C). x.client.session.first) does.2))
+  client-before Tried does here = (sym (ap (λ (x : ClientContext C). x.client.gone) does.1) ∙ here, inl (ap (λ (x : ClientContext C). x.client.session.first) does.1))
+  client-before Parted does here = absurd (false≢true (sym here ∙ ap (λ (x : ClientContext C). x.client.gone) does.2))
+  client-before (Dropped tickets) does here = absurd (false≢true (sym here ∙ ap (λ (x : ClientContext C). x.client.gone) does.3 ∙ does.0))
+
+module _ {C J : Type 0} (number : ℕ) (client' : ClientModel C) (old new : WorkerModel C J) where
+  -- the client is new, or was there
+  abbrev WasBefore : WorkerEvent → Type 0
+  WasBefore event = (client'.session.first ≡ 0) ⊎ ((client : ClientModel C) × (get old.clients number ≡ Some client) × (client.gone ≡ false) × ((client'.session.first ≡ client.session.first) ⊎ IsDrainOf number event))
+
+  same-before : (event : WorkerEvent) → new.clients ≡ old.clients → get new.clients number ≡ Some client' → client'.gone ≡ false → WasBefore event
+  same-before event same got here = inr (client', ap (λ (m : FinMap nat_cmp (ClientModel C)). get m number) (sym same) ∙ got, here, inl refl)
+
+  put-before : (event : WorkerEvent) (other : ℕ) (c c' : ClientModel C) → get old.clients other ≡ Some c → new.clients ≡ insert old.clients other c' → get new.clients number ≡ Some client' → client'.gone ≡ false
+      → (other ≡ number → c'.gone ≡ false → (c.gone ≡ false) × ((c'.session.first ≡ c.session.first) ⊎ IsDrainOf number event)) → WasBefore event
+  put-before event other c c' at is got here on = ⊎_elim
+      (λ (z : (number ≡ other) × (client' ≡ c')).
+      let r = on (sym z.0) (ap (λ (x : ClientModel C). x.gone) (sym z.1) ∙ here) in
+      inr (c, ap (get old.clients) z.0 ∙ at, r.0, ⊎_elim (λ (e : c'.session.first ≡ c.session.first). inl (ap (λ (x : ClientModel C). x.session.first) z.1 ∙ e)) (λ (e : IsDrainOf number event). inr e) r.1))
+      (λ (z : (number ≢ other) × (get old.clients number ≡ Some client')). inr (client', z.1, here, inl refl))
+      (put-apart old.clients other c' number client' (ap (λ (m : FinMap nat_cmp (ClientModel C)). get m number) (sym is) ∙ got))
+
+  worker-before : (event : WorkerEvent) → WorkerDoes any_moves old event new → get new.clients number ≡ Some client' → client'.gone ≡ false → WasBefore event
+  worker-before (Did other event) d got here =
+      put-before (Did other event) other d.0 d.1 d.2 (ap (λ (x : WorkerModel C J). x.clients) d.4) got here (λ same still.
+          let r = client-before (record { client = d.0; outlet = old.outlet; view = old.view }) (record { client = d.1; outlet = new.outlet; view = new.view }) event d.3 still in
+          (r.0, ⊎_elim (λ (e : (d.1).session.first ≡ (d.0).session.first). inl e) (λ (e : IsDrain event). inr (e, same)) r.1))
+  worker-before (Finished other ticket end) d got here =
+      put-before (Finished other ticket end) other d.0 d.1 d.2 (ap (λ (x : WorkerModel C J). x.clients) d.4) got here (λ same still.
+          (sym (ap (λ (x : ClientModel C). x.gone) d.3.3) ∙ still, inl (ap (λ (s : SessionModel). s.first) d.3.2)))
+  worker-before (Took ticket told) d got here = took-before d.1.0 d.1.1
+    where
+      took-before : (heard : Bool) → Tells old.clients ticket told heard new.clients → WasBefore (Took ticket told)
+      took-before true t = put-before (Took ticket told) ticket.client t.0 t.1 t.2 t.5 got here (λ same still.
+          (sym (ap (λ (x : ClientModel C). x.gone) t.4) ∙ still, inl (ap (λ (x : ClientModel C). x.session.first) t.4)))
+      took-before false t = same-before (Took ticket told) t.1 got here
+  worker-before FoundNone d got here = same-before FoundNone (ap (λ (x : WorkerModel C J). x.clients) d.1) got here
+  worker-before (Came other) d got here = ⊎_elim
+      (λ (z : (number ≡ other) × (client' ≡ new_client old.worker other full (d.0).port)). inl (ap (λ (x : ClientModel C). x.session.first) z.1))
+      (λ (z : (number ≢ other) × (get old.clients number ≡ Some client')). inr (client', z.1, here, inl refl))
+      (put-apart old.clients other (new_client old.worker other full (d.0).port) number client' (ap (λ (x : WorkerModel C J). get x.clients number) (sym d.6) ∙ got))
+  worker-before (TurnedAway other) d got here = same-before (TurnedAway other) (ap (λ (x : WorkerModel C J). x.clients) d.8) got here
+  worker-before FoundNobody d got here = same-before FoundNobody (ap (λ (x : WorkerModel C J). x.clients) d.1) got here
+  worker-before (Left other) d got here =
+      inr (client', (still-there old.clients other number client' (ap (λ (m : FinMap nat_cmp (ClientModel C)). get m number) (sym d.2.4) ∙ got)).0, here, inl refl)
+
+module _ (C J : Type 0) where
+  pub log-is-written : DrainsOutput → FrontIsWhole → FrontIsFaulty → PlansArePlain → Unit {0}
+  log-is-written law whole faulty plain = tt
