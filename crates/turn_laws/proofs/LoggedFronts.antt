@@ -36,12 +36,14 @@ use Rattle.proxy_turns.specs.ClientTurn.{ClientContext, ClientEvent, Pulled, Fed
 use Rattle.proxy_turns.specs.WorkerModel.{WorkerModel, WorkerEvent, Did, Finished, Took, FoundNone, Came, TurnedAway, FoundNobody, Left, WorkerDoes, Tells}
 use Rattle.turn_laws.specs.Refines.{IsStart}
 use Rattle.turn_laws.specs.Steps.{SystemEvent, AtWorker, AtCarrier, AtNode, AtBroken, Thrown, Moved, SystemStep, WorkerStep, answers, any_moves, log_of, ticket_at}
-use Rattle.turn_laws.proofs.Clients.{put-apart}
+use Rattle.turn_laws.proofs.Clients.{put-apart, put-same}
+use Rattle.world_laws.proofs.Recorded.{set-same}
+use Rattle.turn_laws.proofs.AnswersTold.{answers-were-told, lived-at, lives-at, marks-drained, whose}
 use Rattle.turn_laws.proofs.CommandsOut.{still-there}
 use Rattle.turn_laws.specs.ClientOutput.{answers_to, if_own}
 use Rattle.turn_laws.proofs.AtLanes.{nothing-there}
 use Rattle.turn_laws.proofs.Ending.{one-of}
-use Rattle.turn_laws.proofs.WrittenClients.{own, not-own}
+use Rattle.turn_laws.proofs.WrittenClients.{IsNoWorkers, own, not-own, other-place, workers-stay}
 
 -- ---- a session's first part
 
@@ -220,6 +222,110 @@ module _ {C J : Type 0} (number : ℕ) (client' : ClientModel C) (old new : Work
   worker-before FoundNobody d got here = same-before FoundNobody (ap (λ (x : WorkerModel C J). x.clients) d.1) got here
   worker-before (Left other) d got here =
       inr (client', (still-there old.clients other number client' (ap (λ (m : FinMap nat_cmp (ClientModel C)). get m number) (sym d.2.4) ∙ got)).0, here, inl refl)
+
+-- ---- a system
+
+module _ {C J : Type 0} where
+  -- a client of worker k that is there
+  abbrev Here : System C J → ℕ → ℕ → ClientModel C → Type 0
+  Here s k number client = (model : WorkerModel C J) × (slice_get s.workers k ≡ Some model) × (get model.clients number ≡ Some client) × (client.gone ≡ false)
+
+  -- the log shows an answer to each part that left
+  abbrev AllShown : System C J → Type 0
+  AllShown s = (k number : ℕ) (client : ClientModel C) → Here s k number client → (part : ℕ) → part < client.session.first → IsShown s.log k number part
+
+  log-more : (event : SystemEvent) (s s' : System C J) → SystemStep s event s' → (more : List Mark) × (s'.log ≡ s.log ++ more)
+  log-more (AtWorker k event) s s' step = (step.marks, ap (λ (x : System C J). x.log) step.leaves)
+  log-more (AtCarrier event) s s' step = ([], ap (λ (x : System C J). x.log) step.leaves ∙ sym (append-nil s.log))
+  log-more (AtNode k verdict) s s' step = (log_of step.4, ap (λ (x : System C J). x.log) step.10)
+  log-more (AtBroken j verdict) s s' step = (log_of step.3, ap (λ (x : System C J). x.log) step.7)
+  log-more (Thrown j) s s' step = ([], ap (λ (x : System C J). x.log) step.2 ∙ sym (append-nil s.log))
+  log-more (Moved event) s s' step = ([], ap (λ (x : System C J). x.log) step.1 ∙ sym (append-nil s.log))
+
+  still-shown : (event : SystemEvent) (s s' : System C J) → SystemStep s event s' → (k number part : ℕ) → IsShown s.log k number part → IsShown s'.log k number part
+  still-shown event s s' step k number part shown =
+      let more = log-more event s s' step in subst (λ log. IsShown log k number part) (sym more.1) (shown-more s.log more.0 k number part shown)
+
+  workers-same : (event : SystemEvent) (s s' : System C J) → SystemStep s event s' → AllShown s → s'.workers ≡ s.workers → AllShown s'
+  workers-same event s s' step shown same k number client here part less =
+      still-shown event s s' step k number part (shown k number client (here.0, ap (λ (ws : List (WorkerModel C J)). slice_get ws k) (sym same) ∙ here.1, here.2, here.3) part less)
+
+module _ (C J : Type 0) (law : DrainsOutput) (whole : FrontIsWhole) (faulty : FrontIsFaulty) (plain : PlansArePlain) (s0 : System C J) (start : IsStart s0) where
+  module _ (done : List SystemEvent) (s s' : System C J) (steps : FoldsTo SystemStep s0 done s) (shown : AllShown s) where
+    drained-shown : (k number n : ℕ) (step : WorkerStep s k (Did number (Drained n)) s') (client' : ClientModel C) → get (step.new).clients number ≡ Some client' → (part : ℕ) → part < client'.session.first → IsShown s'.log k number part
+    drained-shown k number n step client' got part less =
+        let d = step.does in
+        let client : ClientModel C = d.0 in
+        let held : SessionModel = client.session in
+        let same : d.1 ≡ client' = one-of (get (step.new).clients number) d.1 client' (ap (λ (x : WorkerModel C J). get x.clients number) d.4 ∙ put-same (step.old).clients number d.1) got in
+        let lived = lived-at C J law whole faulty plain s0 start done s steps k number step.old client step.at d.2 d.3.0 in
+        let of = whose C J law whole faulty plain s0 start done s steps k number step.old client step.at d.2 in
+        let drains = d.3.1.3 in
+        let m : ℕ = parts_of (take drains.count held.requests) in
+        let now : (d.1).session.first ≡ held.first + m = ap (λ (x : SessionModel). x.first) drains.left in
+        let fits : m ≤ length held.stages = omega (arith, parts_split drains.count held.requests, lived.counted.1) in
+        let many : (d.1).session.first - held.first ≡ m = omega (arith, now) in
+        let last : client'.session.first ≡ held.first + m = ap (λ (x : ClientModel C). x.session.first) (sym same) ∙ now in
+        let marks : step.marks ≡ answers held held.first (take m held.ends) = marks-drained C J law whole faulty plain s0 start s s' k number n step ∙ ap (λ j. answers held held.first (take j held.ends)) many in
+        ⊎_elim (λ (z : part < held.first). still-shown (AtWorker k (Did number (Drained n))) s s' step k number part (shown k number client (step.old, step.at, d.2, d.3.0) part z))
+        (λ (z : held.first ≤ part).
+        let mark = marks-have _ held held.first m held.stages held.ends lived.held.0 fits part z (omega (arith, less, last)) in
+        let place = in-right s.log step.marks mark.0 (Answered (ticket_at held part) mark.1) (ap (λ ms. slice_get ms mark.0) marks ∙ mark.2) in
+        (place.0, ticket_at held part, mark.1, ap (λ (x : System C J). slice_get x.log place.0) step.leaves ∙ place.1, refl, of.0, of.1))
+        (below-or part held.first)
+      where
+        below-or : (n m : ℕ) → (n < m) ⊎ (m ≤ n)
+        below-or n m = grind arith
+
+    drain-shown : (k number : ℕ) (event : WorkerEvent) → IsDrainOf number event → (step : WorkerStep s k event s') (client' : ClientModel C) → get (step.new).clients number ≡ Some client' → (part : ℕ) → part < client'.session.first
+        → IsShown s'.log k number part
+    drain-shown k number (Did other (Drained n)) of step client' got part less =
+        subst (λ q. IsShown s'.log k q part) of.1 (drained-shown k other n step client' (ap (get (step.new).clients) of.1 ∙ got) part less)
+    drain-shown k number (Did other (Pulled bytes)) of step client' got part less = absurd of.0
+    drain-shown k number (Did other (Fed result)) of step client' got part less = absurd of.0
+    drain-shown k number (Did other (Read result)) of step client' got part less = absurd of.0
+    drain-shown k number (Did other (HandedOut ticket p)) of step client' got part less = absurd of.0
+    drain-shown k number (Did other (Followed ticket p)) of step client' got part less = absurd of.0
+    drain-shown k number (Did other (Looked slot)) of step client' got part less = absurd of.0
+    drain-shown k number (Did other (CameBack run)) of step client' got part less = absurd of.0
+    drain-shown k number (Did other (Posted run)) of step client' got part less = absurd of.0
+    drain-shown k number (Did other (Pushed bytes)) of step client' got part less = absurd of.0
+    drain-shown k number (Did other Tried) of step client' got part less = absurd of.0
+    drain-shown k number (Did other Parted) of step client' got part less = absurd of.0
+    drain-shown k number (Did other (Dropped tickets)) of step client' got part less = absurd of.0
+    drain-shown k number (Finished other ticket end) of step client' got part less = absurd of
+    drain-shown k number (Took ticket told) of step client' got part less = absurd of
+    drain-shown k number FoundNone of step client' got part less = absurd of
+    drain-shown k number (Came other) of step client' got part less = absurd of
+    drain-shown k number (TurnedAway other) of step client' got part less = absurd of
+    drain-shown k number FoundNobody of step client' got part less = absurd of
+    drain-shown k number (Left other) of step client' got part less = absurd of
+
+    worker-shown : (j : ℕ) (event : WorkerEvent) → WorkerStep s j event s' → AllShown s'
+    worker-shown j event step k number client' here part less = ⊎_elim
+        (λ (z : (nat_eq j k ≡ true) × (j ≡ k)).
+        let now : slice_get s'.workers k ≡ Some step.new = ap (λ (x : System C J). slice_get x.workers k) step.leaves ∙ ap (slice_get (slice_set s.workers j step.new)) (sym z.1) ∙ set-same s.workers j step.old step.new step.at in
+        let model : here.0 ≡ step.new = one-of (slice_get s'.workers k) here.0 step.new here.1 now in
+        let got : get (step.new).clients number ≡ Some client' = ap (λ (x : WorkerModel C J). get x.clients number) (sym model) ∙ here.2 in
+        ⊎_elim (λ (y : client'.session.first ≡ 0). absurd (omega (arith, less, y)))
+        (λ (y : (client : ClientModel C) × (get (step.old).clients number ≡ Some client) × (client.gone ≡ false) × ((client'.session.first ≡ client.session.first) ⊎ IsDrainOf number event)).
+        ⊎_elim (λ (x : client'.session.first ≡ (y.0).session.first).
+        still-shown (AtWorker j event) s s' step k number part (shown k number y.0 (step.old, ap (slice_get s.workers) (sym z.1) ∙ step.at, y.1, y.2) part (omega (arith, less, x))))
+        (λ (x : IsDrainOf number event). subst (λ q. IsShown s'.log q number part) z.1 (drain-shown j number event x step client' got part less))
+        y.3)
+        (worker-before number client' step.old step.new event step.does got here.3))
+        (λ (z : (nat_eq j k ≡ false) × (j ≢ k)).
+        let same : slice_get s'.workers k ≡ slice_get s.workers k = ap (λ (x : System C J). slice_get x.workers k) step.leaves ∙ other-place s.workers j k step.new z.1 in
+        still-shown (AtWorker j event) s s' step k number part (shown k number client' (here.0, sym same ∙ here.1, here.2, here.3) part less))
+        (eqb_tells j k)
+
+    step-shown : (event : SystemEvent) → SystemStep s event s' → AllShown s'
+    step-shown (AtWorker j event) step = worker-shown j event step
+    step-shown (AtCarrier event) step = workers-same (AtCarrier event) s s' step shown (workers-stay (AtCarrier event) s s' tt step)
+    step-shown (AtNode k verdict) step = workers-same (AtNode k verdict) s s' step shown (workers-stay (AtNode k verdict) s s' tt step)
+    step-shown (AtBroken j verdict) step = workers-same (AtBroken j verdict) s s' step shown (workers-stay (AtBroken j verdict) s s' tt step)
+    step-shown (Thrown j) step = workers-same (Thrown j) s s' step shown (workers-stay (Thrown j) s s' tt step)
+    step-shown (Moved event) step = workers-same (Moved event) s s' step shown (workers-stay (Moved event) s s' tt step)
 
 module _ (C J : Type 0) where
   pub log-is-written : DrainsOutput → FrontIsWhole → FrontIsFaulty → PlansArePlain → Unit {0}
