@@ -189,10 +189,10 @@ module _ (C J : Type 0) (law : DrainsOutput) (whole : FrontIsWhole) (faulty : Fr
       let told = (lived-at done s steps k number step.old client step.at d.2 d.3.0).held in
       let of = whose done s steps k number step.old client step.at d.2 in
       subst (WereTold done) (sym (marks-drained s s' k number n step)) (λ i ticket end at.
-          let t = drained-told (flat_map (ends_for number) (flat_map (events_at k) done)) n client.session client'.session client.unpushed client'.unpushed told d.3.1 i ticket end at in
-          let worker : ticket.worker ≡ k = t.1 ∙ of.0 in
-          let own : ticket.client ≡ number = t.2 ∙ of.1 in
-          ap (λ ends. end_of ends ticket.part) (λ j. flat_map (ends_for (own j)) (flat_map (events_at (worker j)) done)) ∙ t.0)
+      let t = drained-told (flat_map (ends_for number) (flat_map (events_at k) done)) n client.session client'.session client.unpushed client'.unpushed told d.3.1 i ticket end at in
+      let worker : ticket.worker ≡ k = t.1 ∙ of.0 in
+      let own : ticket.client ≡ number = t.2 ∙ of.1 in
+      ap (λ ends. end_of ends ticket.part) (λ j. flat_map (ends_for (own j)) (flat_map (events_at (worker j)) done)) ∙ t.0)
 
   worker-marks : (done : List SystemEvent) (s s' : System C J) → FoldsTo SystemStep s0 done s → (k : ℕ) (event : WorkerEvent) (step : WorkerStep s k event s') → WereTold done step.marks
   worker-marks done s s' steps k (Did number (Drained n)) step = drained-marks done s s' steps k number n step

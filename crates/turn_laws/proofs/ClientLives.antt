@@ -225,7 +225,7 @@ true-false : (b : Bool) → b ≡ true → b ≡ false → ⊥
 true-false b p q = false≢true (sym q ∙ p)
 
 -- nothing stands before an empty list
-front-none : (xs ys : List ℕ) → [] ≡ xs ++ ys → (xs ≡ []) × (ys ≡ [])
+pub front-none : (xs ys : List ℕ) → [] ≡ xs ++ ys → (xs ≡ []) × (ys ≡ [])
 front-none [] ys e = (refl, sym e)
 front-none (x ∷ xs) ys e = absurd (cc)
 

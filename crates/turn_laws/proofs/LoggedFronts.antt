@@ -1,14 +1,13 @@
 -- Each client is written a front of the output of its requests and of the answers that the log shows.
-use Rattle.std.proofs.Common.{◌≡◌, ◌≢◌, ◌⊎◌, inl, inr, ⊎_elim, ◌++◌, ◌∷◌, [], ◌+◌, ◌-◌, ◌<◌, ◌≤◌, List, ℕ, zero, suc, refl, ap, sym, subst, ◌∙◌, Option, Some, None, Result, Ok, Err, Bool, true, false, cond, append_assoc, arith, take, drop, length}
-use Rattle.std.specs.Prelude.{if◌then◌else◌, nat_eq, slice_get, slice_set}
+use Rattle.std.proofs.Common.{◌≡◌, ◌≢◌, ◌⊎◌, inl, inr, ⊎_elim, ◌++◌, ◌∷◌, [], ◌+◌, ◌-◌, ◌<◌, ◌≤◌, List, ℕ, zero, suc, refl, ap, sym, subst, ◌∙◌, Some, None, Result, Ok, Err, Bool, true, false, cond, append_assoc, arith, take, length}
+use Rattle.std.specs.Prelude.{nat_eq, slice_get, slice_set}
 use Rattle.std.specs.List.{FoldsTo, flat_map}
-use Rattle.std.specs.FinMap.{FinMap, get, insert, remove, get-empty}
+use Rattle.std.specs.FinMap.{FinMap, get, insert, get-empty}
 use Rattle.std.specs.Ordering.{nat_cmp}
 use Rattle.std.proofs.lemmas.Bool.{false≢true}
 use Rattle.std.proofs.lemmas.Bool.Decides.{eqb_tells}
 use Rattle.std.proofs.lemmas.Grind.{flat_map-append}
 use Rattle.std.proofs.lemmas.List.{append-nil}
-use mathlib.Core.List.{IsPrefix}
 use Rattle.resp_wire.specs.Laws.{FrontIsFaulty, FrontIsWhole}
 use Rattle.key_split.specs.Laws.{PlansArePlain}
 use Rattle.key_split.specs.declared.travel.Ticket.{Ticket}
@@ -21,7 +20,7 @@ use Rattle.session_order.specs.declared.fault.SessionFault.TheVariants as sessio
 use Rattle.session_order.specs.declared.fault.SessionFault.TheVariants.{Wire, NotRequest}
 use Rattle.session_order.specs.Steps.{FeedOutcome, ReadOutcome, with_incoming}
 use Rattle.session_order.specs.Replies.{parts_of}
-use Rattle.session_order.specs.Output.{end_of}
+use Rattle.session_order.specs.Output.{end_of, output_of}
 use Rattle.session_order.specs.Life.{DrainsOutput}
 use Rattle.session_order.proofs.Fewer.{parts_split}
 use Rattle.session_order.proofs.Keeping.{added_grows}
@@ -30,9 +29,8 @@ use Rattle.key_split.specs.PartModel.{PartModel}
 use Rattle.turn_laws.specs.Wire.{Execution}
 use Rattle.turn_laws.specs.System.{System, Mark, Arrived, Executed, Answered}
 use Rattle.resp_wire.specs.LimitsModel.{full}
-use Rattle.key_split.specs.declared.travel.Told.{Told}
 use Rattle.proxy_turns.specs.ClientModel.{ClientModel, new_client}
-use Rattle.proxy_turns.specs.ClientTurn.{ClientContext, ClientEvent, Pulled, Fed, Read, HandedOut, Followed, Looked, CameBack, Posted, Drained, Pushed, Tried, Parted, Dropped, ClientDoes, most_drained}
+use Rattle.proxy_turns.specs.ClientTurn.{ClientContext, ClientEvent, Pulled, Fed, Read, HandedOut, Followed, Looked, CameBack, Posted, Drained, Pushed, Tried, Parted, Dropped, ClientDoes}
 use Rattle.proxy_turns.specs.WorkerModel.{WorkerModel, WorkerEvent, Did, Finished, Took, FoundNone, Came, TurnedAway, FoundNobody, Left, WorkerDoes, Tells}
 use Rattle.turn_laws.specs.Refines.{IsStart}
 use Rattle.turn_laws.specs.Steps.{SystemEvent, AtWorker, AtCarrier, AtNode, AtBroken, Thrown, Moved, SystemStep, WorkerStep, answers, any_moves, log_of, ticket_at}
@@ -40,10 +38,13 @@ use Rattle.turn_laws.proofs.Clients.{put-apart, put-same}
 use Rattle.world_laws.proofs.Recorded.{set-same}
 use Rattle.turn_laws.proofs.AnswersTold.{answers-were-told, lived-at, lives-at, marks-drained, whose}
 use Rattle.turn_laws.proofs.CommandsOut.{still-there}
-use Rattle.turn_laws.specs.ClientOutput.{answers_to, if_own}
+use Rattle.turn_laws.specs.ClientOutput.{LogIsWritten, answers_to, bytes_from, bytes_to, ends_for, events_at, if_own}
+use Rattle.turn_laws.proofs.OutputFronts.{IsFront, written-on}
+use Rattle.turn_laws.proofs.SessionLives.{flat-push, folds-push, other-front}
+use Rattle.turn_laws.proofs.ClientLives.{LivesOn, front-none}
 use Rattle.turn_laws.proofs.AtLanes.{nothing-there}
-use Rattle.turn_laws.proofs.Ending.{one-of}
-use Rattle.turn_laws.proofs.WrittenClients.{IsNoWorkers, own, not-own, other-place, workers-stay}
+use Rattle.turn_laws.proofs.Ending.{none-some, one-of}
+use Rattle.turn_laws.proofs.WrittenClients.{own, not-own, other-place, workers-stay}
 
 -- ---- a session's first part
 
@@ -108,19 +109,19 @@ at-answer : (told others : List (Ticket × Ended)) (k number part : ℕ) (t u : 
     → end_of (if_own k t.worker (if_own number t.client ((t, e) ∷ [])) ++ others) part ≡ end_of told part
 at-answer told others k number part t u e f its p w c later = ⊎_elim
     (λ (z : (nat_eq t.worker k ≡ true) × (t.worker ≡ k)). ⊎_elim
-        (λ (y : (nat_eq t.client number ≡ true) × (t.client ≡ number)).
-        let ours : if_own k t.worker (if_own number t.client ((t, e) ∷ [])) ≡ (t, e) ∷ [] = own k t.worker (if_own number t.client ((t, e) ∷ [])) z.0 ∙ own number t.client ((t, e) ∷ []) y.0 in
-        ap (λ ends. end_of (ends ++ others) part) ours
-        ∙ ⊎_elim (λ (x : (nat_eq t.part part ≡ true) × (t.part ≡ part)).
-        ap (λ b. cond b (Some e) (end_of others part)) x.0 ∙ sym (its z.1 y.1) ∙ ap (end_of told) x.1)
-        (λ (x : (nat_eq t.part part ≡ false) × (t.part ≢ part)).
-        ap (λ b. cond b (Some e) (end_of others part)) x.0
-        ∙ later (λ at. x.1 (ap (λ (v : Ticket). v.part) (same-answer t u e f at) ∙ p)))
-        (eqb_tells t.part part))
-        (λ (y : (nat_eq t.client number ≡ false) × (t.client ≢ number)).
-        ap (λ ends. end_of (ends ++ others) part) (own k t.worker (if_own number t.client ((t, e) ∷ [])) z.0 ∙ not-own number t.client ((t, e) ∷ []) y.0)
-        ∙ later (λ at. y.1 (ap (λ (v : Ticket). v.client) (same-answer t u e f at) ∙ c)))
-        (eqb_tells t.client number))
+    (λ (y : (nat_eq t.client number ≡ true) × (t.client ≡ number)).
+    let ours : if_own k t.worker (if_own number t.client ((t, e) ∷ [])) ≡ (t, e) ∷ [] = own k t.worker (if_own number t.client ((t, e) ∷ [])) z.0 ∙ own number t.client ((t, e) ∷ []) y.0 in
+    ap (λ ends. end_of (ends ++ others) part) ours
+    ∙ ⊎_elim (λ (x : (nat_eq t.part part ≡ true) × (t.part ≡ part)).
+    ap (λ b. cond b (Some e) (end_of others part)) x.0 ∙ sym (its z.1 y.1) ∙ ap (end_of told) x.1)
+    (λ (x : (nat_eq t.part part ≡ false) × (t.part ≢ part)).
+    ap (λ b. cond b (Some e) (end_of others part)) x.0
+    ∙ later (λ at. x.1 (ap (λ (v : Ticket). v.part) (same-answer t u e f at) ∙ p)))
+    (eqb_tells t.part part))
+    (λ (y : (nat_eq t.client number ≡ false) × (t.client ≢ number)).
+    ap (λ ends. end_of (ends ++ others) part) (own k t.worker (if_own number t.client ((t, e) ∷ [])) z.0 ∙ not-own number t.client ((t, e) ∷ []) y.0)
+    ∙ later (λ at. y.1 (ap (λ (v : Ticket). v.client) (same-answer t u e f at) ∙ c)))
+    (eqb_tells t.client number))
     (λ (z : (nat_eq t.worker k ≡ false) × (t.worker ≢ k)).
     ap (λ ends. end_of (ends ++ others) part) (not-own k t.worker (if_own number t.client ((t, e) ∷ [])) z.0)
     ∙ later (λ at. z.1 (ap (λ (v : Ticket). v.worker) (same-answer t u e f at) ∙ w)))
@@ -202,11 +203,11 @@ module _ {C J : Type 0} (number : ℕ) (client' : ClientModel C) (old new : Work
   worker-before : (event : WorkerEvent) → WorkerDoes any_moves old event new → get new.clients number ≡ Some client' → client'.gone ≡ false → WasBefore event
   worker-before (Did other event) d got here =
       put-before (Did other event) other d.0 d.1 d.2 (ap (λ (x : WorkerModel C J). x.clients) d.4) got here (λ same still.
-          let r = client-before (record { client = d.0; outlet = old.outlet; view = old.view }) (record { client = d.1; outlet = new.outlet; view = new.view }) event d.3 still in
-          (r.0, ⊎_elim (λ (e : (d.1).session.first ≡ (d.0).session.first). inl e) (λ (e : IsDrain event). inr (e, same)) r.1))
+      let r = client-before (record { client = d.0; outlet = old.outlet; view = old.view }) (record { client = d.1; outlet = new.outlet; view = new.view }) event d.3 still in
+      (r.0, ⊎_elim (λ (e : (d.1).session.first ≡ (d.0).session.first). inl e) (λ (e : IsDrain event). inr (e, same)) r.1))
   worker-before (Finished other ticket end) d got here =
       put-before (Finished other ticket end) other d.0 d.1 d.2 (ap (λ (x : WorkerModel C J). x.clients) d.4) got here (λ same still.
-          (sym (ap (λ (x : ClientModel C). x.gone) d.3.3) ∙ still, inl (ap (λ (s : SessionModel). s.first) d.3.2)))
+      (sym (ap (λ (x : ClientModel C). x.gone) d.3.3) ∙ still, inl (ap (λ (s : SessionModel). s.first) d.3.2)))
   worker-before (Took ticket told) d got here = took-before d.1.0 d.1.1
     where
       took-before : (heard : Bool) → Tells old.clients ticket told heard new.clients → WasBefore (Took ticket told)
@@ -327,6 +328,131 @@ module _ (C J : Type 0) (law : DrainsOutput) (whole : FrontIsWhole) (faulty : Fr
     step-shown (Thrown j) step = workers-same (Thrown j) s s' step shown (workers-stay (Thrown j) s s' tt step)
     step-shown (Moved event) step = workers-same (Moved event) s s' step shown (workers-stay (Moved event) s s' tt step)
 
+-- ---- what went is a front
+
+own-none : (number other : ℕ) → if_own {X = ℕ} number other [] ≡ []
+own-none number other = either-none (nat_eq other number)
+  where
+    either-none : (b : Bool) → cond {A = List ℕ} b [] [] ≡ []
+    either-none true = refl
+    either-none false = refl
+
+-- an event of a worker that pushes nothing to this client
+pushes-none : (k j number : ℕ) (event : WorkerEvent) → bytes_to number event ≡ [] → flat_map (bytes_to number) (events_at k (AtWorker j event)) ≡ []
+pushes-none k j number event none = ⊎_elim
+    (λ (z : (nat_eq j k ≡ true) × (j ≡ k)). ap (flat_map (bytes_to number)) (own k j (event ∷ []) z.0) ∙ ap (λ bytes. bytes ++ []) none)
+    (λ (z : (nat_eq j k ≡ false) × (j ≢ k)). ap (flat_map (bytes_to number)) (not-own k j (event ∷ []) z.0))
+    (eqb_tells j k)
+
+-- one more step, by what is seen of it
+flat-step : {X : Type 0} (f : WorkerEvent → List X) (k : ℕ) (done : List SystemEvent) (event : SystemEvent)
+    → flat_map f (flat_map (events_at k) (done ++ event ∷ [])) ≡ flat_map f (flat_map (events_at k) done) ++ flat_map f (events_at k event)
+flat-step f k done event = ap (flat_map f) (flat-push (events_at k) done event) ∙ flat_map-append f (flat_map (events_at k) done) (events_at k event)
+
+none-unpushed : {C : Type 0} (came : List ℕ) (ends : List (Ticket × Ended)) (went : List ℕ) (client : ClientModel C) → client.gone ≡ true → LivesOn came ends went client → client.unpushed ≡ []
+none-unpushed came ends went client gone (inl (here, lived, out)) = absurd (false≢true (sym here ∙ gone))
+none-unpushed came ends went client gone (inr (still, none, front)) = none
+
+none-front : (came : List ℕ) (ends : List (Ticket × Ended)) → IsFront came ends []
+none-front came ends = (record { values = []; text = []; rest = came; spelled = refl; are = refl; faulted = false; fault = λ met. absurd (false≢true met) }, (output_of [] ends false, refl))
+
+module _ (C J : Type 0) (law : DrainsOutput) (whole : FrontIsWhole) (faulty : FrontIsFaulty) (plain : PlansArePlain) (s0 : System C J) (start : IsStart s0) where
+  abbrev Front : List SystemEvent → System C J → ℕ → ℕ → Type 0
+  Front done s k number = IsFront (flat_map (bytes_from number) (flat_map (events_at k) done)) (flat_map (answers_to k number) s.log) (flat_map (bytes_to number) (flat_map (events_at k) done))
+
+  -- of a client that is there
+  front-here : (done : List SystemEvent) (s : System C J) → FoldsTo SystemStep s0 done s → AllShown s → (k number : ℕ) (client : ClientModel C) → Here s k number client → Front done s k number
+  front-here done s steps shown k number client here =
+      let told : List (Ticket × Ended) = flat_map (ends_for number) (flat_map (events_at k) done) in
+      other-front law (flat_map (answers_to k number) s.log) _ told _ client.session client.unfed client.unpushed
+      (λ part less. log-tells told k number part s.log
+      (λ i ticket end at w c. ap (λ ends. end_of ends ticket.part) (λ j. flat_map (ends_for (sym c j)) (flat_map (events_at (sym w j)) done)) ∙ answers-were-told C J law whole faulty plain s0 s done start steps i ticket end at)
+      (shown k number client here part less))
+      (lived-at C J law whole faulty plain s0 start done s steps k number here.0 client here.1 here.2 here.3)
+
+  module _ (done : List SystemEvent) (s s' : System C J) (steps : FoldsTo SystemStep s0 done s) (shown : AllShown s) where
+    -- nothing goes to this client
+    quiet : ((k number : ℕ) → Front done s k number) → (k number : ℕ) (event : SystemEvent) → SystemStep s event s' → flat_map (bytes_to number) (events_at k event) ≡ [] → Front (done ++ event ∷ []) s' k number
+    quiet before k number event step none =
+        let more = log-more event s s' step in
+        let came = flat-step (bytes_from number) k done event in
+        let went : flat_map (bytes_to number) (flat_map (events_at k) (done ++ event ∷ [])) ≡ flat_map (bytes_to number) (flat_map (events_at k) done) =
+        flat-step (bytes_to number) k done event ∙ ap (λ bytes. flat_map (bytes_to number) (flat_map (events_at k) done) ++ bytes) none ∙ append-nil (flat_map (bytes_to number) (flat_map (events_at k) done)) in
+        let log : flat_map (answers_to k number) s'.log ≡ flat_map (answers_to k number) s.log ++ flat_map (answers_to k number) more.0 =
+        ap (flat_map (answers_to k number)) more.1 ∙ flat_map-append (answers_to k number) s.log more.0 in
+        subst (λ bytes. IsFront bytes (flat_map (answers_to k number) s'.log) (flat_map (bytes_to number) (flat_map (events_at k) (done ++ event ∷ [])))) (sym came)
+        (subst (λ ends. IsFront (flat_map (bytes_from number) (flat_map (events_at k) done) ++ flat_map (bytes_from number) (events_at k event)) ends (flat_map (bytes_to number) (flat_map (events_at k) (done ++ event ∷ [])))) (sym log)
+        (subst (λ bytes. IsFront (flat_map (bytes_from number) (flat_map (events_at k) done) ++ flat_map (bytes_from number) (events_at k event)) (flat_map (answers_to k number) s.log ++ flat_map (answers_to k number) more.0) bytes) (sym went)
+        (written-on _ _ _ (flat_map (bytes_from number) (events_at k event)) (flat_map (answers_to k number) more.0) (before k number))))
+
+    pushed-front : ((k number : ℕ) → Front done s k number) → (number j : ℕ) (bytes : List ℕ) (step : WorkerStep s j (Did number (Pushed bytes)) s') (b : Bool) → ((step.does).0).gone ≡ b
+        → Front (done ++ AtWorker j (Did number (Pushed bytes)) ∷ []) s' j number
+    pushed-front before number j bytes step false e =
+        let d = step.does in
+        let event : SystemEvent = AtWorker j (Did number (Pushed bytes)) in
+        let now : slice_get s'.workers j ≡ Some step.new = ap (λ (x : System C J). slice_get x.workers j) step.leaves ∙ set-same s.workers j step.old step.new step.at in
+        let got : get (step.new).clients number ≡ Some d.1 = ap (λ (x : WorkerModel C J). get x.clients number) d.4 ∙ put-same (step.old).clients number d.1 in
+        front-here (done ++ event ∷ []) s' (folds-push SystemStep done event s0 s s' steps step) (step-shown C J law whole faulty plain s0 start done s s' steps shown event step) j number d.1
+        (step.new, now, got, ap (λ (x : ClientContext C). x.client.gone) d.3.2 ∙ e)
+    pushed-front before number j bytes step true e =
+        let d = step.does in
+        let none : (d.0).unpushed ≡ [] = none-unpushed _ _ _ d.0 e (lives-at C J law whole faulty plain s0 start done s steps j number step.old d.0 step.at d.2) in
+        let nothing = front-none bytes (d.1).unpushed (sym none ∙ d.3.1) in
+        quiet before j number (AtWorker j (Did number (Pushed bytes))) step (pushes-none j j number (Did number (Pushed bytes)) (ap (if_own number number) nothing.0 ∙ own-none number number))
+
+    worker-front : ((k number : ℕ) → Front done s k number) → (number j : ℕ) (event : WorkerEvent) (step : WorkerStep s j event s') → Front (done ++ AtWorker j event ∷ []) s' j number
+    worker-front before number j (Did other (Pushed bytes)) step = ⊎_elim
+        (λ (z : (nat_eq other number ≡ true) × (other ≡ number)).
+        subst (λ q. Front (done ++ AtWorker j (Did other (Pushed bytes)) ∷ []) s' j q) z.1 (pushed-front before other j bytes step ((step.does).0).gone refl))
+        (λ (z : (nat_eq other number ≡ false) × (other ≢ number)).
+        quiet before j number (AtWorker j (Did other (Pushed bytes))) step (pushes-none j j number (Did other (Pushed bytes)) (not-own number other bytes z.0)))
+        (eqb_tells other number)
+    worker-front before number j (Did other (Pulled bytes)) step = quiet before j number (AtWorker j (Did other (Pulled bytes))) step (pushes-none j j number (Did other (Pulled bytes)) (own-none number other))
+    worker-front before number j (Did other (Fed result)) step = quiet before j number (AtWorker j (Did other (Fed result))) step (pushes-none j j number (Did other (Fed result)) (own-none number other))
+    worker-front before number j (Did other (Read result)) step = quiet before j number (AtWorker j (Did other (Read result))) step (pushes-none j j number (Did other (Read result)) (own-none number other))
+    worker-front before number j (Did other (HandedOut ticket part)) step = quiet before j number (AtWorker j (Did other (HandedOut ticket part))) step (pushes-none j j number (Did other (HandedOut ticket part)) (own-none number other))
+    worker-front before number j (Did other (Followed ticket part)) step = quiet before j number (AtWorker j (Did other (Followed ticket part))) step (pushes-none j j number (Did other (Followed ticket part)) (own-none number other))
+    worker-front before number j (Did other (Looked slot)) step = quiet before j number (AtWorker j (Did other (Looked slot))) step (pushes-none j j number (Did other (Looked slot)) (own-none number other))
+    worker-front before number j (Did other (CameBack run)) step = quiet before j number (AtWorker j (Did other (CameBack run))) step (pushes-none j j number (Did other (CameBack run)) (own-none number other))
+    worker-front before number j (Did other (Posted run)) step = quiet before j number (AtWorker j (Did other (Posted run))) step (pushes-none j j number (Did other (Posted run)) (own-none number other))
+    worker-front before number j (Did other (Drained n)) step = quiet before j number (AtWorker j (Did other (Drained n))) step (pushes-none j j number (Did other (Drained n)) (own-none number other))
+    worker-front before number j (Did other Tried) step = quiet before j number (AtWorker j (Did other Tried)) step (pushes-none j j number (Did other Tried) (own-none number other))
+    worker-front before number j (Did other Parted) step = quiet before j number (AtWorker j (Did other Parted)) step (pushes-none j j number (Did other Parted) (own-none number other))
+    worker-front before number j (Did other (Dropped tickets)) step = quiet before j number (AtWorker j (Did other (Dropped tickets))) step (pushes-none j j number (Did other (Dropped tickets)) (own-none number other))
+    worker-front before number j (Finished other ticket end) step = quiet before j number (AtWorker j (Finished other ticket end)) step (pushes-none j j number (Finished other ticket end) refl)
+    worker-front before number j (Took ticket told) step = quiet before j number (AtWorker j (Took ticket told)) step (pushes-none j j number (Took ticket told) refl)
+    worker-front before number j FoundNone step = quiet before j number (AtWorker j FoundNone) step (pushes-none j j number FoundNone refl)
+    worker-front before number j (Came other) step = quiet before j number (AtWorker j (Came other)) step (pushes-none j j number (Came other) refl)
+    worker-front before number j (TurnedAway other) step = quiet before j number (AtWorker j (TurnedAway other)) step (pushes-none j j number (TurnedAway other) refl)
+    worker-front before number j FoundNobody step = quiet before j number (AtWorker j FoundNobody) step (pushes-none j j number FoundNobody refl)
+    worker-front before number j (Left other) step = quiet before j number (AtWorker j (Left other)) step (pushes-none j j number (Left other) refl)
+
+    step-front : ((k number : ℕ) → Front done s k number) → (event : SystemEvent) → SystemStep s event s' → (k number : ℕ) → Front (done ++ event ∷ []) s' k number
+    step-front before (AtWorker j event) step k number = ⊎_elim
+        (λ (z : (nat_eq j k ≡ true) × (j ≡ k)). subst (λ q. Front (done ++ AtWorker j event ∷ []) s' q number) z.1 (worker-front before number j event step))
+        (λ (z : (nat_eq j k ≡ false) × (j ≢ k)). quiet before k number (AtWorker j event) step (ap (flat_map (bytes_to number)) (not-own k j (event ∷ []) z.0)))
+        (eqb_tells j k)
+    step-front before (AtCarrier event) step k number = quiet before k number (AtCarrier event) step refl
+    step-front before (AtNode j verdict) step k number = quiet before k number (AtNode j verdict) step refl
+    step-front before (AtBroken j verdict) step k number = quiet before k number (AtBroken j verdict) step refl
+    step-front before (Thrown j) step k number = quiet before k number (Thrown j) step refl
+    step-front before (Moved event) step k number = quiet before k number (Moved event) step refl
+
+  every-front : (events done : List SystemEvent) (s s' : System C J) → FoldsTo SystemStep s0 done s → FoldsTo SystemStep s events s' → AllShown s → ((k number : ℕ) → Front done s k number)
+      → (k number : ℕ) → Front (done ++ events) s' k number
+  every-front [] done s s' steps same shown before k number =
+      subst (λ es. Front es s' k number) (sym (append-nil done)) (subst (λ (x : System C J). Front done x k number) same (before k number))
+  every-front (event ∷ events) done s s' steps (mid, step, more) shown before k number =
+      subst (λ es. Front es s' k number) (append_assoc done (event ∷ []) events)
+      (every-front events (done ++ event ∷ []) mid s' (folds-push SystemStep done event s0 s mid steps step) more (step-shown C J law whole faulty plain s0 start done s mid steps shown event step)
+      (step-front done s mid steps shown before event step) k number)
+
+  none-there : AllShown s0
+  none-there k number client here part less =
+      let none : get (here.0).clients number ≡ None = ap (λ (m : FinMap nat_cmp (ClientModel C)). get m number) (start.idle k here.0 here.1).1 ∙ get-empty nat_cmp number in
+      absurd (none-some (get (here.0).clients number) client none here.2)
+
 module _ (C J : Type 0) where
-  pub log-is-written : DrainsOutput → FrontIsWhole → FrontIsFaulty → PlansArePlain → Unit {0}
-  log-is-written law whole faulty plain = tt
+  pub log-is-written : DrainsOutput → FrontIsWhole → FrontIsFaulty → PlansArePlain → LogIsWritten C J
+  log-is-written law whole faulty plain s s' events start steps k number =
+      every-front C J law whole faulty plain s start events [] s s' refl steps (none-there C J law whole faulty plain s start) (λ j q. none-front [] (flat_map (answers_to j q) s.log)) k number

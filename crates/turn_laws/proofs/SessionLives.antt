@@ -163,12 +163,12 @@ replies-front a ends read drained faulted held closed same d line = by line
     by (inl none) = whole (replies_told a 0 (map owed_for read) (lines_owed faulted)) (
       replies_told a (0 + parts_of d.gone) held.requests (lines_owed faulted),
       ap (λ line. replies_told a 0 d.gone line ++ replies_told a (0 + parts_of d.gone) held.requests (lines_owed faulted)) none
-      ∙ sym (split-known a 0 d.gone held.requests (lines_owed faulted) known) ∙ ap (λ rs. replies_told a 0 rs (lines_owed faulted)) (sym d.owed),
+          ∙ sym (split-known a 0 d.gone held.requests (lines_owed faulted) known) ∙ ap (λ rs. replies_told a 0 rs (lines_owed faulted)) (sym d.owed),
     )
     by (inr (is, none, (why, broke))) = whole (replies_told a 0 (map owed_for read) (lines_owed faulted)) (
       [],
       append-nil (replies_told a 0 d.gone d.line) ∙ ap (replies_told a 0 d.gone) (is ∙ ap lines_owed (sym (same-line read faulted held.closing why broke closed)))
-      ∙ ap (λ rs. replies_told a 0 rs (lines_owed faulted)) (sym (append-nil d.gone) ∙ ap (λ rs. d.gone ++ rs) (sym none) ∙ sym d.owed),
+          ∙ ap (λ rs. replies_told a 0 rs (lines_owed faulted)) (sym (append-nil d.gone) ∙ ap (λ rs. d.gone ++ rs) (sym none) ∙ sym d.owed),
     )
 
 -- so it is a front of the output by that list
@@ -182,5 +182,5 @@ other-front law a came ends went session unfed unpushed same l =
     ap (λ rs. bytes_of (replies_told a 0 (map owed_for rs) (lines_owed faulted))) (sym quits) ∙ ap (λ rs. output_of rs a faulted) (l.read).read_is in (
       pipeline came ends went session unfed unpushed l,
       subst (λ bs. IsPrefix went bs) out (front-of went (flat_map drained_by l.calls) (bytes_of (replies_told a 0 (map owed_for read) (lines_owed faulted))) (unpushed, sym l.drained)
-      (replies-front a ends read (flat_map drained_by l.calls) faulted session l.closed same l.replied (l.replied).lined)),
+          (replies-front a ends read (flat_map drained_by l.calls) faulted session l.closed same l.replied (l.replied).lined)),
     )

@@ -2,7 +2,7 @@
 
 ghost use Rattle.turn_laws.specs.Walks.{EveryWalk};
 ghost use Rattle.turn_laws.specs.Settling.{Settling, SettlingAfter};
-ghost use Rattle.turn_laws.specs.ClientOutput.{AllClientsAreWritten, AnswersWereTold, ClientsAreWritten};
+ghost use Rattle.turn_laws.specs.ClientOutput.{AllClientsAreWritten, AnswersWereTold, ClientsAreWritten, LogIsWritten};
 ghost use Rattle.turn_laws.specs.AnyPort.{AnyClients, AnyClientTurns, AnyPorts, WiresStand};
 ghost use Rattle.turn_laws.specs.Scripts.{GivesBack, LosesCommands, MovesUnderUse, PairsCommands};
 ghost use Rattle.turn_laws.specs.Refines.{CarrierRefines, MovesRefine, NodesRefine, Refines, StartsRefine, ThrownRefine, WorkersRefine};
@@ -99,9 +99,11 @@ pub fn clients_are_written<C: Drop, J: Naming>()
     front_is_faulty();
 }
 
-/// The ends by which a client's output is made are those of the log: what it says was answered is what the client was told of that part.
-pub fn answers_were_told<C: Drop, J: Naming>()
-    ensures { AnswersWereTold C J }
+/// The log's answers are what clients are written. The bytes that went to a client are a front of the output of its requests and of the
+/// answers to it that the log shows; and each of these is the end that it was told of that part.
+pub fn log_is_written<C: Drop, J: Naming>()
+    ensures written { LogIsWritten C J }
+    ensures told { AnswersWereTold C J }
 {
     drains_output();
     front_is_whole();
