@@ -147,6 +147,7 @@ then-told done event log marks before now i ticket end at =
 same-log : (done : List SystemEvent) (event : SystemEvent) (log : List Mark) → WereTold done log → WereTold (done ++ event ∷ []) log
 same-log done event log before = subst (WereTold (done ++ event ∷ [])) (append-nil log) (then-told done event log [] before (none-told done))
 
+-- the log of a system
 abbrev log_in : {C J : Type 0} → System C J → List Mark
 log_in s = s.log
 

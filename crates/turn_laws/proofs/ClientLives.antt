@@ -239,6 +239,7 @@ module _ {C : Type 0} where
       → LivesOn (came ++ []) ends (went ++ []) new.client
   becomes came ends went new client is lives = plain came ends went new.client (subst (λ (x : ClientModel C). LivesOn came ends went x) (sym is) lives)
 
+  -- the client of a context
   abbrev client_in : ClientContext C → ClientModel C
   client_in context = context.client
 

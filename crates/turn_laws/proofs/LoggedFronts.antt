@@ -165,6 +165,7 @@ IsDrainOf number (Did other event) = IsDrain event × (other ≡ number)
 IsDrainOf number event = ⊥
 
 module _ {C : Type 0} (old new : ClientContext C) where
+  -- it was there, and drained replies if a part left
   abbrev GoesOn : ClientEvent → Type 0
   GoesOn event = ((old.client).gone ≡ false) × (((new.client).session.first ≡ (old.client).session.first) ⊎ IsDrain event)
 
@@ -357,6 +358,7 @@ none-front : (came : List ℕ) (ends : List (Ticket × Ended)) → IsFront came 
 none-front came ends = (record { values = []; text = []; rest = came; spelled = refl; are = refl; faulted = false; fault = λ met. absurd (false≢true met) }, (output_of [] ends false, refl))
 
 module _ (C J : Type 0) (law : DrainsOutput) (whole : FrontIsWhole) (faulty : FrontIsFaulty) (plain : PlansArePlain) (s0 : System C J) (start : IsStart s0) where
+  -- what went to this client is a front of the output by the answers in the log
   abbrev Front : List SystemEvent → System C J → ℕ → ℕ → Type 0
   Front done s k number = IsFront (flat_map (bytes_from number) (flat_map (events_at k) done)) (flat_map (answers_to k number) s.log) (flat_map (bytes_to number) (flat_map (events_at k) done))
 

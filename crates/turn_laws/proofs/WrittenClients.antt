@@ -205,6 +205,7 @@ IsNoWorkers (AtWorker k event) = ⊥
 IsNoWorkers event = Unit {0}
 
 module _ {C J : Type 0} where
+  -- the workers of a system
   abbrev workers_of : System C J → List (WorkerModel C J)
   workers_of s = s.workers
 
