@@ -2,6 +2,7 @@
 
 ghost use Rattle.turn_laws.specs.Walks.{EveryWalk};
 ghost use Rattle.turn_laws.specs.Settling.{Settling, SettlingAfter};
+ghost use Rattle.turn_laws.specs.ClientOutput.{AllClientsAreWritten, AnswersWereTold, ClientsAreWritten, LogIsWritten};
 ghost use Rattle.turn_laws.specs.AnyPort.{AnyClients, AnyClientTurns, AnyPorts, WiresStand};
 ghost use Rattle.turn_laws.specs.Scripts.{GivesBack, LosesCommands, MisreadsLines, MovesUnderUse, PairsCommands};
 ghost use Rattle.turn_laws.specs.Refines.{CarrierRefines, MovesRefine, NamesStay, NodesRefine, Refines, StartsRefine, ThrownRefine, WorkersRefine};
@@ -11,7 +12,8 @@ use crate::wired_port::WiredPort;
 use key_split::laws::parts_of_plans_are_plain;
 use proxy_lanes::Naming;
 use proxy_turns::{ClientPort, Dial};
-use resp_wire::laws::front_is_whole;
+use resp_wire::laws::{front_is_faulty, front_is_whole};
+use session_order::drains_output;
 
 /// The headline holds after every schedule, however many events it has.
 pub fn every_walk()
@@ -97,4 +99,28 @@ pub fn steps_happen<C: Drop, J: Naming>()
     ensures misreads { MisreadsLines C J }
 {
     front_is_whole();
+}
+
+/// The bytes that go to a client are a front of the output of the requests that its own bytes spell and of the ends that it is told. Where
+/// the client is served and not gone they are all of it, up to the request or the fault that ended its session. So it is whatever a worker
+/// does, and whatever a system does from its start.
+pub fn clients_are_written<C: Drop, J: Naming>()
+    ensures of_worker { ClientsAreWritten C J }
+    ensures of_system { AllClientsAreWritten C J }
+{
+    drains_output();
+    front_is_whole();
+    front_is_faulty();
+}
+
+/// The log's answers are what clients are written. The bytes that went to a client are a front of the output of its requests and of the
+/// answers to it that the log shows; and each of these is the end that it was told of that part.
+pub fn log_is_written<C: Drop, J: Naming>()
+    ensures written { LogIsWritten C J }
+    ensures told { AnswersWereTold C J }
+{
+    drains_output();
+    front_is_whole();
+    front_is_faulty();
+    parts_of_plans_are_plain();
 }
