@@ -7,7 +7,7 @@ from contextlib import ExitStack
 from client import request
 from cases_faults import kill_connections
 from cluster import Proxy, free_ports, keys_of_slots, slot_of, wait_until
-from harness import case, check, check_same
+from harness import case, check, check_same, check_time
 from writers import GAVE_UP
 
 # So many clients send so many commands each that fail.
@@ -19,7 +19,7 @@ class Logged:
 
     def __init__(self, world, seed_port, name, variables=None):
         self.proxy = Proxy(world.room, world.program, seed_port, name=name, variables=variables)
-        self.path = f"{world.room.folder}/{name}.log"
+        self.path = f"{world.room.folder}/{self.proxy.name}.log"
 
     def lines(self, event=""):
         with open(self.path, encoding="ascii") as file:
@@ -67,7 +67,8 @@ def failing_commands_write_few_lines(world):
             for client in asking:
                 check_same(set(client.replies(FAILING)), {GAVE_UP}, "replies")
         seconds, lines, failed = time.monotonic() - began, logged.lines(), 2 * ASKING * FAILING
-        check(len(lines) <= 4 + seconds and len(lines) < 20, f"{len(lines)} lines in {seconds:.1f} seconds")
+        check(len(lines) <= 4 + seconds, f"{len(lines)} lines in {seconds:.1f} seconds")
+        check_time(len(lines) < 20, f"{len(lines)} lines in {seconds:.1f} seconds")
         counted = sum(int(it) for it in re.findall(r"left_out=(\d+)", "\n".join(lines)))
         check(counted > 0, f"none is counted as left out, of {failed} commands in {seconds:.1f} seconds")
     return f"{len(lines)} lines for {failed} commands in {seconds:.1f} seconds, {counted} left out"

@@ -21,7 +21,7 @@ class Example:
     def __exit__(self, *_):
         for process in (self.proxy.process, self.nodes.process):
             process.terminate()
-            process.wait(10)
+            process.wait(60)
 
 
 @case

@@ -4,7 +4,7 @@ import time
 from contextlib import ExitStack
 
 from client import request
-from cluster import Proxy, slot_of
+from cluster import Proxy, slot_of, wait_until
 from harness import case, check, check_same, check_time
 from scripted import DeafNode, ScriptedNode, bulk, slots_reply
 from writers import GAVE_UP, LOST
@@ -22,9 +22,19 @@ class Scene:
     def __enter__(self):
         return self.proxy
 
+    def wait_for_map(self, node=None):
+        """Waits until the proxy has said that it took in the slots that a node listed, the first one if none is named."""
+        renewed = f"event=slot_map_renewed node=127.0.0.1:{(node or self.nodes[0]).port} ".encode()
+
+        def is_renewed():
+            with open(f"{self.proxy.room.folder}/{self.proxy.name}.log", "rb") as said:
+                return renewed in said.read()
+
+        wait_until(is_renewed, "the slot map")
+        time.sleep(0.2)
+
     def __exit__(self, *_):
-        self.proxy.process.terminate()
-        self.proxy.process.wait(10)
+        self.proxy.end()
         for node in self.nodes:
             node.close()
 
@@ -47,8 +57,7 @@ def moved_is_followed_and_remembered(world):
         check_same([client.ask("SET", "a", "1") for _ in range(3)], [b"+OK\r\n"] * 3, "SET by way of MOVED")
         check_same(old.words_seen(), [[b"SET", b"a", b"1"]], "requests of the old node")
         check_same(new.words_seen(), [[b"SET", b"a", b"1"]] * 3, "requests of the new node, without ASKING")
-        time.sleep(0.2)
-        check(old.asked_slots >= 2, "CLUSTER SLOTS is asked at the start and after MOVED")
+        wait_until(lambda: old.asked_slots >= 2, "CLUSTER SLOTS to be asked, at the start and after MOVED")
 
 
 @case
@@ -119,6 +128,7 @@ def a_lost_command_is_not_sent_again(world):
         with Scene(world, node) as proxy, proxy.client() as client:
             if reply == b"$3\r\nab":
                 client.send(request("INCR", "a"))
+                wait_until(node.words_seen, "the node to get the command")
                 time.sleep(0.3)
                 node.close()
                 check_same(client.reply(), LOST, "INCR whose reply was cut off")
@@ -180,8 +190,9 @@ def dials_that_hang(world):
     node = ScriptedNode(lambda words: bulk(words[1]))
     slots = [slot_of(key) for key in (b"a", b"b", b"c")]
     node.slots = lambda: slots_reply([(it, it, port) for it, port in zip(slots, (deaf.port, node.port, deafer.port))])
-    with Scene(world, node, deaf, deafer) as proxy, proxy.client() as stuck, proxy.client() as client:
-        time.sleep(0.2)
+    scene = Scene(world, node, deaf, deafer)
+    with scene as proxy, proxy.client() as stuck, proxy.client() as client:
+        scene.wait_for_map()
         check_same(client.ask("GET", "b"), bulk(b"b"), "GET before the dials")
         begun = time.monotonic()
         stuck.send(request("GET", "a") + request("GET", "c"))

@@ -9,7 +9,7 @@ from contextlib import ExitStack
 from cases_busy import percentile, seconds_of_asking
 from client import request
 from cluster import Proxy, is_within, keys_of_slots, resident_mebibytes
-from harness import case, check, check_same, check_time
+from harness import case, check_same, check_time
 
 # The bytes of a value, how many keys hold one, how often each client asks for one of them: 100 MiB in all.
 VALUE, KEYS, TIMES = 65536, 64, 1600
@@ -41,11 +41,10 @@ class Beside:
         self.late, self.usual, self.direct = map(percentile, taken)
         self.note = f"resident {before:.0f} MiB before, {self.held:.0f} at most, {self.kept:.0f} after; "
         self.note += f"99 of 100 requests within {self.late:.1f} ms, over another proxy {self.usual:.1f}, directly {self.direct:.1f}"
-        self.proxy.process.terminate()
-        self.proxy.process.wait(10)
+        self.proxy.end()
 
     def check(self, most_held):
-        check(self.held < most_held, self.note)
+        check_time(self.held < most_held, self.note)
         check_time(self.kept < MOST_KEPT, self.note)
         check_time(self.late < MOST_WAITED + MOST_TIMES * max(self.usual, self.direct), self.note)
         return self.note

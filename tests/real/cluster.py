@@ -1,12 +1,13 @@
 """Servers of a test: plain redis-servers, a cluster of three primaries with slots that move, and the proxy."""
 
 import os
+import random
 import signal
 import socket
 import subprocess
 import time
 
-from client import Client
+from client import Client, Closed
 from harness import check
 
 SLOTS = 16384
@@ -43,14 +44,19 @@ def keys_of_slots(first, last, count):
 
 
 def free_ports(count):
-    """Ports of loopback that nobody listens on."""
-    sockets = [socket.socket() for _ in range(count)]
-    for it in sockets:
-        it.bind(("127.0.0.1", 0))
-    ports = [it.getsockname()[1] for it in sockets]
-    for it in sockets:
-        it.close()
-    return ports
+    """Ports of loopback that nobody listens on, below those that the system gives to connections: none takes one meanwhile."""
+    with open("/proc/sys/net/ipv4/ip_local_port_range", encoding="ascii") as given:
+        end = int(given.read().split()[0])
+    ports = {}
+    while len(ports) < count:
+        with socket.socket() as it:
+            it.setsockopt(socket.SOL_SOCKET, socket.SO_REUSEADDR, 1)
+            try:
+                it.bind(("127.0.0.1", random.randrange(min(10_000, end // 2), end)))
+            except OSError:
+                continue
+            ports[it.getsockname()[1]] = True
+    return list(ports)
 
 
 def is_within(seconds, is_so):
@@ -63,7 +69,7 @@ def is_within(seconds, is_so):
     return True
 
 
-def wait_until(is_so, what, limit=20.0):
+def wait_until(is_so, what, limit=60.0):
     check(is_within(limit, is_so), f"waited {limit} seconds for {what}")
 
 
@@ -73,7 +79,7 @@ def does_answer(port, password=None):
             if password:
                 client.ask("AUTH", password)
             return client.ask("PING") == b"+PONG\r\n"
-    except OSError:
+    except (OSError, Closed):
         return False
 
 
@@ -89,7 +95,12 @@ class Room:
     """The folder of a run, and each process that it started."""
 
     def __init__(self, folder):
-        self.folder, self.processes = folder, []
+        self.folder, self.processes, self.names = folder, [], {}
+
+    def name(self, name):
+        """The name, or where it was given before, as to a case that is run again, another one."""
+        self.names[name] = self.names.get(name, 0) + 1
+        return name if self.names[name] == 1 else f"{name}.{self.names[name]}"
 
     def start(self, words, said, variables=None):
         """Starts a program whose output goes to the file `said`, and notes its number for `run`, which ends what is left."""
@@ -131,10 +142,10 @@ class Server:
     """One redis-server."""
 
     def __init__(self, room, name, *options, port=None, password=None):
-        self.room, self.name, self.password = room, name, password
+        self.room, self.name, self.password = room, room.name(name), password
         self.options = [*options, "--requirepass", password] if password else options
         self.port = port or free_ports(1)[0]
-        self.folder = f"{room.folder}/{name}"
+        self.folder = f"{room.folder}/{self.name}"
         os.makedirs(self.folder, exist_ok=True)
         self.start()
 
@@ -191,6 +202,8 @@ class Cluster:
     """Three primaries, each with a third of the slots, which want a password where one is given."""
 
     def __init__(self, room, name="node", password=None, patience=10000):
+        # the seconds that the slowest move took since the last `tidy`
+        self.slowest_move = 0.0
         self.nodes, buses = cluster_nodes(room, name, password, patience)
         for number, (node, (first, last)) in enumerate(zip(self.nodes, self.ranges())):
             node.value("CLUSTER", "SET-CONFIG-EPOCH", number + 1)
@@ -216,6 +229,7 @@ class Cluster:
         return next(number for number in range(3) if any(first <= slot <= last for first, last in self.ranges_of(number)))
 
     def begin_move(self, slot, source, target):
+        self.move_began = time.monotonic()
         self.nodes[target].value("CLUSTER", "SETSLOT", slot, "IMPORTING", self.ids[source])
         self.nodes[source].value("CLUSTER", "SETSLOT", slot, "MIGRATING", self.ids[target])
 
@@ -224,7 +238,7 @@ class Cluster:
         with self.nodes[source].client() as client:
             keys = client.value("CLUSTER", "GETKEYSINSLOT", slot, at_once)
             if keys:
-                moved = client.value("MIGRATE", "127.0.0.1", self.nodes[target].port, "", 0, 5000, "KEYS", *keys)
+                moved = client.value("MIGRATE", "127.0.0.1", self.nodes[target].port, "", 0, 50000, "KEYS", *keys)
                 check(moved in ("OK", "NOKEY"), f"MIGRATE said {moved!r}")
         return len(keys)
 
@@ -232,6 +246,7 @@ class Cluster:
         third = 3 - source - target
         for number in (target, source, third):
             self.nodes[number].value("CLUSTER", "SETSLOT", slot, "NODE", self.ids[target])
+        self.slowest_move = max(self.slowest_move, time.monotonic() - self.move_began)
 
     def call_back(self, slot, source, target):
         """Ends a move before a key went over: both nodes forget it."""
@@ -261,6 +276,12 @@ class Cluster:
                 for slot in range(first, last + 1):
                     if not low <= slot <= high:
                         self.move(slot, next(k for k, (a, b) in enumerate(self.ranges()) if a <= slot <= b))
+        self.slowest_move = 0.0
+
+    def end(self):
+        """Ends all nodes of it."""
+        for node in self.nodes:
+            end(node.process)
 
     @staticmethod
     def slots_in_moves(node):
@@ -279,7 +300,7 @@ class Proxy:
     """The program before a seed."""
 
     def __init__(self, room, program, seed_port, workers=2, name="proxy", variables=None, descriptors=None):
-        self.room, self.program, self.seed_port, self.workers, self.name = room, program, seed_port, workers, name
+        self.room, self.program, self.seed_port, self.workers, self.name = room, program, seed_port, workers, room.name(name)
         self.variables, self.limit = variables, descriptors
         self.start()
 
@@ -293,6 +314,11 @@ class Proxy:
 
     def has_ended(self):
         return self.process.poll() is not None
+
+    def end(self):
+        """By a signal."""
+        self.process.terminate()
+        self.process.wait(60)
 
     def said(self):
         """The end of what it wrote, and its status where it has ended."""

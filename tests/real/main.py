@@ -30,8 +30,6 @@ import cases_unread
 from cluster import Cluster, Proxy, Room, Server
 from harness import CASES, Failed, Slow
 
-# Seconds that one case may take, as a last resort: each socket has a limit of its own.
-CASE_LIMIT = 60
 # How often a case is run before what it took counts as a fault.
 TRIES = 5
 
@@ -56,8 +54,8 @@ class World:
         self.plain.value("FLUSHALL")
 
 
-def stop(*_):
-    raise Failed(f"not done after {CASE_LIMIT} seconds")
+def stop(limit):
+    raise Failed(f"not done after {limit} seconds")
 
 
 def place_of(fault):
@@ -79,7 +77,8 @@ def run_case(world, case):
 def try_case(world, case, if_slow):
     """Runs a case once, prints its line, and gives the line's word."""
     began = time.monotonic()
-    signal.alarm(CASE_LIMIT)
+    signal.signal(signal.SIGALRM, lambda *_: stop(case.limit))
+    signal.alarm(case.limit)
     try:
         world.tidy()
         note = case(world)
@@ -99,21 +98,21 @@ def try_case(world, case, if_slow):
 
 
 def main(folder, program, *names):
-    signal.signal(signal.SIGALRM, stop)
     for number in (signal.SIGTERM, signal.SIGINT):
         signal.signal(number, lambda number, _: sys.exit(128 + number))
     cases = [it for it in CASES if not names or any(name in f"{it.__module__} {it.__name__}" for name in names)]
     room = Room(folder)
     try:
         world = World(room, program)
-        passed = sum(run_case(world, it) for it in cases)
-    except Failed as fault:
-        print(f"FAIL the servers: {fault}")
-        passed = 0
+        failed = [it.__name__ for it in cases if not run_case(world, it)]
+    except Exception as fault:
+        failed = [f"the servers: {type(fault).__name__} {fault}"] * len(cases)
     finally:
         room.end_all()
-    failed = len(cases) - passed
-    print(f"{passed} passed, {failed} failed")
+    # once more, where a reader of the end finds them
+    for line in dict.fromkeys(failed):
+        print(f"FAIL {line}")
+    print(f"{len(cases) - len(failed)} passed, {len(failed)} failed")
     return 1 if failed or not cases else 0
 
 
