@@ -2,6 +2,7 @@
 
 import os
 import subprocess
+import time
 import unittest
 from dataclasses import dataclass
 
@@ -9,6 +10,9 @@ PROGRAM = os.environ["PROXY"]
 
 # Seconds that one run may take, as a last resort.
 LIMIT = 60
+
+# The seconds that each sweep took, by what it is. All together, with those of tests/rows, are to take less than five minutes.
+SWEEPS = {}
 
 # Bytes that `one`, `simulate` and `local` read at the most.
 INPUT_LIMIT = 1_048_576
@@ -19,6 +23,12 @@ def run(words, given=b"", variables=None):
     environment = {**os.environ, **(variables or {})}
     ran = subprocess.run([PROGRAM, *words], input=given, capture_output=True, timeout=LIMIT, check=False, env=environment)
     return ran.returncode, ran.stdout, ran.stderr
+
+
+def swept(what, began):
+    """Prints what was swept since a moment, and how long it took."""
+    SWEEPS[what] = time.monotonic() - began
+    print(f"{what}; {SWEEPS[what]:.1f} s")
 
 
 class Runs(unittest.TestCase):

@@ -17,8 +17,9 @@ MOST_PERCENT, MOST_COMMANDS = 2.0, 5
 MOST_WAITED, MOST_TIMES = 20_000, 40
 # In mebibytes: what may stay after clients with big values have left.
 MOST_KEPT = 32
-# Bytes of a large value; and in mebibytes what may stay after clients that were served many of them.
-LARGE, MOST_LEFT = 4 * 2**20, 16
+# Bytes of a large value, and how many there are, on a slow machine half of them; and in mebibytes what may stay after clients that
+# were served all of them. Seconds that a value may take, and after which no further client of a kind comes.
+LARGE, COUNT, MOST_LEFT, VALUE_SECONDS, SECONDS_OF_CLIENTS = 4 * 2**20, 16, 16, 0.5, 20
 
 
 def percent_of_core(process, seconds=SECONDS):
@@ -104,26 +105,29 @@ def what_a_client_left_behind(world):
     """Of a proxy's own: clients that were served large replies, read or reset in the midst of them, leave little behind."""
     variables = {"MALLOC_TRIM_THRESHOLD_": "131072", "MALLOC_MMAP_THRESHOLD_": "131072"}
     proxy = Proxy(world.room, world.program, world.cluster.nodes[0].port, name="left", variables=variables)
-    keys = [b"large %d" % number for number in range(16)]
+    keys, began = [b"large %d" % number for number in range(COUNT)], time.monotonic()
     try:
         with proxy.client() as client:
             for key in keys:
                 check_same(client.ask("SET", key, LARGE * b"v"), b"+OK\r\n", "SET")
+        if time.monotonic() - began > VALUE_SECONDS * COUNT:
+            keys = keys[: COUNT // 2]
         before = most = resident_mebibytes(proxy.process)
-        for is_read in [True, False] * 3:
+        began, clients = time.monotonic(), 0
+        while clients < 2 or clients < 6 and time.monotonic() < began + SECONDS_OF_CLIENTS:
             with proxy.client() as client:
                 client.send(request("MGET", *keys))
-                if is_read:
-                    check_same(len(client.reply()), len(b"*16\r\n") + 16 * (LARGE + len(b"$4194304\r\n\r\n")), "length of a reply")
+                if clients % 2 == 0:
+                    check_same(len(client.reply()), len(b"*%d\r\n" % len(keys)) + len(keys) * (LARGE + len(b"$4194304\r\n\r\n")), "length of a reply")
                 else:
-                    check_same(client.socket.recv(4), b"*16\r", "the first bytes of a reply")
-                most = max(most, resident_mebibytes(proxy.process))
+                    check_same(client.socket.recv(1), b"*", "the first byte of a reply")
+                most, clients = max(most, resident_mebibytes(proxy.process)), clients + 1
                 client.socket.setsockopt(socket.SOL_SOCKET, socket.SO_LINGER, struct.pack("ii", 1, 0))
         is_within(2, lambda: resident_mebibytes(proxy.process) < before + MOST_LEFT)
         after = resident_mebibytes(proxy.process)
     finally:
         proxy.end()
-    note = f"resident {before:.0f} MiB before, {most:.0f} at most, {after:.0f} after"
-    check(most > before + 32, note)
+    note = f"resident {before:.0f} MiB before, {most:.0f} at most, {after:.0f} after {clients} clients that asked for {LARGE * len(keys) >> 20} MiB"
+    check(most > before + (LARGE * len(keys) >> 21), note)
     check_time(after < before + MOST_LEFT, note)
     return note

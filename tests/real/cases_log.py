@@ -17,8 +17,8 @@ ASKING, FAILING = 50, 200
 class Logged:
     """A proxy of its own, and the lines that it wrote."""
 
-    def __init__(self, world, seed_port, name, variables=None):
-        self.proxy = Proxy(world.room, world.program, seed_port, name=name, variables=variables)
+    def __init__(self, world, seed_port, name, variables=None, workers=2):
+        self.proxy = Proxy(world.room, world.program, seed_port, workers=workers, name=name, variables=variables)
         self.path = f"{world.room.folder}/{self.proxy.name}.log"
 
     def lines(self, event=""):

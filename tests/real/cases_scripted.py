@@ -4,8 +4,8 @@ import time
 from contextlib import ExitStack
 
 from client import request
-from cluster import Proxy, slot_of, wait_until
-from harness import case, check, check_same, check_time
+from cluster import Proxy, slot_of, tag_of_slot, wait_until
+from harness import Together, case, check_same, check_time
 from scripted import DeafNode, ScriptedNode, bulk, slots_reply
 from writers import GAVE_UP, LOST
 
@@ -204,3 +204,36 @@ def dials_that_hang(world):
         check_time(slowest < 1.0, f"a command of another node waited {slowest:.2f} seconds")
         check_same(stuck.replies(2), [GAVE_UP] * 2, "GETs at nodes that take no connection")
     return f"{count} commands beside them, the slowest {1000 * slowest:.0f} ms"
+
+
+@case
+def a_host_name_that_is_not_found(world):
+    """A node lists another one by a name that nobody has: that one's commands are given up, and hold up no others."""
+    node, name = ScriptedNode(lambda words: bulk(words[1])), b"no-such-host.invalid"
+    entries = [(0, 8191, b"127.0.0.1", node.port), (8192, 16383, name, 7000)]
+    listed = b"*2\r\n" + b"".join(b"*3\r\n:%d\r\n:%d\r\n*2\r\n%s:%d\r\n" % (low, high, bulk(host), port) for low, high, host, port in entries)
+    node.slots = lambda: listed
+    scene, here, there = Scene(world, node), *(tag_of_slot(range(*it)) for it in ((0, 8192), (8192, 16384)))
+    with scene as proxy, proxy.client() as client:
+        scene.wait_for_map()
+        ended = Together(3, lambda number: ask_often(proxy, there, 3))
+        taken = []
+        while any(it.is_alive() for it in ended.threads):
+            began = time.monotonic()
+            check_same(client.ask("GET", here), bulk(here), "GET beside those of the name")
+            taken.append(time.monotonic() - began)
+        given_up, waits = zip(*(it for mine in ended.join() for it in mine))
+    check_same(set(given_up), {GAVE_UP}, "GETs at the node that is not found")
+    note = f"{len(given_up)} given up within {max(waits):.1f} s, {len(taken)} commands beside them, the slowest {1000 * max(taken):.0f} ms"
+    check_time(max(taken) < 1.0, note)
+    return note
+
+
+def ask_often(proxy, key, count):
+    """The replies to so many GETs of a key, each with the seconds that it took."""
+    replies = []
+    with proxy.client() as client:
+        for _ in range(count):
+            began = time.monotonic()
+            replies.append((client.ask("GET", key), time.monotonic() - began))
+    return replies

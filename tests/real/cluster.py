@@ -47,15 +47,13 @@ def free_ports(count):
     """Ports of loopback that nobody listens on, below those that the system gives to connections: none takes one meanwhile."""
     with open("/proc/sys/net/ipv4/ip_local_port_range", encoding="ascii") as given:
         end = int(given.read().split()[0])
-    ports = {}
+    ports = set()
     while len(ports) < count:
-        with socket.socket() as it:
-            it.setsockopt(socket.SOL_SOCKET, socket.SO_REUSEADDR, 1)
-            try:
-                it.bind(("127.0.0.1", random.randrange(min(10_000, end // 2), end)))
-            except OSError:
-                continue
-            ports[it.getsockname()[1]] = True
+        try:
+            with socket.create_server(("127.0.0.1", random.randrange(min(10_000, end // 2), end))) as it:
+                ports.add(it.getsockname()[1])
+        except OSError:
+            pass  # it is taken
     return list(ports)
 
 
@@ -133,9 +131,14 @@ def processor_seconds(process):
     return total / 1e9
 
 
-def resident_mebibytes(process):
+def resident_mebibytes(process, line="VmRSS"):
     with open(f"/proc/{process.pid}/status", encoding="ascii") as status:
-        return next(int(line.split()[1]) for line in status if line.startswith("VmRSS:")) / 1024
+        return next(int(it.split()[1]) for it in status if it.startswith(f"{line}:")) / 1024
+
+
+def peak_mebibytes(process):
+    """The most that it has held so far."""
+    return resident_mebibytes(process, "VmHWM")
 
 
 class Server:

@@ -27,6 +27,7 @@ import cases_failover
 import cases_busy
 import cases_silent
 import cases_unread
+import cases_endless
 from cluster import Cluster, Proxy, Room, Server
 from harness import CASES, Failed, Slow
 
