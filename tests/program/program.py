@@ -1,5 +1,6 @@
 """Runs of the program, and tables of them."""
 
+import functools
 import os
 import subprocess
 import time
@@ -23,6 +24,32 @@ def run(words, given=b"", variables=None):
     environment = {**os.environ, **(variables or {})}
     ran = subprocess.run([PROGRAM, *words], input=given, capture_output=True, timeout=LIMIT, check=False, env=environment)
     return ran.returncode, ran.stdout, ran.stderr
+
+
+class Slow(AssertionError):
+    """What took longer than it may. A machine that had a pause of its own may be the reason, so a test that is `timed` is run again."""
+
+
+def check_time(is_so, otherwise):
+    if not is_so:
+        raise Slow(otherwise)
+
+
+def timed(test):
+    """Runs a test again, twice at most, where it was slow."""
+
+    @functools.wraps(test)
+    def run_again(self):
+        for _ in range(2):
+            try:
+                return test(self)
+            except Slow as fault:
+                print(f"{test.__name__}: slow: {fault}")
+                self.doCleanups()
+                self.setUp()
+        return test(self)
+
+    return run_again
 
 
 def swept(what, began):

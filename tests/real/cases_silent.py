@@ -11,7 +11,7 @@ from contextlib import ExitStack
 from cases_idle import percent_of_core
 from cases_scripted import Scene, moved
 from client import request
-from cluster import Proxy, is_within, keys_of_slots, resident_mebibytes, wait_until
+from cluster import Proxy, is_within, keys_of_slots, processor_seconds, resident_mebibytes, wait_until
 from harness import case, check, check_same, check_time
 from scripted import ScriptedNode, bulk, slots_reply
 from writers import LOST
@@ -24,6 +24,9 @@ UNREAD, LEFT, MOST_KEPT = 200, 200 * 1024, 12
 IDLE = 60
 # The limit of descriptors before which so many clients come.
 CROWDED, CROWD = 64, 200
+# Milliseconds within which 99 of 100 requests are answered meanwhile, on a slow machine so many times the median; and the share of a
+# core that the proxy may take while clients wait, in percent, on a slow machine what so many commands a second take.
+MOST_WAITED, MOST_TIMES, MOST_PERCENT, MOST_COMMANDS = 100, 20, 10, 20
 
 
 @case(limit=2 * HANGS)
@@ -202,6 +205,7 @@ def descriptors_kept_for_nodes(world):
             client.send(request(*words[0]))
         first = crowd[0]
         check_same(first.reply(), b"+OK\r\n", "the first client's SET")
+        used = processor_seconds(proxy.process)
         for number in range(200):
             if number % 50 == 25:
                 for node in nodes[:3]:
@@ -210,15 +214,17 @@ def descriptors_kept_for_nodes(world):
             reply = first.ask(*words[number % len(words)])
             check(reply in (b"+OK\r\n", LOST), f"a client that is served was told {reply!r}")
             taken.append(1000 * (time.monotonic() - began))
+        lone = (processor_seconds(proxy.process) - used) / len(taken)
         percent = percent_of_core(proxy.process, 1)
+        most = max(MOST_PERCENT, 100 * MOST_COMMANDS * lone)
         for client in crowd[1:]:
             check_same(client.reply(), b"+OK\r\n", "a client's SET")
             served = max(served, proxy.descriptors())
             client.close()
     proxy.end()
     late = sorted(taken)[len(taken) * 99 // 100]
-    note = f"at most {served} of {CROWDED} descriptors; 99 of 100 requests within {late:.1f} ms; {percent:.1f} % of a core while clients wait"
+    note = f"at most {served} of {CROWDED} descriptors; 99 of 100 requests within {late:.1f} ms; {percent:.1f} % of a core while clients wait, of {most:.0f}"
     check(served <= CROWDED - 8, note)
-    check_time(late < 100, note)
-    check_time(percent < 10, note)
+    check_time(late < max(MOST_WAITED, MOST_TIMES * sorted(taken)[len(taken) // 2]), note)
+    check_time(percent < most, note)
     return note

@@ -268,7 +268,12 @@ class Cluster:
         self.end_move(slot, source, target)
 
     def tidy(self):
-        """No keys, no slot in a move, and each slot at the node that had it at the start."""
+        """All nodes run, with no keys, no slot in a move, and each slot at the node that had it at the start."""
+        ended = [node for node in self.nodes if not node.is_running()]
+        for node in self.nodes:
+            node.start() if node in ended else node.go_on()
+        if ended:
+            wait_until(self.is_whole, "the cluster to be whole again")
         for node in self.nodes:
             node.value("FLUSHALL")
         for node in self.nodes:

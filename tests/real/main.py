@@ -33,6 +33,8 @@ from harness import CASES, Failed, Slow
 
 # How often a case is run before what it took counts as a fault.
 TRIES = 5
+# How much of what was wrong with a case is said once more at the end.
+MOST_SAID = 200
 
 
 class World:
@@ -67,16 +69,16 @@ def place_of(fault):
 
 
 def run_case(world, case):
-    """Runs a case, again where it was slow, and says whether it passed."""
+    """Runs a case, again where it was slow, and gives what was wrong, or None."""
     word = "slow"
     for left in reversed(range(TRIES)):
         if word == "slow":
-            word = try_case(world, case, "slow" if left else "FAIL")
-    return word == "ok"
+            word, note = try_case(world, case, "slow" if left else "FAIL")
+    return None if word == "ok" else note
 
 
 def try_case(world, case, if_slow):
-    """Runs a case once, prints its line, and gives the line's word."""
+    """Runs a case once, prints its line, and gives the line's word and its end."""
     began = time.monotonic()
     signal.signal(signal.SIGALRM, lambda *_: stop(case.limit))
     signal.alarm(case.limit)
@@ -95,7 +97,7 @@ def try_case(world, case, if_slow):
     finally:
         signal.alarm(0)
     print(f"{word:4} {case.__name__} {time.monotonic() - began:.1f} s{note}", flush=True)
-    return word
+    return word, note
 
 
 def main(folder, program, *names):
@@ -105,14 +107,14 @@ def main(folder, program, *names):
     room = Room(folder)
     try:
         world = World(room, program)
-        failed = [it.__name__ for it in cases if not run_case(world, it)]
+        failed = [(it.__name__, note) for it in cases if (note := run_case(world, it))]
     except Exception as fault:
-        failed = [f"the servers: {type(fault).__name__} {fault}"] * len(cases)
+        failed = [(it.__name__, f": not run, for the servers: {type(fault).__name__} {fault}") for it in cases]
     finally:
         room.end_all()
     # once more, where a reader of the end finds them
-    for line in dict.fromkeys(failed):
-        print(f"FAIL {line}")
+    for name, note in failed:
+        print(f"FAIL {name}{note[:MOST_SAID]}")
     print(f"{len(cases) - len(failed)} passed, {len(failed)} failed")
     return 1 if failed or not cases else 0
 
