@@ -28,7 +28,7 @@ import cases_busy
 import cases_silent
 import cases_unread
 import cases_endless
-from cluster import Cluster, Proxy, Room, Server
+from cluster import Cluster, Proxy, Room, Server, end
 from harness import CASES, Failed, Slow
 
 # How often a case is run before what it took counts as a fault.
@@ -74,6 +74,9 @@ def run_case(world, case):
     for left in reversed(range(TRIES)):
         if word == "slow":
             word, note = try_case(world, case, "slow" if left else "FAIL")
+    if word == "FAIL":
+        # what it left under way is not the next one's
+        end(world.proxy.process)
     return None if word == "ok" else note
 
 
