@@ -11,7 +11,7 @@ from harness import Together, case, check, check_same, check_time
 # Clients whose request does not end, the bytes of a word of it, how many words a client sends at a time, and how many at most.
 CLIENTS, WORD, AT_ONCE, MOST_WORDS = 12, 100_000, 10, 700
 # Bytes of such requests that a worker's clients may hold beside the largest, as docs/OPERATING.md says; and seconds that another
-# client's PING may take.
+# client's PING may take, or on a slow machine what all words of one client take.
 HELD, PROMPT = 512 * 2**20, 1.0
 
 
@@ -85,8 +85,9 @@ def requests_without_an_end(world):
     It is the one that holds most. The others may go on, and a neighbour is served all the time.
     """
     with Logged(world, world.cluster.nodes[0].port, "endless", workers=1) as logged, Neighbour(logged.proxy) as neighbour:
-        process, clients = logged.proxy.process, [Endless(logged.proxy) for _ in range(CLIENTS)]
+        process, clients, began = logged.proxy.process, [Endless(logged.proxy) for _ in range(CLIENTS)], time.monotonic()
         send_until_closed(clients)
+        prompt = max(PROMPT, (time.monotonic() - began) / CLIENTS)
         closed, others = ([it for it in clients if it.is_closed == is_closed] for is_closed in (True, False))
         beside, peak = sum(it.sent for it in others), peak_mebibytes(process)
         check_same(len(closed), 1, "clients that are closed")
@@ -105,5 +106,5 @@ def requests_without_an_end(world):
         check_same(len(logged.lines("unfinished_request")), 1, "lines of the log")
     note = f"one closed with {told >> 20} MiB beside {beside >> 20}, {peak:.0f} MiB resident at most; "
     note += f"{len(neighbour.taken)} PINGs, the slowest {1000 * max(neighbour.taken):.0f} ms"
-    check_time(max(neighbour.taken) < PROMPT, note)
+    check_time(max(neighbour.taken) < prompt, note)
     return note
