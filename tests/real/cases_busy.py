@@ -147,7 +147,7 @@ def a_node_that_refuses_connections(world):
     check(0 < lost.asked < MOST_ASKED * max(1, lost.seconds / SECONDS), f"the questions for the map in {lost.seconds:.1f} seconds: {note}")
     check_time(lost.percent < most, f"the time while it is asked: {note}")
     # a machine that is busy just then shows in what the node itself takes; a slow one, by how much more it has to do
-    times = 2 if per_second == PER_SECOND else 2 * max(1, lost.percent / before.percent)
+    times = 2 if per_second == PER_SECOND else 3 * max(1, lost.percent / before.percent)
     check_time(lost.percentile < times * max(before.percentile, lost.direct) + 2, f"the other node: {note}")
     check_time(idle < most_idle, f"the time while nobody asks: {note}")
     return note
