@@ -6,7 +6,7 @@ What the proxy holds for them, and what another client waits beside them.
 import time
 from contextlib import ExitStack
 
-from cases_busy import percentile, seconds_of_asking
+from cases_busy import LONE_SECONDS, percentile, seconds_of_asking
 from cases_idle import percent_of_commands
 from client import request
 from cluster import Proxy, is_within, keys_of_slots, resident_mebibytes
@@ -20,7 +20,7 @@ MOST_FOR_ONE, MOST_FOR_FIFTY, MOST_KEPT = 16, 128, 48
 # and over a proxy with no such clients: a busy machine keeps those waiting too.
 MOST_WAITED, MOST_TIMES = 20, 3
 # The seconds after which others are timed, or on a slow machine what so many lone commands take.
-PAUSE, COMMANDS = 0.5, 2500
+PAUSE, COMMANDS = 0.5, 5000
 
 
 class Beside:
@@ -28,7 +28,8 @@ class Beside:
 
     def __init__(self, world, count, data):
         self.proxy = Proxy(world.room, world.program, world.cluster.nodes[0].port, name="unread")
-        pause = max(PAUSE, percent_of_commands(self.proxy, COMMANDS) / 100)
+        lone = percent_of_commands(self.proxy, 1) / 100
+        pause = PAUSE if lone < LONE_SECONDS else COMMANDS * lone
         before = resident_mebibytes(self.proxy.process)
         self.held, taken = before, ([], [], [])
         with ExitStack() as stack:
