@@ -50,9 +50,10 @@ SERVING_SAYS = {
 TWO_CLIENTS = b"client\nSET a 1\nINCR a\nclient\nSET b x\nMGET b c\nmove 15495 0\n"
 TWO_CLIENTS_TEXT = b"reply 0 0 simple OK\nreply 0 1 integer 2\nreply 1 0 simple OK\nreply 1 1 array bulk x | null\naudit ok\n"
 
-# The tests of runs in threads, a program that runs one of them by its name, and what it says at the end of one that fails.
+# The tests of runs in threads, a program that runs one of them by its name, and what it says of one that fails, by its status: one that
+# finds no memory itself, and one whose run did not end as it asserts, which ends by an abort behind this line.
 TESTS = os.environ.get("RUN_THREADS_TESTS") or os.path.join(os.path.dirname(os.path.abspath(__file__)), "../../crates/run_threads/out/run_threads_tests")
-FAILED_SAYS = re.compile(rb"the test failed\b.*\n\Z")
+FAILED_SAYS = {101: rb"error: [^\n]+\nthe test failed: its result gives status 1\n", -signal.SIGABRT: rb"assertion failed: lose_all\(&rt\)\?\n"}
 
 # So many runs in a row whose growths were fewer than the one that is refused end a sweep of runs in threads.
 AGREED = 3
@@ -114,8 +115,7 @@ class Growth(unittest.TestCase):
             if ran.returncode == 0:
                 self.assertIn(b"test result: ok", ran.stdout)
                 return True
-            self.assertEqual(ran.returncode, 101, ran.stderr)
-            self.assertRegex(ran.stderr, FAILED_SAYS)
+            self.check_said(FAILED_SAYS, ran.returncode, ran.stderr)
             return False
 
         self.sweep("run_faulty", attempt, AGREED)
