@@ -10,9 +10,9 @@ from cluster import Proxy, free_ports, keys_of_slots, slot_of, wait_until
 from harness import case, check, check_same, check_time
 from writers import GAVE_UP
 
-# So many clients send so many commands each that fail. On a slow machine as many clients as take some seconds more than a command waits,
-# but so many at least.
-ASKING, FAILING, FEWEST, WAITING, SECONDS = 50, 200, 10, 2, 5
+# So many clients send so many commands each that fail. A few send theirs first; on a slow machine, where these take more seconds than
+# this, no others come.
+ASKING, FAILING, FIRST, SECONDS = 50, 200, 10, 8
 
 
 class Logged:
@@ -68,14 +68,13 @@ def failing_commands_write_few_lines(world):
 
     with Logged(world, free_ports(1)[0], "failing") as logged, ExitStack() as clients:
         began = time.monotonic()
-        asking = [clients.enter_context(logged.proxy.client())]
+        asking = [clients.enter_context(logged.proxy.client()) for _ in range(FIRST)]
         ask(asking)
-        count = SECONDS / max(time.monotonic() - began - WAITING, SECONDS / ASKING)
-        asking += [clients.enter_context(logged.proxy.client()) for _ in range(max(FEWEST, round(count)) - 1)]
-        began, before = time.monotonic(), len(logged.lines())
+        if time.monotonic() < began + SECONDS:
+            asking += [clients.enter_context(logged.proxy.client()) for _ in range(ASKING - FIRST)]
         for _ in range(2):
             ask(asking)
-        seconds, lines, failed = time.monotonic() - began, logged.lines()[before:], 2 * len(asking) * FAILING
+        seconds, lines, failed = time.monotonic() - began, logged.lines(), (FIRST + 2 * len(asking)) * FAILING
         check(len(lines) <= 4 + seconds, f"{len(lines)} lines in {seconds:.1f} seconds")
         check_time(len(lines) < 20 or seconds > 16, f"{len(lines)} lines in {seconds:.1f} seconds")
         counted = sum(int(it) for it in re.findall(r"left_out=(\d+)", "\n".join(lines)))
