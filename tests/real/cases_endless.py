@@ -1,5 +1,6 @@
 """Requests without an end: what they hold is bounded, and nobody else is harmed."""
 
+import itertools
 import re
 import threading
 import time
@@ -46,10 +47,16 @@ class Endless:
 
 def send_until_closed(clients):
     """Each in turn sends some words more, until one is closed."""
-    while not any(it.is_closed for it in clients):
-        check(clients[-1].sent < MOST_WORDS * WORD, f"none is closed after {MOST_WORDS} words of each")
-        for it in clients:
-            it.send()
+    for it in itertools.cycle(clients):
+        check(it.sent < MOST_WORDS * WORD, f"none is closed after {MOST_WORDS} words of each")
+        it.send()
+        if any(it.is_closed for it in clients):
+            break
+    look_at(clients)
+
+
+def look_at(clients):
+    """Finds out which are closed by now."""
     time.sleep(0.5)
     for it in clients:
         it.look()
@@ -82,29 +89,29 @@ class Neighbour:
 def requests_without_an_end(world):
     """Of twelve clients of one worker, with a million words of 100,000 bytes each, one is closed once the others hold 512 MiB.
 
-    It is the one that holds most. The others may go on, and a neighbour is served all the time.
+    What is on its way just then may be so much that one or two follow it. The others may go on, and a neighbour is served all the time.
     """
     with Logged(world, world.cluster.nodes[0].port, "endless", workers=1) as logged, Neighbour(logged.proxy) as neighbour:
         process, clients, began = logged.proxy.process, [Endless(logged.proxy) for _ in range(CLIENTS)], time.monotonic()
         send_until_closed(clients)
         prompt = max(PROMPT, (time.monotonic() - began) / CLIENTS)
-        closed, others = ([it for it in clients if it.is_closed == is_closed] for is_closed in (True, False))
-        beside, peak = sum(it.sent for it in others), peak_mebibytes(process)
-        check_same(len(closed), 1, "clients that are closed")
-        check(HELD < beside < 1.5 * HELD, f"one is closed when the others have sent {beside >> 20} MiB")
-        logged.wait_for("unfinished_request", "level=warn", f"client={closed[0].address} ")
-        told = int(re.search(r"bytes=(\d+)", logged.lines("unfinished_request")[0])[1])
-        check(told <= closed[0].sent + AT_ONCE * WORD + 20, f"it is said to hold {told} bytes, and has sent {closed[0].sent}")
-        for it in others:
-            it.send()
-        time.sleep(0.5)
-        for it in others:
-            it.look()
-        check(not any(it.is_closed for it in others), "another one is closed")
+        closed, others = ({it.address: it for it in clients if it.is_closed == is_closed} for is_closed in (True, False))
+        largest, peak = max(it.sent for it in clients), peak_mebibytes(process)
+        beside = sum(it.sent for it in clients) - largest
+        check(1 <= len(closed) <= 3, f"{len(closed)} clients are closed")
+        check(HELD < beside < 1.5 * HELD, f"one is closed when {beside >> 20} MiB were sent beside the largest")
+        logged.wait_for("unfinished_request", "level=warn", "client=", "bytes=")
+        told = [re.search(r"client=(\S+) bytes=(\d+)", line).groups() for line in logged.lines("unfinished_request")]
+        check(all(address in closed for address, _ in told), f"{told} are said to be closed, and {list(closed)} are")
+        held = int(told[0][1])
+        check(beside / CLIENTS < held <= largest + AT_ONCE * WORD + 20, f"it is said to hold {held} bytes, and {largest} were sent at most")
+        going_on = min(others.values(), key=lambda it: it.sent)
+        going_on.send()
+        look_at([going_on])
+        check(not going_on.is_closed, "the smallest one is closed, which went on")
         for it in clients:
             it.client.close()
-        check_same(len(logged.lines("unfinished_request")), 1, "lines of the log")
-    note = f"one closed with {told >> 20} MiB beside {beside >> 20}, {peak:.0f} MiB resident at most; "
+    note = f"{len(closed)} closed, the first with {held >> 20} MiB; {beside >> 20} sent beside the largest, {peak:.0f} resident at most; "
     note += f"{len(neighbour.taken)} PINGs, the slowest {1000 * max(neighbour.taken):.0f} ms"
     check_time(max(neighbour.taken) < prompt, note)
     return note
