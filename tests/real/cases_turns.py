@@ -21,8 +21,8 @@ SECONDS, FEWEST = 20, 10
 # The bytes of a large reply, on a slow machine what it takes in as many seconds, but so many at least; and the seconds for which it is
 # read, 64 KiB at a time.
 LARGE, LARGE_SECONDS, SMALLEST, PIECE, READING = 100_000_000, 2.0, 20_000_000, 65536, 3.0
-# What the proxy may use of a processor meanwhile, in percent, or what it took to take in as many bytes; and milliseconds that
-# another client's PING may take, or so many times the longest that one server takes just then.
+# What the proxy may use of a processor meanwhile, in percent, on a slow machine what it took to take in as many bytes; and milliseconds
+# that another client's PING may take, or so many times the longest that one server takes just then.
 MOST_PERCENT, MOST_DELAYED, MOST_TIMES = 8, 100, 3
 
 
@@ -113,7 +113,7 @@ def a_large_reply_read_slowly(world):
         ((taken, directly),) = asker.join()
         stop.set()
         (count,) = reader.join()
-    most = max(MOST_PERCENT, 100 * used / READING)
+    most = MOST_PERCENT if size == LARGE else max(MOST_PERCENT, 100 * used / READING)
     note = f"{percent:.0f} % of a core, of {most:.0f}, {count >> 20} MiB of {size >> 20} read; "
     note += f"PING {statistics.median(taken):.1f} ms at the median, {max(taken):.0f} at most, directly {max(directly):.0f}"
     check_time(percent < most, note)
