@@ -23,6 +23,8 @@ import rounds
 FREE = 5_000_000_000
 # Rounds that run at once while `rt ci` still runs.
 BESIDE = 2
+# A program of tests that tests/program runs once more.
+TESTS = "run_threads_tests"
 # What the last run of the gate took.
 TOOK = Path(__file__).resolve().parent / "out/took.txt"
 
@@ -152,13 +154,14 @@ class Gate:
         return [*lines, "edits: " + ", ".join(f"{name} {outcome.seconds:.0f}" for name, outcome in tried)]
 
     def bring_programs(self):
-        """Puts the programs that `rt ci` built where those look for them that run them."""
+        """Puts the programs that `rt ci` built, and the tests that are run once more, where those look for them that run them."""
         for name in self.crates:
-            built = self.proved / "crates" / name / "out" / name
-            if built.is_file():
-                to = self.tree / "crates" / name / "out"
-                to.mkdir(exist_ok=True)
-                shutil.copy2(built, to / name)
+            for program in (name, TESTS):
+                built = self.proved / "crates" / name / "out" / program
+                if built.is_file():
+                    to = self.tree / "crates" / name / "out"
+                    to.mkdir(exist_ok=True)
+                    shutil.copy2(built, to / program)
 
 
 def say_took(lines):

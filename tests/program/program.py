@@ -1,7 +1,9 @@
 """Runs of the program, and tables of them."""
 
+import functools
 import os
 import subprocess
+import time
 import unittest
 from dataclasses import dataclass
 
@@ -9,6 +11,9 @@ PROGRAM = os.environ["PROXY"]
 
 # Seconds that one run may take, as a last resort.
 LIMIT = 60
+
+# The seconds that each sweep took, by what it is. All together, with those of tests/rows, are to take less than five minutes.
+SWEEPS = {}
 
 # Bytes that `one`, `simulate` and `local` read at the most.
 INPUT_LIMIT = 1_048_576
@@ -19,6 +24,38 @@ def run(words, given=b"", variables=None):
     environment = {**os.environ, **(variables or {})}
     ran = subprocess.run([PROGRAM, *words], input=given, capture_output=True, timeout=LIMIT, check=False, env=environment)
     return ran.returncode, ran.stdout, ran.stderr
+
+
+class Slow(AssertionError):
+    """What took longer than it may. A machine that had a pause of its own may be the reason, so a test that is `timed` is run again."""
+
+
+def check_time(is_so, otherwise):
+    if not is_so:
+        raise Slow(otherwise)
+
+
+def timed(test):
+    """Runs a test again, twice at most, where it was slow."""
+
+    @functools.wraps(test)
+    def run_again(self):
+        for _ in range(2):
+            try:
+                return test(self)
+            except Slow as fault:
+                print(f"{test.__name__}: slow: {fault}")
+                self.doCleanups()
+                self.setUp()
+        return test(self)
+
+    return run_again
+
+
+def swept(what, began):
+    """Prints what was swept since a moment, and how long it took."""
+    SWEEPS[what] = time.monotonic() - began
+    print(f"{what}; {SWEEPS[what]:.1f} s")
 
 
 class Runs(unittest.TestCase):

@@ -5,10 +5,11 @@ import os
 import re
 import signal
 import subprocess
+import time
 import unittest
 
 import growths
-from program import LIMIT, PROGRAM, rows_of, run
+from program import LIMIT, PROGRAM, rows_of, run, swept
 from scripted import heard_to_the_end
 from sockets import free_ports, heard, nodes, proxy, request
 from test_simulate import HEADER, MOVE_SCRIPT
@@ -49,6 +50,11 @@ SERVING_SAYS = {
 TWO_CLIENTS = b"client\nSET a 1\nINCR a\nclient\nSET b x\nMGET b c\nmove 15495 0\n"
 TWO_CLIENTS_TEXT = b"reply 0 0 simple OK\nreply 0 1 integer 2\nreply 1 0 simple OK\nreply 1 1 array bulk x | null\naudit ok\n"
 
+# The tests of runs in threads, a program that runs one of them by its name, and what it says of one that fails, by its status: one that
+# finds no memory itself, and one whose run did not end as it asserts, which ends by an abort behind this line.
+TESTS = os.environ.get("RUN_THREADS_TESTS") or os.path.join(os.path.dirname(os.path.abspath(__file__)), "../../crates/run_threads/out/run_threads_tests")
+FAILED_SAYS = {101: rb"error: [^\n]+\nthe test failed: its result gives status 1\n", -signal.SIGABRT: rb"assertion failed: lose_all\(&rt\)\?\n"}
+
 # So many runs in a row whose growths were fewer than the one that is refused end a sweep of runs in threads.
 AGREED = 3
 
@@ -63,7 +69,7 @@ class Growth(unittest.TestCase):
     def sweep(self, what, attempt, agreed=1):
         """Makes the attempt, which says whether it was answered, with the first growth refused, the second, and so on, until so
         many attempts in a row have had fewer growths."""
-        counts = []
+        counts, began = [], time.monotonic()
         for onwards in (False, True):
             number, answered, passed = 0, 0, 0
             while passed < agreed:
@@ -74,7 +80,7 @@ class Growth(unittest.TestCase):
                 passed = passed + 1 if self.growths.count < number else 0
             self.assertGreater(number, agreed)
             counts += [number - agreed, answered - agreed]
-        print("growths of %s: %d refused, %d of them answered all the same; with all behind them %d and %d" % (what, *counts))
+        swept("growths of %s: %d refused, %d of them answered all the same; with all behind them %d and %d" % (what, *counts), began)
 
     def ran(self, words, given, wanted):
         """A run that is answered, or ends for want of memory with nothing written."""
@@ -96,6 +102,23 @@ class Growth(unittest.TestCase):
 
     def test_local(self):
         self.sweep("local", lambda: self.ran(["local", "--workers", "2"], TWO_CLIENTS, TWO_CLIENTS_TEXT), AGREED)
+
+    def test_connections_that_pass_no_call_on(self):
+        """`run_faulty`, which no word of the program calls: the test of it passes, or fails and says so."""
+        if not os.access(TESTS, os.X_OK):
+            self.skipTest("the tests of run_threads are not there: rt ci builds them")
+
+        def attempt():
+            words = [TESTS, "local_runs::connections_that_pass_no_call_on"]
+            environment = {**os.environ, **self.growths.variables}
+            ran = subprocess.run(words, capture_output=True, timeout=LIMIT, check=False, env=environment)
+            if ran.returncode == 0:
+                self.assertIn(b"test result: ok", ran.stdout)
+                return True
+            self.check_said(FAILED_SAYS, ran.returncode, ran.stderr)
+            return False
+
+        self.sweep("run_faulty", attempt, AGREED)
 
     def test_simulate(self):
         """The move script: a growth that is refused at an event ends the run there, with the answers and the entries before it."""

@@ -7,6 +7,7 @@ import time
 import unittest
 from binascii import crc_hqx
 
+from program import swept
 from scripted import Neighbour, Node, heard_to_the_end
 from sockets import cluster, heard, nodes, proxy, request
 from wire import REQUESTS, Asked, changed, counted, spelled, told, values_in
@@ -99,8 +100,7 @@ class Hostile(unittest.TestCase):
         self.assertEqual(neighbour.found, neighbour.wanted)
         self.assertFalse(neighbour.thread.is_alive())
         self.assertIsNone(proxied[1].poll(), "the proxy has ended")
-        seconds, slowest = time.monotonic() - began, 1000 * neighbour.slowest
-        print(f"{what}: {seconds:.1f} s; the neighbour was served {neighbour.served} times, within {slowest:.0f} ms")
+        swept(f"{what}: the neighbour was served {neighbour.served} times, within {1000 * neighbour.slowest:.0f} ms", began)
 
     def test_changed_requests(self):
         """Whole and byte by byte."""
@@ -124,11 +124,13 @@ class Hostile(unittest.TestCase):
                     return b"-MOVED %d 127.0.0.1:%d\r\n" % (slot, first if slot < 5461 else second)
                 return RIGHT if key == b"a" else b"$-1\r\n"
 
+            began = time.monotonic()
             for data in changed(REQUESTS):
                 wanted = Asked(data, held).replies.replace(b"-ERR proxy: protocol", b"-ERR protocol")
                 for piece in (None, 1):
                     self.assertEqual(heard_to_the_end(last, data, piece), wanted, data)
             self.assertIsNone(last[1].poll(), "the nodes have ended")
+            swept(f"changed requests at a node, {counted([REQUESTS])}, twice", began)
 
     def check_replies(self, asked, texts, expected, what):
         """A client asks one request at a time. The node's reply, whole and byte by byte, is changed and ends the connection."""

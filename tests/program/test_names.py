@@ -3,6 +3,7 @@
 import time
 import unittest
 
+from program import check_time, timed
 from scripted import Neighbour, Node, heard_to_the_end
 from sockets import heard, nodes, proxy, request
 
@@ -19,6 +20,7 @@ class Names(unittest.TestCase):
             asked = request("SET", "a", "1") + request("GET", "a") + request("QUIT")
             self.assertEqual(heard(at, asked), b"+OK\r\n$1\r\n1\r\n+OK\r\n")
 
+    @timed
     def test_a_name_that_is_not_found(self):
         """The upper half of the slots is a node's whose name nobody has: its keys are given up, and others are served meanwhile.
         The end of the proxy does not wait for the look-up."""
@@ -30,9 +32,10 @@ class Names(unittest.TestCase):
                 self.assertEqual(heard_to_the_end(at, request("GET", "a")), GAVE_UP)
             began = time.monotonic()
         self.assertEqual(neighbour.found, neighbour.wanted)
-        self.assertLess(neighbour.slowest, PROMPT)
-        self.assertLess(time.monotonic() - began, PROMPT)
-        print(f"a name that is not found: a neighbour was served {neighbour.served} times, within {1000 * neighbour.slowest:.0f} ms")
+        seconds = time.monotonic() - began
+        note = f"a name that is not found: a neighbour was served {neighbour.served} times, within {1000 * neighbour.slowest:.0f} ms"
+        check_time(neighbour.slowest < PROMPT and seconds < PROMPT, f"{note}; the proxy ended after {seconds:.1f} s")
+        print(note)
 
     def listing(self, node):
         """An answer to CLUSTER SLOTS."""

@@ -8,7 +8,7 @@ import subprocess
 import termios
 import time
 
-from program import INPUT_LIMIT, LIMIT, PROGRAM, Runs, pairs_of
+from program import INPUT_LIMIT, LIMIT, PROGRAM, Runs, pairs_of, swept
 from wire import REQUESTS, changed, counted, request_of, values_in
 
 SET = b"*3\r\n$3\r\nSET\r\n$1\r\na\r\n$1\r\n1\r\n"
@@ -84,7 +84,7 @@ class One(Runs):
             with self.subTest(data=data):
                 self.check(["one"], data, *answer_to(data))
                 self.assertEqual(self.given_byte_by_byte(data), answer_to(data))
-        print(f"changed requests of one, {counted(texts)}, twice: {time.monotonic() - began:.1f} s")
+        swept(f"changed requests of one, {counted(texts)}, twice", began)
 
     def given_byte_by_byte(self, data):
         """The status and what is written, where each byte is read before the next is given."""

@@ -49,14 +49,20 @@ class FakeNode:
 
     def serve(self, connected):
         with connected:
-            while taken := connected.recv(65536):
-                for name in re.findall(rb"\*\d+\r\n\$\d+\r\n(\w+)\r\n", taken):
-                    if name == b"CLUSTER":
-                        connected.sendall(b"*1\r\n*3\r\n:0\r\n:16383\r\n*2\r\n$9\r\n127.0.0.1\r\n:%d\r\n" % self.port)
-                    elif self.said is None:
-                        return
-                    else:
-                        connected.sendall(self.said)
+            try:
+                self.answer(connected)
+            except OSError:
+                pass  # the other side has ended it
+
+    def answer(self, connected):
+        while taken := connected.recv(65536):
+            for name in re.findall(rb"\*\d+\r\n\$\d+\r\n(\w+)\r\n", taken):
+                if name == b"CLUSTER":
+                    connected.sendall(b"*1\r\n*3\r\n:0\r\n:16383\r\n*2\r\n$9\r\n127.0.0.1\r\n:%d\r\n" % self.port)
+                elif self.said is None:
+                    return
+                else:
+                    connected.sendall(self.said)
 
     def __enter__(self):
         return self

@@ -6,7 +6,7 @@ import time
 
 from cases_scripted import TRYAGAIN, Scene, moved
 from client import request
-from cluster import slot_of
+from cluster import slot_of, wait_until
 from harness import case, check, check_same
 from scripted import ScriptedNode, bulk, slots_reply
 from writers import LOST
@@ -37,17 +37,18 @@ def blocks_in(words):
 def commands_of_a_slot_go_together(world):
     """Those that wait at the same time, for each slot by itself; later ones wait until they have ended. Replies keep their order."""
     go_on = threading.Event()
-    slow = ScriptedNode(lambda words: go_on.wait(10) and bulk(words[1]))
+    slow = ScriptedNode(lambda words: go_on.wait(100) and bulk(words[1]))
     node = ScriptedNode(lambda words: bulk(words[1]))
     here, there = slot_of(b"a"), slot_of(b"b")
     node.slots = lambda: slots_reply([(here, here, slow.port), (there, there, node.port)])
-    with Scene(world, node, slow) as proxy, proxy.client() as client:
-        time.sleep(0.2)
+    # the first of the scene is the seed
+    scene, first = Scene(world, node, slow), [[b"GET", b"a"], [b"GET", b"{a}2"]]
+    with scene as proxy, proxy.client() as client:
+        scene.wait_for_map()
         client.send(gets("a", "{a}2", "b", "{b}2"))
-        time.sleep(0.4)
+        wait_until(lambda: len(slow.words_seen()) >= 4 and len(node.words_seen()) >= 4, "both nodes to get what is theirs")
         client.send(gets("{a}3"))
         time.sleep(0.4)
-        first = [[b"GET", b"a"], [b"GET", b"{a}2"]]
         check_same(slow.words_seen(), [[b"MULTI"], *first, [b"EXEC"]], "requests of the slow node before its first reply")
         check_same(blocks_in(node.words_seen()), [[[b"GET", b"b"], [b"GET", b"{b}2"]]], "requests of the other node")
         go_on.set()

@@ -7,7 +7,7 @@ import time
 
 from client import request
 from cluster import is_within
-from harness import case, check, check_same, check_time
+from harness import Together, case, check, check_same, check_time
 
 PROMPT = 3.0  # seconds in which another client's reply must be there
 
@@ -106,23 +106,23 @@ def a_client_that_sends_without_end(world):
 
         sender = threading.Thread(target=flood, daemon=True)
         sender.start()
-        reader = threading.Thread(target=lambda: drain(client), daemon=True)
-        reader.start()
+        reader = Together(1, lambda number: drain(client))
         until = time.monotonic() + 1
         while time.monotonic() < until:
             check_prompt(world, "beside a flood")
         stop.set()
-        sender.join(10)
+        sender.join(60)
+        check(not sender.is_alive(), "what a client sent is not read")
         client.end_sending()
-        reader.join(30)
-        check(not reader.is_alive(), "a client that ended its sending was not let go")
+        reader.join()
 
 
 def drain(client):
+    """Reads up to the other side's end."""
     try:
         while client.socket.recv(1 << 16):
             pass
-    except OSError:
+    except ConnectionResetError:
         pass
 
 

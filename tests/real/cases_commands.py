@@ -108,7 +108,7 @@ def wrong_counts(world):
 @case
 def redis_cli_one_by_one(world):
     def said(*words):
-        ran = subprocess.run(["redis-cli", "-p", str(world.proxy.port), *words], capture_output=True, timeout=20, check=False)
+        ran = subprocess.run(["redis-cli", "-p", str(world.proxy.port), *words], capture_output=True, timeout=60, check=False)
         return ran.stdout.decode(), ran.returncode
 
     rows = [
@@ -132,6 +132,6 @@ def redis_cli_from_a_file(world):
     """redis-cli reads its commands from standard input, one a line."""
     lines = [f"SET key{number} {number}" for number in range(500)] + [f"INCR key{number}" for number in range(500)]
     words = ["redis-cli", "-p", str(world.proxy.port)]
-    ran = subprocess.run(words, input="\n".join(lines).encode(), capture_output=True, timeout=40, check=False)
+    ran = subprocess.run(words, input="\n".join(lines).encode(), capture_output=True, timeout=100, check=False)
     check_same(ran.stdout.decode().split(), ["OK"] * 500 + [str(number + 1) for number in range(500)], "redis-cli")
     check_same(sum(node.value("DBSIZE") for node in world.cluster.nodes), 500, "keys in the cluster")

@@ -4,7 +4,8 @@ import threading
 import time
 
 from client import request, value_of
-from harness import case, check, check_same, together
+from cluster import is_within
+from harness import case, check, check_same, check_time, together
 from logs import check_log
 
 CLIENTS = 100
@@ -67,9 +68,9 @@ def groups_are_whole(world):
     def work(number):
         turns = 0
         with world.client() as client:
-            connected.wait(20)
+            connected.wait(60)
             until = time.monotonic() + 2
-            while time.monotonic() < until:
+            while turns == 0 or time.monotonic() < until:
                 turns += 1
                 if number < 20:
                     mark = f"{number}.{turns}"
@@ -80,7 +81,6 @@ def groups_are_whole(world):
         return turns
 
     results = together(50, work)
-    check(all(results), "a client made no turn")
     return f"{sum(results[:20])} written, {sum(results[20:])} read"
 
 
@@ -97,7 +97,7 @@ def clients_come_and_go(world):
                     client.send(request("GET", "left behind"))
 
     together(10, work)
-    time.sleep(0.5)
+    is_within(2, lambda: world.proxy.descriptors() <= before + 10)
     after = world.proxy.descriptors()
-    check(after <= before + 10, f"{before} descriptors before, {after} after")
+    check_time(after <= before + 10, f"{before} descriptors before, {after} after")
     return f"{before} descriptors before, {after} after"

@@ -8,16 +8,16 @@ import time
 
 from client import request
 from cluster import Proxy, slot_of, wait_until
-from cases_idle import percent_of_core
+from cases_idle import percent_of_commands, percent_of_core
 from harness import case, check, check_same, check_time
 from replicas import Replicated
 from writers import GAVE_UP, LOST, Writers
 
 CLIENTS, KEYS = 8, [b"key%d" % number for number in range(120)]
 # Seconds that the proxy may take, and after which a case ends that took longer.
-MOST_SECONDS, PATIENCE = 1.0, 6.0
-# What the proxy may cost with nothing to do.
-MOST_PERCENT = 0.3
+MOST_SECONDS, PATIENCE = 1.0, 10.0
+# What the proxy may cost with nothing to do; on a slow machine, what so many commands a second cost.
+MOST_PERCENT, MOST_COMMANDS = 0.3, 5
 
 
 def replicated_cluster(world):
@@ -35,6 +35,7 @@ class Service:
         self.cluster = replicated_cluster(world)
         self.proxy = Proxy(world.room, world.program, seed.port, name="failover")
         self.answered, self.values, self.refused, self.well_since = {}, {}, [], 0.0
+        self.was_down = self.cluster.refusals()
         self.writers = Writers(self.proxy, CLIENTS, self.turn)
 
     def turn(self, client, number, count):
@@ -58,8 +59,7 @@ class Service:
         try:
             self.writers.__exit__(*fault)
         finally:
-            self.proxy.process.terminate()
-            self.proxy.process.wait(10)
+            self.proxy.end()
 
     def seconds_to_answer_all(self):
         """How long it takes from now until each key was answered OK."""
@@ -93,10 +93,10 @@ class Service:
         with self.proxy.client() as client:
             while not all(map(self.cluster.serves_all, primaries)):
                 round_began = time.monotonic()
-                check(round_began < began + 20, "no replica took over within 20 seconds")
+                check_time(round_began < began + 20, "no replica took over within 20 seconds")
                 client.send(b"".join(request("GET", key) for key in keys))
                 bad = [it for it in client.replies(len(keys)) if it[:1] != b"$"]
-                check(not bad, f"a key of another node was answered {bad[:1]}")
+                self.check_none(bad, f"keys of another node were answered {bad[:1]}")
                 slowest = max(slowest, time.monotonic() - round_began)
         return time.monotonic() - began, slowest
 
@@ -107,7 +107,14 @@ class Service:
     def check_none_refused(self):
         """None was refused since the proxy found who took over."""
         late = [it - self.well_since for it in self.refused if it > self.well_since]
-        check(not late, f"{len(late)} commands were refused after all keys were answered, the first {late[:1]} seconds after")
+        self.check_none(late, f"{len(late)} commands were refused after all keys were answered, the first {late[:1]} seconds after")
+
+    def check_none(self, bad, otherwise):
+        """No command went wrong that should not. On a slow machine a node may itself think for a while that the cluster is down."""
+        if bad:
+            was_down = any(count > self.was_down.get(it, 0) for it, count in self.cluster.refusals().items())
+            check_time(not was_down, f"{otherwise}, and a node that runs said CLUSTERDOWN")
+        check(not bad, otherwise)
 
     def come_back(self, lost):
         """Starts a node that was killed: it becomes a replica, and all keys are still answered."""
@@ -155,5 +162,6 @@ def two_primaries_are_lost(world):
             service.come_back(lost)
         service.check_values()
         percent = percent_of_core(service.proxy.process, seconds=3)
-        check_time(percent < MOST_PERCENT, f"{percent:.2f} % of a core with nothing to do afterwards")
+        most = max(MOST_PERCENT, percent_of_commands(service.proxy, MOST_COMMANDS))
+        check_time(percent < most, f"{percent:.2f} % of a core with nothing to do afterwards, of {most:.1f}")
     return f"{'; '.join(notes)}; then idle {percent:.3f} % of a core"

@@ -10,12 +10,16 @@ from cluster import Proxy, is_within, processor_seconds, resident_mebibytes
 from harness import case, check, check_same, check_time
 
 SECONDS = 4.0
-# Aimed at is half a percent of a core; a shared machine's clock is not that exact.
-MOST_PERCENT = 2.0
+# Aimed at is half a percent of a core; a shared machine's clock is not that exact. A slow machine may take for it what it takes for
+# so many commands a second.
+MOST_PERCENT, MOST_COMMANDS = 2.0, 5
+# Microseconds that a GET after a pause may take, and on a slow machine so many times what one server takes.
+MOST_WAITED, MOST_TIMES = 20_000, 40
 # In mebibytes: what may stay after clients with big values have left.
 MOST_KEPT = 32
-# Bytes of a large value; and in mebibytes what may stay after clients that were served many of them.
-LARGE, MOST_LEFT = 4 * 2**20, 16
+# Bytes of a large value, and how many there are, on a slow machine half of them; and in mebibytes what may stay after clients that
+# were served all of them. Seconds that a value may take, and after which no further client of a kind comes.
+LARGE, COUNT, MOST_LEFT, VALUE_SECONDS, SECONDS_OF_CLIENTS = 4 * 2**20, 16, 16, 0.5, 20
 
 
 def percent_of_core(process, seconds=SECONDS):
@@ -24,6 +28,15 @@ def percent_of_core(process, seconds=SECONDS):
     before, began = processor_seconds(process), time.monotonic()
     time.sleep(seconds)
     return 100 * (processor_seconds(process) - before) / (time.monotonic() - began)
+
+
+def percent_of_commands(proxy, per_second, words=("GET", "a"), count=100):
+    """The share of a core that so many commands a second would take, by what a client takes that asks for one at a time."""
+    with proxy.client() as client:
+        used = processor_seconds(proxy.process)
+        for _ in range(count):
+            client.ask(*words)
+        return 100 * per_second * (processor_seconds(proxy.process) - used) / count
 
 
 @case
@@ -36,8 +49,10 @@ def idle_costs_nothing(world):
     for client in clients:
         check_same(client.ask("PING"), b"+PONG\r\n", "PING after the pause")
         client.close()
-    check_time(percent < MOST_PERCENT, f"{percent:.2f} % of a core with 50 idle clients")
-    return f"{percent:.3f} % of a core with 50 idle clients"
+    most = max(MOST_PERCENT, percent_of_commands(world.proxy, MOST_COMMANDS))
+    note = f"{percent:.3f} % of a core with 50 idle clients, of {most:.1f}"
+    check_time(percent < most, note)
+    return note
 
 
 @case
@@ -56,7 +71,8 @@ def it_wakes_at_once(world):
 
     with world.client() as client, world.plain.client() as plain:
         direct, through = times(plain), times(client)
-    check_time(through < 20000, f"{through:.0f} microseconds for a GET after a pause, {direct:.0f} directly")
+    most = max(MOST_WAITED, MOST_TIMES * direct)
+    check_time(through < most, f"{through:.0f} microseconds for a GET after a pause, {direct:.0f} directly")
     return f"median {through:.0f} microseconds, directly {direct:.0f}"
 
 
@@ -75,42 +91,43 @@ def memory_is_given_back(world):
             check_same([len(it) for it in client.replies(16)], [65536 + 10] * 16, "lengths of replies")
             most = max(most, resident_mebibytes(proxy.process))
             client.close()
-        time.sleep(0.5)
+        is_within(2, lambda: resident_mebibytes(proxy.process) < before + MOST_KEPT)
         after = resident_mebibytes(proxy.process)
     finally:
-        proxy.process.terminate()
-        proxy.process.wait(10)
+        proxy.end()
     note = f"resident {before:.0f} MiB before, {most:.0f} at most, {after:.0f} after"
-    check(after < before + MOST_KEPT, note)
+    check_time(after < before + MOST_KEPT, note)
     return note
 
 
-@case
+@case(limit=300)
 def what_a_client_left_behind(world):
     """Of a proxy's own: clients that were served large replies, read or reset in the midst of them, leave little behind."""
     variables = {"MALLOC_TRIM_THRESHOLD_": "131072", "MALLOC_MMAP_THRESHOLD_": "131072"}
     proxy = Proxy(world.room, world.program, world.cluster.nodes[0].port, name="left", variables=variables)
-    keys = [b"large %d" % number for number in range(16)]
+    keys, began = [b"large %d" % number for number in range(COUNT)], time.monotonic()
     try:
         with proxy.client() as client:
             for key in keys:
                 check_same(client.ask("SET", key, LARGE * b"v"), b"+OK\r\n", "SET")
+        if time.monotonic() - began > VALUE_SECONDS * COUNT:
+            keys = keys[: COUNT // 2]
         before = most = resident_mebibytes(proxy.process)
-        for is_read in [True, False] * 3:
+        began, clients = time.monotonic(), 0
+        while clients < 2 or clients < 6 and time.monotonic() < began + SECONDS_OF_CLIENTS:
             with proxy.client() as client:
                 client.send(request("MGET", *keys))
-                if is_read:
-                    check_same(len(client.reply()), len(b"*16\r\n") + 16 * (LARGE + len(b"$4194304\r\n\r\n")), "length of a reply")
+                if clients % 2 == 0:
+                    check_same(len(client.reply()), len(b"*%d\r\n" % len(keys)) + len(keys) * (LARGE + len(b"$4194304\r\n\r\n")), "length of a reply")
                 else:
-                    check_same(client.socket.recv(4), b"*16\r", "the first bytes of a reply")
-                most = max(most, resident_mebibytes(proxy.process))
+                    check_same(client.socket.recv(1), b"*", "the first byte of a reply")
+                most, clients = max(most, resident_mebibytes(proxy.process)), clients + 1
                 client.socket.setsockopt(socket.SOL_SOCKET, socket.SO_LINGER, struct.pack("ii", 1, 0))
         is_within(2, lambda: resident_mebibytes(proxy.process) < before + MOST_LEFT)
         after = resident_mebibytes(proxy.process)
     finally:
-        proxy.process.terminate()
-        proxy.process.wait(10)
-    note = f"resident {before:.0f} MiB before, {most:.0f} at most, {after:.0f} after"
-    check(most > before + 32, note)
+        proxy.end()
+    note = f"resident {before:.0f} MiB before, {most:.0f} at most, {after:.0f} after {clients} clients that asked for {LARGE * len(keys) >> 20} MiB"
+    check(most > before + (LARGE * len(keys) >> 21), note)
     check_time(after < before + MOST_LEFT, note)
     return note

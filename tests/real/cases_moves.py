@@ -27,7 +27,7 @@ def key(tag, name):
 
 
 def move_round(world, writers, tags, rounds, seconds, pause=0.002, at_once=1):
-    """Moves each tag's slot from node to node."""
+    """Moves each tag's slot from node to node, in one round at least, and in no further one once these seconds are over."""
     moves, until = 0, time.monotonic() + seconds
     for turn in range(1, rounds + 1):
         for place, tag in enumerate(tags):
@@ -85,23 +85,26 @@ def groups_in_moves(world):
     A group whose keys are at two nodes just then waits; none is given up.
     """
     tags = tags_of_nodes(world.cluster)
-    seen = [0]
+    ends = Ends(CLIENTS)
 
     def turn(client, number, count):
         for tag in tags:
             keys = [key(tag, name) for name in (b"x", b"y", b"z")]
             if number < CLIENTS // 2:
                 mark = b"%d.%d" % (number, count)
-                check_same(client.ask("MSET", *[word for it in keys for word in (it, mark)]), b"+OK\r\n", "MSET of a group")
-                continue
-            values = client.value("MGET", *keys)
-            check(len(values) == 3 and len(set(values)) == 1, f"half of a group was seen: {values}")
-            seen[0] += 1
+                ends.add(number, (tag, mark), client.ask("MSET", *[word for it in keys for word in (it, mark)]))
+            else:
+                ends.add(number, tag, client.ask("MGET", *keys))
 
     with Writers(world.proxy, CLIENTS, turn) as writers:
         moves = move_round(world, writers, tags, rounds=9, seconds=5)
-    check(seen[0] > 100, f"only {seen[0]} groups were read")
-    return f"{moves} moves, {seen[0]} groups read"
+    ends.check_groups_answered(world.cluster.slowest_move)
+    put, seen = ([value for mine in some for _, value in mine] for some in (ends.answered[: CLIENTS // 2], ends.answered[CLIENTS // 2 :]))
+    check_same(set(put), {"OK"}, "replies to MSET of a group")
+    for values in seen:
+        check(len(values) == 3 and len(set(values)) == 1, f"half of a group was seen: {values}")
+    check(len(seen) > 100, f"only {len(seen)} groups were read")
+    return f"{moves} moves, {len(seen)} groups read"
 
 
 @case
@@ -118,7 +121,7 @@ def new_groups_in_moves(world):
         for target in (1, 2, 0):
             world.cluster.move(slot_of(tag), target, pause=0.01, at_once=100)
             writers.wait_for_turns()
-    ends.check_all_answered()
+    ends.check_groups_answered(world.cluster.slowest_move)
     with world.client() as client:
         for number, count in [what for mine in ends.answered for what, _ in mine]:
             values = client.value("MGET", *[key(tag, b"%s.%d.%d" % (name, number, count)) for name in (b"x", b"y")])
@@ -153,31 +156,32 @@ def pipelines_in_moves(world):
 
 @case
 def moves_called_back(world):
-    """A move that is called back before a key went over changes nothing."""
+    """A move that is called back before a key went over changes nothing: fifteen times, and three times at least on a slow machine."""
     tags = tags_of_nodes(world.cluster)
     counters = [key(tag, b"n") for tag in tags]
     with world.client() as client:
         for counter in counters:
             client.value("SET", counter, 0)
-    ends = Ends(CLIENTS)
+    ends, moves, until = Ends(CLIENTS), 0, time.monotonic() + 10
 
     def turn(client, number, count):
         for counter in counters:
             ends.add(number, counter, client.ask("INCR", counter))
 
     with Writers(world.proxy, CLIENTS, turn) as writers:
-        for _ in range(5):
-            for source, tag in enumerate(tags):
-                target = (source + 1) % 3
-                world.cluster.begin_move(slot_of(tag), source, target)
-                writers.wait_for_turns()
-                world.cluster.call_back(slot_of(tag), source, target)
-                writers.wait_for_turns()
+        while moves < 3 or moves < 15 and time.monotonic() < until:
+            source = moves % 3
+            slot, target = slot_of(tags[source]), (source + 1) % 3
+            world.cluster.begin_move(slot, source, target)
+            writers.wait_for_turns()
+            world.cluster.call_back(slot, source, target)
+            writers.wait_for_turns()
+            moves += 1
     with world.client() as client:
         for counter in counters:
             check_same(int(client.value("GET", counter)), sum(what == counter for mine in ends.answered for what, _ in mine), counter)
     ends.check_all_answered()
-    return f"15 moves called back, {ends.counts()}"
+    return f"{moves} moves called back, {ends.counts()}"
 
 
 @case
@@ -218,7 +222,7 @@ def a_slot_that_nobody_has(world):
             check_same(client.replies(3), [GAVE_UP, b"$1\r\n1\r\n", GAVE_UP], "a pipeline over both")
     finally:
         world.cluster.nodes[1].value("CLUSTER", "ADDSLOTS", slot)
-    deadline = time.monotonic() + 10
+    deadline = time.monotonic() + 60
     with world.client() as client:
         while client.ask("SET", key(tag, b"k"), "2") != b"+OK\r\n":
             check(time.monotonic() < deadline, "the slot is served again, and SET is still given up")

@@ -1,11 +1,16 @@
 """The program's own three nodes: what they answer a plain connection, and the proxy before them."""
 
 import random
+import time
 
 from client import Client, request
 from cases_pipelines import some_keys, some_requests, wanted_of
-from cluster import Cluster, Nodes, Proxy, slot_of
-from harness import case, check, check_each_same, check_same
+from cluster import Cluster, Nodes, Proxy, resident_mebibytes, slot_of
+from harness import case, check, check_each_same, check_same, check_time
+
+# Commands that the nodes execute, a thousand in a pipeline, in so many seconds; on a slow machine so many at least. And the mebibytes
+# by which they and the proxy may grow meanwhile.
+COMMANDS, FEWEST, SECONDS, MOST_GROWN = 200_000, 40_000, 20, 4
 
 
 class Example:
@@ -21,7 +26,7 @@ class Example:
     def __exit__(self, *_):
         for process in (self.proxy.process, self.nodes.process):
             process.terminate()
-            process.wait(10)
+            process.wait(60)
 
 
 @case
@@ -55,3 +60,21 @@ def the_proxy_before_nodes(world):
         client.send(b"".join(request(*words) for words in requests))
         check_each_same(client.replies(len(requests)), wanted_of(world, requests), requests)
         check(not example.proxy.has_ended(), "the proxy ended")
+
+
+@case(limit=300)
+def commands_leave_nothing_at_nodes(world):
+    """Many thousand commands on a few keys, over the proxy: afterwards the nodes hold as much as after the first ten thousand."""
+    key, value = b"a", 50 * b"v"
+    asked = (request("SET", key, value) + request("GET", key) + request("APPEND", key, "s") + request("DEL", key)) * 250
+    replies = [b"+OK\r\n", b"$50\r\n%s\r\n" % value, b":51\r\n", b":1\r\n"] * 250
+    with Example(world) as example, example.proxy.client() as client:
+        processes, held, count, until = (example.nodes.process, example.proxy.process), [], 0, time.monotonic() + SECONDS
+        while count < FEWEST or count < COMMANDS and time.monotonic() < until:
+            client.send(asked)
+            check_same(client.replies(1000), replies, "replies")
+            count += 1000
+            held.append([resident_mebibytes(it) for it in processes])
+    note = "nodes %.1f MiB resident, the proxy %.1f; " % tuple(held[9]) + f"after {count} commands " + "%.1f and %.1f" % tuple(held[-1])
+    check_time(all(last < first + MOST_GROWN for first, last in zip(held[9], held[-1])), note)
+    return note

@@ -64,7 +64,7 @@ def same_in_pieces(world, seed, sizes, count=1000):
         sender = threading.Thread(target=lambda: [client.send(piece) for piece in pieces], daemon=True)
         sender.start()
         found = client.replies(count)
-        sender.join(20)
+        sender.join(60)
         check_each_same(found, wanted, requests)
         check_same(client.ask("PING"), b"+PONG\r\n", "after the pipeline")
 
@@ -124,7 +124,7 @@ def big_values_in_a_pipeline(world):
         check_same(client.replies(64), [b"+OK\r\n"] * 64, "SET of 64 KiB")
         for number, value in enumerate(values):
             check(client.reply() == b"$65536\r\n%s\r\n" % value, f"GET of value {number} of 64 KiB is another")
-        sender.join(20)
+        sender.join(60)
 
 
 @case
@@ -139,6 +139,6 @@ def twenty_pipelines_at_once(world):
             sender = threading.Thread(target=lambda: [client.send(piece) for piece in pieces], daemon=True)
             sender.start()
             check_each_same(client.replies(1000), wanted[number], scripts[number])
-            sender.join(20)
+            sender.join(60)
 
     together(20, pipeline)

@@ -4,8 +4,8 @@ import time
 from contextlib import ExitStack
 
 from client import request
-from cluster import Proxy, slot_of
-from harness import case, check, check_same, check_time
+from cluster import Proxy, slot_of, tag_of_slot, wait_until
+from harness import Together, case, check_same, check_time
 from scripted import DeafNode, ScriptedNode, bulk, slots_reply
 from writers import GAVE_UP, LOST
 
@@ -22,9 +22,19 @@ class Scene:
     def __enter__(self):
         return self.proxy
 
+    def wait_for_map(self, node=None):
+        """Waits until the proxy has said that it took in the slots that a node listed, the first one if none is named."""
+        renewed = f"event=slot_map_renewed node=127.0.0.1:{(node or self.nodes[0]).port} ".encode()
+
+        def is_renewed():
+            with open(f"{self.proxy.room.folder}/{self.proxy.name}.log", "rb") as said:
+                return renewed in said.read()
+
+        wait_until(is_renewed, "the slot map")
+        time.sleep(0.2)
+
     def __exit__(self, *_):
-        self.proxy.process.terminate()
-        self.proxy.process.wait(10)
+        self.proxy.end()
         for node in self.nodes:
             node.close()
 
@@ -47,8 +57,7 @@ def moved_is_followed_and_remembered(world):
         check_same([client.ask("SET", "a", "1") for _ in range(3)], [b"+OK\r\n"] * 3, "SET by way of MOVED")
         check_same(old.words_seen(), [[b"SET", b"a", b"1"]], "requests of the old node")
         check_same(new.words_seen(), [[b"SET", b"a", b"1"]] * 3, "requests of the new node, without ASKING")
-        time.sleep(0.2)
-        check(old.asked_slots >= 2, "CLUSTER SLOTS is asked at the start and after MOVED")
+        wait_until(lambda: old.asked_slots >= 2, "CLUSTER SLOTS to be asked, at the start and after MOVED")
 
 
 @case
@@ -119,6 +128,7 @@ def a_lost_command_is_not_sent_again(world):
         with Scene(world, node) as proxy, proxy.client() as client:
             if reply == b"$3\r\nab":
                 client.send(request("INCR", "a"))
+                wait_until(node.words_seen, "the node to get the command")
                 time.sleep(0.3)
                 node.close()
                 check_same(client.reply(), LOST, "INCR whose reply was cut off")
@@ -180,8 +190,9 @@ def dials_that_hang(world):
     node = ScriptedNode(lambda words: bulk(words[1]))
     slots = [slot_of(key) for key in (b"a", b"b", b"c")]
     node.slots = lambda: slots_reply([(it, it, port) for it, port in zip(slots, (deaf.port, node.port, deafer.port))])
-    with Scene(world, node, deaf, deafer) as proxy, proxy.client() as stuck, proxy.client() as client:
-        time.sleep(0.2)
+    scene = Scene(world, node, deaf, deafer)
+    with scene as proxy, proxy.client() as stuck, proxy.client() as client:
+        scene.wait_for_map()
         check_same(client.ask("GET", "b"), bulk(b"b"), "GET before the dials")
         begun = time.monotonic()
         stuck.send(request("GET", "a") + request("GET", "c"))
@@ -193,3 +204,36 @@ def dials_that_hang(world):
         check_time(slowest < 1.0, f"a command of another node waited {slowest:.2f} seconds")
         check_same(stuck.replies(2), [GAVE_UP] * 2, "GETs at nodes that take no connection")
     return f"{count} commands beside them, the slowest {1000 * slowest:.0f} ms"
+
+
+@case
+def a_host_name_that_is_not_found(world):
+    """A node lists another one by a name that nobody has: that one's commands are given up, and hold up no others."""
+    node, name = ScriptedNode(lambda words: bulk(words[1])), b"no-such-host.invalid"
+    entries = [(0, 8191, b"127.0.0.1", node.port), (8192, 16383, name, 7000)]
+    listed = b"*2\r\n" + b"".join(b"*3\r\n:%d\r\n:%d\r\n*2\r\n%s:%d\r\n" % (low, high, bulk(host), port) for low, high, host, port in entries)
+    node.slots = lambda: listed
+    scene, here, there = Scene(world, node), *(tag_of_slot(range(*it)) for it in ((0, 8192), (8192, 16384)))
+    with scene as proxy, proxy.client() as client:
+        scene.wait_for_map()
+        ended = Together(3, lambda number: ask_often(proxy, there, 3))
+        taken = []
+        while any(it.is_alive() for it in ended.threads):
+            began = time.monotonic()
+            check_same(client.ask("GET", here), bulk(here), "GET beside those of the name")
+            taken.append(time.monotonic() - began)
+        given_up, waits = zip(*(it for mine in ended.join() for it in mine))
+    check_same(set(given_up), {GAVE_UP}, "GETs at the node that is not found")
+    note = f"{len(given_up)} given up within {max(waits):.1f} s, {len(taken)} commands beside them, the slowest {1000 * max(taken):.0f} ms"
+    check_time(max(taken) < 1.0, note)
+    return note
+
+
+def ask_often(proxy, key, count):
+    """The replies to so many GETs of a key, each with the seconds that it took."""
+    replies = []
+    with proxy.client() as client:
+        for _ in range(count):
+            began = time.monotonic()
+            replies.append((client.ask("GET", key), time.monotonic() - began))
+    return replies

@@ -11,22 +11,25 @@ from contextlib import ExitStack
 from cases_idle import percent_of_core
 from cases_scripted import Scene, moved
 from client import request
-from cluster import Proxy, is_within, keys_of_slots, resident_mebibytes, wait_until
+from cluster import Proxy, is_within, keys_of_slots, processor_seconds, resident_mebibytes, wait_until
 from harness import case, check, check_same, check_time
 from scripted import ScriptedNode, bulk, slots_reply
 from writers import LOST
 
-# Clients that leave such a node, and the seconds after which it is given up.
-LEAVING, GIVEN_UP = 300, 30
+# Clients that leave such a node, the seconds after which it is given up, and those after which a test of it hangs.
+LEAVING, GIVEN_UP, HANGS = 300, 30, 100
 # Clients that leave bytes behind a command, how many bytes each, and how many mebibytes of all may be kept.
 UNREAD, LEFT, MOST_KEPT = 200, 200 * 1024, 12
 # Seconds in which nothing came before the system asks whether the other end is there.
 IDLE = 60
 # The limit of descriptors before which so many clients come.
 CROWDED, CROWD = 64, 200
+# Milliseconds within which 99 of 100 requests are answered meanwhile, on a slow machine so many times the median; and the share of a
+# core that the proxy may take while clients wait, in percent, on a slow machine what so many commands a second take.
+MOST_WAITED, MOST_TIMES, MOST_PERCENT, MOST_COMMANDS = 100, 20, 10, 20
 
 
-@case
+@case(limit=2 * HANGS)
 def a_node_that_never_answers(world):
     """Clients that are gone give their descriptors back at once; one that stays is told after thirty seconds.
 
@@ -34,8 +37,8 @@ def a_node_that_never_answers(world):
     once the node was given up and their replies can't be written.
     """
     ended = threading.Event()
-    node = ScriptedNode(lambda words: ended.wait(60) and None)
-    with Scene(world, node) as proxy, proxy.client(limit=GIVEN_UP + 15) as staying:
+    node = ScriptedNode(lambda words: ended.wait(2 * HANGS) and None)
+    with Scene(world, node) as proxy, proxy.client(limit=HANGS) as staying:
         began = time.monotonic()
         staying.send(request("SET", "staying", "1"))
         before = proxy.descriptors()
@@ -46,14 +49,18 @@ def a_node_that_never_answers(world):
                 if number % 2:
                     client.socket.setsockopt(socket.SOL_SOCKET, socket.SO_LINGER, struct.pack("ii", 1, 0))
             wait_until(lambda: len(node.words_seen()) == LEAVING + 1, "the node to get every command")
-            check(proxy.descriptors() > before + LEAVING - 5, f"{before} descriptors before, {proxy.descriptors()} with all clients")
+            held = [before, proxy.descriptors()]
+            check(held[1] > before + LEAVING - 5, f"{before} descriptors before, {held[1]} with all clients")
         check_time(is_within(2, lambda: proxy.descriptors() <= before + LEAVING // 2 + 5), "descriptors are open two seconds after clients left")
+        held.append(proxy.descriptors())
         check_same(staying.reply(), LOST, "the reply of the command that waits")
         check_time(is_within(2, lambda: proxy.descriptors() <= before + 5), "descriptors are open two seconds after the node was given up")
+        held.append(proxy.descriptors())
         seconds = time.monotonic() - began
         ended.set()
     check_time(GIVEN_UP - 1 < seconds < GIVEN_UP + 5, f"the node was given up after {seconds:.1f} seconds")
-    return f"given up after {seconds:.1f} s"
+    note = "%d descriptors before, %d with all clients, %d once they left, %d once the node was given up" % tuple(held)
+    return f"{note}, after {seconds:.1f} s"
 
 
 @case
@@ -63,7 +70,7 @@ def what_a_client_left_behind_a_command(world):
     All reset their connections. Their commands wait on, and nothing else of them is held: the allocator gives back what is free.
     """
     ended = threading.Event()
-    node = ScriptedNode(lambda words: ended.wait(60) and None)
+    node = ScriptedNode(lambda words: ended.wait(2 * HANGS) and None)
     variables = {"MALLOC_TRIM_THRESHOLD_": "65536", "MALLOC_MMAP_THRESHOLD_": "65536"}
     with Scene(world, node, variables=variables) as proxy:
         with proxy.client() as client:
@@ -88,7 +95,7 @@ def what_a_client_left_behind_a_command(world):
     return note
 
 
-@case
+@case(limit=2 * HANGS)
 def a_node_that_never_lists_its_slots(world):
     """It sends a command on, and never answers the CLUSTER SLOTS that follows: once it is given up another node is asked."""
     ended = threading.Event()
@@ -96,10 +103,11 @@ def a_node_that_never_lists_its_slots(world):
     other.slots = lambda: slots_reply([(0, 16383, other.port)])
     seed = ScriptedNode(lambda words: moved(b"a", other.port))
     listings = iter([slots_reply([(0, 16383, seed.port)])])
-    seed.slots = lambda: next(listings, None) or (ended.wait(60) and None)
-    with Scene(world, seed, other) as proxy, proxy.client(limit=GIVEN_UP + 15) as client, proxy.client() as waiting:
-        wait_until(lambda: seed.asked_slots == 1, "the seed to be asked for its slots")
-        time.sleep(0.2)
+    seed.slots = lambda: next(listings, None) or (ended.wait(2 * HANGS) and None)
+    scene = Scene(world, seed, other)
+    with scene as proxy, proxy.client(limit=HANGS) as client, proxy.client() as waiting:
+        scene.wait_for_map()
+        check_same(seed.asked_slots, 1, "requests of the seed for its slots")
         check_same(client.ask("GET", "a"), bulk(b"other"), "GET by way of MOVED")
         wait_until(lambda: seed.asked_slots == 2, "the seed to be asked for its slots again")
         began = time.monotonic()
@@ -109,9 +117,8 @@ def a_node_that_never_lists_its_slots(world):
         client.send(request("GET", "c"))
         check_same(client.reply(), LOST, "the reply of a command behind the request for slots")
         seconds = time.monotonic() - began
-        wait_until(lambda: other.asked_slots > 0, "the other node to be asked", 5)
         check_same(waiting.reply(), LOST, "the reply of the first command behind it")
-        time.sleep(0.2)
+        scene.wait_for_map(other)
         check_same(waiting.ask("GET", "b"), bulk(b"other"), "GET by the map of the other node")
         check_same([words[1] for words in seed.words_seen()], [b"a", b"b", b"c"], "keys that the seed was asked for")
         ended.set()
@@ -137,14 +144,18 @@ def ends_that_vanish_are_asked(world):
     ranges = [(5500 * number, min(5500 * number + 5499, 16383), node.port) for number, node in enumerate(nodes)]
     for node in nodes:
         node.slots = lambda: slots_reply(ranges)
-    with Scene(world, *nodes) as proxy, ExitStack() as clients:
-        time.sleep(0.2)
+    scene = Scene(world, *nodes)
+    with scene as proxy, ExitStack() as clients:
+        scene.wait_for_map()
+        began = time.monotonic()
         for _ in range(10):
             client = clients.enter_context(proxy.client())
             for key in keys_of_slots(0, 16383, 12):
                 check_same(client.ask("GET", key), bulk(key), "GET")
         check(all(node.words_seen() for node in nodes), "a node got no command")
-        is_asked = lambda timers: len(timers) >= 13 and all(it is not None and IDLE - 10 < it <= IDLE for it in timers)
+        # less by what it took until now
+        least = lambda: IDLE - 10 - (time.monotonic() - began)
+        is_asked = lambda timers: len(timers) >= 13 and all(it is not None and least() < it <= IDLE for it in timers)
         check(is_within(5, lambda: is_asked(keepalive_timers(proxy.process))), f"timers: {keepalive_timers(proxy.process)}")
         return f"{len(keepalive_timers(proxy.process))} connections"
 
@@ -164,7 +175,7 @@ def descriptors_that_come_free(world):
         resource.prlimit(proxy.process.pid, resource.RLIMIT_NOFILE, (most, most))
         thread = threading.Thread(target=keep_busy, args=(busy,), daemon=True)
         thread.start()
-        waiting = [clients.enter_context(proxy.client(limit=3)) for _ in range(30)]
+        waiting = [clients.enter_context(proxy.client()) for _ in range(30)]
         for client in waiting:
             client.send(request("PING"))
         wait_until(lambda: proxy.descriptors() == most, "the descriptors to run out")
@@ -189,11 +200,12 @@ def descriptors_kept_for_nodes(world):
     words = [("SET", key, "1") for key in keys_of_slots(0, 16383, 12)]
     taken, served = [], 0
     with ExitStack() as leaving:
-        crowd = [leaving.enter_context(proxy.client(limit=10)) for _ in range(CROWD)]
+        crowd = [leaving.enter_context(proxy.client()) for _ in range(CROWD)]
         for client in crowd:
             client.send(request(*words[0]))
         first = crowd[0]
         check_same(first.reply(), b"+OK\r\n", "the first client's SET")
+        used = processor_seconds(proxy.process)
         for number in range(200):
             if number % 50 == 25:
                 for node in nodes[:3]:
@@ -202,16 +214,17 @@ def descriptors_kept_for_nodes(world):
             reply = first.ask(*words[number % len(words)])
             check(reply in (b"+OK\r\n", LOST), f"a client that is served was told {reply!r}")
             taken.append(1000 * (time.monotonic() - began))
+        lone = (processor_seconds(proxy.process) - used) / len(taken)
         percent = percent_of_core(proxy.process, 1)
+        most = max(MOST_PERCENT, 100 * MOST_COMMANDS * lone)
         for client in crowd[1:]:
             check_same(client.reply(), b"+OK\r\n", "a client's SET")
             served = max(served, proxy.descriptors())
             client.close()
-    proxy.process.terminate()
-    proxy.process.wait(10)
+    proxy.end()
     late = sorted(taken)[len(taken) * 99 // 100]
-    note = f"at most {served} of {CROWDED} descriptors; 99 of 100 requests within {late:.1f} ms; {percent:.1f} % of a core while clients wait"
+    note = f"at most {served} of {CROWDED} descriptors; 99 of 100 requests within {late:.1f} ms; {percent:.1f} % of a core while clients wait, of {most:.0f}"
     check(served <= CROWDED - 8, note)
-    check_time(late < 100, note)
-    check_time(percent < 10, note)
+    check_time(late < max(MOST_WAITED, MOST_TIMES * sorted(taken)[len(taken) // 2]), note)
+    check_time(percent < most, note)
     return note

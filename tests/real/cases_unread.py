@@ -6,10 +6,11 @@ What the proxy holds for them, and what another client waits beside them.
 import time
 from contextlib import ExitStack
 
-from cases_busy import percentile, seconds_of_asking
+from cases_busy import LONE_SECONDS, percentile, seconds_of_asking
+from cases_idle import percent_of_commands
 from client import request
 from cluster import Proxy, is_within, keys_of_slots, resident_mebibytes
-from harness import case, check, check_same, check_time
+from harness import case, check_same, check_time
 
 # The bytes of a value, how many keys hold one, how often each client asks for one of them: 100 MiB in all.
 VALUE, KEYS, TIMES = 65536, 64, 1600
@@ -18,20 +19,24 @@ MOST_FOR_ONE, MOST_FOR_FIFTY, MOST_KEPT = 16, 128, 48
 # Milliseconds that 99 of 100 requests of another client may take at most, beside so many times what they take just then directly
 # and over a proxy with no such clients: a busy machine keeps those waiting too.
 MOST_WAITED, MOST_TIMES = 20, 3
+# The seconds after which others are timed, or on a slow machine what so many lone commands take.
+PAUSE, COMMANDS = 0.5, 5000
 
 
 class Beside:
-    """A proxy of its own with some clients, each of which has sent these bytes. Half a second later another's requests are timed."""
+    """A proxy of its own with some clients, each of which has sent these bytes. A moment later another's requests are timed."""
 
     def __init__(self, world, count, data):
         self.proxy = Proxy(world.room, world.program, world.cluster.nodes[0].port, name="unread")
+        lone = percent_of_commands(self.proxy, 1) / 100
+        pause = PAUSE if lone < LONE_SECONDS else COMMANDS * lone
         before = resident_mebibytes(self.proxy.process)
         self.held, taken = before, ([], [], [])
         with ExitStack() as stack:
             for _ in range(count):
                 stack.enter_context(self.proxy.client(receive_buffer=4096)).send(data)
             asking = [stack.enter_context(it.client()) for it in (self.proxy, world.proxy, world.plain)]
-            time.sleep(0.5)
+            time.sleep(pause)
             for _ in range(8):
                 for all_taken, now in zip(taken, seconds_of_asking(asking, ("GET", "other"), 0.25)):
                     all_taken.extend(now)
@@ -41,11 +46,10 @@ class Beside:
         self.late, self.usual, self.direct = map(percentile, taken)
         self.note = f"resident {before:.0f} MiB before, {self.held:.0f} at most, {self.kept:.0f} after; "
         self.note += f"99 of 100 requests within {self.late:.1f} ms, over another proxy {self.usual:.1f}, directly {self.direct:.1f}"
-        self.proxy.process.terminate()
-        self.proxy.process.wait(10)
+        self.proxy.end()
 
     def check(self, most_held):
-        check(self.held < most_held, self.note)
+        check_time(self.held < most_held, self.note)
         check_time(self.kept < MOST_KEPT, self.note)
         check_time(self.late < MOST_WAITED + MOST_TIMES * max(self.usual, self.direct), self.note)
         return self.note
@@ -72,7 +76,7 @@ def a_client_that_never_reads(world):
     return never_read(world, 1, MOST_FOR_ONE)
 
 
-@case
+@case(limit=240)
 def fifty_clients_that_never_read(world):
     """Each asks for 100 MiB at once."""
     return never_read(world, 50, MOST_FOR_FIFTY)

@@ -1,12 +1,13 @@
 """Servers of a test: plain redis-servers, a cluster of three primaries with slots that move, and the proxy."""
 
 import os
+import random
 import signal
 import socket
 import subprocess
 import time
 
-from client import Client
+from client import Client, Closed
 from harness import check
 
 SLOTS = 16384
@@ -43,14 +44,17 @@ def keys_of_slots(first, last, count):
 
 
 def free_ports(count):
-    """Ports of loopback that nobody listens on."""
-    sockets = [socket.socket() for _ in range(count)]
-    for it in sockets:
-        it.bind(("127.0.0.1", 0))
-    ports = [it.getsockname()[1] for it in sockets]
-    for it in sockets:
-        it.close()
-    return ports
+    """Ports of loopback that nobody listens on, below those that the system gives to connections: none takes one meanwhile."""
+    with open("/proc/sys/net/ipv4/ip_local_port_range", encoding="ascii") as given:
+        end = max(20_000, int(given.read().split()[0]))
+    ports = set()
+    while len(ports) < count:
+        try:
+            with socket.create_server(("127.0.0.1", random.randrange(10_000, end))) as it:
+                ports.add(it.getsockname()[1])
+        except OSError:
+            pass  # it is taken
+    return list(ports)
 
 
 def is_within(seconds, is_so):
@@ -63,7 +67,7 @@ def is_within(seconds, is_so):
     return True
 
 
-def wait_until(is_so, what, limit=20.0):
+def wait_until(is_so, what, limit=60.0):
     check(is_within(limit, is_so), f"waited {limit} seconds for {what}")
 
 
@@ -73,7 +77,7 @@ def does_answer(port, password=None):
             if password:
                 client.ask("AUTH", password)
             return client.ask("PING") == b"+PONG\r\n"
-    except OSError:
+    except (OSError, Closed):
         return False
 
 
@@ -89,7 +93,12 @@ class Room:
     """The folder of a run, and each process that it started."""
 
     def __init__(self, folder):
-        self.folder, self.processes = folder, []
+        self.folder, self.processes, self.names = folder, [], {}
+
+    def name(self, name):
+        """The name, or where it was given before, as to a case that is run again, another one."""
+        self.names[name] = self.names.get(name, 0) + 1
+        return name if self.names[name] == 1 else f"{name}.{self.names[name]}"
 
     def start(self, words, said, variables=None):
         """Starts a program whose output goes to the file `said`, and notes its number for `run`, which ends what is left."""
@@ -122,19 +131,24 @@ def processor_seconds(process):
     return total / 1e9
 
 
-def resident_mebibytes(process):
+def resident_mebibytes(process, line="VmRSS"):
     with open(f"/proc/{process.pid}/status", encoding="ascii") as status:
-        return next(int(line.split()[1]) for line in status if line.startswith("VmRSS:")) / 1024
+        return next(int(it.split()[1]) for it in status if it.startswith(f"{line}:")) / 1024
+
+
+def peak_mebibytes(process):
+    """The most that it has held so far."""
+    return resident_mebibytes(process, "VmHWM")
 
 
 class Server:
     """One redis-server."""
 
     def __init__(self, room, name, *options, port=None, password=None):
-        self.room, self.name, self.password = room, name, password
+        self.room, self.name, self.password = room, room.name(name), password
         self.options = [*options, "--requirepass", password] if password else options
         self.port = port or free_ports(1)[0]
-        self.folder = f"{room.folder}/{name}"
+        self.folder = f"{room.folder}/{self.name}"
         os.makedirs(self.folder, exist_ok=True)
         self.start()
 
@@ -191,6 +205,8 @@ class Cluster:
     """Three primaries, each with a third of the slots, which want a password where one is given."""
 
     def __init__(self, room, name="node", password=None, patience=10000):
+        # the seconds that the slowest move took since the last `tidy`
+        self.slowest_move = 0.0
         self.nodes, buses = cluster_nodes(room, name, password, patience)
         for number, (node, (first, last)) in enumerate(zip(self.nodes, self.ranges())):
             node.value("CLUSTER", "SET-CONFIG-EPOCH", number + 1)
@@ -216,6 +232,7 @@ class Cluster:
         return next(number for number in range(3) if any(first <= slot <= last for first, last in self.ranges_of(number)))
 
     def begin_move(self, slot, source, target):
+        self.move_began = time.monotonic()
         self.nodes[target].value("CLUSTER", "SETSLOT", slot, "IMPORTING", self.ids[source])
         self.nodes[source].value("CLUSTER", "SETSLOT", slot, "MIGRATING", self.ids[target])
 
@@ -224,7 +241,7 @@ class Cluster:
         with self.nodes[source].client() as client:
             keys = client.value("CLUSTER", "GETKEYSINSLOT", slot, at_once)
             if keys:
-                moved = client.value("MIGRATE", "127.0.0.1", self.nodes[target].port, "", 0, 5000, "KEYS", *keys)
+                moved = client.value("MIGRATE", "127.0.0.1", self.nodes[target].port, "", 0, 50000, "KEYS", *keys)
                 check(moved in ("OK", "NOKEY"), f"MIGRATE said {moved!r}")
         return len(keys)
 
@@ -232,6 +249,7 @@ class Cluster:
         third = 3 - source - target
         for number in (target, source, third):
             self.nodes[number].value("CLUSTER", "SETSLOT", slot, "NODE", self.ids[target])
+        self.slowest_move = max(self.slowest_move, time.monotonic() - self.move_began)
 
     def call_back(self, slot, source, target):
         """Ends a move before a key went over: both nodes forget it."""
@@ -250,7 +268,12 @@ class Cluster:
         self.end_move(slot, source, target)
 
     def tidy(self):
-        """No keys, no slot in a move, and each slot at the node that had it at the start."""
+        """All nodes run, with no keys, no slot in a move, and each slot at the node that had it at the start."""
+        ended = [node for node in self.nodes if not node.is_running()]
+        for node in self.nodes:
+            node.start() if node in ended else node.go_on()
+        if ended:
+            wait_until(self.is_whole, "the cluster to be whole again")
         for node in self.nodes:
             node.value("FLUSHALL")
         for node in self.nodes:
@@ -261,6 +284,12 @@ class Cluster:
                 for slot in range(first, last + 1):
                     if not low <= slot <= high:
                         self.move(slot, next(k for k, (a, b) in enumerate(self.ranges()) if a <= slot <= b))
+        self.slowest_move = 0.0
+
+    def end(self):
+        """Ends all nodes of it."""
+        for node in self.nodes:
+            end(node.process)
 
     @staticmethod
     def slots_in_moves(node):
@@ -279,7 +308,7 @@ class Proxy:
     """The program before a seed."""
 
     def __init__(self, room, program, seed_port, workers=2, name="proxy", variables=None, descriptors=None):
-        self.room, self.program, self.seed_port, self.workers, self.name = room, program, seed_port, workers, name
+        self.room, self.program, self.seed_port, self.workers, self.name = room, program, seed_port, workers, room.name(name)
         self.variables, self.limit = variables, descriptors
         self.start()
 
@@ -293,6 +322,11 @@ class Proxy:
 
     def has_ended(self):
         return self.process.poll() is not None
+
+    def end(self):
+        """By a signal."""
+        self.process.terminate()
+        self.process.wait(60)
 
     def said(self):
         """The end of what it wrote, and its status where it has ended."""

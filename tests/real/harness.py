@@ -3,6 +3,8 @@
 import threading
 
 CASES = []
+# Seconds that one case may take, as a last resort: each socket has a limit of its own.
+LIMIT = 120
 
 
 class Failed(Exception):
@@ -13,10 +15,15 @@ class Slow(Failed):
     """What took longer than it may. A machine that had a pause of its own may be the reason, so the case is run again."""
 
 
-def case(function):
-    """Adds a case, named as its function. It may return a few words to print beside it."""
-    CASES.append(function)
-    return function
+def case(function=None, *, limit=LIMIT):
+    """Adds a case, named as its function, which may take so many seconds. It may return a few words to print beside it."""
+
+    def add(function):
+        function.limit = limit
+        CASES.append(function)
+        return function
+
+    return add(function) if function else add
 
 
 def check(is_so, otherwise):
@@ -25,7 +32,7 @@ def check(is_so, otherwise):
 
 
 def check_time(is_so, otherwise):
-    """A check of a time, of processor time, or of what the allocator gave back by then."""
+    """A check of a time, of processor time, of memory, or of how much was done by then."""
     if not is_so:
         raise Slow(otherwise)
 
@@ -62,7 +69,7 @@ class Together:
         except Exception as fault:
             self.faults.append(fault)
 
-    def join(self, limit=60.0):
+    def join(self, limit=200.0):
         for thread in self.threads:
             thread.join(limit)
             check(not thread.is_alive(), f"a client had not ended after {limit} seconds")

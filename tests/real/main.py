@@ -27,13 +27,14 @@ import cases_failover
 import cases_busy
 import cases_silent
 import cases_unread
-from cluster import Cluster, Proxy, Room, Server
+import cases_endless
+from cluster import Cluster, Proxy, Room, Server, end
 from harness import CASES, Failed, Slow
 
-# Seconds that one case may take, as a last resort: each socket has a limit of its own.
-CASE_LIMIT = 60
 # How often a case is run before what it took counts as a fault.
 TRIES = 5
+# How much of what was wrong with a case is said once more at the end.
+MOST_SAID = 200
 
 
 class World:
@@ -56,8 +57,8 @@ class World:
         self.plain.value("FLUSHALL")
 
 
-def stop(*_):
-    raise Failed(f"not done after {CASE_LIMIT} seconds")
+def stop(limit):
+    raise Failed(f"not done after {limit} seconds")
 
 
 def place_of(fault):
@@ -68,18 +69,22 @@ def place_of(fault):
 
 
 def run_case(world, case):
-    """Runs a case, again where it was slow, and says whether it passed."""
+    """Runs a case, again where it was slow, and gives what was wrong, or None."""
     word = "slow"
     for left in reversed(range(TRIES)):
         if word == "slow":
-            word = try_case(world, case, "slow" if left else "FAIL")
-    return word == "ok"
+            word, note = try_case(world, case, "slow" if left else "FAIL")
+    if word == "FAIL":
+        # what it left under way is not the next one's
+        end(world.proxy.process)
+    return None if word == "ok" else note
 
 
 def try_case(world, case, if_slow):
-    """Runs a case once, prints its line, and gives the line's word."""
+    """Runs a case once, prints its line, and gives the line's word and its end."""
     began = time.monotonic()
-    signal.alarm(CASE_LIMIT)
+    signal.signal(signal.SIGALRM, lambda *_: stop(case.limit))
+    signal.alarm(case.limit)
     try:
         world.tidy()
         note = case(world)
@@ -95,25 +100,25 @@ def try_case(world, case, if_slow):
     finally:
         signal.alarm(0)
     print(f"{word:4} {case.__name__} {time.monotonic() - began:.1f} s{note}", flush=True)
-    return word
+    return word, note
 
 
 def main(folder, program, *names):
-    signal.signal(signal.SIGALRM, stop)
     for number in (signal.SIGTERM, signal.SIGINT):
         signal.signal(number, lambda number, _: sys.exit(128 + number))
     cases = [it for it in CASES if not names or any(name in f"{it.__module__} {it.__name__}" for name in names)]
     room = Room(folder)
     try:
         world = World(room, program)
-        passed = sum(run_case(world, it) for it in cases)
-    except Failed as fault:
-        print(f"FAIL the servers: {fault}")
-        passed = 0
+        failed = [(it.__name__, note) for it in cases if (note := run_case(world, it))]
+    except Exception as fault:
+        failed = [(it.__name__, f": not run, for the servers: {type(fault).__name__} {fault}") for it in cases]
     finally:
         room.end_all()
-    failed = len(cases) - passed
-    print(f"{passed} passed, {failed} failed")
+    # once more, where a reader of the end finds them
+    for name, note in failed:
+        print(f"FAIL {name}{note[:MOST_SAID]}")
+    print(f"{len(cases) - len(failed)} passed, {len(failed)} failed")
     return 1 if failed or not cases else 0
 
 

@@ -1,5 +1,7 @@
 """A cluster whose primaries have replicas, one of which takes over some three seconds after its primary was lost."""
 
+import re
+
 from cluster import Cluster, cluster_nodes, wait_until
 
 # Milliseconds after which a node that says nothing counts as lost.
@@ -44,6 +46,11 @@ class Replicated:
     @staticmethod
     def lists_replicas(server):
         return server.value("CLUSTER", "NODES").count(b"slave ") == 3
+
+    def refusals(self):
+        """How often each node that runs has said that the cluster is down."""
+        said = {it: re.search(r"errorstat_CLUSTERDOWN:count=(\d+)", it.value("INFO", "errorstats").decode()) for it in self.running()}
+        return {it: int(found[1]) if found else 0 for it, found in said.items()}
 
     def running(self):
         return [it for it in self.servers if it.is_running()]

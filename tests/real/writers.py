@@ -1,19 +1,23 @@
 """Clients that write without a pause while slots move or nodes fail, and what each of their requests ended with."""
 
+import socket
 import time
 
 from client import Client, request, value_of
-from harness import Failed, Together, check, check_same
+from harness import Failed, Together, check, check_same, check_time
 
 LOST = b"-ERR proxy: connection lost, outcome unknown\r\n"
 GAVE_UP = b"-ERR proxy: gave up, not executed\r\n"
+
+# Seconds for which a group of keys may be at two nodes and none of its commands be given up: they wait two seconds.
+LONGEST_SPLIT = 1.0
 
 
 class Writers:
     """So many clients, each of which calls `turn(client, number, count)` again and again until the end of the `with`."""
 
     def __init__(self, proxy, count, turn):
-        self.proxy, self.turn, self.stopped = proxy, turn, False
+        self.proxy, self.turn, self.stopped, self.clients = proxy, turn, False, []
         self.turns = [0] * count
         self.together = Together(count, self.work)
 
@@ -24,6 +28,18 @@ class Writers:
         self.stopped = True
         if kind is None:
             self.together.join()
+        else:
+            self.leave()
+
+    def leave(self):
+        """Ends all connections, so that nothing is written any more while the next case runs."""
+        for client in self.clients:
+            try:
+                client.socket.shutdown(socket.SHUT_RDWR)
+            except OSError:
+                pass
+        for thread in self.together.threads:
+            thread.join(5)
 
     def stop(self):
         """Ends them before the end of the `with`."""
@@ -31,6 +47,7 @@ class Writers:
 
     def work(self, number):
         with Client(self.proxy.port) as client:
+            self.clients.append(client)
             while not self.stopped:
                 self.turn(client, number, self.turns[number])
                 self.turns[number] += 1
@@ -39,7 +56,7 @@ class Writers:
         if self.together.faults:
             raise self.together.faults[0]
 
-    def wait_for_turns(self, count=2, limit=15.0):
+    def wait_for_turns(self, count=2, limit=100.0):
         """Waits until each client has ended so many more turns, so that no request of before is under way."""
         wanted = [turn + count for turn in self.turns]
         end = time.monotonic() + limit
@@ -69,6 +86,12 @@ class Ends:
     def check_all_answered(self):
         check_same(self.lost[:3], [], "requests that ended lost, though no connection did")
         check_same(self.gave_up[:3], [], f"the first of {len(self.gave_up)} requests that were given up")
+
+    def check_groups_answered(self, slowest_move):
+        """The same of groups, in moves of which the slowest took so many seconds."""
+        if self.gave_up:
+            check_time(slowest_move < LONGEST_SPLIT, f"{len(self.gave_up)} groups were given up, in moves of up to {slowest_move:.1f} seconds")
+        self.check_all_answered()
 
     def counts(self):
         return f"{sum(map(len, self.answered))} answered, {len(self.lost)} lost, {len(self.gave_up)} given up"

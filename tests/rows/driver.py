@@ -1,6 +1,7 @@
 """The programs that make the calls of rows."""
 
 import os
+import re
 import subprocess
 import sys
 import tempfile
@@ -35,16 +36,32 @@ class Driver:
 DRIVERS = {".rows": Driver("row_driver"), ".turns": Driver("turn_driver")}
 
 
+# How often a row is made before what it took counts as a fault: a machine that had a pause of its own may be the reason.
+TRIES = 5
+
+
 def failures_of(driver, rows):
     """The rows that are answered otherwise, each with a line that says how. One run makes all that have no limit of time."""
     failures = {}
-    free = [row for row in rows if row.seconds is None]
+    free = [row for row in rows if not is_timed(row)]
     if free:
         failures = failures_in(driver, free)
-    for row in rows:
-        if row.seconds is not None:
-            failures.update(failures_in(driver, [row]))
+    for row in filter(is_timed, rows):
+        for _ in range(TRIES):
+            found = failures_in(driver, [row])
+            if not is_slow(found.get(row.name, "")):
+                break
+        failures.update(found)
     return failures
+
+
+def is_timed(row):
+    return row.seconds is not None or any(call.startswith("time ") for call in row.calls)
+
+
+def is_slow(failure):
+    """Whether what went wrong is a time."""
+    return ": took " in failure or bool(re.match(r".*, call \d+: time ", failure))
 
 
 def failures_in(driver, rows):

@@ -5,6 +5,7 @@ import os
 import re
 import subprocess
 import tempfile
+import time
 from collections import Counter
 
 from growths import Growths, compiler
@@ -157,7 +158,7 @@ def failures_refused(tables, are_all):
         chosen = [row for row in rows if is_swept(row)]
         if not chosen:
             continue
-        sweep = Sweep(driver)
+        sweep, begun = Sweep(driver), time.monotonic()
         for row in chosen:
             failures += [f"{path.name}: {line}" for line in sweep.failures(row)]
         sweep.close()
@@ -165,7 +166,7 @@ def failures_refused(tables, are_all):
         refused |= sweep.refused
         print(
             f"{path.name}: growths refused in {len(chosen)} rows: {sweep.again} calls made again, "
-            f"{sweep.of_driver} of the driver's own, {sweep.unneeded} not needed"
+            f"{sweep.of_driver} of the driver's own, {sweep.unneeded} not needed; {time.monotonic() - begun:.1f} s"
         )
     if are_all:
         failures += [f"{kind}: never finds no memory" for kind in sorted(made - refused - TAKE_NONE)]
