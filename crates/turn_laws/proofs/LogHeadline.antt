@@ -26,13 +26,15 @@ use Rattle.turn_laws.specs.System.{System, Mark, Arrived, Executed, Answered}
 use Rattle.turn_laws.specs.Shadow.{LogShadow, arrived_in, executed_in, answered_in, entry_at}
 use Rattle.turn_laws.specs.LogHeadline.{LogHeadline, IsHeld, HeadlineOfLogs, LogsAreHeld, At, IsIn, IsExecutedAt, IsLegal, HasOne, SameTurn, history, left_by}
 use Rattle.turn_laws.proofs.Logs.{arrivals_of, answers_of}
-use Rattle.turn_laws.proofs.LogPlaces.{at-map, map-at, arrival-in, arrival-of, answer-in, entry-in, execution-of, entry-at-mark, legal-of, left-of}
+use Rattle.turn_laws.specs.Walks.{IsWalked}
+use Rattle.turn_laws.proofs.AnswerOrder.{answered-behind, answered-late}
+use Rattle.turn_laws.proofs.LogPlaces.{at-map, map-at, arrival-in, arrival-of, answer-in, answer-of, entry-in, execution-of, entry-at-mark, legal-of, left-of}
 use Rattle.turn_laws.proofs.Refines.{refines}
 
 order : (i j : ℕ) → (i < j) ⊎ ((i ≡ j) ⊎ (j < i))
 order i j = grind arith
 
-module _ (log : List Mark) (w : WorldModel) (h : LogShadow log w) (g : Headline w) where
+module _ (log : List Mark) (w : WorldModel) (h : LogShadow log w) (walked : IsWalked w) (g : Headline w) where
   -- what the clock has earlier stands earlier
   earlier : (i j : ℕ) → i < length log → h.clock i < h.clock j → i < j
   earlier i j within lt = ⊎_elim
@@ -73,8 +75,8 @@ module _ (log : List Mark) (w : WorldModel) (h : LogShadow log w) (g : Headline 
       let plain : 0 + r.0 ≡ r.0 = omega arith in
       (r.0, r.1, r.2 ∙ ap h.clock plain)
 
-  answer-of : (n : ℕ) (t : Ticket) (end : Ended) → At log n (Answered t end) → (a : Answer) × IsIn w.answers a × (a.ticket ≡ t) × (a.ended ≡ end) × (a.answered ≡ h.clock n)
-  answer-of n t end there =
+  answer-there : (n : ℕ) (t : Ticket) (end : Ended) → At log n (Answered t end) → (a : Answer) × IsIn w.answers a × (a.ticket ≡ t) × (a.ended ≡ end) × (a.answered ≡ h.clock n)
+  answer-there n t end there =
       let r = answer-in h.clock 0 log n t end there in
       let moved : At (answers_of w.answers) r.0 (t, end, h.clock (0 + n)) = subst (λ xs. At xs r.0 (t, end, h.clock (0 + n))) h.answered r.1 in
       let m = at-map (λ (a : Answer). (a.ticket, a.ended, a.answered)) w.answers r.0 (t, end, h.clock (0 + n)) moved in
@@ -104,7 +106,7 @@ module _ (log : List Mark) (w : WorldModel) (h : LogShadow log w) (g : Headline 
   -- the end of a command that was answered
   ended-as : (n : ℕ) (t : Ticket) (end : Ended) → At log n (Answered t end) → (c : Arrival) × EndedAs w c end × (c.command.ticket ≡ t)
   ended-as n t end there =
-      let a = answer-of n t end there in
+      let a = answer-there n t end there in
       let b = g.told a.0 a.1 in
       (b.0, (b.1.0, b.1.1 ∙ ap Over a.3), b.2 ∙ a.2)
 
@@ -121,16 +123,43 @@ module _ (log : List Mark) (w : WorldModel) (h : LogShadow log w) (g : Headline 
       let same = same-command c.0 d.0 c.1 d.1 (c.2 ∙ sym d.2) in
       one-place i j (inside i (Arrived t p) at-i) (inside j (Arrived t q) at-j) (sym c.4 ∙ ap (λ (z : Arrival). z.arrived) same ∙ d.4)
 
-  pub told-end : (n : ℕ) (t : Ticket) (end : Ended) → At log n (Answered t end) → (a : ℕ) × (p : PartModel) × At log a (Arrived t p)
+  pub told-end : (n : ℕ) (t : Ticket) (end : Ended) → At log n (Answered t end) → (a : ℕ) × (p : PartModel) × At log a (Arrived t p) × (a < n)
   told-end n t end there =
-      let c = ended-as n t end there in
+      let a = answer-there n t end there in
+      let c = g.told a.0 a.1 in
       let m = arrival-mark c.0 c.1.0 in
-      (m.0, c.0.command.part, m.1 ∙ (λ i. Some (Arrived (c.2 i) c.0.command.part)))
+      let of-t : c.0.command.ticket ≡ t = c.2 ∙ a.2 in
+      let is : At log m.0 (Arrived t c.0.command.part) = m.1 ∙ (λ i. Some (Arrived (of-t i) c.0.command.part)) in
+      let late = answered-late w walked a.0 a.1 in
+      (m.0, c.0.command.part, is, earlier m.0 n (inside m.0 (Arrived t c.0.command.part) is) (omega (arith, m.2, c.3, late, a.4)))
+
+  -- the answer of the machine has its mark
+  answer-mark : (a : Answer) → IsIn w.answers a → (n : ℕ) × At log n (Answered a.ticket a.ended) × (a.answered ≡ h.clock n)
+  answer-mark a (j, there) =
+      let listed = map-at (λ (x : Answer). (x.ticket, x.ended, x.answered)) w.answers j a there in
+      let r = answer-of h.clock 0 log j (a.ticket, a.ended, a.answered) (subst (λ xs. At xs j (a.ticket, a.ended, a.answered)) (sym h.answered) listed) in
+      let plain : 0 + r.0 ≡ r.0 = omega arith in
+      (r.0, r.1, r.2 ∙ ap h.clock plain)
+
+  pub answered-in-order : (a b : ℕ) (t u : Ticket) (p q : PartModel) → At log a (Arrived t p) → At log b (Arrived u q) → t.client ≡ u.client → a < b
+      → (n : ℕ) (end : Ended) → At log n (Answered u end) → (m : ℕ) × (end' : Ended) × At log m (Answered t end') × (m < n)
+  answered-in-order a b t u p q at-a at-b one lt n end there =
+      let c = command-of a t p at-a in
+      let d = command-of b u q at-b in
+      let y = answer-there n u end there in
+      let z = g.told y.0 y.1 in
+      let same : z.0 ≡ d.0 = same-command z.0 d.0 z.1.0 d.1 (z.2 ∙ y.2 ∙ sym d.2) in
+      let first : c.0.arrived < y.0.arrived = omega (arith, c.4, d.4, ap (λ (x : Arrival). x.arrived) same, z.3, h.rises a b lt (inside b (Arrived u q) at-b)) in
+      let r = answered-behind w walked y.0 y.1 c.0 c.1 (ap (λ (x : Ticket). x.client) c.2 ∙ one ∙ ap (λ (x : Ticket). x.client) (sym y.2)) first in
+      let m = answer-mark r.0 r.1 in
+      let of-t : r.0.ticket ≡ t = r.2 ∙ c.2 in
+      let is : At log m.0 (Answered t r.0.ended) = m.1 ∙ (λ i. Some (Answered (of-t i) r.0.ended)) in
+      (m.0, r.0.ended, is, earlier m.0 n (inside m.0 (Answered t r.0.ended) is) (omega (arith, m.2, r.3, y.4)))
 
   pub answered-once : (n m : ℕ) (t : Ticket) (x y : Ended) → At log n (Answered t x) → At log m (Answered t y) → n ≡ m
   answered-once n m t x y at-n at-m =
-      let a = answer-of n t x at-n in
-      let b = answer-of m t y at-m in
+      let a = answer-there n t x at-n in
+      let b = answer-there m t y at-m in
       let same = one_at w.answers a.1.0 b.1.0 a.0 b.0 a.1.1 b.1.1 (g.answered_once a.1.0 b.1.0 a.0 b.0 a.1.1 b.1.1 (a.2 ∙ sym b.2)) in
       one-place n m (inside n (Answered t x) at-n) (inside m (Answered t y) at-m) (sym a.4 ∙ ap (λ (z : Answer). z.answered) same ∙ b.4)
 
@@ -156,7 +185,7 @@ module _ (log : List Mark) (w : WorldModel) (h : LogShadow log w) (g : Headline 
       let of-t : x.1.ticket ≡ t = sym (ap (λ (z : EntryModel). z.ticket) x.3) ∙ r.1.2 ∙ c.2 in
       let says : data_of x.1.value ≡ data_of v = sym (ap (λ (z : EntryModel). z.reply) x.3) ∙ r.2 in
       let m = arrived-earlier x.0 x.1 x.2 in
-      let a = answer-of n t (ended.Answered v) there in
+      let a = answer-there n t (ended.Answered v) there in
       let before = r.4 a.0 a.1 (a.2 ∙ sym c.2) in
       let within : x.0 < length log = inside x.0 (Executed x.2.0) x.2.1 in
       (m.0, x.0, x.1, m.1 ∙ (λ j. Some (Arrived (of-t j) x.1.part)), x.2, of-t, says, m.2,
@@ -197,6 +226,7 @@ module _ (log : List Mark) (w : WorldModel) (h : LogShadow log w) (g : Headline 
     own_ticket = own-ticket;
     told = told-end;
     answered_once = answered-once;
+    answered_in_order = answered-in-order;
     arrived = arrived-earlier;
     once = has-one;
     answered = stands-between;
@@ -220,9 +250,9 @@ module _ (C J : Type 0) (plain : PlansArePlain) where
   pub headline-of-logs : HeadlineOfLogs C J
   headline-of-logs s s' events start steps =
       let r = refines C J plain s s' events start steps in
-      log-headline s'.log r.0 (r.2).log r.3
+      log-headline s'.log r.0 (r.2).log r.1 r.3
 
   pub logs-are-held : LogsAreHeld C J
   logs-are-held s s' events start steps =
       let r = refines C J plain s s' events start steps in
-      subst (IsHeld s'.log) (r.2).cluster (log-held s'.log r.0 (r.2).log r.3)
+      subst (IsHeld s'.log) (r.2).cluster (log-held s'.log r.0 (r.2).log r.1 r.3)

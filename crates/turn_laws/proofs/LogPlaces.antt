@@ -115,6 +115,15 @@ module _ (clock : ℕ → ℕ) where
       let r = answer-in (suc n) log i t end at in
       (r.0, r.1 ∙ (λ j. Some (t, end, on n i j)))
 
+  pub answer-of : (n : ℕ) (log : List Mark) (j : ℕ) (x : Ticket × Ended × ℕ) → At (answered_in clock n log) j x → (i : ℕ) × At log i (Answered x.0 x.1) × (x.2 ≡ clock (n + i))
+  answer-of n [] j x at = absurd (nothing-there j x at)
+  answer-of n (Answered u end ∷ log) zero x at =
+      let same : (u, end, clock n) ≡ x = cc in
+      (0, (λ i. Some (Answered (same i).0 (same i).1)), sym (λ i. (same i).2) ∙ here n)
+  answer-of n (Answered u end ∷ log) (suc j) x at = let r = answer-of (suc n) log j x at in (suc r.0, r.1, r.2 ∙ on n r.0)
+  answer-of n (Executed run ∷ log) j x at = let r = answer-of (suc n) log j x at in (suc r.0, r.1, r.2 ∙ on n r.0)
+  answer-of n (Arrived u p ∷ log) j x at = let r = answer-of (suc n) log j x at in (suc r.0, r.1, r.2 ∙ on n r.0)
+
   -- an execution has its entry at the same place,
   pub entry-in : (n : ℕ) (log : List Mark) (k : ℕ) (e : Execution) → At (history log) k e → (i : ℕ) × IsExecutedAt log i e × At (executed_in clock n log) k (entry_at (clock (n + i)) e)
   entry-in n [] k e at = absurd (nothing-there k e at)

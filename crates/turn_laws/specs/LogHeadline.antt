@@ -58,10 +58,14 @@ pub record LogHeadline (log : List Mark) : Type 0 where
   pub legal : IsLegal empty (history log)
   -- where only one client's commands for one slot are executed together
   pub together : (i : ℕ) (run : List Execution) (e f : Execution) → At log i (Executed run) → IsIn run e → IsIn run f → SameTurn e f
-  -- no two commands arrive with one ticket, each answer is of a command that arrived, and none is answered twice
+  -- no two commands arrive with one ticket, each answer is of a command that arrived earlier, and none is answered twice
   pub own_ticket : (i j : ℕ) (ticket : Ticket) (part part' : PartModel) → At log i (Arrived ticket part) → At log j (Arrived ticket part') → i ≡ j
-  pub told : (n : ℕ) (ticket : Ticket) (end : Ended) → At log n (Answered ticket end) → (a : ℕ) × (part : PartModel) × At log a (Arrived ticket part)
+  pub told : (n : ℕ) (ticket : Ticket) (end : Ended) → At log n (Answered ticket end) → (a : ℕ) × (part : PartModel) × At log a (Arrived ticket part) × (a < n)
   pub answered_once : (n m : ℕ) (ticket : Ticket) (end end' : Ended) → At log n (Answered ticket end) → At log m (Answered ticket end') → n ≡ m
+  -- of one client's commands the one that arrived first is answered first
+  pub answered_in_order : (a b : ℕ) (ticket ticket' : Ticket) (part part' : PartModel) → At log a (Arrived ticket part) → At log b (Arrived ticket' part')
+      → ticket.client ≡ ticket'.client → a < b
+      → (n : ℕ) (end : Ended) → At log n (Answered ticket' end) → (m : ℕ) × (end' : Ended) × At log m (Answered ticket end') × (m < n)
   -- what was executed is a command that arrived earlier, and none is executed twice
   pub arrived : (i : ℕ) (e : Execution) → IsExecutedAt log i e → (a : ℕ) × At log a (Arrived e.ticket e.part) × (a < i)
   pub once : (ticket : Ticket) → HasOne log ticket
