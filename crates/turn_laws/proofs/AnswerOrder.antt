@@ -1,5 +1,5 @@
 -- In the machine a command is answered after it arrived, and those of one client in the order in which they arrived.
-use Rattle.std.proofs.Common.{◌≡◌, ◌≢◌, ◌⊎◌, inl, inr, ⊎_elim, ℕ, ◌+◌, ◌<◌, ◌≤◌, true, false, List, [], ◌∷◌, ◌++◌, length, Some, refl, sym, ap, ◌∙◌, subst, arith}
+use Rattle.std.proofs.Common.{◌≡◌, ◌≢◌, ◌⊎◌, inl, inr, ⊎_elim, ℕ, ◌+◌, ◌<◌, ◌≤◌, true, false, List, [], ◌∷◌, ◌++◌, length, refl, sym, ap, ◌∙◌, subst, arith}
 use Rattle.std.specs.Prelude.{slice_set}
 use Rattle.std.proofs.lemmas.Bool.{false≢true}
 use Rattle.std.proofs.lemmas.Option.{slice_get_within}
@@ -75,15 +75,15 @@ module _ (cs cs' : List Arrival) (answers : List Answer) (m m' : ℕ) (le : m �
     past = λ a is. let p = h.past a is in omega (arith, p, le);
     late = h.late;
     noted = λ i c at marked.
-      let z = was i c at marked in
-      let n = h.noted i z.0 z.1 (z.3 marked) in
-      (n.0, n.1, n.2 ∙ z.2);
+        let z = was i c at marked in
+        let n = h.noted i z.0 z.1 (z.3 marked) in
+        (n.0, n.1, n.2 ∙ z.2);
     turned = λ i j c d lt at-c at-d one marked a is of.
-      let z = was j d at-d marked in
-      let within : j < length cs = slice_get_within cs j z.0 z.1 in
-      let y : WasThere cs i c = ⊎_elim (λ (x : WasThere cs i c). x) (λ (x : (c.answered ≡ false) × (length cs ≤ i)). absurd (omega (arith, within, lt, x.1))) (keeps i c at-c) in
-      let r = h.turned i j y.0 z.0 lt y.1 z.1 (ap (λ (t : Ticket). t.client) y.2 ∙ one ∙ sym (ap (λ (t : Ticket). t.client) z.2)) (z.3 marked) a is (of ∙ sym z.2) in
-      (r.0, r.1, r.2 ∙ y.2, r.3);
+        let z = was j d at-d marked in
+        let within : j < length cs = slice_get_within cs j z.0 z.1 in
+        let y : WasThere cs i c = ⊎_elim (λ (x : WasThere cs i c). x) (λ (x : (c.answered ≡ false) × (length cs ≤ i)). absurd (omega (arith, within, lt, x.1))) (keeps i c at-c) in
+        let r = h.turned i j y.0 z.0 lt y.1 z.1 (ap (λ (t : Ticket). t.client) y.2 ∙ one ∙ sym (ap (λ (t : Ticket). t.client) z.2)) (z.3 marked) a is (of ∙ sym z.2) in
+        (r.0, r.1, r.2 ∙ y.2, r.3);
   }
 
 -- ---- an event

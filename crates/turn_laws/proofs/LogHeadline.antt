@@ -1,7 +1,5 @@
 -- The headline of the log, by that of the world that the system stands for.
-use Rattle.std.proofs.Common.{◌≡◌, ◌≢◌, ◌⊎◌, ⊎_elim, ◌↔◌, ℕ, ◌+◌, ◌<◌, List, Some, refl, sym, ap, ◌∙◌, subst, arith, length}
-use Rattle.std.specs.Prelude.{map, slice_get}
-use Rattle.std.specs.List.{FoldsTo}
+use Rattle.std.proofs.Common.{◌≡◌, ◌≢◌, ◌⊎◌, ⊎_elim, ℕ, ◌+◌, ◌<◌, List, Some, refl, sym, ap, ◌∙◌, subst, arith, length}
 use Rattle.std.specs.FinMap.{empty, get}
 use Rattle.std.proofs.lemmas.Option.{slice_get_within}
 use Rattle.resp_wire.specs.Seen.{data_of}
@@ -14,17 +12,16 @@ use Rattle.key_split.specs.declared.travel.Ended.{Ended}
 use Rattle.key_split.specs.declared.travel.Ended.TheVariants as ended
 use Rattle.command_future.specs.declared.stage.Stage.TheVariants.{Over}
 use Rattle.node_model.specs.History.{EntryModel, IsLegal as IsLegalInWorld, left_by as left_in_world}
-use Rattle.node_model.specs.Nodes.{ClusterModel, at}
 use Rattle.node_model.specs.Store.{StoreModel}
 use Rattle.world_laws.specs.State.{WorldModel}
 use Rattle.world_laws.specs.declared.state.Arrival.{Arrival}
-use Rattle.world_laws.specs.Headline.{Headline, EndedAs, IsEntryOf, store_of}
+use Rattle.world_laws.specs.Headline.{Headline, EndedAs, store_of}
 use Rattle.world_laws.specs.declared.history.Answer.{Answer}
 use Rattle.world_laws.proofs.Recorded.{one_at}
 use Rattle.turn_laws.specs.Wire.{Execution}
-use Rattle.turn_laws.specs.System.{System, Mark, Arrived, Executed, Answered}
-use Rattle.turn_laws.specs.Shadow.{LogShadow, arrived_in, executed_in, answered_in, entry_at}
-use Rattle.turn_laws.specs.LogHeadline.{LogHeadline, IsHeld, HeadlineOfLogs, LogsAreHeld, At, IsIn, IsExecutedAt, IsLegal, HasOne, SameTurn, history, left_by}
+use Rattle.turn_laws.specs.System.{Mark, Arrived, Executed, Answered}
+use Rattle.turn_laws.specs.Shadow.{LogShadow, entry_at}
+use Rattle.turn_laws.specs.LogHeadline.{LogHeadline, IsHeld, HeadlineOfLogs, LogsAreHeld, At, IsIn, IsExecutedAt, HasOne, SameTurn, history, left_by}
 use Rattle.turn_laws.proofs.Logs.{arrivals_of, answers_of}
 use Rattle.turn_laws.specs.Walks.{IsWalked}
 use Rattle.turn_laws.proofs.AnswerOrder.{answered-behind, answered-late}
@@ -187,9 +184,17 @@ module _ (log : List Mark) (w : WorldModel) (h : LogShadow log w) (walked : IsWa
       let m = arrived-earlier x.0 x.1 x.2 in
       let a = answer-there n t (ended.Answered v) there in
       let before = r.4 a.0 a.1 (a.2 ∙ sym c.2) in
-      let within : x.0 < length log = inside x.0 (Executed x.2.0) x.2.1 in
-      (m.0, x.0, x.1, m.1 ∙ (λ j. Some (Arrived (of-t j) x.1.part)), x.2, of-t, says, m.2,
-      earlier x.0 n within (omega (arith, before, a.4, ap (λ (z : EntryModel). z.moment) x.3)))
+      let within : x.0 < length log = inside x.0 (Executed x.2.0) x.2.1 in (
+        m.0,
+        x.0,
+        x.1,
+        m.1 ∙ (λ j. Some (Arrived (of-t j) x.1.part)),
+        x.2,
+        of-t,
+        says,
+        m.2,
+        earlier x.0 n within (omega (arith, before, a.4, ap (λ (z : EntryModel). z.moment) x.3)),
+      )
 
   pub none-refused : (n : ℕ) (t : Ticket) → At log n (Answered t ended.GaveUp) → (k : ℕ) (e : Execution) → At (history log) k e → e.ticket ≢ t
   none-refused n t there k e at-k is-t =
@@ -242,8 +247,8 @@ module _ (log : List Mark) (w : WorldModel) (h : LogShadow log w) (walked : IsWa
   log-held = record {
     one_node = g.one_node;
     union = λ key value.
-      let u = g.union key value in
-      ((λ p. u.0 (ap (λ (store : StoreModel). get store key) left ∙ p)), (λ p. sym (ap (λ (store : StoreModel). get store key) left) ∙ u.1 p));
+        let u = g.union key value in
+        ((λ p. u.0 (ap (λ (store : StoreModel). get store key) left ∙ p)), (λ p. sym (ap (λ (store : StoreModel). get store key) left) ∙ u.1 p));
   }
 
 module _ (C J : Type 0) (plain : PlansArePlain) where

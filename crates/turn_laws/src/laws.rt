@@ -91,7 +91,7 @@ pub fn refines<C: Drop, J: Naming>()
     parts_of_plans_are_plain();
 }
 
-/// Whatever a system does from its start, the headline holds of its log. The store that the log leaves is what the nodes hold.
+/// Whatever a system does from its start, the headline holds of its log, and its nodes hold the store that the log leaves.
 pub fn headline_of_logs<C: Drop, J: Naming>()
     ensures headline { HeadlineOfLogs C J }
     ensures held { LogsAreHeld C J }
