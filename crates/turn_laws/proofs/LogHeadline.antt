@@ -113,14 +113,14 @@ module _ (log : List Mark) (w : WorldModel) (h : LogShadow log w) (walked : IsWa
   one-end : (x y : Ended) → Over x ≡ Over y → x ≡ y
   one-end x y e = cc
 
-  pub own-ticket : (i j : ℕ) (t : Ticket) (p q : PartModel) → At log i (Arrived t p) → At log j (Arrived t q) → i ≡ j
+  own-ticket : (i j : ℕ) (t : Ticket) (p q : PartModel) → At log i (Arrived t p) → At log j (Arrived t q) → i ≡ j
   own-ticket i j t p q at-i at-j =
       let c = command-of i t p at-i in
       let d = command-of j t q at-j in
       let same = same-command c.0 d.0 c.1 d.1 (c.2 ∙ sym d.2) in
       one-place i j (inside i (Arrived t p) at-i) (inside j (Arrived t q) at-j) (sym c.4 ∙ ap (λ (z : Arrival). z.arrived) same ∙ d.4)
 
-  pub told-end : (n : ℕ) (t : Ticket) (end : Ended) → At log n (Answered t end) → (a : ℕ) × (p : PartModel) × At log a (Arrived t p) × (a < n)
+  told-end : (n : ℕ) (t : Ticket) (end : Ended) → At log n (Answered t end) → (a : ℕ) × (p : PartModel) × At log a (Arrived t p) × (a < n)
   told-end n t end there =
       let a = answer-there n t end there in
       let c = g.told a.0 a.1 in
@@ -138,7 +138,7 @@ module _ (log : List Mark) (w : WorldModel) (h : LogShadow log w) (walked : IsWa
       let plain : 0 + r.0 ≡ r.0 = omega arith in
       (r.0, r.1, r.2 ∙ ap h.clock plain)
 
-  pub answered-in-order : (a b : ℕ) (t u : Ticket) (p q : PartModel) → At log a (Arrived t p) → At log b (Arrived u q) → t.client ≡ u.client → a < b
+  answered-in-order : (a b : ℕ) (t u : Ticket) (p q : PartModel) → At log a (Arrived t p) → At log b (Arrived u q) → t.client ≡ u.client → a < b
       → (n : ℕ) (end : Ended) → At log n (Answered u end) → (m : ℕ) × (end' : Ended) × At log m (Answered t end') × (m < n)
   answered-in-order a b t u p q at-a at-b one lt n end there =
       let c = command-of a t p at-a in
@@ -153,27 +153,27 @@ module _ (log : List Mark) (w : WorldModel) (h : LogShadow log w) (walked : IsWa
       let is : At log m.0 (Answered t r.0.ended) = m.1 ∙ (λ i. Some (Answered (of-t i) r.0.ended)) in
       (m.0, r.0.ended, is, earlier m.0 n (inside m.0 (Answered t r.0.ended) is) (omega (arith, m.2, r.3, y.4)))
 
-  pub answered-once : (n m : ℕ) (t : Ticket) (x y : Ended) → At log n (Answered t x) → At log m (Answered t y) → n ≡ m
+  answered-once : (n m : ℕ) (t : Ticket) (x y : Ended) → At log n (Answered t x) → At log m (Answered t y) → n ≡ m
   answered-once n m t x y at-n at-m =
       let a = answer-there n t x at-n in
       let b = answer-there m t y at-m in
       let same = one_at w.answers a.1.0 b.1.0 a.0 b.0 a.1.1 b.1.1 (g.answered_once a.1.0 b.1.0 a.0 b.0 a.1.1 b.1.1 (a.2 ∙ sym b.2)) in
       one-place n m (inside n (Answered t x) at-n) (inside m (Answered t y) at-m) (sym a.4 ∙ ap (λ (z : Answer). z.answered) same ∙ b.4)
 
-  pub arrived-earlier : (i : ℕ) (e : Execution) → IsExecutedAt log i e → (a : ℕ) × At log a (Arrived e.ticket e.part) × (a < i)
+  arrived-earlier : (i : ℕ) (e : Execution) → IsExecutedAt log i e → (a : ℕ) × At log a (Arrived e.ticket e.part) × (a < i)
   arrived-earlier i e it =
       let r = g.arrived (entry_at (h.clock i) e) (entry-there i e it) in
       let m = arrival-mark r.0 r.1.1 in
       let is : At log m.0 (Arrived e.ticket e.part) = m.1 ∙ (λ j. Some (Arrived (sym r.1.2 j) (sym r.2 j))) in
       (m.0, is, earlier m.0 i (inside m.0 (Arrived e.ticket e.part) is) (omega (arith, m.2, r.3)))
 
-  pub has-one : (t : Ticket) → HasOne log t
+  has-one : (t : Ticket) → HasOne log t
   has-one t k l e f at-k at-l is-t also-t =
       let x = entry-of k e at-k in
       let y = entry-of l f at-l in
       g.once t k l (entry_at (h.clock x.0) e) (entry_at (h.clock y.0) f) x.2 y.2 is-t also-t
 
-  pub stands-between : (n : ℕ) (t : Ticket) (v : Value) → At log n (Answered t (ended.Answered v))
+  stands-between : (n : ℕ) (t : Ticket) (v : Value) → At log n (Answered t (ended.Answered v))
       → (a : ℕ) × (i : ℕ) × (e : Execution) × At log a (Arrived t e.part) × IsExecutedAt log i e × (e.ticket ≡ t) × (data_of e.value ≡ data_of v) × (a < i) × (i < n)
   stands-between n t v there =
       let c = ended-as n t (ended.Answered v) there in
@@ -196,13 +196,13 @@ module _ (log : List Mark) (w : WorldModel) (h : LogShadow log w) (walked : IsWa
         earlier x.0 n within (omega (arith, before, a.4, ap (λ (z : EntryModel). z.moment) x.3)),
       )
 
-  pub none-refused : (n : ℕ) (t : Ticket) → At log n (Answered t ended.GaveUp) → (k : ℕ) (e : Execution) → At (history log) k e → e.ticket ≢ t
+  none-refused : (n : ℕ) (t : Ticket) → At log n (Answered t ended.GaveUp) → (k : ℕ) (e : Execution) → At (history log) k e → e.ticket ≢ t
   none-refused n t there k e at-k is-t =
       let c = ended-as n t ended.GaveUp there in
       let x = entry-of k e at-k in
       g.refused c.0 c.1 (entry_at (h.clock x.0) e) ((k, x.2), c.1.0, is-t ∙ sym c.2)
 
-  pub first-first : (k l : ℕ) (e f : Execution) → At (history log) k e → At (history log) l f → SameTurn e f
+  first-first : (k l : ℕ) (e f : Execution) → At (history log) k e → At (history log) l f → SameTurn e f
       → (a b : ℕ) → At log a (Arrived e.ticket e.part) → At log b (Arrived f.ticket f.part) → a < b
       → (n : ℕ) (end : Ended) → At log n (Answered e.ticket end) → end ≢ Ended.Lost → k < l
   first-first k l e f at-k at-l turn a b at-a at-b lt n end at-n kept =
@@ -218,13 +218,13 @@ module _ (log : List Mark) (w : WorldModel) (h : LogShadow log w) (walked : IsWa
       (omega (arith, c.4, d.4, h.rises a b lt (inside b (Arrived f.ticket f.part) at-b)))
       (λ over. kept (one-end end Ended.Lost (sym z.1.1 ∙ ap (λ (u : Arrival). u.command.stage) (same-command z.0 c.0 z.1.0 c.1 (z.2 ∙ sym c.2)) ∙ over)))
 
-  pub run-together : (i : ℕ) (run : List Execution) (e f : Execution) → At log i (Executed run) → IsIn run e → IsIn run f → SameTurn e f
+  run-together : (i : ℕ) (run : List Execution) (e f : Execution) → At log i (Executed run) → IsIn run e → IsIn run f → SameTurn e f
   run-together i run e f there in-e in-f =
       let x = entry-there i e (run, there, in-e) in
       let y = entry-there i f (run, there, in-f) in
       g.together x.0 y.0 (entry_at (h.clock i) e) (entry_at (h.clock i) f) x.1 y.1 refl
 
-  pub log-headline : LogHeadline log
+  log-headline : LogHeadline log
   log-headline = record {
     legal = legal-of h.clock 0 log empty (subst (λ xs. IsLegalInWorld empty xs) (sym h.executed) g.legal);
     together = run-together;
@@ -243,7 +243,7 @@ module _ (log : List Mark) (w : WorldModel) (h : LogShadow log w) (walked : IsWa
   left : store_of w ≡ left_by empty (history log)
   left = ap (λ xs. left_in_world empty xs) (sym h.executed) ∙ left-of h.clock 0 log empty
 
-  pub log-held : IsHeld log w.cluster
+  log-held : IsHeld log w.cluster
   log-held = record {
     one_node = g.one_node;
     union = λ key value.
