@@ -6,6 +6,7 @@ ghost use Rattle.turn_laws.specs.ClientOutput.{AllClientsAreWritten, AnswersWere
 ghost use Rattle.turn_laws.specs.AnyPort.{AnyClients, AnyClientTurns, AnyPorts, WiresStand};
 ghost use Rattle.turn_laws.specs.Scripts.{GivesBack, LosesCommands, MisreadsLines, MovesUnderUse, PairsCommands};
 ghost use Rattle.turn_laws.specs.Refines.{CarrierRefines, MovesRefine, NamesStay, NodesRefine, Refines, StartsRefine, ThrownRefine, WorkersRefine};
+ghost use Rattle.turn_laws.specs.LogHeadline.{HeadlineOfLogs, LogsAreHeld};
 ghost use Rattle.turn_laws.specs.Unclear.{HeardAlike, UnclearIsRefusal};
 
 use crate::wired_port::WiredPort;
@@ -86,6 +87,14 @@ pub fn wires_stand()
 /// Each run of the system is a run of the machine, and the headline holds of it.
 pub fn refines<C: Drop, J: Naming>()
     ensures { Refines C J }
+{
+    parts_of_plans_are_plain();
+}
+
+/// Whatever a system does from its start, the headline holds of its log, and its nodes hold the store that the log leaves.
+pub fn headline_of_logs<C: Drop, J: Naming>()
+    ensures headline { HeadlineOfLogs C J }
+    ensures held { LogsAreHeld C J }
 {
     parts_of_plans_are_plain();
 }

@@ -6,7 +6,7 @@
 //!
 //! A system is the workers, the carrier, the lanes between them, the connections and the nodes (`specs/System.antt`); its events
 //! are those of the turns (`specs/Steps.antt`). Which world of the machine it stands for is said in `specs/Shadow.antt`. Steps that
-//! a system can make stand in `specs/Scripts.antt`.
+//! a system can make stand in `specs/Scripts.antt`. What is promised of its log stands in `specs/LogHeadline.antt`.
 #![tactic(auto)]
 
 pub mod laws;
