@@ -1,45 +1,73 @@
 //! `lane`: a worker's ends without a worker.
 
-use crate::proxy::{MemoryEnds, Proxy};
+use crate::proxy::MemoryEnds;
 use key_split::{Batch, Run, Ticket, Told};
 use proxy_lanes::{MapView, Naming};
 use row_words::{Answer, Args, CallFault};
 use slot_hash::Slot;
 use std::alloc::Global;
-use std::sync::Wait;
 
-pub fn call<J: Naming, R: Wait + Drop>(
-    proxy: &mut Proxy<'_, J, R>,
-    args: &mut Args<'_>,
-    answer: &mut Answer,
-) -> Result<(), CallFault> {
-    let alloc = proxy.alloc;
-    match &mut proxy.lane {
-        Some(ends) => call_of(alloc, ends, &mut proxy.run, args, answer),
-        None => Err(CallFault::NotNow),
+/// The ends of a worker's lane, until a future takes them.
+#[derive(Drop)]
+pub struct Lane<J: Naming> {
+    pub alloc: Global,
+    pub ends: Option<MemoryEnds<J>>,
+    /// The run that is put together for the lane.
+    run: Option<Run>,
+}
+
+impl<J: Naming> Lane<J> {
+    pub fn new(alloc: Global, ends: Option<MemoryEnds<J>>) -> Lane<J> {
+        Lane {
+            alloc,
+            ends,
+            run: None,
+        }
+    }
+
+    pub fn call(&mut self, args: &mut Args<'_>, answer: &mut Answer) -> Result<(), CallFault> {
+        let ends = self.ends.as_mut().ok_or(CallFault::NotNow)?;
+        match args.name()? {
+            "take" => {
+                show_told(ends.inlet.take(), answer);
+                Ok(())
+            }
+            "node" => {
+                show_node(&mut ends.view, args.slot()?, answer);
+                Ok(())
+            }
+            "post" => {
+                let run = Run::one(self.alloc, args.batch(self.alloc)?);
+                post(ends, run, answer);
+                Ok(())
+            }
+            "run" => {
+                let run = self.run.take().ok_or(CallFault::NotMade)?;
+                post(ends, run, answer);
+                Ok(())
+            }
+            name => call_of_run(self.alloc, &mut self.run, name, args, answer),
+        }
     }
 }
 
-fn call_of<J: Naming>(
+/// Puts a run together.
+fn call_of_run(
     alloc: Global,
-    ends: &mut MemoryEnds<J>,
     run: &mut Option<Run>,
+    name: &str,
     args: &mut Args<'_>,
     answer: &mut Answer,
 ) -> Result<(), CallFault> {
-    match args.name()? {
-        "post" => post(ends, Run::one(alloc, args.batch(alloc)?), answer),
+    match name {
         "begin" => {
             *run = Some(Run::one(alloc, args.batch(alloc)?));
             answer.name("ok");
+            Ok(())
         }
-        "behind" => put_behind(run, args.batch(alloc)?, answer)?,
-        "run" => post(ends, run.take().ok_or(CallFault::NotMade)?, answer),
-        "take" => show_told(ends.inlet.take(), answer),
-        "node" => show_node(&mut ends.view, args.slot()?, answer),
-        _ => return Err(CallFault::NoSuchCall),
+        "behind" => put_behind(run, args.batch(alloc)?, answer),
+        _ => Err(CallFault::NoSuchCall),
     }
-    Ok(())
 }
 
 fn post<J: Naming>(ends: &mut MemoryEnds<J>, run: Run, answer: &mut Answer) {
