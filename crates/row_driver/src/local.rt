@@ -25,10 +25,10 @@ impl LocalObjects {
                 self.renew(answer);
                 Ok(())
             }
-            call => {
-                let state = self.state.as_mut().ok_or(CallFault::NotMade)?;
-                call_of(self.alloc, state, call, args, answer)
-            }
+            call => match &mut self.state {
+                Some(state) => call_of(self.alloc, state, call, args, answer),
+                None => Err(CallFault::NotMade),
+            },
         }
     }
 

@@ -22,17 +22,18 @@ mod stores;
 mod stream;
 mod wire;
 
-use row::{Input, next_row};
-use std::io::{self, BufReader, BufWriter, Write};
+use row::next_row;
+use row_words::Rows;
+use std::io::{self, BufReader, BufWriter};
 
-fn main(rt: HostRuntime) -> anyhow::Result<()> {
-    let mut input = Input::new(rt.alloc(), BufReader::new(rt.alloc(), rt.reader())?);
-    let mut output = BufWriter::new(rt.alloc(), io::writer(&rt))?;
+fn main(rt: HostRuntime) -> io::Result<()> {
+    let reader = BufReader::new(rt.alloc(), rt.reader())?;
+    let writer = BufWriter::new(rt.alloc(), io::writer(&rt))?;
+    let mut rows = Rows::new(rt.alloc(), reader, writer);
     for _ in 0..u64::MAX {
-        if !next_row(rt, &mut input, &mut output)? {
+        if !next_row(rt, &mut rows)? {
             break;
         }
     }
-    output.flush()?;
-    Ok(())
+    rows.finish()
 }

@@ -52,19 +52,23 @@ impl MapObjects {
         answer: &mut Answer,
     ) -> Result<(), CallFault> {
         match args.name()? {
-            "new" => {
-                self.map = Some(SlotMap::new(self.alloc)?);
-                answer.name("ok");
-                Ok(())
-            }
-            "copy" => {
-                self.copy = Some(self.held()?.copy(self.alloc)?);
-                answer.name("ok");
-                Ok(())
-            }
+            "new" => self.renew(answer),
+            "copy" => self.renew_copy(answer),
             "read" => self.read(wire, args, answer),
             call => call_of_map(&mut self.map, call, args, answer),
         }
+    }
+
+    fn renew(&mut self, answer: &mut Answer) -> Result<(), CallFault> {
+        self.map = Some(SlotMap::new(self.alloc)?);
+        answer.name("ok");
+        Ok(())
+    }
+
+    fn renew_copy(&mut self, answer: &mut Answer) -> Result<(), CallFault> {
+        self.copy = Some(self.held()?.copy(self.alloc)?);
+        answer.name("ok");
+        Ok(())
     }
 
     /// A call of the copy.
@@ -161,7 +165,9 @@ fn call_of_map(
     args: &mut Args<'_>,
     answer: &mut Answer,
 ) -> Result<(), CallFault> {
-    let map = map.as_mut().ok_or(CallFault::NotMade)?;
+    let Some(map) = map else {
+        return Err(CallFault::NotMade);
+    };
     match call {
         "node" => show_node_of(map, args, answer),
         _ => {

@@ -33,10 +33,10 @@ impl NodeObjects {
         match args.name()? {
             "new" => self.renew(maps, args, answer),
             "slots" => self.list(maps, wire, answer),
-            call => {
-                let cluster = self.cluster.as_mut().ok_or(CallFault::NotMade)?;
-                call_of(self.alloc, cluster, call, args, answer)
-            }
+            call => match &mut self.cluster {
+                Some(cluster) => call_of(self.alloc, cluster, call, args, answer),
+                None => Err(CallFault::NotMade),
+            },
         }
     }
 
@@ -64,7 +64,9 @@ impl NodeObjects {
         wire: &mut WireObjects,
         answer: &mut Answer,
     ) -> Result<(), CallFault> {
-        let cluster = self.cluster.as_ref().ok_or(CallFault::NotMade)?;
+        let Some(cluster) = &self.cluster else {
+            return Err(CallFault::NotMade);
+        };
         let value = cluster.slots_value(&maps.table)?;
         answer.value(&value);
         wire.hold(value);
@@ -146,6 +148,13 @@ fn moved(
             let key = Bytes::from_slice(alloc, args.bytes()?)?;
             Ok(cluster.move_key(slot, &key))
         }
+        _ => ended(cluster, step, slot),
+    }
+}
+
+/// Makes a last step.
+fn ended(cluster: &mut Cluster, step: &str, slot: Slot) -> Result<Result<(), MoveFault>, CallFault> {
+    match step {
         "own" => Ok(cluster.own_slot(slot)),
         "release" => Ok(cluster.release_slot(slot)),
         "forget" => Ok(cluster.forget_slot(slot)),

@@ -65,19 +65,11 @@ impl WireObjects {
     pub fn value(&mut self, args: &mut Args<'_>, answer: &mut Answer) -> Result<(), CallFault> {
         match args.name()? {
             "read" => self.read(args, answer),
-            "show" => {
-                answer.value(self.held()?);
-                Ok(())
-            }
-            "copy" => self.copy(answer),
             "write" => self.write(args, answer),
-            "words" => self.words(answer),
-            "request" => {
-                answer.yes_or_no(self.held()?.is_request());
-                Ok(())
-            }
             "equals" => self.equals(args, answer),
-            _ => Err(CallFault::NoSuchCall),
+            "copy" => self.copy(answer),
+            "words" => self.words(answer),
+            call => look(self.held()?, call, answer),
         }
     }
 
@@ -107,7 +99,9 @@ impl WireObjects {
 
     /// Gives the words of the value up, or holds it again.
     fn words(&mut self, answer: &mut Answer) -> Result<(), CallFault> {
-        let value = self.value.take().ok_or(CallFault::NotMade)?;
+        let Some(value) = self.value.take() else {
+            return Err(CallFault::NotMade);
+        };
         match value.into_words(self.alloc) {
             Ok(words) => {
                 answer.name("words");
@@ -127,6 +121,15 @@ impl WireObjects {
         answer.yes_or_no(*self.held()? == other);
         Ok(())
     }
+}
+
+fn look(value: &Value, call: &str, answer: &mut Answer) -> Result<(), CallFault> {
+    match call {
+        "show" => answer.value(value),
+        "request" => answer.yes_or_no(value.is_request()),
+        _ => return Err(CallFault::NoSuchCall),
+    }
+    Ok(())
 }
 
 fn limits_in(args: &mut Args<'_>) -> Result<Option<Limits>, CallFault> {

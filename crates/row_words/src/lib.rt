@@ -1,7 +1,7 @@
 //! The notation of rows: the words of a line, what they name, and how a call answers.
 //!
 //!     let mut rows = Rows::new(alloc, input, output);
-//!     while rows.answer_row(&mut new_objects())? {}
+//!     while rows.answer_row(new_objects())? {}
 //!
 //! and in the `impl Objects`
 //!

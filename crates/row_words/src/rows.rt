@@ -37,8 +37,8 @@ impl<B: BufRead, W: Write> Rows<B, W> {
         }
     }
 
-    /// Answers the lines of one row. It is false where that was the last one.
-    pub fn answer_row<O: Objects>(&mut self, objects: &mut O) -> io::Result<bool> {
+    /// Answers the lines of one row, by calls of these objects. It is false where that was the last one.
+    pub fn answer_row<O: Objects + Drop>(&mut self, mut objects: O) -> io::Result<bool> {
         let mut answer = Answer::new(self.alloc);
         for _ in 0..u64::MAX {
             if !self.read_line()? {
@@ -49,7 +49,7 @@ impl<B: BufRead, W: Write> Rows<B, W> {
                 self.writer.write_all(b"ok\n")?;
                 return Ok(true);
             }
-            answer_line(self.alloc, objects, line, &mut answer);
+            answer_line(self.alloc, &mut objects, line, &mut answer);
             self.write_answer(&answer)?;
         }
         Ok(false)
