@@ -1,6 +1,7 @@
 //! One command, stepped by hand.
 
 use command_future::{Command, Step, Want};
+use crate::held::put;
 use row_words::{Answer, Args, CallFault};
 use slot_map::NodeId;
 use std::alloc::Global;
@@ -22,7 +23,7 @@ impl CommandObjects {
     pub fn call(&mut self, args: &mut Args<'_>, answer: &mut Answer) -> Result<(), CallFault> {
         match args.name()? {
             "new" => {
-                self.command = Some(command_in(self.alloc, args)?);
+                put(&mut self.command, Some(command_in(self.alloc, args)?));
                 answer.name("ok");
                 Ok(())
             }
@@ -36,7 +37,7 @@ impl CommandObjects {
 }
 
 /// `TICKET WORDS..`
-pub fn command_in(alloc: Global, args: &mut Args<'_>) -> Result<Command, CallFault> {
+fn command_in(alloc: Global, args: &mut Args<'_>) -> Result<Command, CallFault> {
     let ticket = args.ticket()?;
     Ok(Command::new(ticket, args.part(alloc)?))
 }
@@ -147,7 +148,7 @@ fn finish(held: &mut Option<Command>, answer: &mut Answer) -> Result<(), CallFau
             answer.end(&end);
         }
         Err(command) => {
-            *held = Some(command);
+            put(held, Some(command));
             answer.name("back");
         }
     }

@@ -2,11 +2,11 @@
 
 ghost use Rattle.std.specs.Prelude.{◌≡◌, ⊤};
 
-use crate::commands::command_in;
+use crate::held::put;
 use command_future::{self, Command, OneCommand, Posting, Want};
 use futures::executor::block_on;
 use futures::test::MockTask;
-use key_split::{Batch, Ticket, Told};
+use key_split::{Batch, Part, Ticket, Told};
 use row_words::{Answer, Args, CallFault};
 use slot_map::NodeId;
 use std::alloc::{AllocGlobal, Global};
@@ -35,12 +35,12 @@ impl CourierObjects {
     ) -> Result<(), CallFault> {
         match args.name()? {
             "carry" => {
-                let command = command_in(rt.alloc(), args)?;
-                carry(rt, &mut self.courier, command, answer)
+                let ticket = args.ticket()?;
+                carry(rt, &mut self.courier, ticket, args.part(rt.alloc())?, answer)
             }
             "poll" => {
-                let command = command_in(rt.alloc(), args)?;
-                poll_once(rt, &mut self.courier, command, answer)
+                let ticket = args.ticket()?;
+                poll_once(rt, &mut self.courier, ticket, args.part(rt.alloc())?, answer)
             }
             call => self.courier.call(call, args, answer),
         }
@@ -91,7 +91,7 @@ impl Courier {
     /// From now on it does otherwise.
     fn change(&mut self, call: &str, args: &mut Args<'_>) -> Result<(), CallFault> {
         match call {
-            "new" => *self = Courier::new(self.alloc),
+            "new" => put(self, Courier::new(self.alloc)),
             "later" => self.later = args.number()?,
             "node" => self.node = args.node()?,
             "tells" => self.tells.push_back(args.told(self.alloc)?)?,
@@ -143,10 +143,11 @@ impl command_future::Courier for Courier {
 fn carry<R: Wait + RandomSource + AllocGlobal>(
     rt: &R,
     courier: &mut Courier,
-    command: Command,
+    ticket: Ticket,
+    part: Part,
     answer: &mut Answer,
 ) -> Result<(), CallFault> {
-    match block_on(rt, OneCommand::new(command, courier)) {
+    match block_on(rt, OneCommand::new(Command::new(ticket, part), courier)) {
         Ok((ticket, end)) => {
             answer.ticket(ticket);
             answer.end(&end);
@@ -160,10 +161,11 @@ fn carry<R: Wait + RandomSource + AllocGlobal>(
 fn poll_once<R: Wait + RandomSource + AllocGlobal>(
     rt: &R,
     courier: &mut Courier,
-    command: Command,
+    ticket: Ticket,
+    part: Part,
     answer: &mut Answer,
 ) -> Result<(), CallFault> {
-    let mut future = OneCommand::new(command, courier);
+    let mut future = OneCommand::new(Command::new(ticket, part), courier);
     let Ok(task) = MockTask::new(rt) else {
         return Err(CallFault::NoMemory);
     };

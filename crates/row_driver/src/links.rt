@@ -1,5 +1,6 @@
 //! Links and ports over a stream in memory.
 
+use crate::held::put;
 use crate::maps::MapObjects;
 use crate::stream::MemoryStream;
 use crate::wire::WireObjects;
@@ -45,7 +46,7 @@ impl LinkObjects {
     /// The next stream gives these bytes.
     fn give(&mut self, bytes: &[u8]) -> Result<(), CallFault> {
         let coming = Vec::from_slice(self.alloc, bytes)?;
-        self.stream = MemoryStream::new(self.alloc, coming);
+        put(&mut self.stream, MemoryStream::new(self.alloc, coming));
         Ok(())
     }
 
@@ -59,7 +60,8 @@ impl LinkObjects {
     pub fn port(&mut self, args: &mut Args<'_>, answer: &mut Answer) -> Result<(), CallFault> {
         match args.name()? {
             "new" => {
-                self.port = Some(self.next_port());
+                let port = self.next_port();
+                put(&mut self.port, Some(port));
                 answer.name("ok");
                 Ok(())
             }
@@ -72,7 +74,7 @@ impl LinkObjects {
 
     fn renew_link(&mut self, node: NodeId) {
         let port = self.next_port();
-        self.link = Some(Link::new(self.alloc, port, node));
+        put(&mut self.link, Some(Link::new(self.alloc, port, node)));
     }
 
     pub fn link(

@@ -7,6 +7,7 @@
 
 mod commands;
 mod courier;
+mod held;
 mod lanes;
 mod links;
 mod local;
@@ -22,18 +23,12 @@ mod stores;
 mod stream;
 mod wire;
 
-use row::next_row;
+use row::answer_rows;
 use row_words::Rows;
 use std::io::{self, BufReader, BufWriter};
 
 fn main(rt: HostRuntime) -> io::Result<()> {
     let reader = BufReader::new(rt.alloc(), rt.reader())?;
     let writer = BufWriter::new(rt.alloc(), io::writer(&rt))?;
-    let mut rows = Rows::new(rt.alloc(), reader, writer);
-    for _ in 0..u64::MAX {
-        if !next_row(rt, &mut rows)? {
-            break;
-        }
-    }
-    rows.finish()
+    answer_rows(rt, Rows::new(rt.alloc(), reader, writer))
 }

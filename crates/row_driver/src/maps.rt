@@ -1,5 +1,6 @@
 //! The table of nodes, and a slot map with a copy of it.
 
+use crate::held::put;
 use crate::wire::WireObjects;
 use key_split::{Told, told_value};
 use node_link::told_of;
@@ -34,7 +35,7 @@ impl MapObjects {
     pub fn table(&mut self, args: &mut Args<'_>, answer: &mut Answer) -> Result<(), CallFault> {
         match args.name()? {
             "new" => {
-                self.table = NodeTable::new(self.alloc);
+                put(&mut self.table, NodeTable::new(self.alloc));
                 answer.name("ok");
                 Ok(())
             }

@@ -1,5 +1,6 @@
 //! The nodes of a cluster.
 
+use crate::held::put;
 use crate::maps::MapObjects;
 use crate::wire::WireObjects;
 use key_split::Told;
@@ -49,7 +50,7 @@ impl NodeObjects {
     ) -> Result<(), CallFault> {
         match Cluster::new(self.alloc, args.byte()?, maps.held()?) {
             Ok(cluster) => {
-                self.cluster = Some(cluster);
+                put(&mut self.cluster, Some(cluster));
                 answer.name("ok");
             }
             Err(fault) => answer.debug(&fault),

@@ -1,4 +1,4 @@
-//! A row: its lines, over new objects.
+//! Rows, each over new objects.
 
 ghost use Rattle.std.specs.Prelude.{◌≡◌};
 ghost use Rattle.proxy_lanes.specs.Opened.{book_of};
@@ -16,8 +16,23 @@ use std::sync::Wait;
 /// How many workers have lanes.
 const WORKERS: u16 = 2;
 
+/// Answers all rows.
+pub fn answer_rows<R, B, W>(rt: R, mut rows: Rows<B, W>) -> io::Result<()>
+where
+    R: Wait + RandomSource + AllocGlobal + Copy + Drop,
+    B: BufRead + Drop,
+    W: Write + Drop,
+{
+    for _ in 0..u64::MAX {
+        if !next_row(rt, &mut rows)? {
+            break;
+        }
+    }
+    rows.finish()
+}
+
 /// Answers the lines of one row. It is false where that was the last one.
-pub fn next_row<R, B, W>(rt: R, rows: &mut Rows<B, W>) -> io::Result<bool>
+fn next_row<R, B, W>(rt: R, rows: &mut Rows<B, W>) -> io::Result<bool>
 where
     R: Wait + RandomSource + AllocGlobal + Copy + Drop,
     B: BufRead,

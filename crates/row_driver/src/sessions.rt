@@ -1,5 +1,6 @@
 //! A client's session.
 
+use crate::held::put;
 use key_split::{Ended, Part, Ticket};
 use resp_wire::Limits;
 use row_words::{Answer, Args, CallFault};
@@ -51,7 +52,7 @@ impl SessionObjects {
     fn renew(&mut self, args: &mut Args<'_>, answer: &mut Answer) -> Result<(), CallFault> {
         let worker = args.short()?;
         let client = u32::from(args.short()?);
-        self.session = Session::new(self.alloc, worker, client, Limits::full());
+        put(&mut self.session, Session::new(self.alloc, worker, client, Limits::full()));
         answer.name("ok");
         Ok(())
     }

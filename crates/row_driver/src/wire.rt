@@ -1,5 +1,6 @@
 //! Bytes and values: a reader, and a value that is held.
 
+use crate::held::put;
 use resp_wire::{Limits, Reader, Value, WireFault, write_value};
 use row_words::{Answer, Args, CallFault};
 use std::alloc::Global;
@@ -27,7 +28,7 @@ impl WireObjects {
 
     /// Holds a value.
     pub fn hold(&mut self, value: Value) {
-        self.value = Some(value);
+        put(&mut self.value, Some(value));
     }
 
     pub fn reader(&mut self, args: &mut Args<'_>, answer: &mut Answer) -> Result<(), CallFault> {
@@ -48,13 +49,13 @@ impl WireObjects {
     /// A reader within full limits, or within those of the words.
     fn new_reader(&mut self, args: &mut Args<'_>, answer: &mut Answer) -> Result<(), CallFault> {
         if args.is_empty() {
-            self.reader = Reader::new(self.alloc, Limits::full());
+            put(&mut self.reader, Reader::new(self.alloc, Limits::full()));
             answer.name("ok");
             return Ok(());
         }
         match limits_in(args)? {
             Some(limits) => {
-                self.reader = Reader::new(self.alloc, limits);
+                put(&mut self.reader, Reader::new(self.alloc, limits));
                 answer.name("ok");
             }
             None => answer.name("none"),

@@ -29,13 +29,18 @@ impl Clients {
     }
 
     /// The client of that number.
-    pub fn of(&self, number: u32) -> Result<&SharedClient, CallFault> {
+    fn of(&self, number: u32) -> Result<&SharedClient, CallFault> {
         for (held, client) in &self.held {
             if *held == number {
                 return Ok(client);
             }
         }
         Err(CallFault::NotMade)
+    }
+
+    /// The client of that number, to be held by another too.
+    pub fn again(&self, number: u32) -> Result<SharedClient, CallFault> {
+        Ok(self.of(number)?.again()?)
     }
 
     /// Gives a client bytes, as if they had been replied.

@@ -36,8 +36,10 @@ where
     }
     let count = args.client()?;
     let gate = gate_in(lane.alloc, carrier, clients, args)?;
-    let own = lane.ends.take().ok_or(CallFault::NotNow)?;
-    run(rt, own, &gate, count, answer)
+    match lane.ends.take() {
+        Some(own) => run(rt, own, &gate, count, answer),
+        None => Err(CallFault::NotNow),
+    }
 }
 
 fn gate_in<'a, C: Turned>(
@@ -62,9 +64,10 @@ fn injected_in(
     if args.is_empty() {
         return Ok(None);
     }
-    let client = clients.of(args.client()?)?.again()?;
+    let number = args.client()?;
     let after = args.client()?;
     let bytes = Bytes::from_slice(alloc, args.bytes()?)?;
+    let client = clients.again(number)?;
     Ok(Some(InjectedReply {
         client,
         after,

@@ -26,48 +26,55 @@ impl<J: Naming> Lane<J> {
     }
 
     pub fn call(&mut self, args: &mut Args<'_>, answer: &mut Answer) -> Result<(), CallFault> {
-        let ends = self.ends.as_mut().ok_or(CallFault::NotNow)?;
-        match args.name()? {
-            "take" => {
-                show_told(ends.inlet.take(), answer);
-                Ok(())
-            }
-            "node" => {
-                show_node(&mut ends.view, args.slot()?, answer);
-                Ok(())
-            }
-            "post" => {
-                let run = Run::one(self.alloc, args.batch(self.alloc)?);
-                post(ends, run, answer);
-                Ok(())
-            }
-            "run" => {
-                let run = self.run.take().ok_or(CallFault::NotMade)?;
-                post(ends, run, answer);
-                Ok(())
-            }
-            name => call_of_run(self.alloc, &mut self.run, name, args, answer),
+        match &mut self.ends {
+            Some(ends) => call_of(self.alloc, ends, &mut self.run, args, answer),
+            None => Err(CallFault::NotNow),
         }
     }
+}
+
+fn call_of<J: Naming>(
+    alloc: Global,
+    ends: &mut MemoryEnds<J>,
+    held: &mut Option<Run>,
+    args: &mut Args<'_>,
+    answer: &mut Answer,
+) -> Result<(), CallFault> {
+    match args.name()? {
+        "post" => post(ends, run_in(alloc, args)?, answer),
+        "run" => match held.take() {
+            Some(run) => post(ends, run, answer),
+            None => return Err(CallFault::NotMade),
+        },
+        "take" => show_told(ends.inlet.take(), answer),
+        "node" => show_node(&mut ends.view, args.slot()?, answer),
+        name => return call_of_run(alloc, held, name, args, answer),
+    }
+    Ok(())
 }
 
 /// Puts a run together.
 fn call_of_run(
     alloc: Global,
-    run: &mut Option<Run>,
+    held: &mut Option<Run>,
     name: &str,
     args: &mut Args<'_>,
     answer: &mut Answer,
 ) -> Result<(), CallFault> {
     match name {
         "begin" => {
-            *run = Some(Run::one(alloc, args.batch(alloc)?));
+            *held = Some(run_in(alloc, args)?);
             answer.name("ok");
             Ok(())
         }
-        "behind" => put_behind(run, args.batch(alloc)?, answer),
+        "behind" => put_behind(held, args.batch(alloc)?, answer),
         _ => Err(CallFault::NoSuchCall),
     }
+}
+
+/// A run of one command.
+fn run_in(alloc: Global, args: &mut Args<'_>) -> Result<Run, CallFault> {
+    Ok(Run::one(alloc, args.batch(alloc)?))
 }
 
 fn post<J: Naming>(ends: &mut MemoryEnds<J>, run: Run, answer: &mut Answer) {
@@ -76,8 +83,8 @@ fn post<J: Naming>(ends: &mut MemoryEnds<J>, run: Run, answer: &mut Answer) {
 }
 
 /// Puts a command behind those of the run, where it goes with them.
-fn put_behind(run: &mut Option<Run>, batch: Batch, answer: &mut Answer) -> Result<(), CallFault> {
-    let Some(run) = run else {
+fn put_behind(held: &mut Option<Run>, batch: Batch, answer: &mut Answer) -> Result<(), CallFault> {
+    let Some(run) = held else {
         return Err(CallFault::NotMade);
     };
     if !run.takes(&batch) {

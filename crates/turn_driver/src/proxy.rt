@@ -3,7 +3,6 @@
 use crate::client::SharedClient;
 use crate::dial::MemoryDial;
 use crate::gate::Open;
-use crate::nodes::SharedNodes;
 use crate::port::MemoryPort;
 use crate::turned::{Hands, Turned};
 use node_link::Fuse;
@@ -11,7 +10,6 @@ use proxy_lanes::{CarrierEnds, Naming, Publisher, WorkerEnds};
 use proxy_turns::{Carrier, Newcomer, Worker};
 use resp_wire::NoMemory;
 use row_words::CallFault;
-use slot_map::NodeTable;
 use std::alloc::Global;
 use std::sync::Wait;
 
@@ -60,25 +58,6 @@ fn hand_to<J: Naming, R: Wait + Drop>(
         return Err(CallFault::BadNumber);
     }
     Ok(ends.hand(worker, newcomer).is_ok())
-}
-
-/// A carrier to these nodes, of which it knows the first.
-pub fn carrier_to<J: Naming, R: Wait + Drop>(
-    alloc: Global,
-    ends: MemoryCarrierEnds<J, R>,
-    nodes: &SharedNodes,
-) -> Result<MemoryCarrier<J, R>, CallFault> {
-    let dial = MemoryDial::new(alloc, nodes.clone()?);
-    Ok(Carrier::new(alloc, ends, dial, seed_alone(alloc)?))
-}
-
-/// A table with the first node.
-fn seed_alone(alloc: Global) -> Result<NodeTable, CallFault> {
-    let mut known = NodeTable::new(alloc);
-    match known.intern(b"127.0.0.1", 7001) {
-        Ok(_) => Ok(known),
-        Err(_) => Err(CallFault::NoMemory),
-    }
 }
 
 pub fn workers_for<'g, J: Naming>(
