@@ -1,7 +1,7 @@
 //! One command, stepped by hand.
 
-use command_future::{Command, Step, Want};
 use crate::held::put;
+use command_future::{Command, Step, Want};
 use row_words::{Answer, Args, CallFault};
 use slot_map::NodeId;
 use std::alloc::Global;

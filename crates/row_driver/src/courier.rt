@@ -36,11 +36,23 @@ impl CourierObjects {
         match args.name()? {
             "carry" => {
                 let ticket = args.ticket()?;
-                carry(rt, &mut self.courier, ticket, args.part(rt.alloc())?, answer)
+                carry(
+                    rt,
+                    &mut self.courier,
+                    ticket,
+                    args.part(rt.alloc())?,
+                    answer,
+                )
             }
             "poll" => {
                 let ticket = args.ticket()?;
-                poll_once(rt, &mut self.courier, ticket, args.part(rt.alloc())?, answer)
+                poll_once(
+                    rt,
+                    &mut self.courier,
+                    ticket,
+                    args.part(rt.alloc())?,
+                    answer,
+                )
             }
             call => self.courier.call(call, args, answer),
         }

@@ -154,7 +154,11 @@ fn moved(
 }
 
 /// Makes a last step.
-fn ended(cluster: &mut Cluster, step: &str, slot: Slot) -> Result<Result<(), MoveFault>, CallFault> {
+fn ended(
+    cluster: &mut Cluster,
+    step: &str,
+    slot: Slot,
+) -> Result<Result<(), MoveFault>, CallFault> {
     match step {
         "own" => Ok(cluster.own_slot(slot)),
         "release" => Ok(cluster.release_slot(slot)),

@@ -1,7 +1,7 @@
 //! The report of a run, made by hand, and its audit.
 
-use cluster_world::{Entry, RunReport, audit};
 use crate::held::put;
+use cluster_world::{Entry, RunReport, audit};
 use row_words::{Answer, Args, CallFault};
 use std::alloc::Global;
 

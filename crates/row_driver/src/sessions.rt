@@ -52,7 +52,10 @@ impl SessionObjects {
     fn renew(&mut self, args: &mut Args<'_>, answer: &mut Answer) -> Result<(), CallFault> {
         let worker = args.short()?;
         let client = u32::from(args.short()?);
-        put(&mut self.session, Session::new(self.alloc, worker, client, Limits::full()));
+        put(
+            &mut self.session,
+            Session::new(self.alloc, worker, client, Limits::full()),
+        );
         answer.name("ok");
         Ok(())
     }

@@ -40,7 +40,14 @@ where
             "time" => timing::call(&self.rt, &mut self.turned, args, answer),
             "future" => {
                 let carrier = &self.turned.carrier;
-                future::call(&self.rt, &mut self.lane, carrier, &self.clients, args, answer)
+                future::call(
+                    &self.rt,
+                    &mut self.lane,
+                    carrier,
+                    &self.clients,
+                    args,
+                    answer,
+                )
             }
             "lane" => self.lane.call(args, answer),
             "nodes" => steps::call(&self.nodes, args, answer),
