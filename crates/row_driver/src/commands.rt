@@ -1,18 +1,15 @@
-//! One command, stepped by hand, and as a future with a courier.
+//! One command, stepped by hand.
 
-use crate::courier::{Courier, carry, poll_once};
+use crate::held::put;
 use command_future::{Command, Step, Want};
 use row_words::{Answer, Args, CallFault};
 use slot_map::NodeId;
-use std::alloc::{AllocGlobal, Global};
-use std::random::RandomSource;
-use std::sync::Wait;
+use std::alloc::Global;
 
 #[derive(Drop)]
 pub struct CommandObjects {
     alloc: Global,
     command: Option<Command>,
-    courier: Courier,
 }
 
 impl CommandObjects {
@@ -20,39 +17,29 @@ impl CommandObjects {
         CommandObjects {
             alloc,
             command: None,
-            courier: Courier::new(alloc),
         }
     }
 
-    pub fn command(&mut self, args: &mut Args<'_>, answer: &mut Answer) -> Result<(), CallFault> {
+    pub fn call(&mut self, args: &mut Args<'_>, answer: &mut Answer) -> Result<(), CallFault> {
         match args.name()? {
             "new" => {
-                let ticket = args.ticket()?;
-                self.command = Some(Command::new(ticket, args.part(self.alloc)?));
+                put(&mut self.command, Some(command_in(self.alloc, args)?));
                 answer.name("ok");
                 Ok(())
             }
             "finish" => finish(&mut self.command, answer),
-            call => {
-                let command = self.command.as_mut().ok_or(CallFault::NotMade)?;
-                call_of(self.alloc, command, call, args, answer)
-            }
+            call => match &mut self.command {
+                Some(command) => call_of(self.alloc, command, call, args, answer),
+                None => Err(CallFault::NotMade),
+            },
         }
     }
+}
 
-    /// What a courier does, and a command that it carries to its end.
-    pub fn courier<R: Wait + RandomSource + AllocGlobal>(
-        &mut self,
-        rt: &R,
-        args: &mut Args<'_>,
-        answer: &mut Answer,
-    ) -> Result<(), CallFault> {
-        match args.name()? {
-            "carry" => carry(rt, &mut self.courier, args, answer),
-            "poll" => poll_once(rt, &mut self.courier, args, answer),
-            call => self.courier.call(call, args, answer),
-        }
-    }
+/// `TICKET WORDS..`
+fn command_in(alloc: Global, args: &mut Args<'_>) -> Result<Command, CallFault> {
+    let ticket = args.ticket()?;
+    Ok(Command::new(ticket, args.part(alloc)?))
 }
 
 fn call_of(
@@ -63,17 +50,20 @@ fn call_of(
     answer: &mut Answer,
 ) -> Result<(), CallFault> {
     match call {
+        "batch" => show_batch(alloc, command, args.node()?, answer),
+        "posted" => post(command, args.node()?, answer),
+        "told" => tell(alloc, command, args, answer),
+        "part" => Ok(answer.part(command.part())?),
+        _ => look(command, call, answer),
+    }
+}
+
+fn look(command: &Command, call: &str, answer: &mut Answer) -> Result<(), CallFault> {
+    match call {
         "want" => show_want(command.want(), answer),
-        "batch" => show_batch(alloc, command, args.node()?, answer)?,
-        "posted" => {
-            post(command, args.node()?)?;
-            answer.name("ok");
-        }
-        "told" => tell(alloc, command, args, answer)?,
         "end" => show_end(command, answer),
         "slot" => answer.slot(command.slot()),
         "ticket" => answer.ticket(command.ticket()),
-        "part" => answer.part(command.part())?,
         _ => return Err(CallFault::NoSuchCall),
     }
     Ok(())
@@ -100,21 +90,22 @@ fn show_batch(
     given: NodeId,
     answer: &mut Answer,
 ) -> Result<(), CallFault> {
-    let batch = match command.want() {
-        Want::Post(_, Some(named)) => command.batch(alloc, named)?,
-        Want::Post(_, None) => command.batch(alloc, given)?,
+    let node = match command.want() {
+        Want::Post(_, Some(named)) => named,
+        Want::Post(_, None) => given,
         _ => return Err(CallFault::NotNow),
     };
-    answer.batch(&batch)?;
-    Ok(())
+    let batch = command.batch(alloc, node)?;
+    Ok(answer.batch(&batch)?)
 }
 
-fn post(command: &mut Command, given: NodeId) -> Result<(), CallFault> {
+fn post(command: &mut Command, given: NodeId, answer: &mut Answer) -> Result<(), CallFault> {
     match command.want() {
         Want::Post(_, Some(named)) if named == given => command.posted(named),
         Want::Post(_, None) => command.posted(given),
         _ => return Err(CallFault::NotNow),
     }
+    answer.name("ok");
     Ok(())
 }
 
@@ -126,13 +117,17 @@ fn tell(
 ) -> Result<(), CallFault> {
     let told = args.told(alloc)?;
     match command.want() {
-        Want::Await => match command.told(told) {
-            Step::Again => answer.name("again"),
-            Step::Done => answer.name("done"),
-        },
+        Want::Await => show_step(command.told(told), answer),
         _ => return Err(CallFault::NotNow),
     }
     Ok(())
+}
+
+fn show_step(step: Step, answer: &mut Answer) {
+    match step {
+        Step::Again => answer.name("again"),
+        Step::Done => answer.name("done"),
+    }
 }
 
 fn show_end(command: &Command, answer: &mut Answer) {
@@ -144,14 +139,16 @@ fn show_end(command: &Command, answer: &mut Answer) {
 
 /// Its ticket and its end, or the command is held again.
 fn finish(held: &mut Option<Command>, answer: &mut Answer) -> Result<(), CallFault> {
-    let command = held.take().ok_or(CallFault::NotMade)?;
+    let Some(command) = held.take() else {
+        return Err(CallFault::NotMade);
+    };
     match command.finish() {
         Ok((ticket, end)) => {
             answer.ticket(ticket);
             answer.end(&end);
         }
         Err(command) => {
-            *held = Some(command);
+            put(held, Some(command));
             answer.name("back");
         }
     }

@@ -2,16 +2,62 @@
 
 ghost use Rattle.std.specs.Prelude.{◌≡◌, ⊤};
 
+use crate::held::put;
 use command_future::{self, Command, OneCommand, Posting, Want};
 use futures::executor::block_on;
 use futures::test::MockTask;
-use key_split::{Batch, Ticket, Told};
+use key_split::{Batch, Part, Ticket, Told};
 use row_words::{Answer, Args, CallFault};
 use slot_map::NodeId;
 use std::alloc::{AllocGlobal, Global};
 use std::collections::VecDeque;
 use std::random::RandomSource;
 use std::sync::Wait;
+
+#[derive(Drop)]
+pub struct CourierObjects {
+    courier: Courier,
+}
+
+impl CourierObjects {
+    pub fn new(alloc: Global) -> CourierObjects {
+        CourierObjects {
+            courier: Courier::new(alloc),
+        }
+    }
+
+    /// What the courier does, and a command that it carries to its end.
+    pub fn call<R: Wait + RandomSource + AllocGlobal>(
+        &mut self,
+        rt: &R,
+        args: &mut Args<'_>,
+        answer: &mut Answer,
+    ) -> Result<(), CallFault> {
+        match args.name()? {
+            "carry" => {
+                let ticket = args.ticket()?;
+                carry(
+                    rt,
+                    &mut self.courier,
+                    ticket,
+                    args.part(rt.alloc())?,
+                    answer,
+                )
+            }
+            "poll" => {
+                let ticket = args.ticket()?;
+                poll_once(
+                    rt,
+                    &mut self.courier,
+                    ticket,
+                    args.part(rt.alloc())?,
+                    answer,
+                )
+            }
+            call => self.courier.call(call, args, answer),
+        }
+    }
+}
 
 /// Posts after some calls that post nothing, and tells what it was given, in order, and then Lost.
 #[derive(Drop)]
@@ -34,25 +80,35 @@ impl Courier {
         }
     }
 
-    pub fn call(
+    fn call(
         &mut self,
         call: &str,
         args: &mut Args<'_>,
         answer: &mut Answer,
     ) -> Result<(), CallFault> {
         match call {
-            "new" => *self = Courier::new(self.alloc),
+            "posts" => {
+                answer.number(self.posted.len() as u64);
+                Ok(())
+            }
+            "posted" => show_batches(&self.posted, answer),
+            _ => {
+                self.change(call, args)?;
+                answer.name("ok");
+                Ok(())
+            }
+        }
+    }
+
+    /// From now on it does otherwise.
+    fn change(&mut self, call: &str, args: &mut Args<'_>) -> Result<(), CallFault> {
+        match call {
+            "new" => put(self, Courier::new(self.alloc)),
             "later" => self.later = args.number()?,
             "node" => self.node = args.node()?,
             "tells" => self.tells.push_back(args.told(self.alloc)?)?,
-            "posts" => {
-                answer.number(self.posted.len() as u64);
-                return Ok(());
-            }
-            "posted" => return show_batches(&self.posted, answer),
             _ => return Err(CallFault::NoSuchCall),
         }
-        answer.name("ok");
         Ok(())
     }
 }
@@ -96,15 +152,14 @@ impl command_future::Courier for Courier {
 }
 
 /// Carries a command to its end.
-pub fn carry<R: Wait + RandomSource + AllocGlobal>(
+fn carry<R: Wait + RandomSource + AllocGlobal>(
     rt: &R,
     courier: &mut Courier,
-    args: &mut Args<'_>,
+    ticket: Ticket,
+    part: Part,
     answer: &mut Answer,
 ) -> Result<(), CallFault> {
-    let ticket = args.ticket()?;
-    let command = Command::new(ticket, args.part(rt.alloc())?);
-    match block_on(rt, OneCommand::new(command, courier)) {
+    match block_on(rt, OneCommand::new(Command::new(ticket, part), courier)) {
         Ok((ticket, end)) => {
             answer.ticket(ticket);
             answer.end(&end);
@@ -115,23 +170,19 @@ pub fn carry<R: Wait + RandomSource + AllocGlobal>(
 }
 
 /// Polls a command once: whether it is pending, and whether its task was woken.
-pub fn poll_once<R: Wait + RandomSource + AllocGlobal>(
+fn poll_once<R: Wait + RandomSource + AllocGlobal>(
     rt: &R,
     courier: &mut Courier,
-    args: &mut Args<'_>,
+    ticket: Ticket,
+    part: Part,
     answer: &mut Answer,
 ) -> Result<(), CallFault> {
-    let ticket = args.ticket()?;
-    let command = Command::new(ticket, args.part(rt.alloc())?);
-    let mut future = OneCommand::new(command, courier);
+    let mut future = OneCommand::new(Command::new(ticket, part), courier);
     let Ok(task) = MockTask::new(rt) else {
         return Err(CallFault::NoMemory);
     };
-    answer.name(if task.poll(&mut future).is_pending() {
-        "pending"
-    } else {
-        "ready"
-    });
+    let pending = task.poll(&mut future).is_pending();
+    answer.name(if pending { "pending" } else { "ready" });
     answer.name(if task.is_woken() { "woken" } else { "still" });
     Ok(())
 }

@@ -36,15 +36,26 @@ impl<J: Naming, R: Wait + Drop> LaneObjects<J, R> {
             "publish" => self.publish(args, answer),
             "tell" => self.tell(answer),
             "learn" => self.learn(args, answer),
+            "give" => give(self.alloc, &mut self.carrier, args, answer),
+            call => self.call_of_end(call, args, answer),
+        }
+    }
+
+    /// A call of the carrier's end of a lane, or of the worker's.
+    fn call_of_end(
+        &mut self,
+        call: &str,
+        args: &mut Args<'_>,
+        answer: &mut Answer,
+    ) -> Result<(), CallFault> {
+        match call {
             "take" => take(&mut self.carrier, args.short()?, answer),
-            "give" => self.give(args, answer),
             "finish" => finish(&mut self.carrier, args.short()?, answer),
             "hand" => hand(&mut self.carrier, args, answer),
-            call => {
-                let worker = args.size()?;
-                let ends = self.workers.get_mut(worker).ok_or(CallFault::NotMade)?;
-                call_of_worker(self.alloc, ends, call, args, answer)
-            }
+            _ => match self.workers.get_mut(args.size()?) {
+                Some(ends) => call_of_worker(self.alloc, ends, call, args, answer),
+                None => Err(CallFault::NotMade),
+            },
         }
     }
 
@@ -65,34 +76,48 @@ impl<J: Naming, R: Wait + Drop> LaneObjects<J, R> {
 
     /// `learn WORKER PLACE`
     fn learn(&mut self, args: &mut Args<'_>, answer: &mut Answer) -> Result<(), CallFault> {
-        let ends = self
-            .workers
-            .get_mut(args.size()?)
-            .ok_or(CallFault::NotMade)?;
-        let kept = self.fronts.get_mut(args.size()?).ok_or(CallFault::NotMade)?;
-        let front = kept.take().ok_or(CallFault::NotMade)?;
-        ends.view.learn(front);
+        let Some(ends) = self.workers.get_mut(args.size()?) else {
+            return Err(CallFault::NotMade);
+        };
+        match kept_at(&mut self.fronts, args.size()?) {
+            Some(front) => ends.view.learn(front),
+            None => return Err(CallFault::NotMade),
+        }
         answer.name("ok");
         Ok(())
     }
+}
 
-    /// `give WORKER TICKET TOLD`
-    fn give(&mut self, args: &mut Args<'_>, answer: &mut Answer) -> Result<(), CallFault> {
-        let worker = args.short()?;
-        let ticket = args.ticket()?;
-        let told = args.told(self.alloc)?;
-        if usize::from(worker) >= self.carrier.workers() {
-            return Err(CallFault::NotMade);
+/// What was kept at a place, which is kept no longer.
+fn kept_at<F: Drop>(kept: &mut [Option<F>], place: usize) -> Option<F> {
+    kept.get_mut(place)?.take()
+}
+
+/// `give WORKER TICKET TOLD`
+fn give<M: Drop>(
+    alloc: Global,
+    carrier: &mut CarrierEnds<u32, M>,
+    args: &mut Args<'_>,
+    answer: &mut Answer,
+) -> Result<(), CallFault> {
+    let worker = args.short()?;
+    let ticket = args.ticket()?;
+    let told = args.told(alloc)?;
+    if usize::from(worker) >= carrier.workers() {
+        return Err(CallFault::NotMade);
+    }
+    show_given(carrier.give(worker, ticket, told), answer);
+    Ok(())
+}
+
+fn show_given(given: Result<(), (Ticket, Told)>, answer: &mut Answer) {
+    match given {
+        Ok(()) => answer.name("ok"),
+        Err((ticket, told)) => {
+            answer.name("back");
+            answer.ticket(ticket);
+            answer.told(&told);
         }
-        match self.carrier.give(worker, ticket, told) {
-            Ok(()) => answer.name("ok"),
-            Err((ticket, told)) => {
-                answer.name("back");
-                answer.ticket(ticket);
-                answer.told(&told);
-            }
-        }
-        Ok(())
     }
 }
 
@@ -106,10 +131,12 @@ fn take<M: Drop>(
         return Err(CallFault::NotMade);
     }
     match carrier.take(worker) {
-        Some(run) => show_run(&run, answer)?,
-        None => answer.name("none"),
+        Some(run) => show_run(&run, answer),
+        None => {
+            answer.name("none");
+            Ok(())
+        }
     }
-    Ok(())
 }
 
 /// Finishes what goes down to a worker.
@@ -155,7 +182,7 @@ fn call_of_worker<J: Naming>(
     answer: &mut Answer,
 ) -> Result<(), CallFault> {
     match call {
-        "post" => post(ends, Run::one(alloc, args.batch(alloc)?), answer)?,
+        "post" => return post(ends, Run::one(alloc, args.batch(alloc)?), answer),
         "told" => show_told(ends.inlet.take(), answer),
         "newcomer" => show_newcomer(ends.newcomers.take(), answer),
         "node" => show_node(ends.view.node_of(args.slot()?), answer),
@@ -170,13 +197,15 @@ fn post<J: Naming>(
     answer: &mut Answer,
 ) -> Result<(), CallFault> {
     match ends.outlet.post(run) {
-        Ok(()) => answer.name("ok"),
+        Ok(()) => {
+            answer.name("ok");
+            Ok(())
+        }
         Err(run) => {
             answer.name("back");
-            show_run(&run, answer)?;
+            show_run(&run, answer)
         }
     }
-    Ok(())
 }
 
 /// Its commands, with `;` between them.

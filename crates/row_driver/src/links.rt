@@ -1,12 +1,13 @@
 //! Links and ports over a stream in memory.
 
+use crate::held::put;
 use crate::maps::MapObjects;
 use crate::stream::MemoryStream;
 use crate::wire::WireObjects;
 use node_link::{BytePort, FLUSH_AFTER_READS, Got, Link, LinkFault, NodePort, PortFault};
 use resp_wire::{Limits, Value};
 use row_words::{Answer, Args, CallFault};
-use slot_map::NodeTable;
+use slot_map::{NodeId, NodeTable};
 use std::alloc::Global;
 
 type Port = BytePort<MemoryStream>;
@@ -45,7 +46,7 @@ impl LinkObjects {
     /// The next stream gives these bytes.
     fn give(&mut self, bytes: &[u8]) -> Result<(), CallFault> {
         let coming = Vec::from_slice(self.alloc, bytes)?;
-        self.stream = MemoryStream::new(self.alloc, coming);
+        put(&mut self.stream, MemoryStream::new(self.alloc, coming));
         Ok(())
     }
 
@@ -59,15 +60,21 @@ impl LinkObjects {
     pub fn port(&mut self, args: &mut Args<'_>, answer: &mut Answer) -> Result<(), CallFault> {
         match args.name()? {
             "new" => {
-                self.port = Some(self.next_port());
+                let port = self.next_port();
+                put(&mut self.port, Some(port));
                 answer.name("ok");
                 Ok(())
             }
-            call => {
-                let port = self.port.as_mut().ok_or(CallFault::NotMade)?;
-                call_of_port(self.alloc, port, call, args, answer)
-            }
+            call => match &mut self.port {
+                Some(port) => call_of_port(self.alloc, port, call, args, answer),
+                None => Err(CallFault::NotMade),
+            },
         }
+    }
+
+    fn renew_link(&mut self, node: NodeId) {
+        let port = self.next_port();
+        put(&mut self.link, Some(Link::new(self.alloc, port, node)));
     }
 
     pub fn link(
@@ -79,9 +86,7 @@ impl LinkObjects {
     ) -> Result<(), CallFault> {
         match args.name()? {
             "new" => {
-                let node = args.node()?;
-                let port = self.next_port();
-                self.link = Some(Link::new(self.alloc, port, node));
+                self.renew_link(args.node()?);
                 answer.name("ok");
                 Ok(())
             }
@@ -89,26 +94,23 @@ impl LinkObjects {
                 answer.number(u64::from(FLUSH_AFTER_READS));
                 Ok(())
             }
-            call => {
-                let link = self.link.as_mut().ok_or(CallFault::NotMade)?;
-                if show_moved(link.port(), call, answer) {
-                    return Ok(());
-                }
-                call_of_link(self.alloc, link, &mut maps.table, wire, call, args, answer)
-            }
+            call => match &mut self.link {
+                Some(link) => call_of_link(self.alloc, link, maps, wire, call, args, answer),
+                None => Err(CallFault::NotMade),
+            },
         }
     }
 }
 
-/// Shows what the port's stream moved, where that is asked.
-fn show_moved(port: &Port, call: &str, answer: &mut Answer) -> bool {
+/// Shows what the port's stream moved.
+fn moved(port: &Port, call: &str, answer: &mut Answer) -> Result<(), CallFault> {
     match call {
         "written" => answer.bytes(port.stream().taken()),
         "reads" => answer.number(port.stream().reads()),
         "writes" => answer.number(port.stream().writes()),
-        _ => return false,
+        _ => return Err(CallFault::NoSuchCall),
     }
-    true
+    Ok(())
 }
 
 fn call_of_port(
@@ -126,11 +128,7 @@ fn call_of_port(
         "slots" => answer.done(port.ask_slots()),
         "next" => show_next(port.next(), answer),
         "wait" => show_next(next_within(port, args.number()?), answer),
-        _ => {
-            if !show_moved(port, call, answer) {
-                return Err(CallFault::NoSuchCall);
-            }
-        }
+        _ => return moved(port, call, answer),
     }
     Ok(())
 }
@@ -157,8 +155,24 @@ fn show_next(next: Result<Option<Value>, PortFault>, answer: &mut Answer) {
 fn call_of_link(
     alloc: Global,
     link: &mut Link<Port>,
-    table: &mut NodeTable,
+    maps: &mut MapObjects,
     wire: &mut WireObjects,
+    call: &str,
+    args: &mut Args<'_>,
+    answer: &mut Answer,
+) -> Result<(), CallFault> {
+    match call {
+        "receive" => show_received(receive(link, &mut maps.table)?, wire, answer),
+        "wait" => show_received(wait(link, &mut maps.table, args.number()?)?, wire, answer),
+        _ => return call_alone(alloc, link, call, args, answer),
+    }
+    Ok(())
+}
+
+/// A call that receives nothing.
+fn call_alone(
+    alloc: Global,
+    link: &mut Link<Port>,
     call: &str,
     args: &mut Args<'_>,
     answer: &mut Answer,
@@ -167,15 +181,19 @@ fn call_of_link(
         "send" => {
             let batch = args.batch(alloc)?;
             answer.done(link.send(&batch));
+            Ok(())
         }
-        "slots" => answer.done(link.ask_slots()),
-        "receive" => show_received(receive(link, table)?, wire, answer),
-        "wait" => show_received(wait(link, table, args.number()?)?, wire, answer),
-        "lose" => lose(link, answer)?,
-        "failed" => answer.yes_or_no(link.failed()),
-        _ => return Err(CallFault::NoSuchCall),
+        "slots" => {
+            answer.done(link.ask_slots());
+            Ok(())
+        }
+        "lose" => lose(link, answer),
+        "failed" => {
+            answer.yes_or_no(link.failed());
+            Ok(())
+        }
+        _ => moved(link.port(), call, answer),
     }
-    Ok(())
 }
 
 fn receive(

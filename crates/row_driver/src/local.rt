@@ -1,5 +1,6 @@
 //! The cluster behind a lock, driven by hand.
 
+use crate::held::put;
 use key_split::Told;
 use local_cluster::{LocalState, MoveStep, three_nodes};
 use node_model::ServeFault;
@@ -25,10 +26,10 @@ impl LocalObjects {
                 self.renew(answer);
                 Ok(())
             }
-            call => {
-                let state = self.state.as_mut().ok_or(CallFault::NotMade)?;
-                call_of(self.alloc, state, call, args, answer)
-            }
+            call => match &mut self.state {
+                Some(state) => call_of(self.alloc, state, call, args, answer),
+                None => Err(CallFault::NotMade),
+            },
         }
     }
 
@@ -36,7 +37,7 @@ impl LocalObjects {
     fn renew(&mut self, answer: &mut Answer) {
         match three_nodes(self.alloc) {
             Ok(cluster) => {
-                self.state = Some(LocalState::new(self.alloc, cluster));
+                put(&mut self.state, Some(LocalState::new(self.alloc, cluster)));
                 answer.name("ok");
             }
             Err(fault) => answer.debug(&fault),

@@ -7,6 +7,7 @@
 
 mod commands;
 mod courier;
+mod held;
 mod lanes;
 mod links;
 mod local;
@@ -22,17 +23,12 @@ mod stores;
 mod stream;
 mod wire;
 
-use row::{Input, next_row};
-use std::io::{self, BufReader, BufWriter, Write};
+use row::answer_rows;
+use row_words::Rows;
+use std::io::{self, BufReader, BufWriter};
 
-fn main(rt: HostRuntime) -> anyhow::Result<()> {
-    let mut input = Input::new(rt.alloc(), BufReader::new(rt.alloc(), rt.reader())?);
-    let mut output = BufWriter::new(rt.alloc(), io::writer(&rt))?;
-    for _ in 0..u64::MAX {
-        if !next_row(rt, &mut input, &mut output)? {
-            break;
-        }
-    }
-    output.flush()?;
-    Ok(())
+fn main(rt: HostRuntime) -> io::Result<()> {
+    let reader = BufReader::new(rt.alloc(), rt.reader())?;
+    let writer = BufWriter::new(rt.alloc(), io::writer(&rt))?;
+    answer_rows(rt, Rows::new(rt.alloc(), reader, writer))
 }

@@ -1,5 +1,6 @@
 //! The table of nodes, and a slot map with a copy of it.
 
+use crate::held::put;
 use crate::wire::WireObjects;
 use key_split::{Told, told_value};
 use node_link::told_of;
@@ -34,7 +35,7 @@ impl MapObjects {
     pub fn table(&mut self, args: &mut Args<'_>, answer: &mut Answer) -> Result<(), CallFault> {
         match args.name()? {
             "new" => {
-                self.table = NodeTable::new(self.alloc);
+                put(&mut self.table, NodeTable::new(self.alloc));
                 answer.name("ok");
                 Ok(())
             }
@@ -52,19 +53,23 @@ impl MapObjects {
         answer: &mut Answer,
     ) -> Result<(), CallFault> {
         match args.name()? {
-            "new" => {
-                self.map = Some(SlotMap::new(self.alloc)?);
-                answer.name("ok");
-                Ok(())
-            }
-            "copy" => {
-                self.copy = Some(self.held()?.copy(self.alloc)?);
-                answer.name("ok");
-                Ok(())
-            }
+            "new" => self.renew(answer),
+            "copy" => self.renew_copy(answer),
             "read" => self.read(wire, args, answer),
             call => call_of_map(&mut self.map, call, args, answer),
         }
+    }
+
+    fn renew(&mut self, answer: &mut Answer) -> Result<(), CallFault> {
+        self.map = Some(SlotMap::new(self.alloc)?);
+        answer.name("ok");
+        Ok(())
+    }
+
+    fn renew_copy(&mut self, answer: &mut Answer) -> Result<(), CallFault> {
+        self.copy = Some(self.held()?.copy(self.alloc)?);
+        answer.name("ok");
+        Ok(())
     }
 
     /// A call of the copy.
@@ -161,7 +166,9 @@ fn call_of_map(
     args: &mut Args<'_>,
     answer: &mut Answer,
 ) -> Result<(), CallFault> {
-    let map = map.as_mut().ok_or(CallFault::NotMade)?;
+    let Some(map) = map else {
+        return Err(CallFault::NotMade);
+    };
     match call {
         "node" => show_node_of(map, args, answer),
         _ => {

@@ -1,5 +1,6 @@
 //! The nodes of a cluster.
 
+use crate::held::put;
 use crate::maps::MapObjects;
 use crate::wire::WireObjects;
 use key_split::Told;
@@ -33,10 +34,10 @@ impl NodeObjects {
         match args.name()? {
             "new" => self.renew(maps, args, answer),
             "slots" => self.list(maps, wire, answer),
-            call => {
-                let cluster = self.cluster.as_mut().ok_or(CallFault::NotMade)?;
-                call_of(self.alloc, cluster, call, args, answer)
-            }
+            call => match &mut self.cluster {
+                Some(cluster) => call_of(self.alloc, cluster, call, args, answer),
+                None => Err(CallFault::NotMade),
+            },
         }
     }
 
@@ -49,7 +50,7 @@ impl NodeObjects {
     ) -> Result<(), CallFault> {
         match Cluster::new(self.alloc, args.byte()?, maps.held()?) {
             Ok(cluster) => {
-                self.cluster = Some(cluster);
+                put(&mut self.cluster, Some(cluster));
                 answer.name("ok");
             }
             Err(fault) => answer.debug(&fault),
@@ -64,7 +65,9 @@ impl NodeObjects {
         wire: &mut WireObjects,
         answer: &mut Answer,
     ) -> Result<(), CallFault> {
-        let cluster = self.cluster.as_ref().ok_or(CallFault::NotMade)?;
+        let Some(cluster) = &self.cluster else {
+            return Err(CallFault::NotMade);
+        };
         let value = cluster.slots_value(&maps.table)?;
         answer.value(&value);
         wire.hold(value);
@@ -146,6 +149,17 @@ fn moved(
             let key = Bytes::from_slice(alloc, args.bytes()?)?;
             Ok(cluster.move_key(slot, &key))
         }
+        _ => ended(cluster, step, slot),
+    }
+}
+
+/// Makes a last step.
+fn ended(
+    cluster: &mut Cluster,
+    step: &str,
+    slot: Slot,
+) -> Result<Result<(), MoveFault>, CallFault> {
+    match step {
         "own" => Ok(cluster.own_slot(slot)),
         "release" => Ok(cluster.release_slot(slot)),
         "forget" => Ok(cluster.forget_slot(slot)),

@@ -1,6 +1,8 @@
 //! The objects of a row, by name.
 
 use crate::commands::CommandObjects;
+use crate::courier::CourierObjects;
+use crate::lanes::LaneObjects;
 use crate::links::LinkObjects;
 use crate::local::LocalObjects;
 use crate::maps::MapObjects;
@@ -11,18 +13,47 @@ use crate::sessions::SessionObjects;
 use crate::slots;
 use crate::stores::StoreObjects;
 use crate::wire::WireObjects;
-use row_words::{Answer, Args, CallFault};
+use proxy_lanes::Naming;
+use row_words::{Answer, Args, CallFault, Objects};
 use std::alloc::{AllocGlobal, Global};
 use std::random::RandomSource;
 use std::sync::Wait;
 
+/// All objects, and the runtime in which a command is carried.
+#[derive(Drop)]
+pub struct LaneRow<J: Naming, R: Wait + Drop> {
+    pub rt: R,
+    pub lanes: LaneObjects<J, R>,
+    pub others: RowObjects,
+}
+
+impl<J, R> Objects for LaneRow<J, R>
+where
+    J: Naming,
+    R: Wait + RandomSource + AllocGlobal + Drop,
+{
+    fn call(
+        &mut self,
+        object: &str,
+        args: &mut Args<'_>,
+        answer: &mut Answer,
+    ) -> Result<(), CallFault> {
+        match object {
+            "lanes" => self.lanes.call(args, answer),
+            "courier" => self.others.courier.call(&self.rt, args, answer),
+            _ => self.others.call(object, args, answer),
+        }
+    }
+}
+
 /// All objects but the lanes.
 #[derive(Drop)]
-pub struct Objects {
+pub struct RowObjects {
     wire: WireObjects,
     maps: MapObjects,
     plans: PlanObjects,
     commands: CommandObjects,
+    courier: CourierObjects,
     sessions: SessionObjects,
     stores: StoreObjects,
     nodes: NodeObjects,
@@ -31,13 +62,14 @@ pub struct Objects {
     local: LocalObjects,
 }
 
-impl Objects {
-    pub fn new(alloc: Global) -> Objects {
-        Objects {
+impl RowObjects {
+    pub fn new(alloc: Global) -> RowObjects {
+        RowObjects {
             wire: WireObjects::new(alloc),
             maps: MapObjects::new(alloc),
             plans: PlanObjects::new(alloc),
             commands: CommandObjects::new(alloc),
+            courier: CourierObjects::new(alloc),
             sessions: SessionObjects::new(alloc),
             stores: StoreObjects::new(alloc),
             nodes: NodeObjects::new(alloc),
@@ -48,16 +80,14 @@ impl Objects {
     }
 
     /// Makes the call of the object of that name.
-    pub fn call<R: Wait + RandomSource + AllocGlobal>(
+    fn call(
         &mut self,
-        rt: &R,
         object: &str,
         args: &mut Args<'_>,
         answer: &mut Answer,
     ) -> Result<(), CallFault> {
         match object {
-            "command" => self.commands.command(args, answer),
-            "courier" => self.commands.courier(rt, args, answer),
+            "command" => self.commands.call(args, answer),
             "session" => self.sessions.call(args, answer),
             "store" => self.stores.call(args, answer),
             "report" => self.reports.call(args, answer),

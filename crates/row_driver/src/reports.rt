@@ -1,5 +1,6 @@
 //! The report of a run, made by hand, and its audit.
 
+use crate::held::put;
 use cluster_world::{Entry, RunReport, audit};
 use row_words::{Answer, Args, CallFault};
 use std::alloc::Global;
@@ -20,7 +21,7 @@ impl ReportObjects {
 
     pub fn call(&mut self, args: &mut Args<'_>, answer: &mut Answer) -> Result<(), CallFault> {
         match args.name()? {
-            "new" => self.report = empty(self.alloc),
+            "new" => put(&mut self.report, empty(self.alloc)),
             "part" => self.part(args)?,
             "end" => self.end(args)?,
             "entry" => self.entry(args)?,

@@ -1,12 +1,12 @@
-//! Rows: the lines up to `reset`, over new objects.
+//! Rows, each over new objects.
 
 ghost use Rattle.std.specs.Prelude.{◌≡◌};
 ghost use Rattle.proxy_lanes.specs.Opened.{book_of};
 
 use crate::lanes::LaneObjects;
-use crate::objects::Objects;
+use crate::objects::{LaneRow, RowObjects};
 use proxy_lanes::{Naming, Opened, lanes};
-use row_words::{Answer, Args, CallFault, words_in};
+use row_words::Rows;
 use std::alloc::{AllocGlobal, Global};
 use std::io::{self, BufRead, Write};
 use std::marker::Brand;
@@ -16,47 +16,32 @@ use std::sync::Wait;
 /// How many workers have lanes.
 const WORKERS: u16 = 2;
 
-/// What the lines are read from.
-#[derive(Drop)]
-pub struct Input<B> {
-    reader: B,
-    line: String,
-}
-
-impl<B: BufRead> Input<B> {
-    pub fn new(alloc: Global, reader: B) -> Input<B> {
-        Input {
-            reader,
-            line: String::new(alloc),
+/// Answers all rows.
+pub fn answer_rows<R, B, W>(rt: R, mut rows: Rows<B, W>) -> io::Result<()>
+where
+    R: Wait + RandomSource + AllocGlobal + Copy + Drop,
+    B: BufRead + Drop,
+    W: Write + Drop,
+{
+    for _ in 0..u64::MAX {
+        if !next_row(rt, &mut rows)? {
+            break;
         }
     }
-
-    /// The next line, where there is one.
-    fn next(&mut self) -> io::Result<Option<&str>> {
-        self.line.clear();
-        if self.reader.read_line(&mut self.line)? == 0 {
-            return Ok(None);
-        }
-        Ok(Some(self.line.as_str().trim_end()))
-    }
+    rows.finish()
 }
 
 /// Answers the lines of one row. It is false where that was the last one.
-pub fn next_row<R, B, W>(rt: R, input: &mut Input<B>, output: &mut W) -> io::Result<bool>
+fn next_row<R, B, W>(rt: R, rows: &mut Rows<B, W>) -> io::Result<bool>
 where
     R: Wait + RandomSource + AllocGlobal + Copy + Drop,
     B: BufRead,
     W: Write,
 {
-    row_named::<Brand, R, B, W>(rt, Opened::new(), input, output)
+    row_named::<Brand, R, B, W>(rt, Opened::new(), rows)
 }
 
-fn row_named<J, R, B, W>(
-    rt: R,
-    opened: Opened,
-    input: &mut Input<B>,
-    output: &mut W,
-) -> io::Result<bool>
+fn row_named<J, R, B, W>(rt: R, opened: Opened, rows: &mut Rows<B, W>) -> io::Result<bool>
 where
     J: Naming,
     R: Wait + RandomSource + AllocGlobal + Copy + Drop,
@@ -64,103 +49,12 @@ where
     W: Write,
     requires { book_of opened ≡ J.book }
 {
-    let Ok((workers, carrier)) = lanes::<u32, J, R>(rt.alloc(), rt, opened, WORKERS) else {
-        return Ok(false);
-    };
-    let mut lanes = LaneObjects::new(rt.alloc(), workers, carrier);
-    row_over(&rt, &mut lanes, input, output)
-}
-
-fn row_over<J, R, B, W>(
-    rt: &R,
-    lanes: &mut LaneObjects<J, R>,
-    input: &mut Input<B>,
-    output: &mut W,
-) -> io::Result<bool>
-where
-    J: Naming,
-    R: Wait + RandomSource + AllocGlobal + Drop,
-    B: BufRead,
-    W: Write,
-{
-    let mut objects = Objects::new(rt.alloc());
-    answer_row(rt, lanes, &mut objects, input, output)
-}
-
-fn answer_row<J, R, B, W>(
-    rt: &R,
-    lanes: &mut LaneObjects<J, R>,
-    objects: &mut Objects,
-    input: &mut Input<B>,
-    output: &mut W,
-) -> io::Result<bool>
-where
-    J: Naming,
-    R: Wait + RandomSource + AllocGlobal + Drop,
-    B: BufRead,
-    W: Write,
-{
-    let mut answer = Answer::new(rt.alloc());
-    for _ in 0..u64::MAX {
-        let Some(line) = input.next()? else {
-            return Ok(false);
-        };
-        if line == "reset" {
-            output.write_all(b"ok\n")?;
-            return Ok(true);
-        }
-        answer_line(rt, lanes, objects, line, &mut answer);
-        write_line(output, &answer)?;
+    match lanes::<u32, J, R>(rt.alloc(), rt, opened, WORKERS) {
+        Ok((workers, carrier)) => rows.answer_row(LaneRow {
+            rt,
+            lanes: LaneObjects::new(rt.alloc(), workers, carrier),
+            others: RowObjects::new(rt.alloc()),
+        }),
+        Err(_) => Ok(false),
     }
-    Ok(false)
-}
-
-/// Answers a line by what its call answers, or by `?` and why there is no such call.
-fn answer_line<J, R>(
-    rt: &R,
-    lanes: &mut LaneObjects<J, R>,
-    objects: &mut Objects,
-    line: &str,
-    answer: &mut Answer,
-)
-where
-    J: Naming,
-    R: Wait + RandomSource + AllocGlobal + Drop,
-{
-    answer.clear();
-    if let Err(fault) = call(rt, lanes, objects, line, answer) {
-        answer.clear();
-        answer.name("?");
-        answer.debug(&fault);
-    }
-}
-
-fn call<J, R>(
-    rt: &R,
-    lanes: &mut LaneObjects<J, R>,
-    objects: &mut Objects,
-    line: &str,
-    answer: &mut Answer,
-) -> Result<(), CallFault>
-where
-    J: Naming,
-    R: Wait + RandomSource + AllocGlobal + Drop,
-{
-    let words = words_in(rt.alloc(), line.as_bytes())?;
-    let mut args = Args::new(&words);
-    match args.name()? {
-        "lanes" => lanes.call(&mut args, answer)?,
-        object => objects.call(rt, object, &mut args, answer)?,
-    }
-    if args.is_empty() {
-        Ok(())
-    } else {
-        Err(CallFault::FurtherWord)
-    }
-}
-
-fn write_line<W: Write>(output: &mut W, answer: &Answer) -> io::Result<()> {
-    let text = answer.text().unwrap_or("? NoMemory");
-    output.write_all(text.as_bytes())?;
-    output.write_all(b"\n")
 }

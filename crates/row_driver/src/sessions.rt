@@ -1,5 +1,6 @@
 //! A client's session.
 
+use crate::held::put;
 use key_split::{Ended, Part, Ticket};
 use resp_wire::Limits;
 use row_words::{Answer, Args, CallFault};
@@ -23,17 +24,10 @@ impl SessionObjects {
     pub fn call(&mut self, args: &mut Args<'_>, answer: &mut Answer) -> Result<(), CallFault> {
         match args.name()? {
             "new" => self.renew(args, answer),
-            "feed" => {
-                show_fed(self.session.feed(args.bytes()?), answer);
-                Ok(())
-            }
-            "read" => {
-                show_read(self.session.read(), answer);
-                Ok(())
-            }
             "ready" => show_given(self.session.ready(), answer),
             "follow" => self.follow(args.ticket()?, answer),
             "ended" => self.end(args, answer),
+            "drain" => drain(self.alloc, &mut self.session, answer),
             call => self.look(call, args, answer),
         }
     }
@@ -45,9 +39,10 @@ impl SessionObjects {
         answer: &mut Answer,
     ) -> Result<(), CallFault> {
         match call {
+            "feed" => show_fed(self.session.feed(args.bytes()?), answer),
+            "read" => show_read(self.session.read(), answer),
             "awaits" => answer.yes_or_no(self.session.awaits(args.ticket()?)),
             "finished" => answer.yes_or_no(self.session.finished()),
-            "drain" => return drain(self.alloc, &mut self.session, answer),
             _ => return Err(CallFault::NoSuchCall),
         }
         Ok(())
@@ -57,7 +52,10 @@ impl SessionObjects {
     fn renew(&mut self, args: &mut Args<'_>, answer: &mut Answer) -> Result<(), CallFault> {
         let worker = args.short()?;
         let client = u32::from(args.short()?);
-        self.session = Session::new(self.alloc, worker, client, Limits::full());
+        put(
+            &mut self.session,
+            Session::new(self.alloc, worker, client, Limits::full()),
+        );
         answer.name("ok");
         Ok(())
     }

@@ -1,5 +1,6 @@
 //! One store.
 
+use crate::held::put;
 use node_model::Store;
 use row_words::{Answer, Args, CallFault};
 use std::alloc::Global;
@@ -21,7 +22,7 @@ impl StoreObjects {
     pub fn call(&mut self, args: &mut Args<'_>, answer: &mut Answer) -> Result<(), CallFault> {
         match args.name()? {
             "new" => {
-                self.store = Store::new(self.alloc);
+                put(&mut self.store, Store::new(self.alloc));
                 answer.name("ok");
                 Ok(())
             }

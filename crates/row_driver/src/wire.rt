@@ -1,5 +1,6 @@
 //! Bytes and values: a reader, and a value that is held.
 
+use crate::held::put;
 use resp_wire::{Limits, Reader, Value, WireFault, write_value};
 use row_words::{Answer, Args, CallFault};
 use std::alloc::Global;
@@ -27,7 +28,7 @@ impl WireObjects {
 
     /// Holds a value.
     pub fn hold(&mut self, value: Value) {
-        self.value = Some(value);
+        put(&mut self.value, Some(value));
     }
 
     pub fn reader(&mut self, args: &mut Args<'_>, answer: &mut Answer) -> Result<(), CallFault> {
@@ -48,13 +49,13 @@ impl WireObjects {
     /// A reader within full limits, or within those of the words.
     fn new_reader(&mut self, args: &mut Args<'_>, answer: &mut Answer) -> Result<(), CallFault> {
         if args.is_empty() {
-            self.reader = Reader::new(self.alloc, Limits::full());
+            put(&mut self.reader, Reader::new(self.alloc, Limits::full()));
             answer.name("ok");
             return Ok(());
         }
         match limits_in(args)? {
             Some(limits) => {
-                self.reader = Reader::new(self.alloc, limits);
+                put(&mut self.reader, Reader::new(self.alloc, limits));
                 answer.name("ok");
             }
             None => answer.name("none"),
@@ -65,19 +66,11 @@ impl WireObjects {
     pub fn value(&mut self, args: &mut Args<'_>, answer: &mut Answer) -> Result<(), CallFault> {
         match args.name()? {
             "read" => self.read(args, answer),
-            "show" => {
-                answer.value(self.held()?);
-                Ok(())
-            }
-            "copy" => self.copy(answer),
             "write" => self.write(args, answer),
-            "words" => self.words(answer),
-            "request" => {
-                answer.yes_or_no(self.held()?.is_request());
-                Ok(())
-            }
             "equals" => self.equals(args, answer),
-            _ => Err(CallFault::NoSuchCall),
+            "copy" => self.copy(answer),
+            "words" => self.words(answer),
+            call => look(self.held()?, call, answer),
         }
     }
 
@@ -107,7 +100,9 @@ impl WireObjects {
 
     /// Gives the words of the value up, or holds it again.
     fn words(&mut self, answer: &mut Answer) -> Result<(), CallFault> {
-        let value = self.value.take().ok_or(CallFault::NotMade)?;
+        let Some(value) = self.value.take() else {
+            return Err(CallFault::NotMade);
+        };
         match value.into_words(self.alloc) {
             Ok(words) => {
                 answer.name("words");
@@ -127,6 +122,15 @@ impl WireObjects {
         answer.yes_or_no(*self.held()? == other);
         Ok(())
     }
+}
+
+fn look(value: &Value, call: &str, answer: &mut Answer) -> Result<(), CallFault> {
+    match call {
+        "show" => answer.value(value),
+        "request" => answer.yes_or_no(value.is_request()),
+        _ => return Err(CallFault::NoSuchCall),
+    }
+    Ok(())
 }
 
 fn limits_in(args: &mut Args<'_>) -> Result<Option<Limits>, CallFault> {

@@ -66,6 +66,12 @@ impl<'a> Args<'a> {
         u8::try_from(number).map_err(|_| CallFault::BadNumber)
     }
 
+    /// A number below 2 ^ 32, as clients have them.
+    pub fn client(&mut self) -> Result<u32, CallFault> {
+        let number = self.number()?;
+        u32::try_from(number).map_err(|_| CallFault::BadNumber)
+    }
+
     /// How many there are of something.
     pub fn size(&mut self) -> Result<usize, CallFault> {
         let number = self.number()?;

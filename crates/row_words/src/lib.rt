@@ -1,9 +1,14 @@
 //! The notation of rows: the words of a line, what they name, and how a call answers.
 //!
-//!     let words = words_in(alloc, line)?;
-//!     let mut args = Args::new(&words);
-//!     let (object, call) = (args.word()?, args.word()?);
-//!     answer.number(u64::from(args.slot()?.number()));
+//!     let mut rows = Rows::new(alloc, input, output);
+//!     while rows.answer_row(new_objects())? {}
+//!
+//! and in the `impl Objects`
+//!
+//!     match (object, args.name()?) {
+//!         ("key", "slot") => answer.slot(slot_of(args.bytes()?)),
+//!         ..
+//!     }
 //!
 //! Words stand between spaces. A word in quotes has any bytes, some of them as \r \n \\ \" \xHH. The bytes of the
 //! protocol are such a word; a ticket is WORKER.CLIENT.PART; a batch is `TICKET NODE plain|asking WORDS..`; what a command
@@ -15,6 +20,7 @@
 mod answer;
 mod args;
 mod fault;
+mod rows;
 mod shown;
 mod travel;
 mod words;
@@ -22,4 +28,4 @@ mod words;
 pub use answer::Answer;
 pub use args::Args;
 pub use fault::CallFault;
-pub use words::words_in;
+pub use rows::{Objects, Rows};

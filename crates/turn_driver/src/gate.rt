@@ -1,12 +1,10 @@
 //! Gates of workers.
 
 use crate::client::SharedClient;
-use crate::proxy::MemoryCarrier;
-use proxy_lanes::Naming;
+use crate::turned::Turned;
 use proxy_turns::Gate;
 use resp_wire::Bytes;
 use std::cell::{Cell, RefCell};
-use std::sync::Wait;
 
 /// Lets each worker go on.
 #[derive(Drop)]
@@ -31,15 +29,15 @@ pub struct InjectedReply {
 
 /// Turns the carrier before each turn of the worker, so that a worker runs as a future in one thread.
 #[derive(Drop)]
-pub struct TurningGate<'a, J: Naming, R: Wait + Drop> {
-    pub carrier: &'a RefCell<MemoryCarrier<J, R>>,
+pub struct TurningGate<'a, C> {
+    pub carrier: &'a RefCell<C>,
     pub passes: Cell<u32>,
     /// How many turns the worker has at the most.
     pub most: u32,
     pub injected: Option<InjectedReply>,
 }
 
-impl<'a, J: Naming, R: Wait + Drop> TurningGate<'a, J, R> {
+impl<'a, C: Turned> TurningGate<'a, C> {
     /// Turns the carrier. False where memory ran out.
     fn turn(&self) -> bool {
         match self.carrier.try_borrow_mut() {
@@ -59,7 +57,7 @@ impl<'a, J: Naming, R: Wait + Drop> TurningGate<'a, J, R> {
     }
 }
 
-impl<'a, J: Naming, R: Wait + Drop> Gate for TurningGate<'a, J, R> {
+impl<'a, C: Turned> Gate for TurningGate<'a, C> {
     fn pass(&self, _: u16, _: u64) -> bool {
         if self.passes.get() >= self.most {
             return false;

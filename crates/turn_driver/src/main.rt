@@ -10,29 +10,28 @@
 #![tactic(auto)]
 
 mod client;
+mod clients;
 mod dial;
 mod future;
 mod gate;
 mod lane;
 mod nodes;
+mod objects;
+mod outside;
 mod port;
 mod proxy;
 mod row;
 mod steps;
 mod timing;
+mod turned;
 mod turns;
 
-use row::{Input, next_row};
-use std::io::{self, BufReader, BufWriter, Write};
+use row::answer_rows;
+use row_words::Rows;
+use std::io::{self, BufReader, BufWriter};
 
-fn main(rt: HostRuntime) -> anyhow::Result<()> {
-    let mut input = Input::new(rt.alloc(), BufReader::new(rt.alloc(), rt.reader())?);
-    let mut output = BufWriter::new(rt.alloc(), io::writer(&rt))?;
-    for _ in 0..u64::MAX {
-        if !next_row(rt, &mut input, &mut output)? {
-            break;
-        }
-    }
-    output.flush()?;
-    Ok(())
+fn main(rt: HostRuntime) -> io::Result<()> {
+    let reader = BufReader::new(rt.alloc(), rt.reader())?;
+    let writer = BufWriter::new(rt.alloc(), io::writer(&rt))?;
+    answer_rows(rt, Rows::new(rt.alloc(), reader, writer))
 }

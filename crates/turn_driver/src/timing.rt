@@ -1,58 +1,63 @@
 //! `time`: what a turn costs that moves nothing.
 
-use crate::proxy::Proxy;
-use proxy_lanes::Naming;
+use crate::turned::{Hands, Turned, Turns};
 use row_words::{Answer, Args, CallFault};
-use std::sync::Wait;
 use std::time::{Clock, Instant};
 
 /// Who is turned.
 #[derive(Clone, Copy)]
-enum Turned {
+enum Who {
     Worker,
     Carrier,
 }
 
 /// Answers how many nanoseconds a turn took of so many, or `moved` where one of them moved something.
-pub fn call<J: Naming, R: Wait + Clock + Drop>(
+pub fn call<R: Clock, W: Turned, C: Hands>(
     rt: &R,
-    proxy: &mut Proxy<'_, J, R>,
+    turned: &mut Turns<W, C>,
     args: &mut Args<'_>,
     answer: &mut Answer,
 ) -> Result<(), CallFault> {
-    let who = match args.name()? {
-        "worker" => Turned::Worker,
-        "carrier" => Turned::Carrier,
-        _ => return Err(CallFault::NoSuchCall),
-    };
+    let who = who_in(args)?;
     let count = args.number()?;
     let Ok(start) = Instant::now(rt) else {
         return Err(CallFault::NotNow);
     };
-    if turn(proxy, who, count)? {
+    if turn(turned, who, count)? {
         answer.name("moved");
         return Ok(());
     }
-    let Ok(spent) = start.elapsed(rt) else {
-        return Err(CallFault::NotNow);
-    };
-    let each = spent.as_nanos() / u128::from(count.max(1));
-    answer.number(u64::try_from(each).unwrap_or(u64::MAX));
+    answer.number(nanoseconds_since(rt, start)? / count.max(1));
     Ok(())
 }
 
+fn who_in(args: &mut Args<'_>) -> Result<Who, CallFault> {
+    match args.name()? {
+        "worker" => Ok(Who::Worker),
+        "carrier" => Ok(Who::Carrier),
+        _ => Err(CallFault::NoSuchCall),
+    }
+}
+
 /// So many turns. True where one of them moved something.
-fn turn<J: Naming, R: Wait + Drop>(
-    proxy: &mut Proxy<'_, J, R>,
-    who: Turned,
+fn turn<W: Turned, C: Hands>(
+    turned: &mut Turns<W, C>,
+    who: Who,
     count: u64,
 ) -> Result<bool, CallFault> {
     let mut moved = false;
     for _ in 0..count {
         moved |= match who {
-            Turned::Worker => proxy.turn_worker(0)?,
-            Turned::Carrier => proxy.turn_carrier()?,
+            Who::Worker => turned.turn_worker(0)?,
+            Who::Carrier => turned.turn_carrier()?,
         };
     }
     Ok(moved)
+}
+
+fn nanoseconds_since<R: Clock>(rt: &R, start: Instant) -> Result<u64, CallFault> {
+    match start.elapsed(rt) {
+        Ok(spent) => Ok(u64::try_from(spent.as_nanos()).unwrap_or(u64::MAX)),
+        Err(_) => Err(CallFault::NotNow),
+    }
 }

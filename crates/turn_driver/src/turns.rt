@@ -1,84 +1,52 @@
 //! `turns`: clients that come, and turns of the workers and the carrier.
 
-use crate::proxy::Proxy;
-use proxy_lanes::Naming;
+use crate::clients::Clients;
+use crate::turned::{Hands, Turned, Turns};
 use row_words::{Answer, Args, CallFault};
-use std::sync::Wait;
 
-pub fn call<J: Naming, R: Wait + Drop>(
-    proxy: &mut Proxy<'_, J, R>,
+pub fn call<W: Turned, C: Hands>(
+    turned: &mut Turns<W, C>,
+    clients: &mut Clients,
     args: &mut Args<'_>,
     answer: &mut Answer,
 ) -> Result<(), CallFault> {
     match args.name()? {
-        "worker" => {
-            let worker = args.short()?;
-            show_moved(proxy.turn_worker(usize::from(worker))?, answer);
-        }
-        "carrier" => show_moved(proxy.turn_carrier()?, answer),
-        "all" => {
-            let count = args.number()?;
-            show_moved(proxy.turn_all(count)?, answer);
-        }
-        name => return client_call(proxy, name, args, answer),
-    }
-    Ok(())
-}
-
-fn client_call<J: Naming, R: Wait + Drop>(
-    proxy: &mut Proxy<'_, J, R>,
-    name: &str,
-    args: &mut Args<'_>,
-    answer: &mut Answer,
-) -> Result<(), CallFault> {
-    match name {
-        "client" => {
-            let worker = args.short()?;
-            let number = client_number(args)?;
-            let handed = proxy.hand(worker, number, args.bytes()?)?;
-            answer.name(if handed { "ok" } else { "full" });
+        "client" => come(turned, clients, args, answer),
+        "hears" => clients.hears(args, answer),
+        "held" => clients.show_held(args, answer),
+        name => {
+            let moved = turn(turned, name, args)?;
+            answer.name(if moved { "moved" } else { "rests" });
             Ok(())
         }
-        "hears" => hears(proxy, args, answer),
-        "held" => show_held(proxy, args, answer),
+    }
+}
+
+/// `client WORKER NUMBER BYTES`
+fn come<W: Turned, C: Hands>(
+    turned: &mut Turns<W, C>,
+    clients: &mut Clients,
+    args: &mut Args<'_>,
+    answer: &mut Answer,
+) -> Result<(), CallFault> {
+    let worker = args.short()?;
+    let number = args.client()?;
+    let port = clients.add(number, args.bytes()?)?;
+    let handed = turned.hand(worker, number, port)?;
+    answer.name(if handed { "ok" } else { "full" });
+    Ok(())
+}
+
+/// Makes some turns. True where something moved.
+fn turn<W: Turned, C: Hands>(
+    turned: &mut Turns<W, C>,
+    name: &str,
+    args: &mut Args<'_>,
+) -> Result<bool, CallFault> {
+    match name {
+        "worker" => turned.turn_worker(usize::from(args.short()?)),
+        "carrier" => Ok(turned.turn_carrier()?),
+        "all" => Ok(turned.turn_all(args.number()?)?),
         _ => Err(CallFault::NoSuchCall),
     }
-}
-
-/// Gives a client bytes, as if they had been replied.
-fn hears<J: Naming, R: Wait + Drop>(
-    proxy: &Proxy<'_, J, R>,
-    args: &mut Args<'_>,
-    answer: &mut Answer,
-) -> Result<(), CallFault> {
-    let client = proxy.client(client_number(args)?)?;
-    if !client.hears(args.bytes()?) {
-        return Err(CallFault::NoMemory);
-    }
-    answer.name("ok");
-    Ok(())
-}
-
-/// Takes away what a client holds: the bytes, and how many ends were noted.
-fn show_held<J: Naming, R: Wait + Drop>(
-    proxy: &Proxy<'_, J, R>,
-    args: &mut Args<'_>,
-    answer: &mut Answer,
-) -> Result<(), CallFault> {
-    let client = proxy.client(client_number(args)?)?;
-    let Some((bytes, ends)) = client.take_held(proxy.alloc) else {
-        return Err(CallFault::NotNow);
-    };
-    answer.bytes(bytes.as_slice());
-    answer.number(ends as u64);
-    Ok(())
-}
-
-fn show_moved(moved: bool, answer: &mut Answer) {
-    answer.name(if moved { "moved" } else { "rests" });
-}
-
-pub fn client_number(args: &mut Args<'_>) -> Result<u32, CallFault> {
-    let number = args.number()?;
-    u32::try_from(number).map_err(|_| CallFault::BadNumber)
 }

@@ -1,0 +1,57 @@
+//! The objects of a row, by name.
+
+use crate::clients::Clients;
+use crate::lane::Lane;
+use crate::nodes::SharedNodes;
+use crate::turned::{Hands, Turned, Turns};
+use crate::{future, steps, timing, turns};
+use proxy_lanes::Naming;
+use row_words::{Answer, Args, CallFault, Objects};
+use std::alloc::AllocGlobal;
+use std::random::RandomSource;
+use std::sync::Wait;
+use std::time::Clock;
+
+/// Workers and a carrier, with their clients and nodes, and the lane of the last worker.
+#[derive(Drop)]
+pub struct TurnObjects<J: Naming, R, W, C> {
+    pub rt: R,
+    pub clients: Clients,
+    pub nodes: SharedNodes,
+    pub turned: Turns<W, C>,
+    pub lane: Lane<J>,
+}
+
+impl<J, R, W, C> Objects for TurnObjects<J, R, W, C>
+where
+    J: Naming,
+    R: Wait + RandomSource + Clock + AllocGlobal,
+    W: Turned,
+    C: Hands,
+{
+    fn call(
+        &mut self,
+        object: &str,
+        args: &mut Args<'_>,
+        answer: &mut Answer,
+    ) -> Result<(), CallFault> {
+        match object {
+            "turns" => turns::call(&mut self.turned, &mut self.clients, args, answer),
+            "time" => timing::call(&self.rt, &mut self.turned, args, answer),
+            "future" => {
+                let carrier = &self.turned.carrier;
+                future::call(
+                    &self.rt,
+                    &mut self.lane,
+                    carrier,
+                    &self.clients,
+                    args,
+                    answer,
+                )
+            }
+            "lane" => self.lane.call(args, answer),
+            "nodes" => steps::call(&self.nodes, args, answer),
+            _ => Err(CallFault::NoSuchObject),
+        }
+    }
+}
