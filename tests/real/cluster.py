@@ -1,14 +1,17 @@
 """Servers of a test: plain redis-servers, a cluster of three primaries with slots that move, and the proxy."""
 
 import os
-import random
 import signal
-import socket
 import subprocess
+import sys
 import time
 
 from client import Client, Closed
 from harness import check
+
+sys.path.append(os.path.join(os.path.dirname(os.path.abspath(__file__)), "..", "program"))
+
+from ports import free_ports
 
 SLOTS = 16384
 
@@ -41,20 +44,6 @@ def keys_of_slots(first, last, count):
             keys.setdefault(slot, b"%d" % number)
         if len(keys) == count:
             return list(keys.values())
-
-
-def free_ports(count):
-    """Ports of loopback that nobody listens on, below those that the system gives to connections: none takes one meanwhile."""
-    with open("/proc/sys/net/ipv4/ip_local_port_range", encoding="ascii") as given:
-        end = max(20_000, int(given.read().split()[0]))
-    ports = set()
-    while len(ports) < count:
-        try:
-            with socket.create_server(("127.0.0.1", random.randrange(10_000, end))) as it:
-                ports.add(it.getsockname()[1])
-        except OSError:
-            pass  # it is taken
-    return list(ports)
 
 
 def is_within(seconds, is_so):
