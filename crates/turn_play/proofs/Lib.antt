@@ -1,1 +1,4 @@
 mod Refining
+mod Numbers
+mod Breaking
+mod Turning

@@ -1,2 +1,3 @@
 pub mod May
 pub mod Played
+pub mod Turns
