@@ -1,3 +1,5 @@
 pub mod May
 pub mod Played
 pub mod Turns
+pub mod Waiting
+pub mod Port
