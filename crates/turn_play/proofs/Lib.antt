@@ -1,4 +1,6 @@
 mod Refining
 mod Numbers
 mod Breaking
+mod Served
+mod Swapping
 mod Turning

@@ -15,12 +15,15 @@ use Rattle.world_laws.specs.declared.event.Event.TheVariants as core
 use Rattle.world_laws.proofs.Recorded.{set-same}
 use Rattle.node_model.specs.Nodes.{ClusterModel}
 use Rattle.node_model.specs.declared.role.Verdict.{Verdict}
-use Rattle.turn_laws.specs.Wire.{Wire}
+use Rattle.node_model.specs.Runs.{deed_for, DoesRun}
+use Rattle.resp_wire.specs.declared.value.Value.{Value}
+use Rattle.key_split.specs.declared.travel.Told.{Told}
+use Rattle.turn_laws.specs.Wire.{Wire, Item, Part, Runs, Execution, AreTold, ServesNext, parts_in}
 use Rattle.turn_laws.specs.System.{System}
 use Rattle.turn_laws.specs.Shadow.{IsShadow, IsWorking, OpenShadow, IsIdle, Numbers, IsUnnumbered}
 use Rattle.turn_laws.specs.Steps.{SystemEvent, AtWorker, AtCarrier, AtNode, AtBroken, Thrown, Moved, SystemStep, WorkerStep, Serves, MovesOn}
 use Rattle.turn_laws.specs.Refines.{Refines, IsStart}
-use Rattle.turn_play.specs.May.{MayStep, WorkerMay, ServesMay, MovesMay, MayMoveNow, MayNow, IsInOrder}
+use Rattle.turn_play.specs.May.{MayStep, WorkerMay, ServesMay, MayServeNext, ClusterMoves, AreWritten, IsReadBack, MayMoveNow, MayNow, IsInOrder}
 use Rattle.turn_play.specs.Played.{Step, events_of, Leads, AreInOrder, Holds, PlaysRefine}
 
 -- a list as long as another has an item at each of its places
@@ -30,6 +33,24 @@ beside [] (z ∷ ys) i y e at = absurd (omega (arith, e))
 beside (x ∷ xs) [] i y e at = absurd (omega (arith, e))
 beside (x ∷ xs) (z ∷ ys) zero y e at = (x, refl)
 beside (x ∷ xs) (z ∷ ys) (suc i) y e at = beside xs ys i y (omega (arith, e)) at
+
+-- a node that writes what is read back serves the wire that leads to it
+next-holds : (table : List Endpoint) (cluster : ClusterModel) (k : ℕ) (old : Wire) (verdict : Verdict) (cluster' : ClusterModel) (new : Wire) (values : List Value) (done : List Execution) → k ≡ old.node
+    → ((parts : List Part) (rest : List Item) (tolds : List Told) → old.items ≡ Runs parts ∷ rest → DoesRun (deed_for cluster k old.asking (parts_in parts) verdict) cluster k (parts_in parts) tolds cluster' → AreWritten table tolds values → AreTold table k values tolds)
+    → MayServeNext table cluster k old verdict cluster' new values done → ServesNext table cluster old verdict cluster' new values done
+next-holds table cluster k old verdict cluster' new values done there back (inl x) = inl x
+next-holds table cluster k old verdict cluster' new values done there back (inr (inl x)) = inr (inl (
+  x.0,
+  x.1,
+  x.2,
+  x.3,
+  x.4,
+  subst (λ (n : ℕ). DoesRun (deed_for cluster n old.asking (parts_in x.1) verdict) cluster n (parts_in x.1) x.2 cluster') there x.5,
+  subst (λ (n : ℕ). AreTold table n values x.2) there (back x.1 x.0 x.2 x.3 x.5 x.6),
+  x.7,
+  x.8,
+))
+next-holds table cluster k old verdict cluster' new values done there back (inr (inr x)) = inr (inr x)
 
 module _ {C J : Type 0} where
   -- one more step
@@ -62,10 +83,13 @@ module _ {C J : Type 0} where
       let r = h.links.backends k link works in
       ⊎_elim (λ y. y.4.wired) (λ y. y.1.wired) r.2 ∙ r.0
 
-  serves-holds : (s s' : System C J) (w : WorldModel) → IsShadow s w → (k : ℕ) (verdict : Verdict) → ServesMay s k verdict s' → Serves s k verdict s'
-  serves-holds s s' w h k verdict x = (x.0, x.1, x.2, x.3, x.4, x.5, x.6, x.7, x.8 (leads-there s w h k x.1 (x.0, x.5, x.6, x.7)), x.9, x.10)
+  serves-holds : (s s' : System C J) (w : WorldModel) → IsShadow s w → (k : ℕ) (verdict : Verdict) → ServesMay s k verdict s' → IsReadBack s k verdict → Serves s k verdict s'
+  serves-holds s s' w h k verdict x back =
+      let works : IsWorking s.carrier k x.1 = (x.0, x.5, x.6, x.7) in
+      let there : k ≡ x.1.port.node = sym (leads-there s w h k x.1 works) in
+      (x.0, x.1, x.2, x.3, x.4, x.5, x.6, x.7, next-holds s.nodes s.cluster k x.1.port verdict s'.cluster x.2 x.3 x.4 there (λ parts rest tolds. back x.1 parts rest tolds s'.cluster x.3 works) x.8, x.9, x.10)
 
-  moves-hold : (s : System C J) (event : Event) (k : ClusterModel) → MovesMay s event k → MayMoveNow s event → MovesOn s event k
+  moves-hold : (s : System C J) (event : Event) (k : ClusterModel) → ClusterMoves s.cluster event k → MayMoveNow s event → MovesOn s event k
   moves-hold s (core.Import slot target) k x now = (now, x.0, x.1)
   moves-hold s (core.Migrate slot) k x now = x
   moves-hold s (core.MoveKey slot key) k x now = x
@@ -87,7 +111,7 @@ module _ {C J : Type 0} where
   step-holds : (s s' : System C J) (w : WorldModel) → IsShadow s w → (event : SystemEvent) → MayStep s event s' → MayNow s event → IsInOrder s' → SystemStep s event s'
   step-holds s s' w h (AtWorker k event) x now order = worker-holds s s' w h k event x order
   step-holds s s' w h (AtCarrier event) x now order = record { longest = x.longest; does = x.does; breaks = x.breaks; leaves = x.leaves; in_step = order.ups; table = subst (λ (nodes : List Endpoint). IsPrefix s'.carrier.nodes nodes) (ap (λ (t : System C J). t.nodes) x.leaves) order.table }
-  step-holds s s' w h (AtNode k verdict) x now order = serves-holds s s' w h k verdict x
+  step-holds s s' w h (AtNode k verdict) x now order = serves-holds s s' w h k verdict x now
   step-holds s s' w h (AtBroken j verdict) x now order = x
   step-holds s s' w h (Thrown j) x now order = x
   step-holds s s' w h (Moved event) x now order = (moves-hold s event s'.cluster x.0 now, x.1)

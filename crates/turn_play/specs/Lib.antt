@@ -3,3 +3,8 @@ pub mod Played
 pub mod Turns
 pub mod Waiting
 pub mod Port
+pub mod Serving
+pub mod Playing
+pub mod Moving
+pub mod Play
+pub mod Dialling

@@ -2,10 +2,14 @@
 
 ghost use Rattle.turn_play.specs.Port.{IsEnd, PortExchanges, any_bytes, no_count, port-stands, port-still};
 
+use crate::fault::PlayFault;
+use crate::serving::serve_one;
 use crate::waiting::{Waiting, keep};
 use key_split::{Batch, Run};
 use node_link::{NodePort, PortFault, RunPort};
-use resp_wire::{NoMemory, Value};
+use node_model::{Cluster, Verdict};
+use resp_wire::{Line, NoMemory, Value};
+use slot_map::{NodeId, NodeTable};
 use std::alloc::Global;
 use std::collections::VecDeque;
 use std::marker::Model;
@@ -36,9 +40,10 @@ impl Model for PlayPort {
 }
 
 impl PlayPort {
-    ghost use Rattle.std.specs.Prelude.{◌≡◌, ◌∷◌, [], true, false};
+    ghost use Rattle.std.specs.Prelude.{◌≡◌, ◌∷◌, [], true, false, OnOk};
     ghost use Rattle.key_split.specs.Requests.{requests_of, Slots};
     ghost use Rattle.turn_play.specs.Port.{KeepOutcome};
+    ghost use Rattle.turn_play.specs.Serving.{Replies, ServeOutcome, TakesFirst};
 
     /// A connection over which nothing went.
     pub fn new(alloc: Global) -> PlayPort
@@ -73,6 +78,61 @@ impl PlayPort {
     {
         self.waiting.reserve(1)?;
         self.waiting.push_back_reserved(Waiting::Slots);
+        Ok(())
+    }
+
+    /// The node at the other end serves what waits first, and writes what it says. False where nothing waits.
+    pub fn serve(
+        &mut self,
+        node: NodeId,
+        verdict: Verdict,
+        cluster: &mut Cluster,
+        nodes: &NodeTable,
+    ) -> Result<bool, PlayFault>
+        ensures { ServeOutcome nodes.now cluster.old node self.old verdict result cluster.new self.new }
+    {
+        match self.take_first() {
+            None => Ok(false),
+            Some(Waiting::Asking) => {
+                let okay = Line::from_text(self.alloc, b"OK")?;
+                self.reply(true, Value::Simple(okay))?;
+                Ok(true)
+            }
+            Some(Waiting::Command(_, part)) => {
+                let value = serve_one(
+                    self.alloc,
+                    node,
+                    self.asking,
+                    part,
+                    verdict,
+                    cluster,
+                    nodes,
+                )?;
+                self.reply(false, value)?;
+                Ok(true)
+            }
+            Some(Waiting::Slots) => {
+                let listing = cluster.slots_value(nodes)?;
+                self.reply(self.asking, listing)?;
+                Ok(true)
+            }
+        }
+    }
+
+    // Takes what waits first.
+    fn take_first(&mut self) -> Option<Waiting>
+        ensures { TakesFirst self.old result self.new }
+    {
+        self.waiting.pop_front()
+    }
+
+    // Puts a value behind the others, and the flag that ASKING sets.
+    fn reply(&mut self, asking: bool, value: Value) -> Result<(), NoMemory>
+        ensures { OnOk result (Replies self.old asking value self.new) }
+    {
+        self.values.reserve(1)?;
+        self.values.push_back_reserved(value);
+        self.asking = asking;
         Ok(())
     }
 }
