@@ -4,3 +4,5 @@ mod Breaking
 mod Served
 mod Swapping
 mod Turning
+mod Playing
+mod Orders
