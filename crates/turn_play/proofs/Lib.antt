@@ -6,3 +6,4 @@ mod Swapping
 mod Turning
 mod Playing
 mod Orders
+mod Starting

@@ -8,3 +8,4 @@ pub mod Playing
 pub mod Moving
 pub mod Play
 pub mod Dialling
+pub mod Starting

@@ -1,6 +1,7 @@
 //! What follows of the steps that the code made. Each law is the contract of a function that does nothing.
 
 ghost use Rattle.turn_play.specs.Played.{PlaysRefine};
+ghost use Rattle.turn_play.specs.Starting.{PlaysStart};
 ghost use Rattle.turn_play.specs.Turns.{CarriersPlay, WorkersPlay};
 
 use proxy_lanes::Naming;
@@ -28,3 +29,8 @@ pub fn carriers_play<C: Drop, J: Naming, P: WiredPort, D: Dial<Port = P>>()
 {
     any_port::<Newcomer<C, J>, P, D>();
 }
+
+/// A play over new lanes, with a new cluster, shows a start.
+pub fn plays_start<C: Drop, J: Naming>()
+    ensures { PlaysStart C J }
+{}

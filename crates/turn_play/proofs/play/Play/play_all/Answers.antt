@@ -1,6 +1,6 @@
 use Rattle.turn_play.specs.Play.{play_model}
 use Rattle.turn_play.proofs.Playing.{plays-none, plays-on}
-use Rattle.turn_play.proofs.play.Play+C+J+R+G.play_all.Goals as goal
+use Rattle.turn_play.proofs.play.Play.play_all.Goals as goal
 
 pub loop-order-init : goal.loop-order-init
 loop-order-init g c = plays-none (play_model c.args.self.now)

@@ -5,7 +5,7 @@ use Rattle.proxy_turns.specs.Worker.{worker_model}
 use Rattle.turn_play.specs.Play.{play_model}
 use Rattle.turn_play.proofs.Playing.{plays-none}
 use Rattle.turn_play.proofs.Orders.{one-turned}
-use Rattle.turn_play.proofs.play.Play+C+J+R+G.turn_worker.Goals as goal
+use Rattle.turn_play.proofs.play.Play.turn_worker.Goals as goal
 
 pub returns-then-k-len : goal.returns-then-k-len
 returns-then-k-len g c = plays-none (play_model c.args.self.now)
