@@ -107,9 +107,6 @@ module _ (table : List Endpoint) (k : ClusterModel) (node : ℕ) (port : PortMod
 -- ---- a play
 
 module _ {C J : Type 0} where
-  abbrev Carries : Type 0
-  Carries = CarrierModel (Newcomer C J) PortModel
-
   leads-join : (a : System C J) (steps : List (Step C J)) (b : System C J) (later : List (Step C J)) (c : System C J) → Leads a steps b → Leads b later c → Leads a (steps ++ later) c
   leads-join a [] b later c x y = subst (λ (s : System C J). Leads s later c) (sym x) y
   leads-join a (step ∷ steps) b later c x y = (x.0, leads-join step.next steps b later c x.1 y)
@@ -145,7 +142,7 @@ module _ {C J : Type 0} where
       )
 
   -- the carrier's
-  pub carrier-turned : (old : PlayModel C J) (new : Carries) → ((s : System C J) → ShowsCarrier IsEnd old.carrier s → PlaysCarrier IsEnd s new) → PlaysTo old (record old { carrier = new })
+  pub carrier-turned : (old : PlayModel C J) (new : CarrierModel (Newcomer C J) PortModel) → ((s : System C J) → ShowsCarrier IsEnd old.carrier s → PlaysCarrier IsEnd s new) → PlaysTo old (record old { carrier = new })
   carrier-turned old new turns s shows =
       let x = turns s shows.carrier in
       (
@@ -171,7 +168,7 @@ module _ {C J : Type 0} where
 
   -- ---- a port that is changed
 
-  module _ (old new : Carries) (node : ℕ) (port port' : PortModel) (x : SwapOutcome node old port' (Ok port) new) (s : System C J) (shows : ShowsCarrier IsEnd old s) where
+  module _ (old new : CarrierModel (Newcomer C J) PortModel) (node : ℕ) (port port' : PortModel) (x : SwapOutcome node old port' (Ok port) new) (s : System C J) (shows : ShowsCarrier IsEnd old s) where
     -- the wire at the other end
     at-end : WireAt IsEnd old.backends shows.0 node x.0
     at-end = wire-at IsEnd old.backends shows.0 shows.1 node x.0 x.2
@@ -192,14 +189,14 @@ module _ {C J : Type 0} where
     shows-after : (wire' : Wire) → IsEnd port' wire' → (t : System C J) → t.carrier ≡ after wire' → ShowsCarrier IsEnd new t
     shows-after wire' on t e = (
       slice_set shows.0 node wire',
-      subst (λ bs. AreWired IsEnd bs (slice_set shows.0 node wire')) (sym (ap (λ (c : Carries). c.backends) x.6)) (set-wired IsEnd old.backends shows.0 shows.1 node (with_port x.0 x.1 port') wire' on),
+      subst (λ bs. AreWired IsEnd bs (slice_set shows.0 node wire')) (sym (ap (λ (c : CarrierModel (Newcomer C J) PortModel). c.backends) x.6)) (set-wired IsEnd old.backends shows.0 shows.1 node (with_port x.0 x.1 port') wire' on),
       e ∙ (λ i. record (shows.2 i) { backends = slice_set (shows.2 i).backends node (over_backend (with_port x.0 x.1 port') wire') })
           ∙ sym ((λ i. over_wires (x.6 i) (slice_set shows.0 node wire')) ∙ (λ i. record (over_wires old shows.0) { backends = set-over IsEnd old.backends shows.0 shows.1 node (with_port x.0 x.1 port') wire' i })),
     )
 
   -- it is broken
-  pub broke : (old : PlayModel C J) (node : ℕ) (new : Carries) → BreaksAt node old.carrier new → PlaysTo old (record old { carrier = new })
-  broke old node new (inl same) s shows = (s, ([], refl), record { workers = shows.workers; carrier = subst (λ (c : Carries). ShowsCarrier IsEnd c s) (sym same) shows.carrier; cluster = shows.cluster; nodes = shows.nodes })
+  pub broke : (old : PlayModel C J) (node : ℕ) (new : CarrierModel (Newcomer C J) PortModel) → BreaksAt node old.carrier new → PlaysTo old (record old { carrier = new })
+  broke old node new (inl same) s shows = (s, ([], refl), record { workers = shows.workers; carrier = subst (λ (c : CarrierModel (Newcomer C J) PortModel). ShowsCarrier IsEnd c s) (sym same) shows.carrier; cluster = shows.cluster; nodes = shows.nodes })
   broke old node new (inr x) s shows =
       let end = at-end old.carrier new node x.0 (record x.0 { broken = true }) x.1 s shows.carrier in
       let its = its-end old.carrier new node x.0 (record x.0 { broken = true }) x.1 s shows.carrier in
@@ -218,7 +215,7 @@ module _ {C J : Type 0} where
       )
 
   -- what waits first is served
-  served-at : (old : PlayModel C J) (node : ℕ) (verdict : Verdict) (k : ClusterModel) (new : Carries) (port port' : PortModel) → SwapOutcome node old.carrier port' (Ok port) new → PortServes old.nodes old.cluster node port verdict k port'
+  served-at : (old : PlayModel C J) (node : ℕ) (verdict : Verdict) (k : ClusterModel) (new : CarrierModel (Newcomer C J) PortModel) (port port' : PortModel) → SwapOutcome node old.carrier port' (Ok port) new → PortServes old.nodes old.cluster node port verdict k port'
       → PlaysTo old (record old { carrier = new; cluster = k })
   served-at old node verdict k new port port' x y s shows =
       let end = at-end old.carrier new node port port' x s shows.carrier in
@@ -244,7 +241,7 @@ module _ {C J : Type 0} where
       )
 
   -- nothing waited, so the port is as it was
-  idle-at : (old : PlayModel C J) (node : ℕ) (k : ClusterModel) (new : Carries) (port port' : PortModel) → SwapOutcome node old.carrier port' (Ok port) new → k ≡ old.cluster → port' ≡ port → PlaysTo old (record old { carrier = new; cluster = k })
+  idle-at : (old : PlayModel C J) (node : ℕ) (k : ClusterModel) (new : CarrierModel (Newcomer C J) PortModel) (port port' : PortModel) → SwapOutcome node old.carrier port' (Ok port) new → k ≡ old.cluster → port' ≡ port → PlaysTo old (record old { carrier = new; cluster = k })
   idle-at old node k new port port' x same-cluster same-port s shows =
       let end = at-end old.carrier new node port port' x s shows.carrier in
       let its = its-end old.carrier new node port port' x s shows.carrier in
@@ -262,11 +259,11 @@ module _ {C J : Type 0} where
         },
       )
 
-  did-serve : (old : PlayModel C J) (node : ℕ) (verdict : Verdict) (k : ClusterModel) (new : Carries) (port port' : PortModel) (moved : Bool) → SwapOutcome node old.carrier port' (Ok port) new → DidServe old.nodes old.cluster node port verdict moved k port'
+  did-serve : (old : PlayModel C J) (node : ℕ) (verdict : Verdict) (k : ClusterModel) (new : CarrierModel (Newcomer C J) PortModel) (port port' : PortModel) (moved : Bool) → SwapOutcome node old.carrier port' (Ok port) new → DidServe old.nodes old.cluster node port verdict moved k port'
       → PlaysTo old (record old { carrier = new; cluster = k })
   did-serve old node verdict k new port port' true x y = served-at old node verdict k new port port' x y
   did-serve old node verdict k new port port' false x y = idle-at old node k new port port' x y.0 y.1
 
-  pub serves : (old : PlayModel C J) (node : ℕ) (verdict : Verdict) (k : ClusterModel) (new : Carries) → ServesAt old.nodes old.cluster node old.carrier verdict k new → PlaysTo old (record old { carrier = new; cluster = k })
-  serves old node verdict k new (inl same) s shows = (s, ([], refl), record { workers = shows.workers; carrier = subst (λ (c : Carries). ShowsCarrier IsEnd c s) (sym same.1) shows.carrier; cluster = shows.cluster ∙ sym same.0; nodes = shows.nodes })
+  pub serves : (old : PlayModel C J) (node : ℕ) (verdict : Verdict) (k : ClusterModel) (new : CarrierModel (Newcomer C J) PortModel) → ServesAt old.nodes old.cluster node old.carrier verdict k new → PlaysTo old (record old { carrier = new; cluster = k })
+  serves old node verdict k new (inl same) = λ s shows. (s, ([], refl), record { workers = shows.workers; carrier = subst (λ (c : CarrierModel (Newcomer C J) PortModel). ShowsCarrier IsEnd c s) (sym same.1) shows.carrier; cluster = shows.cluster ∙ sym same.0; nodes = shows.nodes })
   serves old node verdict k new (inr x) = did-serve old node verdict k new x.0 x.1 x.2 x.3 x.4

@@ -37,21 +37,35 @@ is-some : (down : Option (Outlet (Ticket × Told))) (inlet : Inlet (Ticket × To
 is-some None inlet new = absurd new
 is-some (Some outlet) inlet new = refl
 
+nowhere : {X : Type 0} (x : X) → None ≡ Some x → ⊥
+nowhere x e = absurd (cc)
+
+first-place : (k : ℕ) → k ≡ k + 0
+first-place k = omega arith
+
+later-place : (k i : ℕ) → k + 1 + i ≡ k + suc i
+later-place k i = omega arith
+
+one-thing : {X : Type 0} (x y : X) → Some x ≡ Some y → x ≡ y
+one-thing x y e = cc
+
 module _ {C J : Type 0} (left : Option ℕ) (workers : ℕ) where
   -- the ends at one place, and the worker and the lane over them
-  at-place : (k : ℕ) (ends : List (WorkerEnds (Newcomer C J) J)) (lanes : List (LaneEnds (Newcomer C J))) → AreLanesFrom workers k ends lanes → (i : ℕ) (lane : LaneEnds (Newcomer C J)) → slice_get lanes i ≡ Some lane
-      → (e : WorkerEnds (Newcomer C J) J) × (slice_get (workers_on left ends) i ≡ Some (new_worker e left)) × AreLanesOf workers (k + i) e lane
-  at-place k [] [] are i lane at = absurd (cc)
+  abbrev AtPlace : ℕ → List (WorkerEnds (Newcomer C J) J) → ℕ → LaneEnds (Newcomer C J) → Type 0
+  AtPlace k ends i lane = (e : WorkerEnds (Newcomer C J) J) × (slice_get (workers_on left ends) i ≡ Some (new_worker e left)) × AreLanesOf workers (k + i) e lane
+
+  at-first : (k : ℕ) (e : WorkerEnds (Newcomer C J) J) (ends : List (WorkerEnds (Newcomer C J) J)) (l lane : LaneEnds (Newcomer C J)) → AreLanesOf workers k e l → Some l ≡ Some lane → AtPlace k (e ∷ ends) 0 lane
+  at-first k e ends l lane of at = (e, refl, subst (λ n. AreLanesOf workers n e lane) (first-place k) (subst (λ x. AreLanesOf workers k e x) (one-thing l lane at) of))
+
+  at-later : (k : ℕ) (e : WorkerEnds (Newcomer C J) J) (ends : List (WorkerEnds (Newcomer C J) J)) (i : ℕ) (lane : LaneEnds (Newcomer C J)) → AtPlace (k + 1) ends i lane → AtPlace k (e ∷ ends) (suc i) lane
+  at-later k e ends i lane r = (r.0, r.1, subst (λ n. AreLanesOf workers n r.0 lane) (later-place k i) r.2)
+
+  at-place : (k : ℕ) (ends : List (WorkerEnds (Newcomer C J) J)) (lanes : List (LaneEnds (Newcomer C J))) → AreLanesFrom workers k ends lanes → (i : ℕ) (lane : LaneEnds (Newcomer C J)) → slice_get lanes i ≡ Some lane → AtPlace k ends i lane
+  at-place k [] [] are i lane at = absurd (nowhere lane at)
   at-place k [] (l ∷ lanes) are i lane at = absurd are
   at-place k (e ∷ ends) [] are i lane at = absurd are
-  at-place k (e ∷ ends) (l ∷ lanes) are zero lane at =
-      let same : l ≡ lane = cc in
-      let here : k ≡ k + 0 = omega arith in
-      (e, refl, subst (λ n. AreLanesOf workers n e lane) here (subst (λ x. AreLanesOf workers k e x) same are.0))
-  at-place k (e ∷ ends) (l ∷ lanes) are (suc i) lane at =
-      let r = at-place (k + 1) ends lanes are.1 i lane at in
-      let here : k + 1 + i ≡ k + suc i = omega arith in
-      (r.0, r.1, subst (λ n. AreLanesOf workers n r.0 lane) here r.2)
+  at-place k (e ∷ ends) (l ∷ lanes) are zero lane at = at-first k e ends l lane are.0 at
+  at-place k (e ∷ ends) (l ∷ lanes) are (suc i) lane at = at-later k e ends i lane (at-place (k + 1) ends lanes are.1 i lane at)
 
   same-sides : (k : ℕ) (ends : List (WorkerEnds (Newcomer C J) J)) (lanes : List (LaneEnds (Newcomer C J))) → AreLanesFrom workers k ends lanes → length (workers_on left ends) ≡ length lanes
   same-sides k [] [] are = refl

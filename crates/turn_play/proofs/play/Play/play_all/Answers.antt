@@ -6,4 +6,4 @@ pub loop-order-init : goal.loop-order-init
 loop-order-init g c = plays-none (play_model c.args.self.now)
 
 pub loop-order-preserved : goal.loop-order-preserved
-loop-order-preserved g c = ?
+loop-order-preserved g c = plays-on (play_model c.args.self.now) (play_model c.loop-order.self) (play_model c.obey.new.self) c.loop-order.invariant c.in_ok-obey.ensures
