@@ -1,5 +1,5 @@
 -- Where a connection fails in a step, its wire is one of the broken.
-use Rattle.std.proofs.Common.{◌≡◌, ◌⊎◌, inl, inr, ⊎_elim, ℕ, zero, suc, Bool, true, false, List, [], ◌∷◌, ◌++◌, Some, None, refl, sym, ap, ◌∙◌, subst}
+use Rattle.std.proofs.Common.{◌≡◌, ◌⊎◌, inl, inr, ⊎_elim, ℕ, zero, suc, true, false, List, [], ◌∷◌, ◌++◌, Some, None, refl, sym, ap, ◌∙◌, subst}
 use Rattle.std.specs.Prelude.{Option, IsSome, slice_get}
 use Rattle.node_link.specs.LinkModel.{LinkModel}
 use Rattle.node_link.specs.declared.link.Failure.{Failure}
@@ -8,7 +8,7 @@ use Rattle.proxy_turns.specs.declared.newcomer.Newcomer.{Newcomer}
 use Rattle.proxy_turns.specs.CarrierModel.{CarrierModel}
 use Rattle.turn_laws.specs.Wire.{Wire}
 use Rattle.turn_laws.specs.System.{System}
-use Rattle.turn_laws.specs.Steps.{FailsAt, Breaks}
+use Rattle.turn_laws.specs.Steps.{Breaks}
 
 -- the first link works, and the second one in its place has failed
 abbrev Fails : Option (LinkModel Wire) → Option (LinkModel Wire) → LinkModel Wire → LinkModel Wire → Type 0
@@ -89,8 +89,8 @@ module _ {C J : Type 0} where
   broken s carrier opened = ⊎_elim
       (λ (never : (k : ℕ) (link link' : LinkModel Wire) → FailsIn s.carrier.backends carrier.backends k link link' → ⊥).
       let r : (closed : List Wire) × Breaks s (record s { carrier = carrier; closed = closed; opened = opened }) =
-          (s.closed, inl (refl, λ k link link' x. never k link link' (x.0, (x.1, x.2, x.3, x.4)))) in r)
+      (s.closed, inl (refl, λ k link link' x. never k link link' (x.0, (x.1, x.2, x.3, x.4)))) in r)
       (λ (x : (k : ℕ) × (link : LinkModel Wire) × (link' : LinkModel Wire) × FailsIn s.carrier.backends carrier.backends k link link').
       let r : (closed : List Wire) × Breaks s (record s { carrier = carrier; closed = closed; opened = opened }) =
-          (s.closed ++ record x.2.port { values = [] } ∷ [], inr (x.0, x.1, x.2, (x.3.0, x.3.1.0, x.3.1.1, x.3.1.2, x.3.1.3), refl)) in r)
+      (s.closed ++ record x.2.port { values = [] } ∷ [], inr (x.0, x.1, x.2, (x.3.0, x.3.1.0, x.3.1.1, x.3.1.2, x.3.1.3), refl)) in r)
       (of-lists s.carrier.backends carrier.backends)

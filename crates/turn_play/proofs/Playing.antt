@@ -1,29 +1,27 @@
 -- What each order does is steps of a system.
-use Rattle.std.proofs.Common.{◌≡◌, ◌⊎◌, inl, inr, ⊎_elim, ℕ, zero, suc, Bool, true, false, List, [], ◌∷◌, ◌++◌, Some, None, Ok, refl, sym, ap, ◌∙◌, subst}
+use Rattle.std.proofs.Common.{◌≡◌, inl, inr, ℕ, zero, suc, Bool, true, false, List, [], ◌∷◌, ◌++◌, Some, Ok, refl, sym, ap, ◌∙◌, subst}
 use Rattle.std.specs.Prelude.{slice_get, slice_set}
 use Rattle.resp_wire.specs.declared.value.Value.{Value}
-use Rattle.key_split.specs.declared.travel.Told.{Told}
 use Rattle.slot_map.specs.Table.{Endpoint}
 use Rattle.node_model.specs.Nodes.{ClusterModel}
 use Rattle.node_model.specs.Runs.{deed_for, DoesRun}
 use Rattle.node_model.specs.declared.role.Verdict.{Verdict}
-use Rattle.node_link.specs.LinkModel.{LinkModel}
 use Rattle.proxy_turns.specs.declared.newcomer.Newcomer.{Newcomer}
 use Rattle.proxy_turns.specs.declared.backend.Backend.{Backend}
 use Rattle.proxy_turns.specs.WorkerModel.{WorkerModel}
 use Rattle.proxy_turns.specs.CarrierModel.{CarrierModel}
 use Rattle.proxy_turns.specs.Swapping.{SwapOutcome, with_port}
 use Rattle.world_laws.specs.declared.event.Event.{Event}
-use Rattle.turn_laws.specs.Wire.{Wire, Item, Part, Asks, Runs, Lists, Execution, executions, parts_in}
+use Rattle.turn_laws.specs.Wire.{Wire, Item, Execution, executions}
 use Rattle.turn_laws.specs.System.{System}
-use Rattle.turn_laws.specs.Steps.{SystemEvent, AtNode, Moved, log_of}
+use Rattle.turn_laws.specs.Steps.{AtNode, Moved, log_of}
 use Rattle.turn_laws.specs.AnyPort.{IsWired, AreWired, over_link, link_over, over_backend, over_backends, over_wires}
-use Rattle.turn_play.specs.May.{MayStep, MayServeNext, ClusterMoves, AreWritten}
-use Rattle.turn_play.specs.Played.{Step, Leads, Plays, AreInOrder, Holds, PlaysRefine}
+use Rattle.turn_play.specs.May.{MayServeNext, ClusterMoves}
+use Rattle.turn_play.specs.Played.{Step, Leads, PlaysRefine}
 use Rattle.turn_play.specs.Turns.{PlaysWorker, ShowsCarrier, PlaysCarrier}
 use Rattle.turn_play.specs.Port.{PortModel, IsEnd}
-use Rattle.turn_play.specs.Serving.{PortServes, ServesOne, Replies, DidServe, ServesAt, BreaksAt}
-use Rattle.turn_play.specs.Playing.{PlayModel, Shows, PlaysTo, PlaysSoundly}
+use Rattle.turn_play.specs.Serving.{PortServes, Replies, DidServe, ServesAt, BreaksAt}
+use Rattle.turn_play.specs.Playing.{PlayModel, PlaysTo, PlaysSoundly}
 use Rattle.turn_play.proofs.Turning.{set-itself}
 
 -- ---- the wire of a backend
@@ -129,8 +127,7 @@ module _ {C J : Type 0} where
   pub worker-turned : (old : PlayModel C J) (k : ℕ) (model new : WorkerModel C J) → slice_get old.workers k ≡ Some model
       → ((s : System C J) → slice_get s.workers k ≡ Some model → PlaysWorker s k new) → PlaysTo old (record old { workers = slice_set old.workers k new })
   worker-turned old k model new at turns s shows =
-      let x = turns s (ap (λ ws. slice_get ws k) shows.workers ∙ at) in
-      (
+      let x = turns s (ap (λ ws. slice_get ws k) shows.workers ∙ at) in (
         x.0,
         x.1,
         record {
@@ -144,8 +141,7 @@ module _ {C J : Type 0} where
   -- the carrier's
   pub carrier-turned : (old : PlayModel C J) (new : CarrierModel (Newcomer C J) PortModel) → ((s : System C J) → ShowsCarrier IsEnd old.carrier s → PlaysCarrier IsEnd s new) → PlaysTo old (record old { carrier = new })
   carrier-turned old new turns s shows =
-      let x = turns s shows.carrier in
-      (
+      let x = turns s shows.carrier in (
         x.0,
         x.1,
         record {
@@ -159,8 +155,7 @@ module _ {C J : Type 0} where
   -- a step of a move
   pub moved : (old : PlayModel C J) (event : Event) (k : ClusterModel) → ClusterMoves old.cluster event k → PlaysTo old (record old { cluster = k })
   moved old event k x s shows =
-      let next : System C J = record s { cluster = k } in
-      (
+      let next : System C J = record s { cluster = k } in (
         next,
         (record { event = Moved event; next = next } ∷ [], ((subst (λ (c : ClusterModel). ClusterMoves c event k) (sym shows.cluster) x, refl), refl)),
         record { workers = shows.workers; carrier = shows.carrier; cluster = refl; nodes = shows.nodes },
@@ -201,8 +196,7 @@ module _ {C J : Type 0} where
       let end = at-end old.carrier new node x.0 (record x.0 { broken = true }) x.1 s shows.carrier in
       let its = its-end old.carrier new node x.0 (record x.0 { broken = true }) x.1 s shows.carrier in
       let here = there old.carrier new node x.0 (record x.0 { broken = true }) x.1 s shows.carrier in
-      let same : record (over_backend x.1.0 end.0) { link = Some (record (over_link x.1.1 end.0) { port = end.0 }) } ≡ over_backend x.1.0 end.0 = λ i. over_backend (record x.1.0 { link = sym x.1.3 i }) end.0 in
-      (
+      let same : record (over_backend x.1.0 end.0) { link = Some (record (over_link x.1.1 end.0) { port = end.0 }) } ≡ over_backend x.1.0 end.0 = λ i. over_backend (record x.1.0 { link = sym x.1.3 i }) end.0 in (
         s,
         ([], refl),
         record {
@@ -225,8 +219,7 @@ module _ {C J : Type 0} where
       let carrier : CarrierModel (Newcomer C J) Wire = after old.carrier new node port port' x s shows.carrier r.0 in
       let next : System C J = record s { cluster = k; carrier = carrier; log = s.log ++ log_of r.2 } in
       let nodes-so = subst (λ (ns : List Endpoint). MayServeNext ns old.cluster node end.0 verdict k r.0 r.1 r.2) (sym shows.nodes) r.3 in
-      let serves = subst (λ (c : ClusterModel). MayServeNext s.nodes c node end.0 verdict k r.0 r.1 r.2) (sym shows.cluster) nodes-so in
-      (
+      let serves = subst (λ (c : ClusterModel). MayServeNext s.nodes c node end.0 verdict k r.0 r.1 r.2) (sym shows.cluster) nodes-so in (
         next,
         (
           record { event = AtNode node verdict; next = next } ∷ [],
@@ -246,8 +239,7 @@ module _ {C J : Type 0} where
       let end = at-end old.carrier new node port port' x s shows.carrier in
       let its = its-end old.carrier new node port port' x s shows.carrier in
       let here = there old.carrier new node port port' x s shows.carrier in
-      let same : record (over_backend x.0 end.0) { link = Some (record (over_link x.1 end.0) { port = end.0 }) } ≡ over_backend x.0 end.0 = λ i. over_backend (record x.0 { link = sym x.3 i }) end.0 in
-      (
+      let same : record (over_backend x.0 end.0) { link = Some (record (over_link x.1 end.0) { port = end.0 }) } ≡ over_backend x.0 end.0 = λ i. over_backend (record x.0 { link = sym x.3 i }) end.0 in (
         s,
         ([], refl),
         record {

@@ -1,14 +1,13 @@
 -- Steps that the code made, with their premises, are steps of a system.
-use Rattle.std.proofs.Common.{◌≡◌, inl, inr, ⊎_elim, ℕ, zero, suc, List, [], ◌∷◌, ◌++◌, Some, None, refl, sym, ap, ◌∙◌, subst, arith, length}
-use Rattle.std.specs.Prelude.{slice_get, slice_set}
+use Rattle.std.proofs.Common.{◌≡◌, inl, inr, ⊎_elim, ℕ, zero, suc, List, [], ◌∷◌, ◌++◌, Some, refl, sym, ap, ◌∙◌, subst, arith, length}
+use Rattle.std.specs.Prelude.{slice_get}
 use Rattle.std.specs.List.{FoldsTo}
 use mathlib.Core.List.{IsPrefix}
 use Rattle.slot_map.specs.Table.{Endpoint}
 use Rattle.node_link.specs.LinkModel.{LinkModel}
-use Rattle.proxy_lanes.specs.declared.ends.lane_ends.LaneEnds.{LaneEnds}
 use Rattle.proxy_turns.specs.declared.newcomer.Newcomer.{Newcomer}
 use Rattle.proxy_turns.specs.CarrierModel.{CarrierModel}
-use Rattle.proxy_turns.specs.WorkerModel.{WorkerModel, WorkerEvent}
+use Rattle.proxy_turns.specs.WorkerModel.{WorkerEvent}
 use Rattle.world_laws.specs.State.{WorldModel}
 use Rattle.world_laws.specs.declared.event.Event.{Event}
 use Rattle.world_laws.specs.declared.event.Event.TheVariants as core
@@ -20,11 +19,11 @@ use Rattle.resp_wire.specs.declared.value.Value.{Value}
 use Rattle.key_split.specs.declared.travel.Told.{Told}
 use Rattle.turn_laws.specs.Wire.{Wire, Item, Part, Runs, Execution, AreTold, ServesNext, parts_in}
 use Rattle.turn_laws.specs.System.{System}
-use Rattle.turn_laws.specs.Shadow.{IsShadow, IsWorking, OpenShadow, IsIdle, Numbers, IsUnnumbered}
+use Rattle.turn_laws.specs.Shadow.{IsShadow, IsWorking}
 use Rattle.turn_laws.specs.Steps.{SystemEvent, AtWorker, AtCarrier, AtNode, AtBroken, Thrown, Moved, SystemStep, WorkerStep, Serves, MovesOn}
 use Rattle.turn_laws.specs.Refines.{Refines, IsStart}
 use Rattle.turn_play.specs.May.{MayStep, WorkerMay, ServesMay, MayServeNext, ClusterMoves, AreWritten, IsReadBack, MayMoveNow, MayNow, IsInOrder}
-use Rattle.turn_play.specs.Played.{Step, events_of, Leads, AreInOrder, Holds, PlaysRefine}
+use Rattle.turn_play.specs.Played.{Step, events_of, Leads, AreInOrder, PlaysRefine}
 
 -- a list as long as another has an item at each of its places
 beside : {X Y : Type 0} (xs : List X) (ys : List Y) (i : ℕ) (y : Y) → length xs ≡ length ys → slice_get ys i ≡ Some y → (x : X) × (slice_get xs i ≡ Some x)

@@ -3,24 +3,18 @@ use Rattle.std.proofs.Common.{◌≡◌, ℕ, zero, suc, ◌+◌, List, [], ◌�
 use Rattle.std.specs.Prelude.{Option, IsSome, IsSomeAnd, map, drop, slice_get}
 use Rattle.key_split.specs.declared.travel.Ticket.{Ticket}
 use Rattle.key_split.specs.declared.travel.Told.{Told}
-use Rattle.slot_map.specs.Table.{Endpoint}
-use Rattle.node_model.specs.Nodes.{ClusterModel}
 use Rattle.proxy_lanes.specs.declared.ring.Outlet.{Outlet}
 use Rattle.proxy_lanes.specs.declared.ring.Inlet.{Inlet}
 use Rattle.proxy_lanes.specs.declared.ring.Numbered.{Numbered}
 use Rattle.proxy_lanes.specs.declared.ends.lane_ends.LaneEnds.{LaneEnds}
 use Rattle.proxy_lanes.specs.declared.ends.WorkerEnds.{WorkerEnds}
-use Rattle.proxy_lanes.specs.Lane.{IsNewLane, posted, taken}
-use Rattle.proxy_lanes.specs.Carrier.{AreLanes, AreLanesFrom, AreLanesOf}
+use Rattle.proxy_lanes.specs.Lane.{IsNewLane}
 use Rattle.proxy_turns.specs.declared.newcomer.Newcomer.{Newcomer}
 use Rattle.proxy_turns.specs.WorkerModel.{WorkerModel}
 use Rattle.proxy_turns.specs.Worker.{new_worker}
-use Rattle.world_laws.specs.Headline.{IsNew}
-use Rattle.turn_laws.specs.System.{System, between, IsInStep}
+use Rattle.turn_laws.specs.System.{between, IsInStep}
 use Rattle.turn_laws.specs.Shadow.{down_in, DownInStep, seat_of}
-use Rattle.turn_laws.specs.Refines.{IsStart}
-use Rattle.turn_play.specs.Playing.{PlayModel, Shows}
-use Rattle.turn_play.specs.Starting.{workers_on, start_of, new_play, AreListedFrom, PlaysStart}
+use Rattle.turn_play.specs.Starting.{AreOpenAt, AreOpenFrom, workers_on, PlaysStart}
 
 module _ {T : Type 0} where
   nothing-between : (outlet : Outlet T) (inlet : Inlet T) → IsNewLane outlet inlet → between outlet inlet ≡ []
@@ -52,22 +46,22 @@ one-thing x y e = cc
 module _ {C J : Type 0} (left : Option ℕ) (workers : ℕ) where
   -- the ends at one place, and the worker and the lane over them
   abbrev AtPlace : ℕ → List (WorkerEnds (Newcomer C J) J) → ℕ → LaneEnds (Newcomer C J) → Type 0
-  AtPlace k ends i lane = (e : WorkerEnds (Newcomer C J) J) × (slice_get (workers_on left ends) i ≡ Some (new_worker e left)) × AreLanesOf workers (k + i) e lane
+  AtPlace k ends i lane = (e : WorkerEnds (Newcomer C J) J) × (slice_get (workers_on left ends) i ≡ Some (new_worker e left)) × AreOpenAt workers (k + i) e lane
 
-  at-first : (k : ℕ) (e : WorkerEnds (Newcomer C J) J) (ends : List (WorkerEnds (Newcomer C J) J)) (l lane : LaneEnds (Newcomer C J)) → AreLanesOf workers k e l → Some l ≡ Some lane → AtPlace k (e ∷ ends) 0 lane
-  at-first k e ends l lane of at = (e, refl, subst (λ n. AreLanesOf workers n e lane) (first-place k) (subst (λ x. AreLanesOf workers k e x) (one-thing l lane at) of))
+  at-first : (k : ℕ) (e : WorkerEnds (Newcomer C J) J) (ends : List (WorkerEnds (Newcomer C J) J)) (l lane : LaneEnds (Newcomer C J)) → AreOpenAt workers k e l → Some l ≡ Some lane → AtPlace k (e ∷ ends) 0 lane
+  at-first k e ends l lane of at = (e, refl, subst (λ n. AreOpenAt workers n e lane) (first-place k) (subst (λ x. AreOpenAt workers k e x) (one-thing l lane at) of))
 
   at-later : (k : ℕ) (e : WorkerEnds (Newcomer C J) J) (ends : List (WorkerEnds (Newcomer C J) J)) (i : ℕ) (lane : LaneEnds (Newcomer C J)) → AtPlace (k + 1) ends i lane → AtPlace k (e ∷ ends) (suc i) lane
-  at-later k e ends i lane r = (r.0, r.1, subst (λ n. AreLanesOf workers n r.0 lane) (later-place k i) r.2)
+  at-later k e ends i lane r = (r.0, r.1, subst (λ n. AreOpenAt workers n r.0 lane) (later-place k i) r.2)
 
-  at-place : (k : ℕ) (ends : List (WorkerEnds (Newcomer C J) J)) (lanes : List (LaneEnds (Newcomer C J))) → AreLanesFrom workers k ends lanes → (i : ℕ) (lane : LaneEnds (Newcomer C J)) → slice_get lanes i ≡ Some lane → AtPlace k ends i lane
+  at-place : (k : ℕ) (ends : List (WorkerEnds (Newcomer C J) J)) (lanes : List (LaneEnds (Newcomer C J))) → AreOpenFrom workers k ends lanes → (i : ℕ) (lane : LaneEnds (Newcomer C J)) → slice_get lanes i ≡ Some lane → AtPlace k ends i lane
   at-place k [] [] are i lane at = absurd (nowhere lane at)
   at-place k [] (l ∷ lanes) are i lane at = absurd are
   at-place k (e ∷ ends) [] are i lane at = absurd are
   at-place k (e ∷ ends) (l ∷ lanes) are zero lane at = at-first k e ends l lane are.0 at
   at-place k (e ∷ ends) (l ∷ lanes) are (suc i) lane at = at-later k e ends i lane (at-place (k + 1) ends lanes are.1 i lane at)
 
-  same-sides : (k : ℕ) (ends : List (WorkerEnds (Newcomer C J) J)) (lanes : List (LaneEnds (Newcomer C J))) → AreLanesFrom workers k ends lanes → length (workers_on left ends) ≡ length lanes
+  same-sides : (k : ℕ) (ends : List (WorkerEnds (Newcomer C J) J)) (lanes : List (LaneEnds (Newcomer C J))) → AreOpenFrom workers k ends lanes → length (workers_on left ends) ≡ length lanes
   same-sides k [] [] are = refl
   same-sides k [] (l ∷ lanes) are = absurd are
   same-sides k (e ∷ ends) [] are = absurd are
@@ -85,10 +79,10 @@ beside (x ∷ xs) [] i y e at = absurd (omega (arith, e))
 beside (x ∷ xs) (z ∷ ys) zero y e at = (x, refl)
 beside (x ∷ xs) (z ∷ ys) (suc i) y e at = beside xs ys i y (omega (arith, e)) at
 
-module _ {C J : Type 0} (left : Option ℕ) (ends : List (WorkerEnds (Newcomer C J) J)) (lanes : List (LaneEnds (Newcomer C J))) (are : AreLanes (length ends) ends lanes) where
+module _ {C J : Type 0} (left : Option ℕ) (ends : List (WorkerEnds (Newcomer C J) J)) (lanes : List (LaneEnds (Newcomer C J))) (are : AreOpenFrom (length ends) 0 ends lanes) where
   -- what holds of the ends at a place
   abbrev Fits : ℕ → WorkerModel C J → LaneEnds (Newcomer C J) → Type 0
-  Fits k model lane = (e : WorkerEnds (Newcomer C J) J) × (new_worker e left ≡ model) × AreLanesOf (length ends) k e lane
+  Fits k model lane = (e : WorkerEnds (Newcomer C J) J) × (new_worker e left ≡ model) × AreOpenAt (length ends) k e lane
 
   fits : (k : ℕ) (model : WorkerModel C J) (lane : LaneEnds (Newcomer C J)) → slice_get (workers_on left ends) k ≡ Some model → slice_get lanes k ≡ Some lane → Fits k model lane
   fits k model lane at beside =
@@ -96,7 +90,7 @@ module _ {C J : Type 0} (left : Option ℕ) (ends : List (WorkerEnds (Newcomer C
       let one : Some (new_worker r.0 left) ≡ Some model = sym r.1 ∙ at in
       let same : new_worker r.0 left ≡ model = cc in
       let here : 0 + k ≡ k = omega arith in
-      (r.0, same, subst (λ n. AreLanesOf (length ends) n r.0 lane) here r.2)
+      (r.0, same, subst (λ n. AreOpenAt (length ends) n r.0 lane) here r.2)
 
 module _ (C J : Type 0) where
   pub plays-start : PlaysStart C J

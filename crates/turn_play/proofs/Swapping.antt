@@ -1,7 +1,6 @@
 -- A port that is taken out, changed and put back.
-use Rattle.std.proofs.Common.{◌≡◌, ℕ, List, Some, Ok, refl, sym, ap, ◌∙◌}
+use Rattle.std.proofs.Common.{◌≡◌, ℕ, Some, Ok, sym, ap, ◌∙◌}
 use Rattle.std.specs.Prelude.{slice_get, slice_set}
-use Rattle.node_link.specs.LinkModel.{LinkModel}
 use Rattle.proxy_turns.specs.declared.backend.Backend.{Backend}
 use Rattle.proxy_turns.specs.CarrierModel.{CarrierModel}
 use Rattle.proxy_turns.specs.Swapping.{SwapOutcome, with_port}
@@ -15,8 +14,7 @@ swap-twice {H} {P} node old mid new idle taken port back x y =
     let one : Some (with_port x.0 x.1 idle) ≡ Some y.0 = sym there ∙ y.2 in
     let same : with_port x.0 x.1 idle ≡ y.0 = cc in
     let two : Some (record x.1 { port = idle }) ≡ Some y.1 = ap (λ (b : Backend P). b.link) same ∙ y.3 in
-    let same-link : record x.1 { port = idle } ≡ y.1 = cc in
-    (
+    let same-link : record x.1 { port = idle } ≡ y.1 = cc in (
       x.0,
       x.1,
       x.2,

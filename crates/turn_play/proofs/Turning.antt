@@ -1,8 +1,8 @@
 -- Turns of the code are steps of a system.
-use Rattle.std.proofs.Common.{◌≡◌, inl, inr, ℕ, zero, suc, Bool, true, List, [], ◌∷◌, ◌++◌, Some, Ok, Err, refl, sym, ap, ◌∙◌, subst, cond}
+use Rattle.std.proofs.Common.{◌≡◌, ℕ, zero, suc, Bool, List, [], ◌∷◌, ◌++◌, Some, Ok, Err, refl, sym, ap, ◌∙◌, subst, cond}
 use Rattle.std.specs.Prelude.{Result, slice_get, slice_set}
 use Rattle.std.specs.List.{FoldsTo}
-use Rattle.std.specs.Ordering.{nat_cmp, eq_by_cmp}
+use Rattle.std.specs.Ordering.{nat_cmp}
 use Rattle.std.specs.FinMap.{FinMap, get, insert, get-insert}
 use Rattle.std.specs.Cmp.{nat_cmp_total}
 use Rattle.resp_wire.specs.declared.fault.NoMemory.{NoMemory}
@@ -11,7 +11,6 @@ use Rattle.key_split.specs.Requests.{Request}
 use Rattle.slot_map.specs.Table.{Endpoint}
 use Rattle.proxy_turns.specs.declared.newcomer.Newcomer.{Newcomer}
 use Rattle.proxy_turns.specs.Port.{Moves}
-use Rattle.proxy_turns.specs.ClientModel.{ClientModel}
 use Rattle.proxy_turns.specs.WorkerModel.{WorkerModel, WorkerEvent, Did, Finished, Took, FoundNone, Came, TurnedAway, FoundNobody, Left, WorkerDoes, WorkerTurns}
 use Rattle.proxy_turns.specs.CarrierModel.{CarrierModel, CarrierEvent, CarrierDoes, CarrierTurns}
 use Rattle.world_laws.proofs.Recorded.{set-same}
@@ -19,9 +18,8 @@ use Rattle.turn_laws.specs.Wire.{Wire, Exchanges, Dials}
 use Rattle.turn_laws.specs.System.{System, Mark}
 use Rattle.turn_laws.specs.Steps.{AtWorker, AtCarrier, IsSeen, any_moves, any_failures, any_garbled, any_none, opened_by, seen_at}
 use Rattle.turn_laws.specs.AnyPort.{AnyClientTurns, AnyPorts, AreWired, OpensWires, over_wires}
-use Rattle.turn_play.specs.May.{WorkerMay, CarrierMay, MayStep}
-use Rattle.turn_play.specs.Played.{Step, Leads, Plays}
-use Rattle.turn_play.specs.Turns.{PlaysWorker, WorkersPlay, ShowsCarrier, PlaysCarrier, CarriersPlay}
+use Rattle.turn_play.specs.May.{WorkerMay, CarrierMay}
+use Rattle.turn_play.specs.Turns.{PlaysWorker, WorkersPlay, ShowsCarrier, PlaysCarrier}
 use Rattle.turn_play.proofs.Breaking.{broken}
 use Rattle.turn_play.proofs.Numbers.{itself}
 
@@ -60,8 +58,7 @@ module _ {C J : Type 0} where
       let look = seen event old f.0 f.1 in
       let next : System C J = record s { workers = slice_set s.workers k f.0; log = s.log ++ look.0 } in
       let here : WorkerMay s k event next = record { old = old; new = f.0; marks = look.0; at = at; does = f.1; seen = look.1; leaves = refl } in
-      let later = worker-plays k events next f.0 new (set-same s.workers k old f.0 at) f.2 in
-      (
+      let later = worker-plays k events next f.0 new (set-same s.workers k old f.0 at) f.2 in (
         later.0,
         (record { event = AtWorker k event; next = next } ∷ later.1.0, (here, later.1.1)),
         later.2 ∙ (λ i. record s { workers = set-twice s.workers k f.0 new i; log = later.0.log }),
@@ -87,8 +84,7 @@ module _ (C J : Type 0) {P : Type 0} (wired : P → Wire → Type 0) (failures :
       let r = any event old new wires s.opened on (dials old.nodes s.opened) d in
       let carrier : CarrierModel (Newcomer C J) Wire = over_wires new r.0 in
       let b = broken s carrier (opened_by event s.opened) in
-      let next : System C J = record s { carrier = carrier; closed = b.0; opened = opened_by event s.opened } in
-      (
+      let next : System C J = record s { carrier = carrier; closed = b.0; opened = opened_by event s.opened } in (
         next,
         record { longest = r.2; does = subst (λ (c : CarrierModel (Newcomer C J) Wire). CarrierDoes any_failures any_garbled Exchanges any_none (Dials c.nodes s.opened) r.2 c event carrier) (sym shows) r.3; breaks = b.1; leaves = refl },
         (r.0, r.1, refl),
@@ -99,8 +95,7 @@ module _ (C J : Type 0) {P : Type 0} (wired : P → Wire → Type 0) (failures :
   carrier-plays [] s old new shows f = (s, ([], refl), subst (λ c. ShowsCarrier wired c s) f shows, refl)
   carrier-plays (event ∷ events) s old new shows f =
       let one = at-wires event s old f.0 shows.0 shows.1 shows.2 f.1 in
-      let later = carrier-plays events one.0 f.0 new one.2 f.2 in
-      (
+      let later = carrier-plays events one.0 f.0 new one.2 f.2 in (
         later.0,
         (record { event = AtCarrier event; next = one.0 } ∷ later.1.0, (one.1, later.1.1)),
         later.2,

@@ -1,5 +1,5 @@
 -- What there is in a play, and which steps of a system it made.
-use Rattle.std.specs.Prelude.{◌≡◌, ℕ, List, map}
+use Rattle.std.specs.Prelude.{◌≡◌, List}
 use Rattle.slot_map.specs.Table.{Endpoint}
 use Rattle.node_model.specs.Nodes.{ClusterModel}
 use Rattle.proxy_turns.specs.declared.newcomer.Newcomer.{Newcomer}

@@ -1,11 +1,11 @@
 -- A port that is one end of a connection in memory: its requests wait for the node, and its values for the carrier.
-use Rattle.std.specs.Prelude.{◌≡◌, ◌≤◌, ◌^◌, ◌-◌, ℕ, List, [], ◌∷◌, ◌++◌, Bool, true, false, Result, Ok, Err, slice_get, refl}
+use Rattle.std.specs.Prelude.{◌≡◌, ◌^◌, ◌-◌, ℕ, List, [], ◌++◌, Bool, false, Result, Ok, Err, refl}
 use Rattle.std.proofs.Common.{sym, ap, ◌∙◌}
 use Rattle.std.proofs.lemmas.List.{append-nil}
 use Rattle.resp_wire.specs.declared.value.Value.{Value}
 use Rattle.key_split.specs.Requests.{Request}
 use Rattle.slot_map.specs.Table.{Endpoint}
-use Rattle.turn_laws.specs.Wire.{Wire, Item, Exchanges, items_of, new_wire}
+use Rattle.turn_laws.specs.Wire.{Wire, Item, items_of}
 use Rattle.turn_laws.specs.AnyPort.{StandsFor, OpensWires}
 
 pub record PortModel : Type 0 where

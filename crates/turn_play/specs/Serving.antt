@@ -11,11 +11,10 @@ use Rattle.node_model.specs.declared.role.Verdict.{Verdict}
 use Rattle.proxy_turns.specs.CarrierModel.{CarrierModel}
 use Rattle.proxy_turns.specs.Swapping.{SwapOutcome}
 use Rattle.world_laws.specs.World.{NamesNode}
-use Rattle.turn_laws.specs.Wire.{Item, Part, Asks, Runs, Lists, Execution, executions, parts_in}
+use Rattle.turn_laws.specs.Wire.{Item, Part, Asks, Runs, Lists}
 use Rattle.turn_play.specs.declared.waiting.Waiting.{Waiting}
 use Rattle.turn_play.specs.Waiting.{item_of}
 use Rattle.turn_play.specs.Port.{PortModel}
-use Rattle.turn_play.specs.May.{AreWritten}
 
 -- a node does a command, and writes what it says
 abbrev pub ServesOne : List Endpoint → ClusterModel → ℕ → Bool → PartModel → Verdict → ClusterModel → Value → Type 0

@@ -1,6 +1,6 @@
 -- What waits at a port, as what a node serves at once: each command is a run of its own.
 -- The model of `PlayPort` shows its requests by it.
-use Rattle.std.specs.Prelude.{List, [], ◌∷◌}
+use Rattle.std.specs.Prelude.{[], ◌∷◌}
 use Rattle.turn_laws.specs.Wire.{Item, Asks, Runs, Lists}
 use Rattle.turn_play.specs.declared.waiting.Waiting.{Waiting}
 use Rattle.turn_play.specs.declared.waiting.Waiting.TheVariants as waiting

@@ -1,6 +1,9 @@
 //! A play: what is done, and in what order, is handed in.
 
-ghost use Rattle.std.specs.Prelude.{OnOk};
+ghost use Rattle.std.specs.Prelude.{◌≡◌, OnOk, map};
+ghost use Rattle.proxy_turns.specs.CarrierModel.{carrier_model};
+ghost use Rattle.proxy_turns.specs.Worker.{worker_model};
+ghost use Rattle.turn_play.specs.Dialling.{no_failures};
 ghost use Rattle.turn_play.specs.Play.{play_model};
 ghost use Rattle.turn_play.specs.Playing.{PlaysSoundly, PlaysTo};
 
@@ -44,7 +47,32 @@ pub struct Play<'g, C: ClientPort + Drop, J: Naming, R: Wait + Drop, G: Gate> {
 }
 
 impl<'g, C: ClientPort + Drop, J: Naming, R: Wait + Drop, G: Gate> Play<'g, C, J, R, G> {
-    /// Does what is handed in, in its order.
+    /// A play of these workers and this carrier, whose nodes are those of the cluster and listen where the table says.
+    pub fn new(
+        alloc: Global,
+        workers: Vec<Worker<'g, C, J, G>>,
+        carrier: Carrier<Newcomer<C, J>, Publisher<J, R>, PlayDial, PlayPort>,
+        cluster: Cluster,
+        nodes: NodeTable,
+    ) -> Self
+        ensures { play_model result ≡ record {
+          workers = map worker_model workers.entry.items;
+          carrier = carrier_model no_failures carrier;
+          cluster = cluster;
+          nodes = nodes;
+        } }
+    {
+        Play {
+            alloc,
+            workers,
+            carrier,
+            cluster,
+            nodes,
+        }
+    }
+
+    /// Does what is handed in, in its order. Of a system that shows the play before, what was done is steps to one that shows it after;
+    /// from a start, where the premises hold along them, the headline holds of them.
     pub fn play(&mut self, orders: Vec<Order>) -> Result<(), PlayFault>
         ensures { OnOk result (PlaysSoundly (play_model self.old) (play_model self.new)) }
     {

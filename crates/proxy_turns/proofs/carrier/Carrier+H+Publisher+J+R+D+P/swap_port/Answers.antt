@@ -19,6 +19,6 @@ returns g c =
     let lt : c.place_of-at.result < length c.args.self.now.backends.items = omega (arith, c.len.ensures, c.if-at-len.false) in
     let here : slice_get c.args.self.now.backends.items c.place_of-at.result ≡ Some c.index_mut.result.now = at-place c.args.self.now.backends.items c.place_of-at.result c.index_mut.result.now lt c.index_mut.ensures.value in
     subst
-        (λ (n : ℕ). SwapOutcome n (carrier_model g.D.Dial.failures c.args.self.now) c.args.port c.swap_port.result (record (carrier_model g.D.Dial.failures c.args.self.now) { backends = slice_set c.args.self.now.backends.items c.place_of-at.result c.swap_port.new.self }))
-        at
-        (swapped c.place_of-at.result (carrier_model g.D.Dial.failures c.args.self.now) c.args.port c.swap_port.result c.index_mut.result.now c.swap_port.new.self here c.swap_port.ensures)
+    (λ (n : ℕ). SwapOutcome n (carrier_model g.D.Dial.failures c.args.self.now) c.args.port c.swap_port.result (record (carrier_model g.D.Dial.failures c.args.self.now) { backends = slice_set c.args.self.now.backends.items c.place_of-at.result c.swap_port.new.self }))
+    at
+    (swapped c.place_of-at.result (carrier_model g.D.Dial.failures c.args.self.now) c.args.port c.swap_port.result c.index_mut.result.now c.swap_port.new.self here c.swap_port.ensures)

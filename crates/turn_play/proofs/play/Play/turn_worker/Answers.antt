@@ -1,4 +1,4 @@
-use Rattle.std.proofs.Common.{◌≡◌, ◌<◌, ℕ, Some, arith, length, refl}
+use Rattle.std.proofs.Common.{◌≡◌, ◌<◌, Some, arith, length, refl}
 use Rattle.std.specs.Prelude.{slice_get}
 use Rattle.std.proofs.lemmas.Option.{slice_get_read}
 use Rattle.proxy_turns.specs.Worker.{worker_model}
@@ -15,4 +15,4 @@ returns g c =
     let lt : c.args.k < length c.args.self.now.workers.items = omega (arith, c.len.ensures, c.if-k-len.false) in
     let here : slice_get c.args.self.now.workers.items c.args.k ≡ Some c.index_mut.result.now = slice_get_read c.args.self.now.workers.items (length c.args.self.now.workers.items) c.args.k c.index_mut.result.now refl lt c.index_mut.ensures.value in
     one-turned worker_model c.args.self.now.workers.items (play_model c.args.self.now) c.args.k c.index_mut.result.now c.turn.new.self refl here
-        (λ s at. c.workers_play.ensures s c.args.k (worker_model c.index_mut.result.now) (worker_model c.turn.new.self) c.turn.result at c.turn.ensures.turns)
+    (λ s at. c.workers_play.ensures s c.args.k (worker_model c.index_mut.result.now) (worker_model c.turn.new.self) c.turn.result at c.turn.ensures.turns)
