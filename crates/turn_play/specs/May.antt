@@ -1,5 +1,5 @@
 -- What the turns of the code, the serving of its nodes and the steps of its moves do to a system: `SystemStep`, without what no contract
--- of the code can say. What is left out of it is said apart, as premises (`IsInOrder`, `MayMoveNow`).
+-- of the code says. What is left out is said apart, as premises: `IsInOrder` of each system, `MayNow` of each step.
 use Rattle.std.specs.Prelude.{◌≡◌, ◌⊎◌, ◌++◌, ◌∷◌, [], ℕ, List, true, false, Some, None, slice_get, slice_set}
 use mathlib.Core.List.{IsPrefix}
 use Rattle.resp_wire.specs.declared.value.Value.{Value}
