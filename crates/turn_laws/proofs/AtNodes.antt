@@ -40,6 +40,7 @@ module _ {C J : Type 0} where
     downs = h.downs;
     awaited = h.awaited;
     waiting = h.waiting;
+    asking = h.asking;
     log = log-later s.log w (with_nodes (ticked w) k) refl refl refl (omega arith) h.log;
   })
 

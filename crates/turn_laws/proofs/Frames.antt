@@ -207,6 +207,7 @@ module _ {C J : Type 0} where
             let a = h.awaited x.0 pair x.1 in
             (a.0, subst (λ (ws : List (WorkerModel C J)). Holds ws pair.0 a.0) (sym workers) a.1, a.2);
         waiting = λ j c e awaits. subst (λ (ws : List (WorkerModel C J)). Holds ws c.command.ticket c.command) (sym workers) (h.waiting j c e awaits);
+        asking = λ j c node e wants. let a = h.asking j c node e wants in (a.0, subst (λ (ws : List (WorkerModel C J)). Holds ws c.command.ticket a.0) (sym workers) a.1);
         log = subst (λ l. LogShadow l w') (sym log) (log-later s.log w w' refl refl refl later h.log);
       }
 

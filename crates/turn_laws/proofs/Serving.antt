@@ -196,5 +196,6 @@ module _ {C J : Type 0} where
         awaited = λ i pair e.
             let x = bag-has (downs_of next) (downs_of s) back i pair e in h.awaited x.0 pair x.1;
         waiting = h.waiting;
+        asking = h.asking;
         log = log;
       })

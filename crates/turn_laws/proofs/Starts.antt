@@ -104,6 +104,7 @@ module _ {C J : Type 0} where
       downs = λ t. omega (arith, no-downs (λ (p : Pair). is t p.0));
       awaited = λ i pair e. absurd (no-pair i pair e);
       waiting = λ j c e. absurd (nothing-there j c e);
+      asking = λ j c node e. absurd (nothing-there j c e);
       log = subst (λ l. LogShadow l first) (sym h.log) no-marks;
     }
       where

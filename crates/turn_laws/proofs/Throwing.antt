@@ -106,6 +106,7 @@ module _ {C J : Type 0} where
     downs = h.downs;
     awaited = h.awaited;
     waiting = h.waiting;
+    asking = h.asking;
     log = log-later s.log w (linked w links moment) refl refl refl later h.log;
   })
 

@@ -12,7 +12,7 @@ use Rattle.key_split.specs.declared.travel.Told.{Told}
 use Rattle.key_split.specs.declared.travel.Told.TheVariants.{Lost, Unsent}
 use Rattle.key_split.specs.declared.travel.Ended.{Ended}
 use Rattle.command_future.specs.CommandModel.{CommandModel, fresh as new_command, progress_told}
-use Rattle.command_future.specs.declared.stage.Stage.TheVariants.{Awaits, Over}
+use Rattle.command_future.specs.declared.stage.Stage.TheVariants.{WantsAsking, Awaits, Over}
 use Rattle.slot_map.specs.Table.{Endpoint}
 use Rattle.node_link.specs.LinkModel.{LinkModel}
 use Rattle.node_link.specs.LinkCalls.{tickets_of}
@@ -429,4 +429,6 @@ pub record IsShadow {C J : Type 0} (s : System C J) (w : WorldModel) : Type 0 wh
   pub awaited : (i : ℕ) (pair : Ticket × Told) → slice_get (downs_of s) i ≡ Some pair → (d : CommandModel) × Holds s.workers pair.0 d × (d.stage ≡ Awaits)
   -- what awaits in the machine awaits here
   pub waiting : (j : ℕ) (c : Arrival) → slice_get w.commands j ≡ Some c → c.command.stage ≡ Awaits → Holds s.workers c.command.ticket c.command
+  -- what wants to ask in the machine was posted here, and has not ended
+  pub asking : (j : ℕ) (c : Arrival) (node : ℕ) → slice_get w.commands j ≡ Some c → c.command.stage ≡ WantsAsking node → (d : CommandModel) × Holds s.workers c.command.ticket d
   pub log : LogShadow s.log w
