@@ -1,10 +1,15 @@
 -- The start of the script, how the carrier reaches the first node, and a move that is called back.
-use Rattle.std.proofs.Common.{◌≡◌, inl, inr, ℕ, zero, suc, Bool, true, false, List, [], ◌∷◌, Some, None, Ok, refl, sym, ap, ◌∙◌, subst, arith, length}
+use Rattle.std.proofs.Common.{◌≡◌, inl, inr, ℕ, zero, suc, ◌<◌, Bool, true, false, List, [], ◌∷◌, Some, None, Ok, refl, sym, ap, ◌∙◌, subst, arith, length}
 use Rattle.std.specs.Prelude.{slice_get, All, map, Option, IsSome, unwrap_or}
 use Rattle.std.specs.List.{FoldsTo}
 use mathlib.Core.List.{IsPrefix}
-use Rattle.std.specs.FinMap.{empty, get-empty}
+use Rattle.std.specs.FinMap.{empty, get, get-empty}
 use Rattle.std.specs.Ordering.{nat_cmp}
+use Rattle.key_split.specs.Runs.{RunModel}
+use Rattle.key_split.specs.declared.travel.Ticket.{Ticket}
+use Rattle.command_future.specs.CommandModel.{CommandModel}
+use Rattle.node_link.specs.LinkModel.{LinkModel}
+use Rattle.proxy_turns.specs.ClientModel.{ClientModel}
 use Rattle.std.specs.Cmp.Lexicographic.{slice_cmp}
 use Rattle.resp_wire.specs.declared.value.Value.TheVariants.{Array}
 use Rattle.slot_map.specs.Table.{Endpoint}
@@ -18,13 +23,10 @@ use Rattle.proxy_turns.specs.Backend.{new_backend}
 use Rattle.proxy_turns.specs.PendingRun.{no_pending_run}
 use Rattle.proxy_turns.specs.WorkerModel.{WorkerModel}
 use Rattle.proxy_turns.specs.CarrierModel.{CarrierModel}
-use Rattle.world_laws.specs.State.{WorldModel, slot_for}
-use Rattle.world_laws.specs.Places.{tally, asks}
-use Rattle.world_laws.specs.World.{NoneAsks}
-use Rattle.world_laws.specs.declared.state.Arrival.{Arrival}
 use Rattle.turn_laws.specs.Wire.{Wire, Lists, new_wire}
 use Rattle.turn_laws.specs.System.{System, IsInStep, between}
-use Rattle.turn_laws.specs.Shadow.{IsShadow, AreApart, DownInStep, arrived_in, down_in}
+use Rattle.turn_laws.specs.Shadow.{IsWorking, AreApart, DownInStep, Holds, down_in, ups_in}
+use Rattle.turn_laws.specs.Asking.{NoneAsksIn, NoneBehindAsking}
 use Rattle.turn_laws.specs.Steps.{SystemStep}
 use Rattle.turn_laws.specs.Refines.{IsStart}
 use Rattle.turn_laws.specs.Scripts as script
@@ -50,16 +52,6 @@ apart (suc (suc i)) j at e f = absurd (nothing-there i at e)
 
 pub seed-first : IsPrefix seed_alone table
 seed-first = (_, refl)
-
--- where nothing was seen, no command arrived
-no-commands : (xs : List Arrival) {Y : Type 0} (f : Arrival → Y) → [] ≡ map f xs → xs ≡ []
-no-commands [] f e = refl
-no-commands (x ∷ xs) f e = absurd (omega (arith, ap length e))
-
-none-asks : {C J : Type 0} (s : System C J) (slot target : ℕ) → s.log ≡ [] → (w : WorldModel) → IsShadow s w → NoneAsks w slot target
-none-asks s slot target e w h =
-    let arrived = ap (λ l. arrived_in h.log.clock 0 l) (sym e) ∙ h.log.arrived in
-    subst (All (λ (c : Arrival). slot_for c.command.part ≡ slot → tally (asks target c.command.ticket) w ≡ 0)) (sym (no-commands w.commands _ arrived)) (λ i x lt. absurd (omega arith))
 
 -- the backend of the first node, while it is asked for CLUSTER SLOTS
 abbrev b1 : Backend Wire
@@ -186,6 +178,48 @@ module _ {C J : Type 0} (port : C) where
     ),
   )
 
+  -- nothing is under way
+  idle : (k : ClusterModel) → NoneAsksIn (scene w0 s1.carrier [] 1 k []) 1 1
+  idle k = record {
+    wants = λ t c held e. nobody t c held.0;
+    told = λ t c asked i held e. nobody t c held.0;
+    said = λ t c asked k i link value held works p q e. nobody t c held.0;
+    lies = λ k i n model l run batch p q r b a there e. no-run k i model l run p q r;
+    sent = λ k link works there. one-link k link works;
+    broken = λ j wire e. absurd (nothing-there j wire e);
+    all = λ id lt. inl (0, link 0 (new_wire 0 0) [], (b1, refl, refl, refl), zero-is id lt);
+  }
+    where
+      zero-is : (id : ℕ) → id < 1 → 0 ≡ id
+      zero-is id lt = omega (arith, lt)
+
+      no-client : (o : Option (ClientModel C)) (client : ClientModel C) → o ≡ None → o ≡ Some client → ⊥
+      no-client o client p q = cc
+
+      nobody : (t : Ticket) (c : CommandModel) → Holds (w0 ∷ []) t c → ⊥
+      nobody t c x = only-one (λ k model. (client : ClientModel C) → get model.clients t.client ≡ Some client → ⊥) w0
+          (λ client e. no-client (get w0.clients t.client) client (get-empty nat_cmp t.client) e) x.0 x.1 x.2 x.3.0 x.3.1
+
+      no-run : (k i : ℕ) (model : WorkerModel C J) (l : LaneEnds (Newcomer C J)) (run : RunModel) → slice_get (w0 ∷ []) k ≡ Some model → slice_get (l0 ∷ []) k ≡ Some l
+          → slice_get (ups_in model l (slice_get (no_pending_run ∷ []) k)) i ≡ Some run → ⊥
+      no-run zero i model l run p q e =
+          let one : w0 ≡ model = (let o : Some w0 ≡ Some model = p in cc) in
+          let its : l0 ≡ l = (let o : Some l0 ≡ Some l = q in cc) in
+          nothing-there i run ((λ n. slice_get (ups_in (one n) (its n) (Some no_pending_run)) i) ∙ e)
+      no-run (suc k) i model l run p q e = absurd (nothing-there k model p)
+
+      one-link : (k : ℕ) (it : LinkModel Wire) → IsWorking s1.carrier k it → NoneBehindAsking 1 it.port.asking it.port.items
+      one-link zero it x =
+          let backend : b1 ≡ x.0 = (let o : Some b1 ≡ Some x.0 = x.1 in cc) in
+          let same : Some (link 0 (new_wire 0 0) []) ≡ Some it = ap (λ (b : Backend Wire). b.link) backend ∙ x.2 in
+          let one : link 0 (new_wire 0 0) [] ≡ it = cc in
+          subst (λ (l : LinkModel Wire). NoneBehindAsking 1 l.port.asking l.port.items) one tt
+      one-link (suc zero) it x =
+          let backend : new_backend ≡ x.0 = (let o : Some new_backend ≡ Some x.0 = x.1 in cc) in
+          let same : None ≡ Some it = ap (λ (b : Backend Wire). b.link) backend ∙ x.2 in
+          absurd (cc)
+      one-link (suc (suc k)) it x = absurd (nothing-there k x.0 x.1)
+
   -- after the moves
   abbrev pub s2 : System C J
   s2 = scene w0 (c0 (b1 ∷ new_backend ∷ []) false) [] 1 k5 []
@@ -193,7 +227,7 @@ module _ {C J : Type 0} (port : C) where
   pub moves : FoldsTo SystemStep s1 script.moving s2
   moves = (
     scene w0 s1.carrier [] 1 k1 [],
-    ((none-asks s1 1 1 refl, (refl, omega arith, λ e. absurd (omega (arith, e))), refl), refl),
+    ((idle k0, (refl, omega arith, λ e. absurd (omega (arith, e))), refl), refl),
     (
       scene w0 s1.carrier [] 1 k2 [],
       ((refl, refl), refl),
@@ -205,7 +239,7 @@ module _ {C J : Type 0} (port : C) where
           ((refl, refl), refl),
           (
             s2,
-            ((none-asks (scene w0 s1.carrier [] 1 k4 []) 1 1 refl, (refl, omega arith, λ e. absurd (omega (arith, e))), refl), refl),
+            ((idle k4, (refl, omega arith, λ e. absurd (omega (arith, e))), refl), refl),
             refl,
           ),
         ),
