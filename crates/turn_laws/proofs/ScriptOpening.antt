@@ -5,7 +5,6 @@ use Rattle.std.specs.List.{FoldsTo}
 use mathlib.Core.List.{IsPrefix}
 use Rattle.std.specs.FinMap.{empty, get, get-empty}
 use Rattle.std.specs.Ordering.{nat_cmp}
-use Rattle.key_split.specs.Runs.{RunModel}
 use Rattle.key_split.specs.declared.travel.Ticket.{Ticket}
 use Rattle.command_future.specs.CommandModel.{CommandModel}
 use Rattle.node_link.specs.LinkModel.{LinkModel}
@@ -25,8 +24,8 @@ use Rattle.proxy_turns.specs.WorkerModel.{WorkerModel}
 use Rattle.proxy_turns.specs.CarrierModel.{CarrierModel}
 use Rattle.turn_laws.specs.Wire.{Wire, Lists, new_wire}
 use Rattle.turn_laws.specs.System.{System, IsInStep, between}
-use Rattle.turn_laws.specs.Shadow.{IsWorking, AreApart, DownInStep, Holds, down_in, ups_in}
-use Rattle.turn_laws.specs.Asking.{NoneAsksIn, NoneBehindAsking}
+use Rattle.turn_laws.specs.Shadow.{AreApart, DownInStep, Holds, down_in, ups_in}
+use Rattle.turn_laws.specs.Asking.{NoneAsksIn, NoneBehindAsking, IsSeen}
 use Rattle.turn_laws.specs.Steps.{SystemStep}
 use Rattle.turn_laws.specs.Refines.{IsStart}
 use Rattle.turn_laws.specs.Scripts as script
@@ -52,6 +51,41 @@ apart (suc (suc i)) j at e f = absurd (nothing-there i at e)
 
 pub seed-first : IsPrefix seed_alone table
 seed-first = (_, refl)
+
+-- both items of a list
+two-of : {X : Type 0} (P : X → Type 0) (x y : X) → P x → P y → (k : ℕ) (z : X) → slice_get (x ∷ y ∷ []) k ≡ Some z → P z
+two-of P x y p q zero z e = let one : x ≡ z = (let o : Some x ≡ Some z = e in cc) in subst P one p
+two-of P x y p q (suc zero) z e = let one : y ≡ z = (let o : Some y ≡ Some z = e in cc) in subst P one q
+two-of P x y p q (suc (suc k)) z e = absurd (nothing-there k z e)
+
+zero-is : (id : ℕ) → id < 1 → 0 ≡ id
+zero-is id lt = omega (arith, lt)
+
+no-link : (it : LinkModel Wire) → None ≡ Some it → ⊥
+no-link it e = cc
+
+none-some : {X : Type 0} (o : Option X) (x : X) → o ≡ None → o ≡ Some x → ⊥
+none-some o x p q = cc
+
+module _ {C J : Type 0} where
+  -- where no client is there, no run waits and nothing stands on a connection, nothing is under way
+  none-under-way : (s : System C J) (slot node : ℕ)
+      → ((k : ℕ) (model : WorkerModel C J) → slice_get s.workers k ≡ Some model → (number : ℕ) → get model.clients number ≡ None)
+      → ((k : ℕ) (model : WorkerModel C J) (l : LaneEnds (Newcomer C J)) → slice_get s.workers k ≡ Some model → slice_get s.carrier.lanes k ≡ Some l → ups_in model l (slice_get s.carrier.pending_runs k) ≡ [])
+      → ((k : ℕ) (backend : Backend Wire) → slice_get s.carrier.backends k ≡ Some backend → (it : LinkModel Wire) → backend.link ≡ Some it → it.port.items ≡ [])
+      → s.closed ≡ [] → ((id : ℕ) → id < s.opened → IsSeen s id) → NoneAsksIn s slot node
+  none-under-way s slot node nobody no-runs no-items closed all = record {
+    wants = λ t c held e. absurd (no-one t c held.0);
+    told = λ t c asked i held e. absurd (no-one t c held.0);
+    said = λ t c asked k i it value held works p q e. absurd (no-one t c held.0);
+    lies = λ k i n model l run batch p q r b a there e. absurd (nothing-there i run (sym (ap (λ runs. slice_get runs i) (no-runs k model l p q)) ∙ r));
+    sent = λ k it works there. subst (NoneBehindAsking slot it.port.asking) (sym (no-items k works.0 works.1 it works.2)) tt;
+    broken = λ j wire e. absurd (nothing-there j wire (sym (ap (λ ws. slice_get ws j) closed) ∙ e));
+    all = all;
+  }
+    where
+      no-one : (t : Ticket) (c : CommandModel) → Holds s.workers t c → ⊥
+      no-one t c x = none-some (get (x.1).clients t.client) x.3.0 (nobody x.0 x.1 x.2 t.client) x.3.1
 
 -- the backend of the first node, while it is asked for CLUSTER SLOTS
 abbrev b1 : Backend Wire
@@ -180,45 +214,15 @@ module _ {C J : Type 0} (port : C) where
 
   -- nothing is under way
   idle : (k : ClusterModel) → NoneAsksIn (scene w0 s1.carrier [] 1 k []) 1 1
-  idle k = record {
-    wants = λ t c held e. nobody t c held.0;
-    told = λ t c asked i held e. nobody t c held.0;
-    said = λ t c asked k i link value held works p q e. nobody t c held.0;
-    lies = λ k i n model l run batch p q r b a there e. no-run k i model l run p q r;
-    sent = λ k link works there. one-link k link works;
-    broken = λ j wire e. absurd (nothing-there j wire e);
-    all = λ id lt. inl (0, link 0 (new_wire 0 0) [], (b1, refl, refl, refl), zero-is id lt);
-  }
-    where
-      zero-is : (id : ℕ) → id < 1 → 0 ≡ id
-      zero-is id lt = omega (arith, lt)
-
-      no-client : (o : Option (ClientModel C)) (client : ClientModel C) → o ≡ None → o ≡ Some client → ⊥
-      no-client o client p q = cc
-
-      nobody : (t : Ticket) (c : CommandModel) → Holds (w0 ∷ []) t c → ⊥
-      nobody t c x = only-one (λ k model. (client : ClientModel C) → get model.clients t.client ≡ Some client → ⊥) w0
-          (λ client e. no-client (get w0.clients t.client) client (get-empty nat_cmp t.client) e) x.0 x.1 x.2 x.3.0 x.3.1
-
-      no-run : (k i : ℕ) (model : WorkerModel C J) (l : LaneEnds (Newcomer C J)) (run : RunModel) → slice_get (w0 ∷ []) k ≡ Some model → slice_get (l0 ∷ []) k ≡ Some l
-          → slice_get (ups_in model l (slice_get (no_pending_run ∷ []) k)) i ≡ Some run → ⊥
-      no-run zero i model l run p q e =
-          let one : w0 ≡ model = (let o : Some w0 ≡ Some model = p in cc) in
-          let its : l0 ≡ l = (let o : Some l0 ≡ Some l = q in cc) in
-          nothing-there i run ((λ n. slice_get (ups_in (one n) (its n) (Some no_pending_run)) i) ∙ e)
-      no-run (suc k) i model l run p q e = absurd (nothing-there k model p)
-
-      one-link : (k : ℕ) (it : LinkModel Wire) → IsWorking s1.carrier k it → NoneBehindAsking 1 it.port.asking it.port.items
-      one-link zero it x =
-          let backend : b1 ≡ x.0 = (let o : Some b1 ≡ Some x.0 = x.1 in cc) in
-          let same : Some (link 0 (new_wire 0 0) []) ≡ Some it = ap (λ (b : Backend Wire). b.link) backend ∙ x.2 in
-          let one : link 0 (new_wire 0 0) [] ≡ it = cc in
-          subst (λ (l : LinkModel Wire). NoneBehindAsking 1 l.port.asking l.port.items) one tt
-      one-link (suc zero) it x =
-          let backend : new_backend ≡ x.0 = (let o : Some new_backend ≡ Some x.0 = x.1 in cc) in
-          let same : None ≡ Some it = ap (λ (b : Backend Wire). b.link) backend ∙ x.2 in
-          absurd (cc)
-      one-link (suc (suc k)) it x = absurd (nothing-there k x.0 x.1)
+  idle k = none-under-way (scene w0 s1.carrier [] 1 k []) 1 1
+      (only-one (λ k model. (number : ℕ) → get model.clients number ≡ None) w0 (get-empty nat_cmp))
+      (λ k model l p q.
+      only-one (λ k model. ups_in model l (slice_get (no_pending_run ∷ []) k) ≡ []) w0
+      (only-one (λ k l. ups_in w0 l (slice_get (no_pending_run ∷ []) 0) ≡ []) l0 refl k l q) k model p)
+      (two-of (λ (backend : Backend Wire). (it : LinkModel Wire) → backend.link ≡ Some it → it.port.items ≡ []) b1 new_backend
+      (λ it e. ap (λ (o : Option (LinkModel Wire)). (unwrap_or o (link 0 (new_wire 0 0) [])).port.items) (sym e)) (λ it e. absurd (no-link it e)))
+      refl
+      (λ id lt. inl (0, link 0 (new_wire 0 0) [], (b1, refl, refl, refl), zero-is id lt))
 
   -- after the moves
   abbrev pub s2 : System C J
