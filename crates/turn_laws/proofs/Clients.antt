@@ -5,7 +5,7 @@ use Rattle.std.proofs.lemmas.List.{append-nil}
 use Rattle.std.proofs.lemmas.Bool.Decides.{eqb_tells}
 use Rattle.std.specs.FinMap.{FinMap, get, insert, get-insert}
 use Rattle.std.specs.Ordering.{nat_cmp, eq_by_cmp}
-use Rattle.std.specs.Cmp.{nat_cmp_total, unsigned_ties}
+use Rattle.std.specs.Cmp.{nat_cmp_total}
 use Rattle.key_split.specs.declared.travel.Ticket.{Ticket}
 use Rattle.command_future.specs.CommandModel.{CommandModel}
 use Rattle.command_future.specs.declared.stage.Stage.TheVariants.{Awaits}
@@ -33,7 +33,6 @@ use Rattle.proxy_lanes.specs.declared.ring.Outlet.{Outlet}
 use Rattle.turn_laws.proofs.Told.{Fitting}
 use Rattle.turn_laws.proofs.Holding.{StaysPosted, asks-still}
 pub use Rattle.turn_laws.proofs.Holding.{put-same, put-other}
-use Rattle.turn_laws.proofs.Settling.{same_number}
 
 -- a client in its place: what was posted and awaits still does
 pub put-holds : {C : Type 0} (m : FinMap nat_cmp (ClientModel C)) (number : ℕ) (client client' : ClientModel C) (t : Ticket) (c : CommandModel) → get m number ≡ Some client

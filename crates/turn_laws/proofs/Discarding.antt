@@ -5,15 +5,14 @@ use Rattle.std.proofs.lemmas.Bool.{false≢true}
 use Rattle.std.proofs.lemmas.Bool.Decides.{eqb_tells}
 use Rattle.world_laws.specs.State.{WorldModel, Link}
 use Rattle.world_laws.specs.declared.state.LinkRequest.{LinkRequest}
-use Rattle.world_laws.specs.World.{WorldDoes}
 use Rattle.world_laws.specs.declared.event.Event.{Event}
 use Rattle.world_laws.specs.declared.event.Event.TheVariants.{Discard}
 use Rattle.world_laws.proofs.Nodes.{set-size}
 use Rattle.world_laws.proofs.Recorded.{at-set, set-same, set-other}
-use Rattle.turn_laws.specs.Walks.{Walk, ticked}
+use Rattle.turn_laws.specs.Walks.{Walk}
 use Rattle.turn_laws.specs.Wire.{Wire}
 use Rattle.turn_laws.specs.System.{System}
-use Rattle.turn_laws.specs.Shadow.{IsShadow, LinksShadow, OpenShadow, ClosedShadow, IsUnnumbered, Numbers, requests_in}
+use Rattle.turn_laws.specs.Shadow.{IsShadow, LinksShadow, OpenShadow, ClosedShadow, Numbers, requests_in}
 use Rattle.turn_laws.proofs.Throwing.{linked, broken-frame}
 use Rattle.turn_laws.proofs.Walks.{walks_join}
 
@@ -53,9 +52,15 @@ module _ {C J : Type 0} (s : System C J) (node : ℕ) (gone : (j : ℕ) (wire : 
             old.1,
             ⊎_elim
                 (λ (z : (i : ℕ) × (m : Link) × Numbers (h.links).ids x.port.id i × (slice_get w.links i ≡ Some m) × OpenShadow s.nodes w.commands x m).
-                inl (z.0, z.1, z.2, set-other w.links n l' z.0 z.1 (λ same.
-                let one : z.1 ≡ l = once-there (slice_get w.links n) z.1 l (ap (slice_get w.links) (sym same) ∙ z.3) at in
-                false≢true (sym shut ∙ ap (λ (m : Link). m.is_open) (sym one) ∙ (z.4).is_open)) z.3, z.4))
+                inl (
+                  z.0,
+                  z.1,
+                  z.2,
+                  set-other w.links n l' z.0 z.1 (λ same.
+                      let one : z.1 ≡ l = once-there (slice_get w.links n) z.1 l (ap (slice_get w.links) (sym same) ∙ z.3) at in
+                      false≢true (sym shut ∙ ap (λ (m : Link). m.is_open) (sym one) ∙ (z.4).is_open)) z.3,
+                  z.4,
+                ))
                 (λ z. inr z)
                 old.2,
           );
@@ -91,10 +96,17 @@ module _ {C J : Type 0} (s : System C J) (node : ℕ) (gone : (j : ℕ) (wire : 
     where
       -- nothing is to be done
       still : ((l : Link) → slice_get r.1.links n ≡ Some l → l.is_open ≡ false → l.node ≡ node → l.requests ≡ []) → Cleared (suc n) w
-      still here = (r.0, r.1, r.2, r.3, r.4, λ i l lt e shut there. ⊎_elim
-          (λ (z : ((i == n) ≡ true) × (i ≡ n)). here l (ap (slice_get r.1.links) (sym z.1) ∙ e) shut there)
-          (λ (z : ((i == n) ≡ false) × (i ≢ n)). r.5 i l (omega (arith, lt, z.1)) e shut there)
-          (eqb_tells i n))
+      still here = (
+        r.0,
+        r.1,
+        r.2,
+        r.3,
+        r.4,
+        λ i l lt e shut there. ⊎_elim
+            (λ (z : ((i == n) ≡ true) × (i ≡ n)). here l (ap (slice_get r.1.links) (sym z.1) ∙ e) shut there)
+            (λ (z : ((i == n) ≡ false) × (i ≢ n)). r.5 i l (omega (arith, lt, z.1)) e shut there)
+            (eqb_tells i n),
+      )
 
       throw : (l : Link) → slice_get r.1.links n ≡ Some l → l.is_open ≡ false → l.node ≡ node → (l.requests ≡ [] → ⊥) → Cleared (suc n) w
       throw l at shut there some =

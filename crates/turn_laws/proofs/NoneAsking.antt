@@ -1,5 +1,5 @@
 -- Where no command for the slot is under way that an ASK sent to the node, none is so in the machine.
-use Rattle.std.proofs.Common.{◌≡◌, ◌≢◌, ◌⊎◌, inl, inr, ⊎_elim, ℕ, zero, suc, ◌+◌, ◌<◌, ◌≤◌, ◌==◌, ◌&&◌, Bool, true, false, List, [], ◌∷◌, ◌++◌, Some, None, refl, sym, ap, ◌∙◌, subst, arith, length}
+use Rattle.std.proofs.Common.{◌≡◌, ◌≢◌, ⊎_elim, ℕ, zero, suc, ◌+◌, ◌<◌, ◌==◌, ◌&&◌, Bool, true, false, List, [], ◌∷◌, ◌++◌, Some, None, refl, sym, ap, ◌∙◌, subst, arith, length}
 use Rattle.std.specs.Prelude.{slice_get, Option, All, map, filter, if◌then◌else◌, cond}
 use Rattle.std.proofs.lemmas.Bool.Decides.{eqb_tells}
 use Rattle.std.proofs.lemmas.List.Elements.{All-cons}
@@ -7,7 +7,7 @@ use Rattle.resp_wire.specs.declared.value.Value.{Value}
 use Rattle.slot_hash.specs.Slot.{slot_of}
 use Rattle.slot_map.specs.Table.{Endpoint}
 use Rattle.key_split.specs.PartModel.{PartModel}
-use Rattle.key_split.specs.Same.{same_ticket, same_ticket-Decides}
+use Rattle.key_split.specs.Same.{same_ticket-Decides}
 use Rattle.key_split.specs.Runs.{RunModel, batches_in}
 use Rattle.key_split.specs.declared.travel.Batch.{Batch}
 use Rattle.key_split.specs.declared.travel.Ticket.{Ticket}
@@ -16,7 +16,6 @@ use Rattle.key_split.specs.declared.travel.Told.TheVariants.{Reply, Moved, Ask, 
 use Rattle.command_future.specs.CommandModel.{CommandModel, progress_told, refused_at, told_at}
 use Rattle.command_future.specs.declared.stage.Stage.{Stage}
 use Rattle.command_future.specs.declared.stage.Stage.TheVariants.{Wants, WantsAsking, Awaits, Over}
-use Rattle.command_future.specs.declared.stage.Stage.TheVariants as stage
 use Rattle.key_split.specs.declared.travel.Ended.TheVariants.{GaveUp}
 use Rattle.node_link.specs.LinkModel.{LinkModel}
 use Rattle.node_link.specs.declared.link.Due.{Due}
@@ -28,21 +27,19 @@ use Rattle.world_laws.specs.State.{WorldModel, Link, slot_for}
 use Rattle.world_laws.specs.declared.state.Arrival.{Arrival}
 use Rattle.world_laws.specs.declared.state.Posted.{Posted}
 use Rattle.world_laws.specs.declared.state.LinkRequest.{LinkRequest}
-use Rattle.world_laws.specs.declared.state.LinkReply.{LinkReply}
 use Rattle.world_laws.specs.declared.state.LinkRequest.TheVariants as asked
-use Rattle.world_laws.specs.declared.state.LinkReply.TheVariants.{Welcome, To}
-use Rattle.world_laws.specs.Places.{Item as Place, total, tally, in_requests, in_backs, in_lane, in_link, is, asks, asks_in_stage, asks_in_told}
+use Rattle.world_laws.specs.Places.{total, tally, in_requests, in_backs, in_lane, in_link, is, asks, asks_in_stage, asks_in_told}
 use Rattle.world_laws.specs.Places.Item.{Stands, Lies, Sent, Comes}
 use Rattle.world_laws.specs.World.{NoneAsks, lies_in}
 use Rattle.world_laws.proofs.Tally.{total-one}
 use Rattle.world_laws.proofs.Kept.{is-refl}
-use Rattle.world_laws.proofs.Counted.{here, awaits}
+use Rattle.world_laws.proofs.Counted.{here}
 use Rattle.world_laws.proofs.Placed.{Placed}
 use Rattle.world_laws.proofs.Allowed.{awaited}
 use Rattle.turn_laws.specs.Wire.{Wire, Item, Part, Asks, Runs, Lists, heard_in, tickets_for}
 use Rattle.turn_laws.specs.System.{System}
 use Rattle.turn_laws.specs.Asking.{NoneBehindAsking, NoneAsksIn}
-use Rattle.turn_laws.specs.Shadow.{IsShadow, IsWorking, HasPart, IsKnown, IsUnderWay, RunShadow, LaneShadow, OpenShadow, ClosedShadow, IsIdle, Numbers, IsUnnumbered, Holds, ToldFrom, downs_of, ups_in, coming, lying, requests_in, back_of, backs_in}
+use Rattle.turn_laws.specs.Shadow.{IsShadow, IsWorking, HasPart, IsKnown, IsUnderWay, RunShadow, LaneShadow, OpenShadow, ClosedShadow, IsIdle, Numbers, IsUnnumbered, Holds, downs_of, ups_in, coming, lying, requests_in, backs_in}
 use Rattle.turn_laws.proofs.Downs.{Pair, is-other}
 use Rattle.turn_laws.proofs.Frames.{beside}
 use Rattle.turn_laws.proofs.AtLanes.{nothing-there}

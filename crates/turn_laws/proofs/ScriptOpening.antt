@@ -1,6 +1,6 @@
 -- The start of the script, how the carrier reaches the first node, and a move that is called back.
 use Rattle.std.proofs.Common.{◌≡◌, inl, inr, ℕ, zero, suc, ◌<◌, Bool, true, false, List, [], ◌∷◌, Some, None, Ok, refl, sym, ap, ◌∙◌, subst, arith, length}
-use Rattle.std.specs.Prelude.{slice_get, All, map, Option, IsSome, unwrap_or}
+use Rattle.std.specs.Prelude.{slice_get, Option, IsSome, unwrap_or}
 use Rattle.std.specs.List.{FoldsTo}
 use mathlib.Core.List.{IsPrefix}
 use Rattle.std.specs.FinMap.{empty, get, get-empty}
@@ -8,7 +8,6 @@ use Rattle.std.specs.Ordering.{nat_cmp}
 use Rattle.key_split.specs.declared.travel.Ticket.{Ticket}
 use Rattle.command_future.specs.CommandModel.{CommandModel}
 use Rattle.node_link.specs.LinkModel.{LinkModel}
-use Rattle.proxy_turns.specs.ClientModel.{ClientModel}
 use Rattle.std.specs.Cmp.Lexicographic.{slice_cmp}
 use Rattle.resp_wire.specs.declared.value.Value.TheVariants.{Array}
 use Rattle.slot_map.specs.Table.{Endpoint}
