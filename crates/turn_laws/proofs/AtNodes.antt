@@ -39,7 +39,7 @@ module _ {C J : Type 0} where
     to_worker = h.to_worker;
     told = h.told;
     lanes = h.lanes;
-    links = record { ids = (h.links).ids; all = (h.links).all; below = (h.links).below; once = (h.links).once; backends = (h.links).backends; wires = (h.links).wires; apart = (h.links).apart; aside = (h.links).aside; each = (h.links).each };
+    links = record { ids = (h.links).ids; all = (h.links).all; below = (h.links).below; once = (h.links).once; backends = (h.links).backends; wires = (h.links).wires; apart = (h.links).apart; aside = (h.links).aside; each = (h.links).each; seen = (h.links).seen };
     clients = h.clients;
     unseen = h.unseen;
     downs = h.downs;

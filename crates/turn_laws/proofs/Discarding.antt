@@ -82,6 +82,7 @@ module _ {C J : Type 0} (s : System C J) (node : ℕ) (gone : (j : ℕ) (wire : 
       apart = (h.links).apart;
       aside = (h.links).aside;
       each = (h.links).each;
+      seen = (h.links).seen;
     }
 
     emptied : IsShadow s w'

@@ -354,7 +354,7 @@ module _ {C J : Type 0} (s : System C J) (w : WorldModel) (h : IsShadow s w) (pl
         closed-quiet o.is_open o.backs)
         (λ (y : IsUnnumbered (h.links).ids (z.1).id × (requests_in (z.1).items ≡ [])). absurd (y.0 i (id.1 ∙ ap Some (sym z.3))))
         ((h.links).wires z.0 z.1 z.2).1)
-        (none.all id.0 ((h.links).below i id.0 id.1))
+        ((h.links).seen i id.0 id.1)
 
   pub one-quiet : tally (asks node t) w ≡ 0
   one-quiet = omega (

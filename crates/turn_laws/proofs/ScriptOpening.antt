@@ -24,7 +24,7 @@ use Rattle.proxy_turns.specs.CarrierModel.{CarrierModel}
 use Rattle.turn_laws.specs.Wire.{Wire, Lists, new_wire}
 use Rattle.turn_laws.specs.System.{System, IsInStep, between}
 use Rattle.turn_laws.specs.Shadow.{AreApart, DownInStep, Holds, down_in, ups_in}
-use Rattle.turn_laws.specs.Asking.{NoneAsksIn, NoneBehindAsking, IsSeen}
+use Rattle.turn_laws.specs.Asking.{NoneAsksIn, NoneBehindAsking}
 use Rattle.turn_laws.specs.Steps.{SystemStep}
 use Rattle.turn_laws.specs.Refines.{IsStart}
 use Rattle.turn_laws.specs.Scripts as script
@@ -57,9 +57,6 @@ two-of P x y p q zero z e = let one : x ≡ z = (let o : Some x ≡ Some z = e i
 two-of P x y p q (suc zero) z e = let one : y ≡ z = (let o : Some y ≡ Some z = e in cc) in subst P one q
 two-of P x y p q (suc (suc k)) z e = absurd (nothing-there k z e)
 
-zero-is : (id : ℕ) → id < 1 → 0 ≡ id
-zero-is id lt = omega (arith, lt)
-
 no-link : (it : LinkModel Wire) → None ≡ Some it → ⊥
 no-link it e = cc
 
@@ -72,15 +69,14 @@ module _ {C J : Type 0} where
       → ((k : ℕ) (model : WorkerModel C J) → slice_get s.workers k ≡ Some model → (number : ℕ) → get model.clients number ≡ None)
       → ((k : ℕ) (model : WorkerModel C J) (l : LaneEnds (Newcomer C J)) → slice_get s.workers k ≡ Some model → slice_get s.carrier.lanes k ≡ Some l → ups_in model l (slice_get s.carrier.pending_runs k) ≡ [])
       → ((k : ℕ) (backend : Backend Wire) → slice_get s.carrier.backends k ≡ Some backend → (it : LinkModel Wire) → backend.link ≡ Some it → it.port.items ≡ [])
-      → s.closed ≡ [] → ((id : ℕ) → id < s.opened → IsSeen s id) → NoneAsksIn s slot node
-  none-under-way s slot node nobody no-runs no-items closed all = record {
+      → s.closed ≡ [] → NoneAsksIn s slot node
+  none-under-way s slot node nobody no-runs no-items closed = record {
     wants = λ t c held e. absurd (no-one t c held.0);
     told = λ t c asked i held e. absurd (no-one t c held.0);
     said = λ t c asked k i it value held works p q e. absurd (no-one t c held.0);
     lies = λ k i n model l run batch p q r b a there e. absurd (nothing-there i run (sym (ap (λ runs. slice_get runs i) (no-runs k model l p q)) ∙ r));
     sent = λ k it works there. subst (NoneBehindAsking slot it.port.asking) (sym (no-items k works.0 works.1 it works.2)) tt;
     broken = λ j wire e. absurd (nothing-there j wire (sym (ap (λ ws. slice_get ws j) closed) ∙ e));
-    all = all;
   }
     where
       no-one : (t : Ticket) (c : CommandModel) → Holds s.workers t c → ⊥
@@ -221,7 +217,6 @@ module _ {C J : Type 0} (port : C) where
       (two-of (λ (backend : Backend Wire). (it : LinkModel Wire) → backend.link ≡ Some it → it.port.items ≡ []) b1 new_backend
       (λ it e. ap (λ (o : Option (LinkModel Wire)). (unwrap_or o (link 0 (new_wire 0 0) [])).port.items) (sym e)) (λ it e. absurd (no-link it e)))
       refl
-      (λ id lt. inl (0, link 0 (new_wire 0 0) [], (b1, refl, refl, refl), zero-is id lt))
 
   -- after the moves
   abbrev pub s2 : System C J

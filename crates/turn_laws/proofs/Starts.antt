@@ -64,6 +64,7 @@ module _ {C J : Type 0} where
       apart = λ k m a b p q e. absurd (no-item s.carrier.backends k p.0 h.backends p.1);
       aside = λ k j a wire p q e. absurd (no-item s.closed j wire h.closed q);
       each = λ i j a b p q e. absurd (no-item s.closed i a h.closed p);
+      seen = λ i id e. absurd (nothing-there i id e);
     }
 
     no-marks : LogShadow [] first

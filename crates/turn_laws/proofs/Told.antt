@@ -293,4 +293,5 @@ links-told {H} nodes carrier closed opened w w' links same h = record {
   apart = h.apart;
   aside = h.aside;
   each = h.each;
+  seen = h.seen;
 }

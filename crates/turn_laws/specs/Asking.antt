@@ -29,12 +29,6 @@ module _ {C J : Type 0} where
   abbrev pub IsHeldFor : System C J → ℕ → Ticket → CommandModel → Type 0
   IsHeldFor s slot ticket c = Holds s.workers ticket c × (slot_of c.part.key ≡ slot)
 
-  -- an open connection works, or is one of the broken
-  abbrev pub IsSeen : System C J → ℕ → Type 0
-  IsSeen s id =
-      ((k : ℕ) × (link : LinkModel Wire) × IsWorking s.carrier k link × (link.port.id ≡ id))
-      ⊎ ((j : ℕ) × (wire : Wire) × (slice_get s.closed j ≡ Some wire) × (wire.id ≡ id))
-
   -- no command for the slot is under way that an ASK sent to the node
   pub record NoneAsksIn (s : System C J) (slot node : ℕ) : Type 0 where
     -- none of a worker's wants to go there,
@@ -51,5 +45,3 @@ module _ {C J : Type 0} where
     pub sent : (k : ℕ) (link : LinkModel Wire) → IsWorking s.carrier k link → link.node ≡ node → NoneBehindAsking slot link.port.asking link.port.items
     -- and on a broken one nothing is left, since what was being sent when it broke may stand there too.
     pub broken : (j : ℕ) (wire : Wire) → slice_get s.closed j ≡ Some wire → wire.node ≡ node → wire.items ≡ []
-    -- Those are all connections there are.
-    pub all : (id : ℕ) → id < s.opened → IsSeen s id

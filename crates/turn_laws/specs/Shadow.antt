@@ -154,6 +154,12 @@ WireShadow w ids wire =
 abbrev pub IsWorking : {H : Type 0} → CarrierModel H Wire → ℕ → LinkModel Wire → Type 0
 IsWorking carrier k link = (backend : Backend Wire) × (slice_get carrier.backends k ≡ Some backend) × (backend.link ≡ Some link) × (link.failure ≡ None)
 
+-- the connection of this number works, or is one of the broken
+abbrev pub SeenIn : {H : Type 0} → CarrierModel H Wire → List Wire → ℕ → Type 0
+SeenIn carrier closed id =
+    ((k : ℕ) × (link : LinkModel Wire) × IsWorking carrier k link × (link.port.id ≡ id))
+    ⊎ ((j : ℕ) × (wire : Wire) × (slice_get closed j ≡ Some wire) × (wire.id ≡ id))
+
 pub record LinksShadow {H : Type 0} (nodes : List Endpoint) (carrier : CarrierModel H Wire) (closed : List Wire) (opened : ℕ) (w : WorldModel) : Type 0 where
   pub ids : List ℕ
   pub all : length ids ≡ length w.links
@@ -161,6 +167,8 @@ pub record LinksShadow {H : Type 0} (nodes : List Endpoint) (carrier : CarrierMo
   pub once : (i j id : ℕ) → slice_get ids i ≡ Some id → slice_get ids j ≡ Some id → i ≡ j
   pub backends : (k : ℕ) (link : LinkModel Wire) → IsWorking carrier k link → (link.node ≡ k) × (link.port.id < opened) × BackendShadow nodes w ids link
   pub wires : (j : ℕ) (wire : Wire) → slice_get closed j ≡ Some wire → (wire.id < opened) × WireShadow w ids wire
+  -- each link is that of a connection
+  pub seen : (i id : ℕ) → slice_get ids i ≡ Some id → SeenIn carrier closed id
   -- no two connections have one number
   pub apart : (k m : ℕ) (a b : LinkModel Wire) → IsWorking carrier k a → IsWorking carrier m b → a.port.id ≡ b.port.id → k ≡ m
   pub aside : (k j : ℕ) (a : LinkModel Wire) (wire : Wire) → IsWorking carrier k a → slice_get closed j ≡ Some wire → a.port.id ≢ wire.id
