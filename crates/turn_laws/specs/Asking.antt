@@ -1,5 +1,5 @@
 -- No command is under way that an ASK sent to a node: what the import of a slot at the node waits for.
-use Rattle.std.specs.Prelude.{◌≡◌, ◌≢◌, ◌⊎◌, ◌<◌, ℕ, List, [], ◌∷◌, Bool, true, false, Some, All, slice_get}
+use Rattle.std.specs.Prelude.{◌≡◌, ◌≢◌, ℕ, List, [], ◌∷◌, Bool, true, false, Some, All, slice_get}
 use Rattle.resp_wire.specs.declared.value.Value.{Value}
 use Rattle.slot_hash.specs.Slot.{slot_of}
 use Rattle.key_split.specs.Runs.{RunModel, batches_in}
@@ -43,5 +43,5 @@ module _ {C J : Type 0} where
         → run.first.asking ≡ true → run.first.node ≡ node → slot_of batch.part.key ≢ slot
     -- none stands behind ASKING on a connection to the node;
     pub sent : (k : ℕ) (link : LinkModel Wire) → IsWorking s.carrier k link → link.node ≡ node → NoneBehindAsking slot link.port.asking link.port.items
-    -- and on a broken one nothing is left, since what was being sent when it broke may stand there too.
+    -- and on a broken one nothing is left, since what was being sent when it broke may stand there too
     pub broken : (j : ℕ) (wire : Wire) → slice_get s.closed j ≡ Some wire → wire.node ≡ node → wire.items ≡ []
