@@ -1,4 +1,4 @@
--- The steps of a move: the machine makes the same step of its nodes.
+-- The steps of a move: the machine makes the same step of its nodes, an import perhaps after it threw away what its closed links hold.
 use Rattle.std.proofs.Common.{◌≡◌, ℕ, List, [], ◌∷◌, ◌++◌, refl, sym, ap, ◌∙◌, subst, arith, length}
 use Rattle.node_model.specs.Nodes.{ClusterModel}
 use Rattle.node_model.specs.Moves.{MayImport, MayMigrate, MayMoveKey, MayOwn, MayRelease, MayForget, MayStay, import_done, migrate_done, move_key_done, own_done, release_done, forget_done, stay_done}
