@@ -15,15 +15,16 @@ use Rattle.proxy_turns.specs.CarrierModel.{CarrierModel, AtBackend}
 use Rattle.world_laws.specs.State.{WorldModel, Link}
 use Rattle.turn_laws.specs.Wire.{Wire, Exchanges}
 use Rattle.turn_laws.specs.System.{System}
-use Rattle.turn_laws.specs.Shadow.{IsShadow, IsWorking, LinksShadow, LaneShadow, BackendShadow, OpenShadow, IsIdle, IsUnnumbered, Numbers, coming, coming_of, requests_in, dues_in}
+use Rattle.turn_laws.specs.Shadow.{IsShadow, IsWorking, LinksShadow, LaneShadow, BackendShadow, OpenShadow, IsIdle, IsUnnumbered, Numbers, coming, coming_of, requests_in, dues_in, SeenIn}
 use Rattle.turn_laws.specs.Steps.{CarrierStep, any_failures, any_garbled}
 use Rattle.turn_laws.proofs.Frames.{same-seats, down-fits, carrier-frame}
 use Rattle.turn_laws.proofs.Fetching.{fetched-shadow, comes-first, waits-first}
 use Rattle.turn_laws.proofs.Waiting.{now, same-closed, same-opened, same-bag}
+use Rattle.turn_laws.proofs.Seen.{seen-set}
 
 module _ {H : Type 0} (nodes : List Endpoint) (a b : CarrierModel H Wire) (closed : List Wire) (opened : ℕ) (w : WorldModel) (h : LinksShadow nodes a closed opened w)
     (k : ℕ) (link link' : LinkModel Wire) (working : IsWorking a k link)
-    (now' : (j : ℕ) (x : LinkModel Wire) → IsWorking b j x → ((j ≡ k) × (x ≡ link')) ⊎ ((j ≢ k) × IsWorking a j x))
+    (now' : (j : ℕ) (x : LinkModel Wire) → IsWorking b j x → ((j ≡ k) × (x ≡ link')) ⊎ ((j ≢ k) × IsWorking a j x)) (sight : (m : ℕ) → SeenIn a closed m → SeenIn b closed m)
     (node : link'.node ≡ k) (id : link'.port.id ≡ link.port.id)
     (shows : (l : Link) → OpenShadow nodes w.commands link l → OpenShadow nodes w.commands link' l) (idles : IsIdle link → IsIdle link') where
   mine : (j : ℕ) (x : LinkModel Wire) → j ≡ k → x ≡ link' → (x.node ≡ j) × (x.port.id < opened) × BackendShadow nodes w h.ids x
@@ -65,6 +66,7 @@ module _ {H : Type 0} (nodes : List Endpoint) (a b : CarrierModel H Wire) (close
         (λ (u : (j ≢ k) × IsWorking a j x). h.aside j i x wire u.1 q)
         (now' j x p);
     each = h.each;
+    seen = λ i m e. sight m (h.seen i m e);
   }
 
 -- the first of those that wait is taken off
@@ -110,6 +112,7 @@ module _ {C J : Type 0} where
       let links : LinksShadow s.nodes s'.carrier s.closed s.opened w =
       quiet-backend s.nodes s.carrier s'.carrier s.closed s.opened w h.links k link link' working
       (now (AtBackend Answered) s s' on refl k backend backend' link link' on.does.3 backends was is r.0 works)
+      (seen-set s.carrier s'.carrier s.closed k backend backend' on.does.3 backends link link' was is works (ap (λ (x : Wire). x.id) (comes-first link link'.port value r.1).1))
       (ap (λ (c : LinkModel Wire). c.node) r.4 ∙ ((h.links).backends k link working).0)
       (ap (λ (x : Wire). x.id) (comes-first link link'.port value r.1).1)
       (λ l o. let f = fetched-shadow s.nodes w.commands link link' l due.Slots value o r.1 r.2 r.4 in

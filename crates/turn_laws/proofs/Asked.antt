@@ -33,6 +33,7 @@ use Rattle.turn_laws.proofs.Items.{tickets-append, requests-append}
 use Rattle.turn_laws.proofs.Drops.{drops, broken-wire}
 use Rattle.turn_laws.proofs.Broke.{some-failure}
 use Rattle.turn_laws.proofs.Written.{Writes, open-written, idle-written}
+use Rattle.turn_laws.proofs.Seen.{seen-set}
 
 failed-not : (o : Option Failure) (why : Failure) → o ≡ None → o ≡ Some why → ⊥
 failed-not o why e f = cc
@@ -90,6 +91,7 @@ module _ {C J : Type 0} (s s' : System C J) (w : WorldModel) (h : IsShadow s w) 
       let links : LinksShadow s.nodes s'.carrier s.closed s.opened w =
       quiet-backend s.nodes s.carrier s'.carrier s.closed s.opened w h.links k link link' working
       (now (AtBackend Asked) s s' on refl k backend backend' link link' on.does.3 backends was is worked works)
+      (seen-set s.carrier s'.carrier s.closed k backend backend' on.does.3 backends link link' was is works (ap (λ (p : Wire). p.id) x.0.1))
       (ap (λ (c : LinkModel Wire). c.node) x.1 ∙ ((h.links).backends k link working).0)
       (ap (λ (p : Wire). p.id) x.0.1)
       (λ l o. subst (OpenShadow s.nodes w.commands link') (λ i. record l { requests = append-nil l.requests i }) (open-written link link' (Slots ∷ []) x s.nodes w.commands l o (all-slots w.commands)))

@@ -31,8 +31,9 @@ use Rattle.turn_laws.specs.Steps.{CarrierStep, opened_by}
 use Rattle.std.proofs.lemmas.List.Elements.{All-append, All-cons, All-nil}
 use Rattle.turn_laws.proofs.Downs.{Pair, SameBag, total-set-flat}
 use Rattle.turn_laws.proofs.Lanes.{between-post, post-steps, between-back, back-steps, between-take}
-use Rattle.turn_laws.proofs.Frames.{SameLinks, works-still, no-failure, carrier-stutter, beside, same-seats, set-seats, DownFits, down-fits}
+use Rattle.turn_laws.proofs.Frames.{SameLinks, works-still, no-failure, carrier-stutter, beside, same-seats, set-seats, DownFits, down-fits, StillSeen, seen-same}
 use Rattle.turn_laws.proofs.Carriers.{refusals, debts, bag-parts}
+use Rattle.turn_laws.proofs.Seen.{seen-works, seen-stays}
 
 -- a list's other items
 pub get-other : {X : Type 0} (xs : List X) (i j : ℕ) (y : X) → j ≢ i → slice_get (slice_set xs i y) j ≡ slice_get xs j
@@ -153,7 +154,7 @@ module _ {C J : Type 0} where
       (rings-total f workers lanes k model x y p q)
 
   -- A step by which one worker's lane changes, and perhaps what is pending of it.
-  module _ (event : CarrierEvent) (s s' : System C J) (w : WorldModel) (h : IsShadow s w) (step : CarrierStep s event s') (quiet : opened_by event s.opened ≡ s.opened) (links : SameLinks s s') where
+  module _ (event : CarrierEvent) (s s' : System C J) (w : WorldModel) (h : IsShadow s w) (step : CarrierStep s event s') (quiet : opened_by event s.opened ≡ s.opened) (links : SameLinks s s') (sight : StillSeen s s') where
     workers : s'.workers ≡ s.workers
     workers = ap (λ (x : System C J). x.workers) step.leaves
 
@@ -167,7 +168,7 @@ module _ {C J : Type 0} where
         ≡ total f (down_in x.down model.inlet) + total f (refusals s.carrier.pending_runs) + total f (debts s.carrier.backends))
         → IsShadow s' w
     lane-stutter k x y at lanes seats steps ups others bag =
-        carrier-stutter event s s' w h step quiet (works-still s s' links) (no-failure s s' links)
+        carrier-stutter event s s' w h step quiet (works-still s s' links) (no-failure s s' links) sight
         (record { lanes = ap length lanes ∙ set-size s.carrier.lanes k y; seated = seats }) down_steps whole all
       where
         seen : (j : ℕ) (lane : LaneEnds (Newcomer C J)) → slice_get s'.carrier.lanes j ≡ Some lane → ((j ≡ k) × (lane ≡ y)) ⊎ ((j ≢ k) × (slice_get s.carrier.lanes j ≡ Some lane))
@@ -202,7 +203,7 @@ module _ {C J : Type 0} where
         → ((f : Pair → ℕ) → total f (refusals s'.carrier.pending_runs) + total f (debts s'.carrier.backends) ≡ total f (refusals s.carrier.pending_runs) + total f (debts s.carrier.backends))
         → IsShadow s' w
     pending_runs-stutter lanes seats ups bag =
-        carrier-stutter event s s' w h step quiet (works-still s s' links) (no-failure s s' links) (record { lanes = ap length lanes; seated = seats })
+        carrier-stutter event s s' w h step quiet (works-still s s' links) (no-failure s s' links) sight (record { lanes = ap length lanes; seated = seats })
         (λ j model lane p q. down-fits s w h j model lane p (sym (ap (λ xs. slice_get xs j) lanes) ∙ q))
         (λ f. (
         let rings : total f (downs_in s'.workers s'.carrier.lanes) ≡ total f (downs_in s.workers s.carrier.lanes) = λ i. total f (downs_in (workers i) (lanes i)) in
@@ -216,7 +217,7 @@ module _ {C J : Type 0} where
   missed s s' w h on =
       let backends : s'.carrier.backends ≡ s.carrier.backends = ap (λ (x : CarrierModel (Newcomer C J) Wire). x.backends) on.does.2 in
       let pending_runs : s'.carrier.pending_runs ≡ s.carrier.pending_runs = ap (λ (x : CarrierModel (Newcomer C J) Wire). x.pending_runs) on.does.2 in
-      pending_runs-stutter Missed s s' w h on refl (same-backends s s' backends) (ap (λ (x : CarrierModel (Newcomer C J) Wire). x.lanes) on.does.2) (same-seats s s' (ap (λ (x : CarrierModel (Newcomer C J) Wire). length x.lanes) on.does.2) pending_runs).seated
+      pending_runs-stutter Missed s s' w h on refl (same-backends s s' backends) (seen-same s s' backends) (ap (λ (x : CarrierModel (Newcomer C J) Wire). x.lanes) on.does.2) (same-seats s s' (ap (λ (x : CarrierModel (Newcomer C J) Wire). length x.lanes) on.does.2) pending_runs).seated
       (λ j model lane. λ i. ups_in model lane (slice_get (pending_runs i) j))
       (λ f. λ i. total f (refusals (pending_runs i)) + total f (debts (backends i)))
 
@@ -225,7 +226,7 @@ module _ {C J : Type 0} where
       let e = on.does.2 in
       let backends : s'.carrier.backends ≡ s.carrier.backends = ap (λ (x : CarrierModel (Newcomer C J) Wire). x.backends) e in
       let pending_runs : s'.carrier.pending_runs ≡ s.carrier.pending_runs = ap (λ (x : CarrierModel (Newcomer C J) Wire). x.pending_runs) e in
-      pending_runs-stutter NotFound s s' w h on refl (same-backends s s' backends) (ap (λ (x : CarrierModel (Newcomer C J) Wire). x.lanes) e) (same-seats s s' (ap (λ (x : CarrierModel (Newcomer C J) Wire). length x.lanes) e) pending_runs).seated
+      pending_runs-stutter NotFound s s' w h on refl (same-backends s s' backends) (seen-same s s' backends) (ap (λ (x : CarrierModel (Newcomer C J) Wire). x.lanes) e) (same-seats s s' (ap (λ (x : CarrierModel (Newcomer C J) Wire). length x.lanes) e) pending_runs).seated
       (λ j model lane. λ i. ups_in model lane (slice_get (pending_runs i) j))
       (λ f. λ i. total f (refusals (pending_runs i)) + total f (debts (backends i)))
 
@@ -233,7 +234,7 @@ module _ {C J : Type 0} where
   added s s' w h on =
       let backends : s'.carrier.backends ≡ s.carrier.backends = ap (λ (x : CarrierModel (Newcomer C J) Wire). x.backends) on.does in
       let pending_runs : s'.carrier.pending_runs ≡ s.carrier.pending_runs ++ no_pending_run ∷ [] = ap (λ (x : CarrierModel (Newcomer C J) Wire). x.pending_runs) on.does in
-      pending_runs-stutter WorkerAdded s s' w h on refl (same-backends s s' backends) (ap (λ (x : CarrierModel (Newcomer C J) Wire). x.lanes) on.does) (λ seated k b run p q. omega (arith, ap (λ (x : CarrierModel (Newcomer C J) Wire). length x.lanes) on.does, seated k b run (was-there k b run (sym (ap (λ xs. slice_get xs k) pending_runs) ∙ p) q) q))
+      pending_runs-stutter WorkerAdded s s' w h on refl (same-backends s s' backends) (seen-same s s' backends) (ap (λ (x : CarrierModel (Newcomer C J) Wire). x.lanes) on.does) (λ seated k b run p q. omega (arith, ap (λ (x : CarrierModel (Newcomer C J) Wire). length x.lanes) on.does, seated k b run (was-there k b run (sym (ap (λ xs. slice_get xs k) pending_runs) ∙ p) q) q))
       (λ j model lane. (λ i. ups_in model lane (slice_get (pending_runs i) j)) ∙ ⊎_elim
       (λ (e : slice_get (s.carrier.pending_runs ++ no_pending_run ∷ []) j ≡ slice_get s.carrier.pending_runs j). ap (ups_in model lane) e)
       (λ (e : (slice_get s.carrier.pending_runs j ≡ None) × (slice_get (s.carrier.pending_runs ++ no_pending_run ∷ []) j ≡ Some no_pending_run)).
@@ -259,7 +260,7 @@ module _ {C J : Type 0} where
       (λ (e : slice_get s.carrier.backends k ≡ Some backend'). (backend', e, linked))
       (λ (e : (k ≡ length s.carrier.backends) × (backend' ≡ new_backend)). let bad : None ≡ Some link = ap (λ (x : Backend Wire). x.link) (sym e.1) ∙ linked in absurd (cc))
       (at-last s.carrier.backends new_backend k backend' (sym (ap (λ xs. slice_get xs k) backends) ∙ at)) in
-      pending_runs-stutter BackendAdded s s' w h on refl links (ap (λ (x : CarrierModel (Newcomer C J) Wire). x.lanes) on.does) (same-seats s s' (ap (λ (x : CarrierModel (Newcomer C J) Wire). length x.lanes) on.does) pending_runs).seated
+      pending_runs-stutter BackendAdded s s' w h on refl links (seen-works s.carrier s'.carrier s.closed (λ k it x. (x.0, ap (λ xs. slice_get xs k) backends ∙ before-last s.carrier.backends (new_backend ∷ []) k x.0 x.1, x.2, x.3))) (ap (λ (x : CarrierModel (Newcomer C J) Wire). x.lanes) on.does) (same-seats s s' (ap (λ (x : CarrierModel (Newcomer C J) Wire). length x.lanes) on.does) pending_runs).seated
       (λ j model lane. λ i. ups_in model lane (slice_get (pending_runs i) j))
       (λ f. omega (
         arith,
@@ -285,7 +286,7 @@ module _ {C J : Type 0} where
       let pending_runs : s'.carrier.pending_runs ≡ slice_set s.carrier.pending_runs k pending_run' = ap (λ (c : CarrierModel (Newcomer C J) Wire). c.pending_runs) d.5 in
       let fl : s'.workers ≡ s.workers = ap (λ (z : System C J). z.workers) on.leaves in
       let held : slice_get s'.carrier.pending_runs k ≡ Some pending_run' = ap (λ xs. slice_get xs k) pending_runs ∙ set-same s.carrier.pending_runs k pending_run pending_run' d.3 in
-      lane-stutter Took s s' w h on refl (same-backends s s' backends) k x y d.4.3.2 d.4.3.3 (set-seats s s' k pending_run' (ap length d.4.3.3 ∙ set-size s.carrier.lanes k y) pending_runs (λ b e seated. short s.carrier.lanes k x d.4.3.2)).seated
+      lane-stutter Took s s' w h on refl (same-backends s s' backends) (seen-same s s' backends) k x y d.4.3.2 d.4.3.3 (set-seats s s' k pending_run' (ap length d.4.3.3 ∙ set-size s.carrier.lanes k y) pending_runs (λ b e seated. short s.carrier.lanes k x d.4.3.2)).seated
       (λ model p. (λ outlet e. h.down_steps k model x p d.4.3.2 outlet (sym down ∙ e), subst (λ o. All (λ (q : Pair). q.0.worker ≡ k) (down_in o model.inlet)) (sym down) (h.to_worker k model x p d.4.3.2), subst IsSome (sym down) (h.unfinished k x d.4.3.2)))
       (λ model p.
       let there : slice_get s'.carrier.lanes k ≡ Some y = ap (λ xs. slice_get xs k) d.4.3.3 ∙ set-same s.carrier.lanes k x y d.4.3.2 in
@@ -348,7 +349,7 @@ module _ {C J : Type 0} where
       (λ (e : (j ≡ k) × (l ≡ backend')). (backend, ap (slice_get s.carrier.backends) e.0 ∙ d.3, sym (ap (λ (z : Backend Wire). z.link) now) ∙ ap (λ (z : Backend Wire). z.link) (sym e.1) ∙ linked))
       (λ (e : (j ≢ k) × (slice_get s.carrier.backends j ≡ Some l)). (l, e.1, linked))
       (at-set s.carrier.backends k backend' j l (sym (ap (λ xs. slice_get xs j) backends) ∙ at)) in
-      lane-stutter Gave s s' w h on refl links pair.0.worker x y c.2 c.3 (same-seats s s' (ap length c.3 ∙ set-size s.carrier.lanes pair.0.worker y) pending_runs).seated
+      lane-stutter Gave s s' w h on refl links (seen-stays s.carrier s'.carrier s.closed k backend backend' d.3 backends (λ it e f. ap (λ (z : Backend Wire). z.link) now ∙ e)) pair.0.worker x y c.2 c.3 (same-seats s s' (ap length c.3 ∙ set-size s.carrier.lanes pair.0.worker y) pending_runs).seated
       (λ model p. given-fits x.down y.down pair model.inlet (given x.down y.down pair c.4.1 model.inlet (h.down_steps pair.0.worker model x p c.2)) (h.to_worker pair.0.worker model x p c.2))
       (λ model p. ups-up model x y up (slice_get s'.carrier.pending_runs pair.0.worker) ∙ (λ i. ups_in model x (slice_get (pending_runs i) pair.0.worker)))
       (λ j ne model lane. λ i. ups_in model lane (slice_get (pending_runs i) j))
@@ -385,7 +386,7 @@ module _ {C J : Type 0} where
       let up : y.up ≡ x.up = ap (λ (l : LaneEnds (Newcomer C J)). l.up) c.4.0 in
       let same : (j : ℕ) (model : WorkerModel C J) (lane : LaneEnds (Newcomer C J)) → ups_in model lane (slice_get s'.carrier.pending_runs j) ≡ ups_in model lane (slice_get s.carrier.pending_runs j) =
       λ j model lane. (λ i. ups_in model lane (slice_get (pending_runs i) j)) ∙ same-run model lane s.carrier.pending_runs k j pending_run pending_run' d.3 (ap (λ (z : PendingRun). z.run) now) in
-      lane-stutter GaveUnsent s s' w h on refl (same-backends s s' backends) pair.0.worker x y c.2 c.3 (set-seats s s' k pending_run' (ap length c.3 ∙ set-size s.carrier.lanes pair.0.worker y) pending_runs (λ b e seated. seated k pending_run b d.3 (ap (λ (z : PendingRun). z.run) (sym now) ∙ e))).seated
+      lane-stutter GaveUnsent s s' w h on refl (same-backends s s' backends) (seen-same s s' backends) pair.0.worker x y c.2 c.3 (set-seats s s' k pending_run' (ap length c.3 ∙ set-size s.carrier.lanes pair.0.worker y) pending_runs (λ b e seated. seated k pending_run b d.3 (ap (λ (z : PendingRun). z.run) (sym now) ∙ e))).seated
       (λ model p. given-fits x.down y.down pair model.inlet (given x.down y.down pair c.4.1 model.inlet (h.down_steps pair.0.worker model x p c.2)) (h.to_worker pair.0.worker model x p c.2))
       (λ model p. ups-up model x y up (slice_get s'.carrier.pending_runs pair.0.worker) ∙ same pair.0.worker model x)
       (λ j ne model lane. same j model lane)

@@ -326,6 +326,7 @@ module _ {C J : Type 0} where
       downs = λ t. omega (arith, counts t, h.downs t);
       awaited = λ i pair e. let a = h.awaited i pair (sym (ap (λ ps. slice_get ps i) downs) ∙ e) in (a.0, held pair.0 a.0 a.1, a.2);
       waiting = λ j c e awaits. held c.command.ticket c.command (h.waiting j c e awaits);
+      asking = λ j c node e wants. let a = h.asking j c node e wants in (a.0, held c.command.ticket a.0 a.1);
       log = h.log;
     }
 

@@ -306,7 +306,8 @@ module _ (C J : Type 0) where
         unseen-step k event s s' w on silent
         (one-client s w h k number on.old on.new client client' on.at got (ap seat_of goes) (ap (λ (x : WorkerModel C J). x.newest) goes) outlet (ap (λ (x : WorkerModel C J). x.inlet) goes) (ap (λ (x : WorkerModel C J). x.clients) goes)
         fits (subst (λ (c : ClientModel C). ClientShadow (downs_of s) k number c w.commands) (sym becomes) (begun-shadow (downs_of s) k number client w.commands old i part next alone there may (walked-rising w walked)))
-        (λ p c q z. ap (λ (x : ClientModel C). get x.commands.posted p) becomes ∙ q))
+        (λ p c q z. ap (λ (x : ClientModel C). get x.commands.posted p) becomes ∙ q)
+        (λ p c q. inl (c, ap (λ (x : ClientModel C). get x.commands.posted p) becomes ∙ q, refl)))
 
   pub handed-out : (k number : ℕ) (ticket : Ticket) (part : PartModel) → Simulates C J (AtWorker k (Did number (HandedOut ticket part)))
   handed-out k number ticket part s s' w h walked on =

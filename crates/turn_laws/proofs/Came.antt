@@ -120,6 +120,7 @@ module _ (C J : Type 0) where
         once = fits.once;
         awaited = λ i pair x. let a = fits.awaited i pair x in (a.0, held pair.0 a.0 a.1, a.2);
         waiting = λ j c x awaits. held c.command.ticket c.command (fits.waiting j c x awaits);
+        asking = λ j c node x wants. let a = fits.asking j c node x wants in (a.0, held c.command.ticket a.0 a.1);
       } in
       unseen-step k (Came number) s s' w on on.seen
       (worker-frame s w h k model model' on.at (ap seat_of e) (ap (λ (x : WorkerModel C J). posted x.outlet) e)

@@ -22,7 +22,7 @@ use Rattle.world_laws.proofs.Recorded.{at-set, at-last, before-last}
 use Rattle.turn_laws.specs.Walks.{ticked, Walk, IsWalked}
 use Rattle.turn_laws.specs.Wire.{Wire, Item, Asks, Runs, Lists, items_of}
 use Rattle.turn_laws.specs.System.{System}
-use Rattle.turn_laws.specs.Shadow.{IsShadow, IsWorking, LinksShadow, BackendShadow, OpenShadow, ClosedShadow, IsKnown, IsIdle, IsUnnumbered, Numbers, lying, coming, backs_in, requests_in, dues_in, downs_of, downs_in, refused_in, told_in, lost_in, lost_by}
+use Rattle.turn_laws.specs.Shadow.{IsShadow, IsWorking, LinksShadow, BackendShadow, OpenShadow, ClosedShadow, IsKnown, IsIdle, IsUnnumbered, Numbers, lying, coming, backs_in, requests_in, dues_in, downs_of, downs_in, refused_in, told_in, lost_in, lost_by, SeenIn}
 use Rattle.turn_laws.proofs.Downs.{SameBag, total-set-flat}
 use Rattle.turn_laws.proofs.Frames.{set-seats, down-fits}
 use Rattle.turn_laws.proofs.Carriers.{refusals, debts, bag-parts}
@@ -33,6 +33,7 @@ use Rattle.turn_laws.proofs.Items.{same-requests, known-run}
 use Rattle.turn_laws.proofs.Refused.{Leaving, leaving, left-lanes, first-of-front}
 use Rattle.turn_laws.proofs.Drops.{all-front}
 use Rattle.turn_laws.proofs.Written.{Writes, open-written}
+use Rattle.turn_laws.proofs.Seen.{seen-set}
 
 get-last : {X : Type 0} (xs : List X) (y : X) (n : ℕ) → n ≡ length xs → slice_get (xs ++ y ∷ []) n ≡ Some y
 get-last [] y zero e = refl
@@ -75,7 +76,7 @@ open-idle table commands link node e h = record {
 -- A connection gets its link: the next.
 module _ {H : Type 0} (nodes : List Endpoint) (a b : CarrierModel H Wire) (closed : List Wire) (opened : ℕ) (w : WorldModel) (h : LinksShadow nodes a closed opened w)
     (k : ℕ) (link link' : LinkModel Wire) (l' : Link) (working : IsWorking a k link)
-    (now : (j : ℕ) (x : LinkModel Wire) → IsWorking b j x → ((j ≡ k) × (x ≡ link')) ⊎ ((j ≢ k) × IsWorking a j x))
+    (now : (j : ℕ) (x : LinkModel Wire) → IsWorking b j x → ((j ≡ k) × (x ≡ link')) ⊎ ((j ≢ k) × IsWorking a j x)) (sight : (m : ℕ) → SeenIn a closed m → SeenIn b closed m)
     (node : link'.node ≡ k) (id : link'.port.id ≡ link.port.id) (un : IsUnnumbered h.ids link.port.id)
     (shows : OpenShadow nodes w.commands link' l') where
   abbrev links : List Link
@@ -151,6 +152,9 @@ module _ {H : Type 0} (nodes : List Endpoint) (a b : CarrierModel H Wire) (close
         (λ (u : (j ≢ k) × IsWorking a j x). h.aside j i x wire u.1 q)
         (now j x p);
     each = h.each;
+    seen = λ i m e. ⊎_elim (λ (z : slice_get h.ids i ≡ Some m). sight m (h.seen i m z))
+        (λ (z : (i ≡ length h.ids) × (m ≡ link.port.id)). sight m (inl (k, link, working, sym z.1)))
+        (at-last h.ids link.port.id i m e);
   }
 
 -- The run that is pending at k is written to its node's connection.
@@ -222,6 +226,9 @@ module _ {C J : Type 0} (s s' : System C J) (w : WorldModel) (h : IsShadow s w) 
   id : o.link'.port.id ≡ o.link.port.id
   id = ap (λ (p : Wire). p.id) (o.writes).0.1
 
+  sight : (m : ℕ) → SeenIn s.carrier s.closed m → SeenIn s'.carrier s.closed m
+  sight = seen-set s.carrier s'.carrier s.closed node-of o.backend (record (o.backend) { link = Some o.link' }) o.here o.backends o.link o.link' o.was refl (ap (λ (c : LinkModel Wire). c.failure) (o.writes).1 ∙ o.worked) id
+
   -- the machine carries it
   carries : (i : ℕ) (links' : List Link) → CarriesOver (ticked w) i (lying run) links' → LinksShadow s.nodes s'.carrier s.closed s.opened (record w { links = links' }) → Simulated
   carries i links' over shadow =
@@ -255,7 +262,7 @@ module _ {C J : Type 0} (s s' : System C J) (w : WorldModel) (h : IsShadow s w) 
       let links' : List Link = slice_set w.links i l' in
       let node' : l.node ≡ node-of = open'.node ∙ ((h.links).backends node-of o.link working).0 in
       carries i links' (inl (l, at, open'.is_open, node', ap (slice_set w.links i) (is-sent l)))
-      (backend-changes s.nodes s.carrier s'.carrier s.closed s.opened w (record w { links = links' }) h.links node-of i o.link o.link' l l' working now
+      (backend-changes s.nodes s.carrier s'.carrier s.closed s.opened w (record w { links = links' }) h.links node-of i o.link o.link' l l' working now sight
       node id numbers at refl
       (open-written o.link o.link' (requests_of_run run) o.writes s.nodes w.commands l open' known)
       (λ x m z. z)
@@ -266,7 +273,7 @@ module _ {C J : Type 0} (s s' : System C J) (w : WorldModel) (h : IsShadow s w) 
       let l : Link = new_link node-of in
       let open' = open-idle s.nodes w.commands o.link node-of ((h.links).backends node-of o.link working).0 idle in
       carries (length w.links) (w.links ++ with_run l ∷ []) (inr (refl, ap (λ (x : Link). w.links ++ x ∷ []) (is-sent l)))
-      (links-added s.nodes s.carrier s'.carrier s.closed s.opened w h.links node-of o.link o.link' (with_run l) working now node id un
+      (links-added s.nodes s.carrier s'.carrier s.closed s.opened w h.links node-of o.link o.link' (with_run l) working now sight node id un
       (open-written o.link o.link' (requests_of_run run) o.writes s.nodes w.commands l open' known))
 
   pub sends : Simulated

@@ -16,7 +16,8 @@ use Rattle.turn_laws.specs.System.{System}
 use Rattle.turn_laws.specs.Shadow.{IsShadow, IsWorking, UpsShadow, LaneShadow, downs_of, downs_in, refused_in, told_in, lost_in}
 use Rattle.turn_laws.specs.Steps.{CarrierStep, FailsAt, opened_by}
 use Rattle.turn_laws.proofs.Downs.{Pair, SameBag, total-set-flat}
-use Rattle.turn_laws.proofs.Frames.{same-seats, carrier-stutter, down-fits}
+use Rattle.turn_laws.proofs.Frames.{same-seats, carrier-stutter, down-fits, StillSeen}
+use Rattle.turn_laws.proofs.Seen.{seen-stays}
 
 abbrev pub refusals : List PendingRun → List Pair
 refusals pending_runs = flat_map (λ (pending_run : PendingRun). refused_in pending_run.refused) pending_runs
@@ -57,7 +58,7 @@ module _ {C J : Type 0} where
       → s'.carrier.backends ≡ slice_set s.carrier.backends k backend' → s'.carrier.lanes ≡ s.carrier.lanes → s'.carrier.pending_runs ≡ s.carrier.pending_runs
       → StaysDown backend backend' → SameBag (line_downs backend) (line_downs backend') → IsShadow s' w
   backend-stutter event s s' w k backend backend' h step quiet at backends lanes pending_runs stays bag =
-      carrier-stutter event s s' w h step quiet works fails (same-seats s s' (ap length lanes) pending_runs)
+      carrier-stutter event s s' w h step quiet works fails sight (same-seats s s' (ap length lanes) pending_runs)
       (λ j model lane p q. down-fits s w h j model lane p (sym (ap (λ xs. slice_get xs j) lanes) ∙ q))
       whole ups
     where
@@ -72,6 +73,12 @@ module _ {C J : Type 0} where
           (λ (z : IsDown backend.link × IsDown backend'.link). absurd (not-down backend'.link link linked x.3 z.1)) stays)
           (λ (y : (j ≢ k) × (slice_get s.carrier.backends j ≡ Some x.0)). (x.0, y.1, x.2, x.3))
           (seen j x.0 x.1)
+
+      sight : StillSeen s s'
+      sight = seen-stays s.carrier s'.carrier s.closed k backend backend' at backends (λ x e f. ⊎_elim
+          (λ (z : backend'.link ≡ backend.link). z ∙ e)
+          (λ (z : IsDown backend.link × IsDown backend'.link). absurd (not-down backend.link x e f z.0))
+          stays)
 
       fails : (j : ℕ) (link link' : LinkModel Wire) → FailsAt s j link link' s' → ⊥
       fails j link link' x = ⊎_elim

@@ -5,7 +5,7 @@ use Rattle.std.proofs.lemmas.List.{append-nil}
 use Rattle.std.proofs.lemmas.Bool.Decides.{eqb_tells}
 use Rattle.std.specs.FinMap.{FinMap, get, insert, get-insert}
 use Rattle.std.specs.Ordering.{nat_cmp, eq_by_cmp}
-use Rattle.std.specs.Cmp.{nat_cmp_total, unsigned_ties}
+use Rattle.std.specs.Cmp.{nat_cmp_total}
 use Rattle.key_split.specs.declared.travel.Ticket.{Ticket}
 use Rattle.command_future.specs.CommandModel.{CommandModel}
 use Rattle.command_future.specs.declared.stage.Stage.TheVariants.{Awaits}
@@ -31,7 +31,8 @@ use Rattle.turn_laws.proofs.Carriers.{refusals, debts}
 use Rattle.proxy_lanes.specs.declared.ring.Inlet.{Inlet}
 use Rattle.proxy_lanes.specs.declared.ring.Outlet.{Outlet}
 use Rattle.turn_laws.proofs.Told.{Fitting}
-use Rattle.turn_laws.proofs.Settling.{same_number}
+use Rattle.turn_laws.proofs.Holding.{StaysPosted, asks-still}
+pub use Rattle.turn_laws.proofs.Holding.{put-same, put-other}
 
 -- a client in its place: what was posted and awaits still does
 pub put-holds : {C : Type 0} (m : FinMap nat_cmp (ClientModel C)) (number : ℕ) (client client' : ClientModel C) (t : Ticket) (c : CommandModel) → get m number ≡ Some client
@@ -50,17 +51,6 @@ put-holds {C} m number client client' t c at keeps x = go (eq_by_cmp nat_cmp t.c
         let it : x.0 ≡ client = cc in
         (client', there ∙ ap (λ b. cond b (Some client') (get m t.client)) e, keeps (ap (λ (y : ClientModel C). get y.commands.posted t.part) (sym it) ∙ x.2) same, x.3)
     go false e = (x.0, there ∙ ap (λ b. cond b (Some client') (get m t.client)) e ∙ x.1, x.2, x.3)
-
--- the table with one in its place
-pub put-same : {X : Type 0} (m : FinMap nat_cmp X) (k : ℕ) (x : X) → get (insert m k x) k ≡ Some x
-put-same m k x = get-insert nat_cmp_total m k x k ∙ ap (λ b. cond b (Some x) (get m k)) (sym (unsigned_ties k k) ∙ same_number k)
-
-pub put-other : {X : Type 0} (m : FinMap nat_cmp X) (k q : ℕ) (x : X) → q ≢ k → get (insert m k x) q ≡ get m q
-put-other m k q x ne = go (eq_by_cmp nat_cmp q k) refl
-  where
-    go : (b : Bool) → eq_by_cmp nat_cmp q k ≡ b → get (insert m k x) q ≡ get m q
-    go true e = absurd (ne (nat_eq_by q k e))
-    go false e = get-insert nat_cmp_total m k x q ∙ ap (λ b. cond b (Some x) (get m q)) e
 
 pub put-apart : {X : Type 0} (m : FinMap nat_cmp X) (k : ℕ) (x : X) (q : ℕ) (t : X) → get (insert m k x) q ≡ Some t → ((q ≡ k) × (t ≡ x)) ⊎ ((q ≢ k) × (get m q ≡ Some t))
 put-apart {X} m k x q t e = ⊎_elim
@@ -119,6 +109,7 @@ module _ {C J : Type 0} where
     downs = fits.once;
     awaited = fits.awaited;
     waiting = fits.waiting;
+    asking = fits.asking;
     log = h.log;
   }
     where
@@ -156,8 +147,9 @@ module _ {C J : Type 0} where
       → model'.clients ≡ insert model.clients number client' → model'.newest ≡ model.newest
       → ClientShadow downs k number client' commands
       → ((part : ℕ) (c : CommandModel) → get client.commands.posted part ≡ Some c → c.stage ≡ Awaits → get client'.commands.posted part ≡ Some c)
+      → StaysPosted client client'
       → Fitting (slice_set workers k model') lanes dealt downs commands
-  fitting-one workers lanes dealt downs commands h k number model model' client client' at got put newest shadow keeps = record {
+  fitting-one workers lanes dealt downs commands h k number model model' client client' at got put newest shadow keeps stays = record {
     sides = set-size workers k model' ∙ h.sides;
     own = h.own;
     within = h.within;
@@ -179,6 +171,7 @@ module _ {C J : Type 0} where
     once = h.once;
     awaited = λ i pair e. let a = h.awaited i pair e in (a.0, held pair.0 a.0 a.2 a.1, a.2);
     waiting = λ j c e awaits. held c.command.ticket c.command awaits (h.waiting j c e awaits);
+    asking = asks-still workers lanes dealt downs commands h k number model model' client client' at got put stays;
   }
     where
       here : (j : ℕ) → j ≡ k → slice_get workers j ≡ Some model
@@ -196,11 +189,12 @@ module _ {C J : Type 0} where
       → Fitting s.workers (length s.carrier.lanes) w.workers (downs_of s) w.commands
       → ClientShadow (downs_of s) k number client' w.commands
       → ((part : ℕ) (c : CommandModel) → get client.commands.posted part ≡ Some c → c.stage ≡ Awaits → get client'.commands.posted part ≡ Some c)
+      → StaysPosted client client'
       → IsShadow (record s { workers = slice_set s.workers k model' }) w
-  one-client s w h k number model model' client client' at got worker newest outlet inlet put fits shadow keeps =
+  one-client s w h k number model model' client client' at got worker newest outlet inlet put fits shadow keeps stays =
       let rings : downs_in (slice_set s.workers k model') s.carrier.lanes ≡ downs_in s.workers s.carrier.lanes = rings-same s.workers s.carrier.lanes k model model' at (λ o. ap (down_in o) inlet) in
       let same : downs_of (record s { workers = slice_set s.workers k model' }) ≡ downs_of s = ap (λ ps. ps ++ refusals s.carrier.pending_runs ++ debts s.carrier.backends) rings in
       worker-frame s w h k model model' at worker (ap posted outlet)
       (λ lane q. subst (λ (i : Inlet Pair). ((o : Outlet Pair) → lane.down ≡ Some o → IsInStep o i) × All (λ (p : Pair). p.0.worker ≡ k) (down_in lane.down i) × IsSome lane.down) (sym inlet) (down-fits s w h k model lane at q))
       (subst (λ ps. Fitting (slice_set s.workers k model') (length s.carrier.lanes) w.workers ps w.commands) (sym same)
-      (fitting-one s.workers (length s.carrier.lanes) w.workers (downs_of s) w.commands fits k number model model' client client' at got put newest shadow keeps))
+      (fitting-one s.workers (length s.carrier.lanes) w.workers (downs_of s) w.commands fits k number model model' client client' at got put newest shadow keeps stays))

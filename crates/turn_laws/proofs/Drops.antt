@@ -24,7 +24,7 @@ use Rattle.world_laws.proofs.Recorded.{at-set, set-same, at-last}
 use Rattle.turn_laws.specs.Walks.{Walk, IsWalked}
 use Rattle.turn_laws.specs.Wire.{Wire}
 use Rattle.turn_laws.specs.System.{System}
-use Rattle.turn_laws.specs.Shadow.{IsShadow, IsWorking, LinksShadow, WireShadow, OpenShadow, ClosedShadow, LaneShadow, IsKnown, IsIdle, IsUnnumbered, Numbers, coming, backs_in, requests_in, dues_in, downs_of, downs_in, told_in, lost_in, lost_by}
+use Rattle.turn_laws.specs.Shadow.{IsShadow, IsWorking, LinksShadow, WireShadow, OpenShadow, ClosedShadow, LaneShadow, IsKnown, IsIdle, IsUnnumbered, Numbers, coming, backs_in, requests_in, dues_in, downs_of, downs_in, told_in, lost_in, lost_by, SeenIn}
 use Rattle.turn_laws.specs.Steps.{FailsAt, Breaks}
 use Rattle.turn_laws.proofs.Downs.{Pair, SameBag, total-set-flat}
 use Rattle.turn_laws.proofs.Items.{tickets-append, sent-tickets}
@@ -34,6 +34,7 @@ use Rattle.turn_laws.proofs.Openings.{one-backend, one-connection}
 use Rattle.turn_laws.proofs.Throwing.{not-mine}
 use Rattle.turn_laws.proofs.Walks.{walked-sound}
 use Rattle.turn_laws.proofs.Settled.{Goes, settled-frame, settles-so}
+use Rattle.turn_laws.proofs.Seen.{seen-broken}
 
 -- who waits, as the code and the machine have it
 answered-tickets : (table : List Endpoint) (node : ℕ) (ds : List Due) (values : List Value) → length ds ≡ length values → answered_of (backs_in table node ds values) ≡ tickets_of ds
@@ -67,7 +68,7 @@ all-front P (x ∷ a) b h (suc i) d lt = all-front P a b (λ j e l. h (suc j) e 
 -- One connection is among the broken ones.
 module _ {H : Type 0} (nodes : List Endpoint) (a b : CarrierModel H Wire) (closed : List Wire) (opened : ℕ) (w : WorldModel) (h : LinksShadow nodes a closed opened w) (links : List Link)
     (k : ℕ) (link : LinkModel Wire) (wire : Wire) (working : IsWorking a k link)
-    (now : (j : ℕ) (x : LinkModel Wire) → IsWorking b j x → (j ≢ k) × IsWorking a j x)
+    (now : (j : ℕ) (x : LinkModel Wire) → IsWorking b j x → (j ≢ k) × IsWorking a j x) (sight : (m : ℕ) → SeenIn a closed m → SeenIn b (closed ++ wire ∷ []) m)
     (id : wire.id ≡ link.port.id) (size : length links ≡ length w.links)
     (shows : WireShadow (record w { links = links }) h.ids wire)
     (stays : (i other : ℕ) (m : Link) → Numbers h.ids other i → other ≢ link.port.id → slice_get w.links i ≡ Some m → slice_get links i ≡ Some m) where
@@ -116,6 +117,7 @@ module _ {H : Type 0} (nodes : List Endpoint) (a b : CarrierModel H Wire) (close
         (λ (v : (j ≡ length closed) × (y ≡ wire)). u.0 ∙ sym v.0)
         (at-last closed wire j y q))
         (at-last closed wire i x p);
+    seen = λ i m e. sight m (h.seen i m e);
   }
 
 -- each of these is told Lost
@@ -211,7 +213,7 @@ module _ {C J : Type 0} (s s' : System C J) (w : WorldModel) (h : IsShadow s w) 
       } in
       settles-so (Drop i) s s' w w.ups links' lost walked h goes
       (l, at, open'.is_open, λ n. record w { links = links'; downs = w.downs ++ sym told n; moment = w.moment + 1 })
-      (shown links' (links-broken s.nodes s.carrier s'.carrier s.closed s.opened w h.links links' o.k o.link wire working now o.id (set-size w.links i l')
+      (shown links' (links-broken s.nodes s.carrier s'.carrier s.closed s.opened w h.links links' o.k o.link wire working now (seen-broken s.carrier s'.carrier s.closed o.k o.backend o.backend' o.here o.backends o.link wire o.was o.id) o.id (set-size w.links i l')
       (inl (i, l', subst (λ n. Numbers (h.links).ids n i) (sym o.id) numbers, set-same w.links i l l' at, shadow))
       (λ n other m p ne e. not-mine (h.links).ids w.links i o.link.port.id n other l' m numbers p ne e)))
       bag
@@ -229,7 +231,7 @@ module _ {C J : Type 0} (s s' : System C J) (w : WorldModel) (h : IsShadow s w) 
         refl,
         subst (λ (ps : List Pair). IsShadow s' (record w { downs = ps })) (sym h.told)
             (settled-frame s s' w w.ups w.links [] w.commands w.moment (omega arith) (walked-sound w walked).placed h goes
-            (shown w.links (links-broken s.nodes s.carrier s'.carrier s.closed s.opened w h.links w.links o.k o.link wire working now o.id refl
+            (shown w.links (links-broken s.nodes s.carrier s'.carrier s.closed s.opened w h.links w.links o.k o.link wire working now (seen-broken s.carrier s'.carrier s.closed o.k o.backend o.backend' o.here o.backends o.link wire o.was o.id) o.id refl
             (inr (subst (IsUnnumbered (h.links).ids) (sym o.id) un, quiet)) (λ n other m p ne e. e)))
             refl same
             (same-seats s s' (ap length o.lanes) o.pending_runs)

@@ -168,7 +168,8 @@ module _ (C J : Type 0) where
       unseen-step k (Did number (Dropped tickets)) s s' w on on.seen.4
       (one-client s w h k number on.old on.new client client' on.at d.2 (ap seat_of e) (ap (λ (x : WorkerModel C J). x.newest) e) outlet (ap (λ (x : WorkerModel C J). x.inlet) e) (ap (λ (x : WorkerModel C J). x.clients) e)
       fits (subst (λ (c : ClientModel C). ClientShadow (downs_of s) k number c w.commands) (sym now) shadow)
-      (λ part c p q. ap (λ (x : ClientModel C). get x.commands.posted part) now ∙ p))
+      (λ part c p q. ap (λ (x : ClientModel C). get x.commands.posted part) now ∙ p)
+      (λ part c p. inl (c, ap (λ (x : ClientModel C). get x.commands.posted part) now ∙ p, refl)))
 
 -- ---- finished
 
@@ -389,4 +390,8 @@ module _ (C J : Type 0) where
       unseen-step k (Finished number ticket end) s s' w on on.seen
       (one-client s w h k number on.old on.new client client' on.at d.2 (ap seat_of e) (ap (λ (x : WorkerModel C J). x.newest) e) (ap (λ (x : WorkerModel C J). x.outlet) e) (ap (λ (x : WorkerModel C J). x.inlet) e) (ap (λ (x : WorkerModel C J). x.clients) e)
       fits (subst (λ (c : ClientModel C). ClientShadow (downs_of s) k number c w.commands) (sym now) shadow)
-      (λ part c p q. ap (λ (x : ClientModel C). get x.commands.posted part) now ∙ (removed-other client.commands.posted ticket.part part (λ same. awaits-over c.stage end q (ap (λ (y : CommandModel). y.stage) (one-of (get client.commands.posted ticket.part) c f (ap (get client.commands.posted) (sym same) ∙ p) has) ∙ over)) ∙ p)))
+      (λ part c p q. ap (λ (x : ClientModel C). get x.commands.posted part) now ∙ (removed-other client.commands.posted ticket.part part (λ same. awaits-over c.stage end q (ap (λ (y : CommandModel). y.stage) (one-of (get client.commands.posted ticket.part) c f (ap (get client.commands.posted) (sym same) ∙ p) has) ∙ over)) ∙ p))
+      (λ part c p. ⊎_elim
+      (λ (z : ((part == ticket.part) ≡ true) × (part ≡ ticket.part)). inr (end, ap (λ (y : CommandModel). y.stage) (one-of (get client.commands.posted ticket.part) c f (ap (get client.commands.posted) (sym z.1) ∙ p) has) ∙ over))
+      (λ (z : ((part == ticket.part) ≡ false) × (part ≢ ticket.part)). inl (c, ap (λ (x : ClientModel C). get x.commands.posted part) now ∙ removed-other client.commands.posted ticket.part part z.1 ∙ p, refl))
+      (eqb_tells part ticket.part)))

@@ -34,6 +34,7 @@ use Rattle.turn_laws.proofs.Waiting.{now, same-closed, same-opened, not-idle}
 use Rattle.turn_laws.proofs.Settled.{goes-of, settles-as}
 use Rattle.turn_laws.proofs.Heard.{told-alike}
 use Rattle.turn_laws.proofs.SameTold.{same-told}
+use Rattle.turn_laws.proofs.Seen.{seen-set}
 
 command-waits : (t : Ticket) → due.Command t ≡ due.Slots → ⊥
 command-waits t e = cc
@@ -144,6 +145,7 @@ module _ {C J : Type 0} (s s' : System C J) (w : WorldModel) (h : IsShadow s w) 
       let shadow : LinksShadow s.nodes s'.carrier s.closed s.opened w1 =
       backend-changes s.nodes s.carrier s'.carrier s.closed s.opened w w1 h.links k i link link' l l' working
       (now (AtBackend Fetched) s s' on refl k backend backend' link link' on.does.3 backends was is worked works)
+      (seen-set s.carrier s'.carrier s.closed k backend backend' on.does.3 backends link link' was is works id)
       node id numbers at refl
       f.2
       (λ x m o. o)

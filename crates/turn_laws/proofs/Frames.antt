@@ -26,10 +26,11 @@ use Rattle.world_laws.specs.declared.state.Arrival.{Arrival}
 use Rattle.world_laws.specs.Places.{is}
 use Rattle.turn_laws.specs.Wire.{Wire}
 use Rattle.turn_laws.specs.System.{System, Mark}
-use Rattle.turn_laws.specs.Shadow.{IsShadow, IsWorking, LinksShadow, LogShadow, UpsShadow, ClientShadow, KeptShadow, IsLetGo, StageShadow, HasCommand, ToldFrom, DownInStep, AreApart, AreSeated, most_nodes, Holds, downs_of, down_in}
+use Rattle.turn_laws.specs.Shadow.{IsShadow, IsWorking, LinksShadow, LogShadow, UpsShadow, ClientShadow, KeptShadow, IsLetGo, StageShadow, HasCommand, ToldFrom, DownInStep, AreApart, AreSeated, most_nodes, Holds, downs_of, down_in, SeenIn}
 use Rattle.turn_laws.specs.Steps.{CarrierStep, Breaks, FailsAt, opened_by}
 use Rattle.turn_laws.proofs.Downs.{Pair, SameBag, bag-has, told-same}
 use Rattle.turn_laws.proofs.Listed.{still-listed}
+use Rattle.turn_laws.proofs.Seen.{seen-works}
 
 -- a list as long as another has an item at each of its places
 pub beside : {X Y : Type 0} (xs : List X) (ys : List Y) (i : ℕ) (y : Y) → length xs ≡ length ys → slice_get ys i ≡ Some y → (x : X) × (slice_get xs i ≡ Some x)
@@ -95,6 +96,13 @@ module _ {C J : Type 0} where
   SameLinks s s' = (k : ℕ) (backend' : Backend Wire) (link : LinkModel Wire) → slice_get s'.carrier.backends k ≡ Some backend' → backend'.link ≡ Some link
       → (backend : Backend Wire) × (slice_get s.carrier.backends k ≡ Some backend) × (backend.link ≡ Some link)
 
+  -- each connection is still one
+  abbrev pub StillSeen : System C J → System C J → Type 0
+  StillSeen s s' = (n : ℕ) → SeenIn s.carrier s.closed n → SeenIn s'.carrier s.closed n
+
+  pub seen-same : (s s' : System C J) → s'.carrier.backends ≡ s.carrier.backends → StillSeen s s'
+  seen-same s s' e = seen-works s.carrier s'.carrier s.closed (λ k link x. (x.0, ap (λ xs. slice_get xs k) e ∙ x.1, x.2, x.3))
+
   module _ (s s' : System C J) (same : SameLinks s s') where
     pub works-still : (k : ℕ) (link : LinkModel Wire) → IsWorking s'.carrier k link → IsWorking s.carrier k link
     works-still k link h = let l = same k h.0 link h.1 h.2 in (l.0, l.1, l.2, h.3)
@@ -119,9 +127,10 @@ module _ {C J : Type 0} where
   -- the links' shadow, where no more connections work
   pub links-still : (nodes : List Endpoint) (a b : CarrierModel (Newcomer C J) Wire) (closed closed' : List Wire) (opened opened' : ℕ) (w : WorldModel)
       → ((k : ℕ) (link : LinkModel Wire) → IsWorking b k link → IsWorking a k link)
+      → ((n : ℕ) → SeenIn a closed n → SeenIn b closed n)
       → closed' ≡ closed → opened' ≡ opened
       → LinksShadow nodes a closed opened w → LinksShadow nodes b closed' opened' w
-  links-still nodes a b closed closed' opened opened' w back ec eo h =
+  links-still nodes a b closed closed' opened opened' w back sight ec eo h =
       subst (λ n. LinksShadow nodes b closed' n w) (sym eo) (subst (λ xs. LinksShadow nodes b xs opened w) (sym ec) (record {
         ids = h.ids;
         all = h.all;
@@ -132,6 +141,7 @@ module _ {C J : Type 0} where
         apart = λ k m x y p q. h.apart k m x y (back k x p) (back m y q);
         aside = λ k j x wire p. h.aside k j x wire (back k x p);
         each = h.each;
+        seen = λ i id e. sight id (h.seen i id e);
       }))
 
   -- as many lanes, and each run that is pending came from one
@@ -207,6 +217,7 @@ module _ {C J : Type 0} where
             let a = h.awaited x.0 pair x.1 in
             (a.0, subst (λ (ws : List (WorkerModel C J)). Holds ws pair.0 a.0) (sym workers) a.1, a.2);
         waiting = λ j c e awaits. subst (λ (ws : List (WorkerModel C J)). Holds ws c.command.ticket c.command) (sym workers) (h.waiting j c e awaits);
+        asking = λ j c node e wants. let a = h.asking j c node e wants in (a.0, subst (λ (ws : List (WorkerModel C J)). Holds ws c.command.ticket a.0) (sym workers) a.1);
         log = subst (λ l. LogShadow l w') (sym log) (log-later s.log w w' refl refl refl later h.log);
       }
 
@@ -220,11 +231,11 @@ module _ {C J : Type 0} where
   -- a step of the carrier that the machine does not see
   pub carrier-stutter : (event : CarrierEvent) (s s' : System C J) (w : WorldModel) → IsShadow s w → CarrierStep s event s' → opened_by event s.opened ≡ s.opened
       → ((k : ℕ) (link : LinkModel Wire) → IsWorking s'.carrier k link → IsWorking s.carrier k link)
-      → ((k : ℕ) (link link' : LinkModel Wire) → FailsAt s k link link' s' → ⊥)
+      → ((k : ℕ) (link link' : LinkModel Wire) → FailsAt s k link link' s' → ⊥) → StillSeen s s'
       → Seats s s'
       → ((k : ℕ) (model : WorkerModel C J) (lane : LaneEnds (Newcomer C J)) → slice_get s.workers k ≡ Some model → slice_get s'.carrier.lanes k ≡ Some lane → DownFits k model lane)
       → SameBag (downs_of s) (downs_of s') → UpsShadow s.workers s'.carrier w → IsShadow s' w
-  carrier-stutter event s s' w h step quiet works fails lanes steps bag ups =
+  carrier-stutter event s s' w h step quiet works fails sight lanes steps bag ups =
       carrier-frame event s s' w h step
-      (links-still s.nodes s.carrier s'.carrier s.closed s'.closed s.opened s'.opened w works (still-closed s s' fails step.breaks) (still-opened event s s' step quiet) h.links)
+      (links-still s.nodes s.carrier s'.carrier s.closed s'.closed s.opened s'.opened w works sight (still-closed s s' fails step.breaks) (still-opened event s s' step quiet) h.links)
       lanes steps bag ups

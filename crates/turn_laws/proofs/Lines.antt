@@ -9,12 +9,12 @@ use Rattle.world_laws.proofs.Nodes.{set-size}
 use Rattle.world_laws.proofs.Recorded.{set-same, set-other}
 use Rattle.proxy_turns.specs.CarrierModel.{CarrierModel}
 use Rattle.turn_laws.specs.Wire.{Wire}
-use Rattle.turn_laws.specs.Shadow.{IsWorking, LinksShadow, BackendShadow, OpenShadow, ClosedShadow, Numbers}
+use Rattle.turn_laws.specs.Shadow.{IsWorking, LinksShadow, BackendShadow, OpenShadow, ClosedShadow, Numbers, SeenIn}
 
 module _ {H : Type 0} (nodes : List Endpoint) (a b : CarrierModel H Wire) (closed : List Wire) (opened : ℕ) (w w' : WorldModel) (h : LinksShadow nodes a closed opened w) where
   -- The connection of backend k goes from `link` to `link'`, and its link, number n, from l to l'.
   module _ (k n : ℕ) (link link' : LinkModel Wire) (l l' : Link)
-      (working : IsWorking a k link) (now : (j : ℕ) (x : LinkModel Wire) → IsWorking b j x → ((j ≡ k) × (x ≡ link')) ⊎ ((j ≢ k) × IsWorking a j x))
+      (working : IsWorking a k link) (now : (j : ℕ) (x : LinkModel Wire) → IsWorking b j x → ((j ≡ k) × (x ≡ link')) ⊎ ((j ≢ k) × IsWorking a j x)) (sight : (m : ℕ) → SeenIn a closed m → SeenIn b closed m)
       (node : link'.node ≡ k) (id : link'.port.id ≡ link.port.id)
       (numbers : Numbers (h.ids) link.port.id n) (at : slice_get w.links n ≡ Some l) (links : w'.links ≡ slice_set w.links n l')
       (shows : OpenShadow nodes w'.commands link' l')
@@ -86,4 +86,5 @@ module _ {H : Type 0} (nodes : List Endpoint) (a b : CarrierModel H Wire) (close
           (λ (u : (j ≢ k) × IsWorking a j x). h.aside j i x wire u.1 q)
           (now j x p);
       each = h.each;
+      seen = λ i m e. sight m (h.seen i m e);
     }

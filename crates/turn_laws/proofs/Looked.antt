@@ -21,7 +21,7 @@ use Rattle.turn_laws.specs.Shadow.{IsShadow, down_in, ups_in, run_in}
 use Rattle.turn_laws.specs.Steps.{CarrierStep}
 use Rattle.turn_laws.proofs.Downs.{Pair}
 use Rattle.turn_laws.proofs.Lanes.{between-none}
-use Rattle.turn_laws.proofs.Frames.{same-seats}
+use Rattle.turn_laws.proofs.Frames.{same-seats, seen-same}
 use Rattle.turn_laws.proofs.Carriers.{refusals, debts}
 use Rattle.turn_laws.proofs.AtLanes.{back-fits, came-back, lane-stutter, pending_runs-stutter, same-backends, ups-up}
 
@@ -35,7 +35,7 @@ module _ {C J : Type 0} where
     pending_runs = ap (λ (c : CarrierModel (Newcomer C J) Wire). c.pending_runs) on.does.0
 
     looked-kept : s'.carrier.lanes ≡ s.carrier.lanes → IsShadow s' w
-    looked-kept lanes = pending_runs-stutter Looked s s' w h on refl (same-backends s s' backends) lanes (same-seats s s' (ap length lanes) pending_runs).seated
+    looked-kept lanes = pending_runs-stutter Looked s s' w h on refl (same-backends s s' backends) (seen-same s s' backends) lanes (same-seats s s' (ap length lanes) pending_runs).seated
         (λ j model lane. λ i. ups_in model lane (slice_get (pending_runs i) j))
         (λ f. λ i. total f (refusals (pending_runs i)) + total f (debts (backends i)))
 
@@ -44,7 +44,7 @@ module _ {C J : Type 0} where
         let x : LaneEnds (Newcomer C J) = c.0 in
         let y : LaneEnds (Newcomer C J) = c.1 in
         let up : y.up ≡ x.up = ap (λ (l : LaneEnds (Newcomer C J)). l.up) c.4.0 in
-        lane-stutter Looked s s' w h on refl (same-backends s s' backends) pair.0.worker x y c.2 c.3 (same-seats s s' (ap length c.3 ∙ set-size s.carrier.lanes pair.0.worker y) pending_runs).seated
+        lane-stutter Looked s s' w h on refl (same-backends s s' backends) (seen-same s s' backends) pair.0.worker x y c.2 c.3 (same-seats s s' (ap length c.3 ∙ set-size s.carrier.lanes pair.0.worker y) pending_runs).seated
         (λ model p. back-fits x.down y.down pair.0.worker model.inlet (came-back x.down y.down pair c.4.1 model.inlet (h.down_steps pair.0.worker model x p c.2)) (h.to_worker pair.0.worker model x p c.2) (h.unfinished pair.0.worker x c.2))
         (λ model p. ups-up model x y up (slice_get s'.carrier.pending_runs pair.0.worker) ∙ (λ i. ups_in model x (slice_get (pending_runs i) pair.0.worker)))
         (λ j ne model lane. λ i. ups_in model lane (slice_get (pending_runs i) j))
@@ -60,7 +60,7 @@ module _ {C J : Type 0} where
         let x : LaneEnds (Newcomer C J) = c.0 in
         let y : LaneEnds (Newcomer C J) = c.1 in
         let down : y.down ≡ x.down = ap (λ (l : LaneEnds (Newcomer C J)). l.down) c.4.0 in
-        lane-stutter Looked s s' w h on refl (same-backends s s' backends) k x y c.2 c.3 (same-seats s s' (ap length c.3 ∙ set-size s.carrier.lanes k y) pending_runs).seated
+        lane-stutter Looked s s' w h on refl (same-backends s s' backends) (seen-same s s' backends) k x y c.2 c.3 (same-seats s s' (ap length c.3 ∙ set-size s.carrier.lanes k y) pending_runs).seated
         (λ model p. (λ outlet e. h.down_steps k model x p c.2 outlet (sym down ∙ e), subst (λ o. All (λ (q : Pair). q.0.worker ≡ k) (down_in o model.inlet)) (sym down) (h.to_worker k model x p c.2), subst IsSome (sym down) (h.unfinished k x c.2)))
         (λ model p. same-up model x y (between-none model.outlet x.up y.up c.4.1) (slice_get s'.carrier.pending_runs k) ∙ (λ i. ups_in model x (slice_get (pending_runs i) k)))
         (λ j ne model lane. λ i. ups_in model lane (slice_get (pending_runs i) j))

@@ -28,6 +28,7 @@ use Rattle.turn_laws.proofs.Clients.{held-in, put-holds, put-none, put-apart}
 use Rattle.turn_laws.proofs.Standing.{GoesOn, still-stands, order-set}
 use Rattle.turn_laws.proofs.Telling.{count-set}
 use Rattle.turn_laws.proofs.Told.{Fitting, AreOwn, PartsStay, links-told}
+use Rattle.turn_laws.proofs.Holding.{StaysPosted, AsksBefore, asks-still}
 
 -- another client, as a command that is not its own goes on
 pub others-set : {C : Type 0} (downs : List Pair) (worker number : ℕ) (client : ClientModel C) (arrivals : List Arrival) (j : ℕ) (x y : Arrival) → slice_get arrivals j ≡ Some x → GoesOn x y → number ≢ x.command.ticket.client
@@ -72,8 +73,9 @@ module _ {C J : Type 0} where
       → ((n : ℕ) → n ≢ number → count_by (λ (c : Arrival). c.command.ticket.client == n) new ≡ count_by (λ (c : Arrival). c.command.ticket.client == n) old)
       → ((part : ℕ) (c : CommandModel) → get client.commands.posted part ≡ Some c → c.stage ≡ Awaits → get client'.commands.posted part ≡ Some c)
       → AwaitsStill (slice_set workers k model') old new
+      → StaysPosted client client' → AsksBefore old new
       → Fitting (slice_set workers k model') lanes dealt downs new
-  fitting-on workers lanes dealt downs old new h k number model model' client client' at got put newest own others shadow counts keeps waits = record {
+  fitting-on workers lanes dealt downs old new h k number model model' client client' at got put newest own others shadow counts keeps waits stays asks = record {
     sides = set-size workers k model' ∙ h.sides;
     own = own;
     within = h.within;
@@ -100,6 +102,10 @@ module _ {C J : Type 0} where
         subst (λ (d : CommandModel). Holds (slice_set workers k model') d.ticket d) z.3 (held (z.1).command.ticket (z.1).command (ap (λ (d : CommandModel). d.stage) z.3 ∙ awaits) (h.waiting z.0 z.1 z.2 (ap (λ (d : CommandModel). d.stage) z.3 ∙ awaits))))
         (λ (z : Holds (slice_set workers k model') c.command.ticket c.command). z)
         (waits j c e awaits);
+    asking = λ j c node e wants.
+        let z = asks j c node e wants in
+        subst (λ (u : CommandModel). (d : CommandModel) × Holds (slice_set workers k model') u.ticket d) z.3
+        (asks-still workers lanes dealt downs old h k number model model' client client' at got put stays z.0 z.1 node z.2 (ap (λ (u : CommandModel). u.stage) z.3 ∙ wants));
   }
     where
       here : (j : ℕ) → j ≡ k → slice_get workers j ≡ Some model
@@ -164,6 +170,7 @@ module _ {C J : Type 0} where
     downs = fits.once;
     awaited = fits.awaited;
     waiting = fits.waiting;
+    asking = fits.asking;
     log = log;
   }
     where

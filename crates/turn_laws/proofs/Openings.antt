@@ -9,7 +9,7 @@ use Rattle.proxy_turns.specs.Backend.{fresh_link}
 use Rattle.proxy_turns.specs.CarrierModel.{CarrierModel, CarrierEvent, Opened, Reached}
 use Rattle.world_laws.specs.State.{WorldModel}
 use Rattle.world_laws.specs.Places.{total}
-use Rattle.world_laws.proofs.Recorded.{at-set, set-same}
+use Rattle.world_laws.proofs.Recorded.{at-set, set-same, set-other}
 use Rattle.turn_laws.specs.Wire.{Wire, new_wire}
 use Rattle.turn_laws.specs.System.{System}
 use Rattle.turn_laws.specs.Shadow.{IsShadow, IsWorking, LinksShadow, BackendShadow, LaneShadow, IsIdle, IsUnnumbered, downs_of, downs_in, told_in, lost_in}
@@ -18,6 +18,7 @@ use Rattle.turn_laws.proofs.Downs.{SameBag, total-set-flat}
 use Rattle.turn_laws.proofs.Frames.{same-seats, down-fits, carrier-frame, still-closed}
 use Rattle.turn_laws.proofs.Carriers.{refusals, debts, bag-parts, not-up}
 use Rattle.turn_laws.proofs.SameTold.{front-get}
+use Rattle.turn_laws.proofs.Seen.{seen-works}
 
 pub no-link : (o : Option (LinkModel Wire)) (link : LinkModel Wire) → o ≡ None → o ≡ Some link → ⊥
 no-link o link e f = cc
@@ -138,6 +139,7 @@ module _ {C J : Type 0} (event : CarrierEvent) (s s' : System C J) (w : WorldMod
         (λ (y : IsWorking s.carrier j a). (h.links).aside j i a wire y q)
         (cases j a p);
     each = (h.links).each;
+    seen = λ i id e. seen-works s.carrier s'.carrier s.closed (λ j link x. (x.0, ap (λ xs. slice_get xs j) backends ∙ set-other s.carrier.backends k o.backend' j x.0 (λ same. was-none j link same x) x.1, x.2, x.3)) id ((h.links).seen i id e);
   }
 
   links' : LinksShadow s.nodes s'.carrier s'.closed s'.opened w

@@ -104,4 +104,5 @@ module _ (C J : Type 0) where
       unseen-step k (Did number Parted) s s' w on on.seen.4
       (one-client s w h k number on.old on.new client client' on.at d.2 (ap seat_of e) (ap (λ (x : WorkerModel C J). x.newest) e) outlet (ap (λ (x : WorkerModel C J). x.inlet) e) (ap (λ (x : WorkerModel C J). x.clients) e)
       (fitting s w (walked-sound w walked).placed h) (subst (λ (c : ClientModel C). ClientShadow (downs_of s) k number c w.commands) (sym now) (parted-shadow (downs_of s) k number client client'.session w.commands old hangs))
-      (λ part c p q. ap (λ (x : ClientModel C). get x.commands.posted part) now ∙ p))
+      (λ part c p q. ap (λ (x : ClientModel C). get x.commands.posted part) now ∙ p)
+      (λ part c p. inl (c, ap (λ (x : ClientModel C). get x.commands.posted part) now ∙ p, refl)))

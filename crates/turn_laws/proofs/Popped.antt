@@ -120,6 +120,11 @@ module _ {C J : Type 0} (s : System C J) (w : WorldModel) (h : IsShadow s w) (wa
       (λ n ne. count-set (λ (c : Arrival). c.command.ticket.client == n) w.commands j x y' stands.2 refl)
       (λ part c e awaits'. e)
       still-awaits
+      (λ part c e. inl (c, e, refl))
+      (λ i a node e wants. ⊎_elim
+      (λ (z : (i ≡ j) × (a ≡ y')). (j, x, stands.2, ap (λ (u : Arrival). u.command) (sym z.1)))
+      (λ (z : (i ≢ j) × (slice_get w.commands i ≡ Some a)). (i, a, z.1, refl))
+      (at-set w.commands j y' i a e))
 
   own-lane : (lane : LaneEnds (Newcomer C J)) → slice_get s.carrier.lanes k ≡ Some lane → IsInStep model2.outlet lane.up × ListShadow (record w { commands = commands'; ups = w.ups }) k (ups_in model2 lane (slice_get s.carrier.pending_runs k))
   own-lane lane q =

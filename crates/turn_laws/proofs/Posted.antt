@@ -308,6 +308,8 @@ module _ {C J : Type 0} (k number : ℕ) (run : RunModel) (s s' : System C J) (w
       (λ n ne. goes.counts n)
       (λ part d e still. ap (λ (u : ClientModel C). get u.commands.posted part) now ∙ goes.keeps part d e still)
       still-awaits
+      (λ part d e. let r = goes.stays part d e in inl (r.0, ap (λ (u : ClientModel C). get u.commands.posted part) now ∙ r.1, r.2))
+      goes.asks_still
 
   pub posts : (events : List Event) × (v : WorldModel) × Walk w events v × IsShadow s' v
   posts =

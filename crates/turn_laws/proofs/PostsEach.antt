@@ -32,6 +32,7 @@ use Rattle.turn_laws.specs.Shadow.{ClientShadow, KeptShadow, IsLetGo, StageShado
 use Rattle.turn_laws.proofs.Begun.{free}
 use Rattle.turn_laws.proofs.Downs.{Pair}
 use Rattle.turn_laws.proofs.Ending.{one-item}
+use Rattle.turn_laws.proofs.Holding.{AsksBefore, awaits-asks}
 use Rattle.turn_laws.proofs.Onward.{others-set}
 use Rattle.turn_laws.proofs.Posting.{Takes, takes-has, goes-no-await, all-before, same-itself, only, stood, same, client2, at-own, at-other, goes-on, posted-shadow}
 use Rattle.turn_laws.proofs.Rising.{Rising}
@@ -123,6 +124,10 @@ module _ {C : Type 0} (downs : List Pair) (k number : ℕ) (way : Way) (node : �
     pub waits : (i : ℕ) (a : Arrival) → slice_get new i ≡ Some a → a.command.stage ≡ Awaits
         → ((j : ℕ) × (d : Arrival) × (slice_get old j ≡ Some d) × (d.command ≡ a.command))
         ⊎ ((a.command.ticket.client ≡ number) × (get client'.commands.posted a.command.ticket.part ≡ Some a.command))
+    -- what was posted still is, perhaps once more
+    pub stays : (part : ℕ) (d : CommandModel) → get client.commands.posted part ≡ Some d → (d' : CommandModel) × (get client'.commands.posted part ≡ Some d') × (d'.ticket ≡ d.ticket)
+    -- what wants to ask did so before
+    pub asks_still : AsksBefore old new
     pub goes : GoOut way node before (tickets_of cs) old new
     pub under : All (λ (c : CommandModel). HasPart new c.ticket c.part × (c.ticket.worker ≡ k)) cs
 
@@ -251,6 +256,20 @@ module _ {C : Type 0} (downs : List Pair) (k number : ℕ) (way : Way) (node : �
         at-it : get next.commands.posted c.ticket.part ≡ Some (record c { stage = Awaits })
         at-it = at-own downs k number client arrivals old own awaits c later takes was-posted out node may
 
+    pub stays-next : (part : ℕ) (d : CommandModel) → get client.commands.posted part ≡ Some d → (d' : CommandModel) × (get next.commands.posted part ≡ Some d') × (d'.ticket ≡ d.ticket)
+    stays-next part d e = ⊎_elim
+        (λ (z : ((part == c.ticket.part) ≡ true) × (part ≡ c.ticket.part)).
+        let one : d ≡ c = only downs k number client arrivals old awaits c has was-posted out node may d (inr (ap (get client.commands.posted) (sym z.1) ∙ e)) in
+        (record c { stage = Awaits }, ap (get next.commands.posted) z.1 ∙ at-own downs k number client arrivals old own awaits c later takes was-posted out node may, ap (λ (u : CommandModel). u.ticket) (sym one)))
+        (λ (z : ((part == c.ticket.part) ≡ false) × (part ≢ c.ticket.part)). (d, at-other downs k number client arrivals old own awaits c later takes was-posted out node may part z.1 ∙ e, refl))
+        (eqb_tells part c.ticket.part)
+
+    pub asks-next : AsksBefore arrivals arrivals2
+    asks-next i a n e wants = ⊎_elim
+        (λ (z : (i ≡ j) × (a ≡ awaiting x)). absurd (awaits-asks n (ap (λ (u : Arrival). u.command.stage) (sym z.1) ∙ wants)))
+        (λ (z : (i ≢ j) × (slice_get arrivals i ≡ Some a)). (i, a, z.1, refl))
+        (at-set arrivals j (awaiting x) i a e)
+
     pub under-next : HasPart arrivals2 c.ticket c.part × (c.ticket.worker ≡ k)
     under-next = (
       (j, awaiting x, set-same arrivals j x (awaiting x) at, ap (λ (u : CommandModel). u.part) is-it, stands.3),
@@ -275,6 +294,11 @@ module _ {C : Type 0} (downs : List Pair) (k number : ℕ) (way : Way) (node : �
           (waits-next z.0 z.1 z.2 (ap (λ (y : CommandModel). y.stage) z.3 ∙ still)))
           (λ z. inr z)
           (rest.waits i a e still);
+      stays = λ part d e. let one = stays-next part d e in let two = rest.stays part one.0 one.1 in (two.0, two.1, two.2 ∙ one.2);
+      asks_still = λ i a n e wants.
+          let z = rest.asks_still i a n e wants in
+          let u = asks-next z.0 z.1 n z.2 (ap (λ (y : CommandModel). y.stage) z.3 ∙ wants) in
+          (u.0, u.1, u.2, u.3 ∙ z.3);
       goes = (j, x, is-of, goes-its-way, earlier, rest.goes);
       under = All-cons (λ (d : CommandModel). HasPart new d.ticket d.part × (d.ticket.worker ≡ k)) c cs (rest.parts.parts c.ticket c.part under-next.0, under-next.1) rest.under;
     }
@@ -289,6 +313,8 @@ module _ {C : Type 0} (downs : List Pair) (k number : ℕ) (way : Way) (node : �
     parts = record { parts = λ t p e. e; seen = refl };
     keeps = λ part d e still. e;
     waits = λ i a e still. inl (i, a, e, refl);
+    stays = λ part d e. (d, e, refl);
+    asks_still = λ i a n e wants. (i, a, e, refl);
     goes = refl;
     under = All-nil (λ (d : CommandModel). HasPart arrivals d.ticket d.part × (d.ticket.worker ≡ k));
   }

@@ -29,6 +29,7 @@ use Rattle.turn_laws.proofs.Rising.{above-all, map-more}
 use Rattle.turn_laws.proofs.Telling.{wants-no}
 use Rattle.turn_laws.proofs.Told.{Fitting, AreOwn, PartsStay, fitting, lists-still}
 use Rattle.turn_laws.proofs.Walks.{walked-sound}
+use Rattle.turn_laws.proofs.Holding.{plain-asks}
 
 module _ {C J : Type 0} (s : System C J) (w : WorldModel) (h : IsShadow s w) (walked : IsWalked w) (k number : ℕ) (model : WorkerModel C J) (client : ClientModel C)
     (at : slice_get s.workers k ≡ Some model) (got : get model.clients number ≡ Some client) (here : client.gone ≡ false) (part : PartModel) (one-slot : HasOneSlot part) where
@@ -106,6 +107,11 @@ module _ {C J : Type 0} (s : System C J) (w : WorldModel) (h : IsShadow s w) (wa
       (λ n ne. count-more (λ (c : Arrival). c.command.ticket.client == n) w.commands y 0 (ap (λ b. cond {A = ℕ} b 1 0) (not-same number n (λ e. ne (sym e)))) ∙ omega arith)
       (λ p c e awaits'. e)
       still-awaits
+      (λ p c e. inl (c, e, refl))
+      (λ i a node e wants. ⊎_elim
+      (λ (z : slice_get w.commands i ≡ Some a). (i, a, z, refl))
+      (λ (z : (i ≡ length w.commands) × (a ≡ y)). absurd (plain-asks node (ap (λ (u : Arrival). u.command.stage) (sym z.1) ∙ wants)))
+      (at-last w.commands y i a e))
 
   own-lane : (lane : LaneEnds (Newcomer C J)) → slice_get s.carrier.lanes k ≡ Some lane → IsInStep model2.outlet lane.up × ListShadow (record w { commands = commands'; ups = w.ups }) k (ups_in model2 lane (slice_get s.carrier.pending_runs k))
   own-lane lane q =

@@ -25,7 +25,7 @@ use Rattle.turn_laws.specs.Shadow.{IsShadow, UpsShadow, RunShadow, lane_of, lyin
 use Rattle.turn_laws.specs.Steps.{AtCarrier, CarrierStep}
 use Rattle.turn_laws.specs.Refines.{Simulates}
 use Rattle.turn_laws.proofs.Downs.{Pair, SameBag, total-set-flat}
-use Rattle.turn_laws.proofs.Frames.{beside, set-seats, down-fits, links-still, still-closed, still-opened, works-still, no-failure}
+use Rattle.turn_laws.proofs.Frames.{beside, set-seats, down-fits, links-still, still-closed, still-opened, works-still, no-failure, seen-same}
 use Rattle.turn_laws.proofs.Carriers.{refusals, debts, bag-parts}
 use Rattle.turn_laws.proofs.AtLanes.{ListShadow, same-backends, get-other}
 use Rattle.turn_laws.proofs.Settled.{goes-of, settles-so}
@@ -219,7 +219,7 @@ module _ {C J : Type 0} (s s' : System C J) (w : WorldModel) (h : IsShadow s w) 
       let same = same-backends s s' backends in
       settles-so (Refuse k) s s' w (remove w.ups f.front.at) w.links told walked h (goes-of Refused s s' on)
       (f.front.at, lying run, first-of-front (lies_in k) w.ups (lying run) f.rest f.front, refl)
-      (links-still s.nodes s.carrier s'.carrier s.closed s'.closed s.opened s'.opened w (works-still s s' same) (still-closed s s' (no-failure s s' same) on.breaks) (still-opened Refused s s' on refl) h.links)
+      (links-still s.nodes s.carrier s'.carrier s.closed s'.closed s.opened s'.opened w (works-still s s' same) (seen-same s s' backends) (still-closed s s' (no-failure s s' same) on.breaks) (still-opened Refused s s' on refl) h.links)
       bag
       (set-seats s s' k b' (ap length lanes) pending_runs (λ x e seated. absurd (nothing x e)))
       (λ j model lane p q. down-fits s w h j model lane p (sym (ap (λ xs. slice_get xs j) lanes) ∙ q))

@@ -1,10 +1,13 @@
 -- The start of the script, how the carrier reaches the first node, and a move that is called back.
 use Rattle.std.proofs.Common.{◌≡◌, inl, inr, ℕ, zero, suc, Bool, true, false, List, [], ◌∷◌, Some, None, Ok, refl, sym, ap, ◌∙◌, subst, arith, length}
-use Rattle.std.specs.Prelude.{slice_get, All, map, Option, IsSome, unwrap_or}
+use Rattle.std.specs.Prelude.{slice_get, Option, IsSome, unwrap_or}
 use Rattle.std.specs.List.{FoldsTo}
 use mathlib.Core.List.{IsPrefix}
-use Rattle.std.specs.FinMap.{empty, get-empty}
+use Rattle.std.specs.FinMap.{empty, get, get-empty}
 use Rattle.std.specs.Ordering.{nat_cmp}
+use Rattle.key_split.specs.declared.travel.Ticket.{Ticket}
+use Rattle.command_future.specs.CommandModel.{CommandModel}
+use Rattle.node_link.specs.LinkModel.{LinkModel}
 use Rattle.std.specs.Cmp.Lexicographic.{slice_cmp}
 use Rattle.resp_wire.specs.declared.value.Value.TheVariants.{Array}
 use Rattle.slot_map.specs.Table.{Endpoint}
@@ -18,13 +21,10 @@ use Rattle.proxy_turns.specs.Backend.{new_backend}
 use Rattle.proxy_turns.specs.PendingRun.{no_pending_run}
 use Rattle.proxy_turns.specs.WorkerModel.{WorkerModel}
 use Rattle.proxy_turns.specs.CarrierModel.{CarrierModel}
-use Rattle.world_laws.specs.State.{WorldModel, slot_for}
-use Rattle.world_laws.specs.Places.{tally, asks}
-use Rattle.world_laws.specs.World.{NoneAsks}
-use Rattle.world_laws.specs.declared.state.Arrival.{Arrival}
 use Rattle.turn_laws.specs.Wire.{Wire, Lists, new_wire}
 use Rattle.turn_laws.specs.System.{System, IsInStep, between}
-use Rattle.turn_laws.specs.Shadow.{IsShadow, AreApart, DownInStep, arrived_in, down_in}
+use Rattle.turn_laws.specs.Shadow.{AreApart, DownInStep, Holds, down_in, ups_in}
+use Rattle.turn_laws.specs.Asking.{NoneAsksIn, NoneBehindAsking}
 use Rattle.turn_laws.specs.Steps.{SystemStep}
 use Rattle.turn_laws.specs.Refines.{IsStart}
 use Rattle.turn_laws.specs.Scripts as script
@@ -51,15 +51,36 @@ apart (suc (suc i)) j at e f = absurd (nothing-there i at e)
 pub seed-first : IsPrefix seed_alone table
 seed-first = (_, refl)
 
--- where nothing was seen, no command arrived
-no-commands : (xs : List Arrival) {Y : Type 0} (f : Arrival → Y) → [] ≡ map f xs → xs ≡ []
-no-commands [] f e = refl
-no-commands (x ∷ xs) f e = absurd (omega (arith, ap length e))
+-- both items of a list
+two-of : {X : Type 0} (P : X → Type 0) (x y : X) → P x → P y → (k : ℕ) (z : X) → slice_get (x ∷ y ∷ []) k ≡ Some z → P z
+two-of P x y p q zero z e = let one : x ≡ z = (let o : Some x ≡ Some z = e in cc) in subst P one p
+two-of P x y p q (suc zero) z e = let one : y ≡ z = (let o : Some y ≡ Some z = e in cc) in subst P one q
+two-of P x y p q (suc (suc k)) z e = absurd (nothing-there k z e)
 
-none-asks : {C J : Type 0} (s : System C J) (slot target : ℕ) → s.log ≡ [] → (w : WorldModel) → IsShadow s w → NoneAsks w slot target
-none-asks s slot target e w h =
-    let arrived = ap (λ l. arrived_in h.log.clock 0 l) (sym e) ∙ h.log.arrived in
-    subst (All (λ (c : Arrival). slot_for c.command.part ≡ slot → tally (asks target c.command.ticket) w ≡ 0)) (sym (no-commands w.commands _ arrived)) (λ i x lt. absurd (omega arith))
+no-link : (it : LinkModel Wire) → None ≡ Some it → ⊥
+no-link it e = cc
+
+none-some : {X : Type 0} (o : Option X) (x : X) → o ≡ None → o ≡ Some x → ⊥
+none-some o x p q = cc
+
+module _ {C J : Type 0} where
+  -- where no client is there, no run waits and nothing stands on a connection, nothing is under way
+  none-under-way : (s : System C J) (slot node : ℕ)
+      → ((k : ℕ) (model : WorkerModel C J) → slice_get s.workers k ≡ Some model → (number : ℕ) → get model.clients number ≡ None)
+      → ((k : ℕ) (model : WorkerModel C J) (l : LaneEnds (Newcomer C J)) → slice_get s.workers k ≡ Some model → slice_get s.carrier.lanes k ≡ Some l → ups_in model l (slice_get s.carrier.pending_runs k) ≡ [])
+      → ((k : ℕ) (backend : Backend Wire) → slice_get s.carrier.backends k ≡ Some backend → (it : LinkModel Wire) → backend.link ≡ Some it → it.port.items ≡ [])
+      → s.closed ≡ [] → NoneAsksIn s slot node
+  none-under-way s slot node nobody no-runs no-items closed = record {
+    wants = λ t c held e. absurd (no-one t c held.0);
+    told = λ t c asked i held e. absurd (no-one t c held.0);
+    said = λ t c asked k i it value held works p q e. absurd (no-one t c held.0);
+    lies = λ k i n model l run batch p q r b a there e. absurd (nothing-there i run (sym (ap (λ runs. slice_get runs i) (no-runs k model l p q)) ∙ r));
+    sent = λ k it works there. subst (NoneBehindAsking slot it.port.asking) (sym (no-items k works.0 works.1 it works.2)) tt;
+    broken = λ j wire e. absurd (nothing-there j wire (sym (ap (λ ws. slice_get ws j) closed) ∙ e));
+  }
+    where
+      no-one : (t : Ticket) (c : CommandModel) → Holds s.workers t c → ⊥
+      no-one t c x = none-some (get (x.1).clients t.client) x.3.0 (nobody x.0 x.1 x.2 t.client) x.3.1
 
 -- the backend of the first node, while it is asked for CLUSTER SLOTS
 abbrev b1 : Backend Wire
@@ -186,6 +207,17 @@ module _ {C J : Type 0} (port : C) where
     ),
   )
 
+  -- nothing is under way
+  idle : (k : ClusterModel) → NoneAsksIn (scene w0 s1.carrier [] 1 k []) 1 1
+  idle k = none-under-way (scene w0 s1.carrier [] 1 k []) 1 1
+      (only-one (λ k model. (number : ℕ) → get model.clients number ≡ None) w0 (get-empty nat_cmp))
+      (λ k model l p q.
+      only-one (λ k model. ups_in model l (slice_get (no_pending_run ∷ []) k) ≡ []) w0
+      (only-one (λ k l. ups_in w0 l (slice_get (no_pending_run ∷ []) 0) ≡ []) l0 refl k l q) k model p)
+      (two-of (λ (backend : Backend Wire). (it : LinkModel Wire) → backend.link ≡ Some it → it.port.items ≡ []) b1 new_backend
+      (λ it e. ap (λ (o : Option (LinkModel Wire)). (unwrap_or o (link 0 (new_wire 0 0) [])).port.items) (sym e)) (λ it e. absurd (no-link it e)))
+      refl
+
   -- after the moves
   abbrev pub s2 : System C J
   s2 = scene w0 (c0 (b1 ∷ new_backend ∷ []) false) [] 1 k5 []
@@ -193,7 +225,7 @@ module _ {C J : Type 0} (port : C) where
   pub moves : FoldsTo SystemStep s1 script.moving s2
   moves = (
     scene w0 s1.carrier [] 1 k1 [],
-    ((none-asks s1 1 1 refl, (refl, omega arith, λ e. absurd (omega (arith, e))), refl), refl),
+    ((idle k0, (refl, omega arith, λ e. absurd (omega (arith, e))), refl), refl),
     (
       scene w0 s1.carrier [] 1 k2 [],
       ((refl, refl), refl),
@@ -205,7 +237,7 @@ module _ {C J : Type 0} (port : C) where
           ((refl, refl), refl),
           (
             s2,
-            ((none-asks (scene w0 s1.carrier [] 1 k4 []) 1 1 refl, (refl, omega arith, λ e. absurd (omega (arith, e))), refl), refl),
+            ((idle k4, (refl, omega arith, λ e. absurd (omega (arith, e))), refl), refl),
             refl,
           ),
         ),

@@ -27,7 +27,7 @@ use Rattle.world_laws.proofs.Recorded.{at-set}
 use Rattle.turn_laws.specs.Walks.{Walk, IsWalked, ticked}
 use Rattle.turn_laws.specs.Wire.{Wire, Item, Part, Asks, Runs, Lists, AreTold, ServesNext, executions, parts_in, tickets_for}
 use Rattle.turn_laws.specs.System.{System}
-use Rattle.turn_laws.specs.Shadow.{IsShadow, IsWorking, LinksShadow, LogShadow, AreListed, OpenShadow, IsIdle, IsKnown, IsUnnumbered, Numbers, coming, coming_of, requests_in, dues_of, dues_in, back_of, backs_in, downs_of, told_in, lost_in}
+use Rattle.turn_laws.specs.Shadow.{IsShadow, IsWorking, LinksShadow, LogShadow, AreListed, OpenShadow, IsIdle, IsKnown, IsUnnumbered, Numbers, coming, coming_of, requests_in, dues_of, dues_in, back_of, backs_in, downs_of, told_in, lost_in, SeenIn}
 use Rattle.turn_laws.specs.Steps.{AtNode, Serves, log_of}
 use Rattle.turn_laws.specs.Refines.{Simulates}
 use Rattle.turn_laws.proofs.Downs.{SameBag, total-set-flat}
@@ -38,6 +38,7 @@ use Rattle.turn_laws.proofs.Answering.{quiet-backend}
 use Rattle.turn_laws.proofs.Openings.{one-connection}
 use Rattle.turn_laws.proofs.Walks.{walked-sound}
 use Rattle.turn_laws.proofs.Serving.{all-first, all-later, some-request, log-nothing, log-served, each-told, entries_at, serves-run, node-frame}
+use Rattle.turn_laws.proofs.Seen.{seen-set}
 
 coming-more : (o : Option Value) (values more : List Value) → coming_of o (values ++ more) ≡ coming_of o values ++ more
 coming-more None values more = refl
@@ -171,6 +172,9 @@ module _ {C J : Type 0} (s s' : System C J) (w : WorldModel) (h : IsShadow s w) 
       (λ (z : (j ≢ k) × (slice_get s.carrier.backends j ≡ Some y.0)). inr (z.0, (y.0, z.1, y.2, y.3)))
       (at-set s.carrier.backends k backend' j y.0 y.1)
 
+  sight : wire.id ≡ link.port.id → (m : ℕ) → SeenIn s.carrier s.closed m → SeenIn carrier' s.closed m
+  sight id = seen-set s.carrier carrier' s.closed k backend backend' on.5 refl link link' on.6 refl on.7 id
+
   bag : SameBag (downs_of s) (downs_of (record s { carrier = carrier' }))
   bag f = omega (
     arith,
@@ -197,7 +201,7 @@ module _ {C J : Type 0} (s s' : System C J) (w : WorldModel) (h : IsShadow s w) 
       → LinksShadow s.nodes carrier' s.closed s.opened (record w { links = slice_set w.links i (record l { requests = requests_in rest; backs = l.backs ++ backs_in s.nodes link.node (dues_of r) more; asking = wire.asking }) })
   links-served r rest as-many first wired id items i l numbers at open' =
       let l' : Link = record l { requests = requests_in rest; backs = l.backs ++ backs_in s.nodes link.node (dues_of r) more; asking = wire.asking } in
-      backend-changes s.nodes s.carrier carrier' s.closed s.opened w (record w { links = slice_set w.links i l' }) h.links k i link link' l l' working now
+      backend-changes s.nodes s.carrier carrier' s.closed s.opened w (record w { links = slice_set w.links i l' }) h.links k i link link' l l' working now (sight id)
       node id numbers at refl
       (open-served link wire r rest more as-many first wired items on.9 s.nodes w.commands l open')
       (λ x m o. o)
@@ -281,7 +285,7 @@ module _ {C J : Type 0} (s s' : System C J) (w : WorldModel) (h : IsShadow s w) 
       let as-many : length (dues_of Lists) ≡ length more = ap length (sym one) in
       let w' : WorldModel = record w { cluster = s'.cluster } in
       let links : LinksShadow s.nodes carrier' s.closed s.opened w =
-      quiet-backend s.nodes s.carrier carrier' s.closed s.opened w h.links k link link' working now node (ap (λ (x : Wire). x.id) is)
+      quiet-backend s.nodes s.carrier carrier' s.closed s.opened w h.links k link link' working now (sight (ap (λ (x : Wire). x.id) is)) node (ap (λ (x : Wire). x.id) is)
       (λ l o. subst (OpenShadow s.nodes w.commands link')
       (λ j. record l { requests = (ap requests_in (sym first) ∙ sym o.requests) j; backs = (ap (λ vs. l.backs ++ backs_in s.nodes link.node (dues_of Lists) vs) one ∙ append-nil l.backs) j; asking = (asking ∙ sym o.asking) j })
       (open-served link wire Lists rest more as-many first id items on.9 s.nodes w.commands l o))

@@ -187,7 +187,7 @@ module _ {C J : Type 0} where
         to_worker = h.to_worker;
         told = h.told;
         lanes = h.lanes;
-        links = record { ids = links.ids; all = links.all; below = links.below; once = links.once; backends = links.backends; wires = links.wires; apart = links.apart; aside = links.aside; each = links.each };
+        links = record { ids = links.ids; all = links.all; below = links.below; once = links.once; backends = links.backends; wires = links.wires; apart = links.apart; aside = links.aside; each = links.each; seen = links.seen };
         clients = λ k model number client e g.
             let t = h.clients k model number client e g in
             (t.0, client-same (downs_of s) (downs_of next) bag k number client w.commands t.1);
@@ -196,5 +196,6 @@ module _ {C J : Type 0} where
         awaited = λ i pair e.
             let x = bag-has (downs_of next) (downs_of s) back i pair e in h.awaited x.0 pair x.1;
         waiting = h.waiting;
+        asking = h.asking;
         log = log;
       })

@@ -107,6 +107,7 @@ module _ {C J : Type 0} where
         downs = fits.once;
         awaited = λ i pair e. let a = fits.awaited i pair e in (a.0, subst (λ (ws : List (WorkerModel C J)). Holds ws pair.0 a.0) (sym workers) a.1, a.2);
         waiting = λ j c e awaits. subst (λ (ws : List (WorkerModel C J)). Holds ws c.command.ticket c.command) (sym workers) (fits.waiting j c e awaits);
+        asking = λ j c node e wants. let a = fits.asking j c node e wants in (a.0, subst (λ (ws : List (WorkerModel C J)). Holds ws c.command.ticket a.0) (sym workers) a.1);
         log = subst (λ l. LogShadow l w') (sym log) (log-on s.log w w' same refl refl later h.log);
       }
 

@@ -64,6 +64,7 @@ module _ {C J : Type 0} where
       apart = λ k m a b p q e. absurd (no-item s.carrier.backends k p.0 h.backends p.1);
       aside = λ k j a wire p q e. absurd (no-item s.closed j wire h.closed q);
       each = λ i j a b p q e. absurd (no-item s.closed i a h.closed p);
+      seen = λ i id e. absurd (nothing-there i id e);
     }
 
     no-marks : LogShadow [] first
@@ -104,6 +105,7 @@ module _ {C J : Type 0} where
       downs = λ t. omega (arith, no-downs (λ (p : Pair). is t p.0));
       awaited = λ i pair e. absurd (no-pair i pair e);
       waiting = λ j c e. absurd (nothing-there j c e);
+      asking = λ j c node e. absurd (nothing-there j c e);
       log = subst (λ l. LogShadow l first) (sym h.log) no-marks;
     }
       where

@@ -23,6 +23,7 @@ use Rattle.turn_laws.proofs.AtLines.{same-owing}
 use Rattle.turn_laws.proofs.Fetching.{comes-first}
 use Rattle.turn_laws.proofs.Waiting.{now, same-closed, same-opened, same-bag}
 use Rattle.turn_laws.proofs.Answering.{quiet-backend}
+use Rattle.turn_laws.proofs.Seen.{seen-set}
 
 -- nothing went over the port
 pub nothing-went : (link link' : LinkModel Wire) → Exchanges link.port [] [] link'.port → link' ≡ record link { port = link'.port } → link' ≡ link
@@ -86,6 +87,7 @@ module _ {C J : Type 0} (s s' : System C J) (w : WorldModel) (h : IsShadow s w) 
       let links : LinksShadow s.nodes s'.carrier s.closed s.opened w =
       quiet-backend s.nodes s.carrier s'.carrier s.closed s.opened w h.links k link link' working
       (now Starved s s' on refl k backend backend' link link' at e.0 was is worked works)
+      (seen-set s.carrier s'.carrier s.closed k backend backend' at e.0 link link' was is works (ap (λ (x : Wire). x.id) (comes-first link link'.port value comes).1))
       (ap (λ (c : LinkModel Wire). c.node) goes ∙ ((h.links).backends k link working).0)
       (ap (λ (x : Wire). x.id) (comes-first link link'.port value comes).1)
       (λ l o. kept-open s.nodes w.commands link link' l value comes goes o)

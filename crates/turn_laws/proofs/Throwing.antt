@@ -14,6 +14,7 @@ use Rattle.turn_laws.specs.Shadow.{IsShadow, LinksShadow, WireShadow, OpenShadow
 use Rattle.turn_laws.specs.Steps.{Thrown, Discards}
 use Rattle.turn_laws.specs.Refines.{Simulates}
 use Rattle.turn_laws.proofs.Frames.{log-later}
+use Rattle.turn_laws.proofs.Seen.{seen-closed}
 
 abbrev pub linked : WorldModel → List Link → ℕ → WorldModel
 linked w links moment = record w { links = links; moment = moment }
@@ -66,6 +67,7 @@ module _ {H : Type 0} (nodes : List Endpoint) (a : CarrierModel H Wire) (closed 
         (λ (v : (k ≢ j) × (slice_get closed k ≡ Some y)). h.each i k x y u.1 v.1 e)
         (at-set closed j wire' k y q))
         (at-set closed j wire' i x p);
+    seen = λ i m e. seen-closed a closed j wire wire' at id m (h.seen i m e);
   }
 
 -- another number has another link
@@ -106,6 +108,7 @@ module _ {C J : Type 0} where
     downs = h.downs;
     awaited = h.awaited;
     waiting = h.waiting;
+    asking = h.asking;
     log = log-later s.log w (linked w links moment) refl refl refl later h.log;
   })
 

@@ -9,7 +9,7 @@ use Rattle.key_split.specs.PartModel.{PartModel}
 use Rattle.key_split.specs.Runs.{RunModel}
 use Rattle.key_split.specs.declared.travel.Ticket.{Ticket}
 use Rattle.command_future.specs.CommandModel.{CommandModel}
-use Rattle.command_future.specs.declared.stage.Stage.TheVariants.{Awaits}
+use Rattle.command_future.specs.declared.stage.Stage.TheVariants.{Awaits, WantsAsking}
 use Rattle.slot_map.specs.Table.{Endpoint}
 use Rattle.node_link.specs.LinkModel.{LinkModel}
 use Rattle.proxy_turns.specs.ClientModel.{ClientModel}
@@ -74,6 +74,7 @@ module _ {C J : Type 0} where
     pub once : (t : Ticket) → total (λ (p : Pair). is t p.0) downs ≤ 1
     pub awaited : (i : ℕ) (pair : Pair) → slice_get downs i ≡ Some pair → (d : CommandModel) × Holds workers pair.0 d × (d.stage ≡ Awaits)
     pub waiting : (j : ℕ) (c : Arrival) → slice_get commands j ≡ Some c → c.command.stage ≡ Awaits → Holds workers c.command.ticket c.command
+    pub asking : (j : ℕ) (c : Arrival) (node : ℕ) → slice_get commands j ≡ Some c → c.command.stage ≡ WantsAsking node → (d : CommandModel) × Holds workers c.command.ticket d
 
   pub fitting : (s : System C J) (w : WorldModel) → Placed w → IsShadow s w → Fitting s.workers (length s.carrier.lanes) w.workers (downs_of s) w.commands
   fitting s w placed h = record {
@@ -85,6 +86,7 @@ module _ {C J : Type 0} where
     once = h.downs;
     awaited = h.awaited;
     waiting = h.waiting;
+    asking = h.asking;
   }
 
   module _ (workers : List (WorkerModel C J)) (lanes dealt : ℕ) (downs : List Pair) (commands : List Arrival) (h : Fitting workers lanes dealt downs commands) where
@@ -136,6 +138,10 @@ module _ {C J : Type 0} where
               (λ (z : (i ≡ j) × (x ≡ after_told c pair.1)). absurd (told-no c.command pair.1 (ap (λ (y : Arrival). y.command.stage) (sym z.1) ∙ still)))
               (λ (z : (i ≢ j) × (slice_get commands i ≡ Some x)). h.waiting i x z.1 still)
               (at-set commands j (after_told c pair.1) i x e);
+          asking = λ i x node e wants. ⊎_elim
+              (λ (z : (i ≡ j) × (x ≡ after_told c pair.1)). (c.command, subst (λ (t : Ticket). Holds workers t c.command) (ap (λ (y : Arrival). y.command.ticket) (sym z.1)) (h.waiting j c at awaits)))
+              (λ (z : (i ≢ j) × (slice_get commands i ≡ Some x)). h.asking i x node z.1 wants)
+              (at-set commands j (after_told c pair.1) i x e);
         })
       where
         one-each : (t : Ticket) (b : Bool) → same_ticket t pair.0 ≡ b → total (λ (p : Pair). is pair.0 p.0) downs ≡ 0 → total (λ (p : Pair). is t p.0) downs' ≤ 1
@@ -177,6 +183,7 @@ module _ {C J : Type 0} where
         once = λ t. omega (arith, h.once t, bag (λ (p : Pair). is t p.0));
         awaited = λ i pair e. let x = bag-has b a back i pair e in h.awaited x.0 pair x.1;
         waiting = h.waiting;
+        asking = h.asking;
       }
 
 -- ---- what the machine's commands are to lanes and links
@@ -286,4 +293,5 @@ links-told {H} nodes carrier closed opened w w' links same h = record {
   apart = h.apart;
   aside = h.aside;
   each = h.each;
+  seen = h.seen;
 }

@@ -1,4 +1,5 @@
 -- A worker takes what came down and tells it: the machine did so before.
+use Rattle.turn_laws.proofs.Holding.{asks-still}
 use Rattle.std.proofs.Common.{◌≡◌, ◌≢◌, inl, inr, ⊎_elim, ℕ, zero, suc, ◌+◌, ◌<◌, ◌≤◌, ◌%◌, ◌==◌, Bool, true, false, List, [], ◌∷◌, ◌++◌, Some, None, refl, sym, ap, ◌∙◌, subst, arith, length}
 use Rattle.std.specs.Prelude.{slice_get, slice_set, Option, IsSome, All}
 use Rattle.std.proofs.lemmas.Bool.{false≢true}
@@ -351,6 +352,12 @@ module _ {C J : Type 0} where
           held c.command.ticket c.command (λ same.
           let at : slice_get (downs_of s) place.0 ≡ Some (c.command.ticket, told) = place.1 ∙ ap (λ u. Some (u, told)) (sym same) in
           omega (arith, none, total-one (λ (q : Pair). is c.command.ticket q.0) (downs_of s) place.0 (c.command.ticket, told) at, is-refl c.command.ticket)) (fits.waiting j c e awaits);
+      asking = asks-still s.workers (length s.carrier.lanes) w.workers (downs_of s) w.commands fits k ticket.client model model' client client' on.at here.1 put (λ part d e. ⊎_elim
+          (λ (z : ((part == ticket.part) ≡ true) × (part ≡ ticket.part)).
+          let one : d ≡ awaited.0 = one-of (get client.commands.posted ticket.part) d awaited.0 (ap (get client.commands.posted) (sym z.1) ∙ e) here.2 in
+          inl (progress_told awaited.0 told, ap (get client'.commands.posted) z.1 ∙ put-same client.commands.posted ticket.part (progress_told awaited.0 told), ap (λ (u : CommandModel). u.ticket) (sym one)))
+          (λ (z : ((part == ticket.part) ≡ false) × (part ≢ ticket.part)). inl (d, put-other client.commands.posted ticket.part part (progress_told awaited.0 told) z.1 ∙ e, refl))
+          (eqb_tells part ticket.part));
     }
 
     pub takes : IsShadow s2 w

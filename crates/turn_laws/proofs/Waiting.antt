@@ -31,6 +31,7 @@ use Rattle.turn_laws.proofs.AtLines.{same-owing}
 use Rattle.turn_laws.proofs.Openings.{one-backend, one-connection}
 use Rattle.turn_laws.proofs.Lines.{backend-changes}
 use Rattle.turn_laws.proofs.Fetching.{fetched-shadow, comes-first}
+use Rattle.turn_laws.proofs.Seen.{seen-set}
 
 pub not-idle : (dues : List Due) (first : Due) (more : List Due) → dues ≡ first ∷ more → All (λ d. d ≡ due.Slots) dues → first ≡ due.Slots
 not-idle dues first more e all = subst (All (λ d. d ≡ due.Slots)) e all 0 first (omega arith)
@@ -159,6 +160,7 @@ module _ {C J : Type 0} (s s' : System C J) (w : WorldModel) (h : IsShadow s w) 
         let shadow : LinksShadow s.nodes s'.carrier s.closed s.opened w' =
         backend-changes s.nodes s.carrier s'.carrier s.closed s.opened w w' h.links k i link link' l l' working
         (now (AtBackend Waited) s s' on refl k backend backend' link link' on.does.3 backends was is worked works)
+        (seen-set s.carrier s'.carrier s.closed k backend backend' on.does.3 backends link link' was is works id)
         node id numbers at refl
         f.2
         (λ x m o. o)

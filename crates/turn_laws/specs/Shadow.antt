@@ -12,7 +12,7 @@ use Rattle.key_split.specs.declared.travel.Told.{Told}
 use Rattle.key_split.specs.declared.travel.Told.TheVariants.{Lost, Unsent}
 use Rattle.key_split.specs.declared.travel.Ended.{Ended}
 use Rattle.command_future.specs.CommandModel.{CommandModel, fresh as new_command, progress_told}
-use Rattle.command_future.specs.declared.stage.Stage.TheVariants.{Awaits, Over}
+use Rattle.command_future.specs.declared.stage.Stage.TheVariants.{WantsAsking, Awaits, Over}
 use Rattle.slot_map.specs.Table.{Endpoint}
 use Rattle.node_link.specs.LinkModel.{LinkModel}
 use Rattle.node_link.specs.LinkCalls.{tickets_of}
@@ -154,6 +154,12 @@ WireShadow w ids wire =
 abbrev pub IsWorking : {H : Type 0} → CarrierModel H Wire → ℕ → LinkModel Wire → Type 0
 IsWorking carrier k link = (backend : Backend Wire) × (slice_get carrier.backends k ≡ Some backend) × (backend.link ≡ Some link) × (link.failure ≡ None)
 
+-- the connection of this number works, or is one of the broken
+abbrev pub SeenIn : {H : Type 0} → CarrierModel H Wire → List Wire → ℕ → Type 0
+SeenIn carrier closed id =
+    ((k : ℕ) × (link : LinkModel Wire) × IsWorking carrier k link × (link.port.id ≡ id))
+    ⊎ ((j : ℕ) × (wire : Wire) × (slice_get closed j ≡ Some wire) × (wire.id ≡ id))
+
 pub record LinksShadow {H : Type 0} (nodes : List Endpoint) (carrier : CarrierModel H Wire) (closed : List Wire) (opened : ℕ) (w : WorldModel) : Type 0 where
   pub ids : List ℕ
   pub all : length ids ≡ length w.links
@@ -161,6 +167,8 @@ pub record LinksShadow {H : Type 0} (nodes : List Endpoint) (carrier : CarrierMo
   pub once : (i j id : ℕ) → slice_get ids i ≡ Some id → slice_get ids j ≡ Some id → i ≡ j
   pub backends : (k : ℕ) (link : LinkModel Wire) → IsWorking carrier k link → (link.node ≡ k) × (link.port.id < opened) × BackendShadow nodes w ids link
   pub wires : (j : ℕ) (wire : Wire) → slice_get closed j ≡ Some wire → (wire.id < opened) × WireShadow w ids wire
+  -- each link is that of a connection
+  pub seen : (i id : ℕ) → slice_get ids i ≡ Some id → SeenIn carrier closed id
   -- no two connections have one number
   pub apart : (k m : ℕ) (a b : LinkModel Wire) → IsWorking carrier k a → IsWorking carrier m b → a.port.id ≡ b.port.id → k ≡ m
   pub aside : (k j : ℕ) (a : LinkModel Wire) (wire : Wire) → IsWorking carrier k a → slice_get closed j ≡ Some wire → a.port.id ≢ wire.id
@@ -429,4 +437,6 @@ pub record IsShadow {C J : Type 0} (s : System C J) (w : WorldModel) : Type 0 wh
   pub awaited : (i : ℕ) (pair : Ticket × Told) → slice_get (downs_of s) i ≡ Some pair → (d : CommandModel) × Holds s.workers pair.0 d × (d.stage ≡ Awaits)
   -- what awaits in the machine awaits here
   pub waiting : (j : ℕ) (c : Arrival) → slice_get w.commands j ≡ Some c → c.command.stage ≡ Awaits → Holds s.workers c.command.ticket c.command
+  -- what wants to ask in the machine was posted here, and has not ended
+  pub asking : (j : ℕ) (c : Arrival) (node : ℕ) → slice_get w.commands j ≡ Some c → c.command.stage ≡ WantsAsking node → (d : CommandModel) × Holds s.workers c.command.ticket d
   pub log : LogShadow s.log w

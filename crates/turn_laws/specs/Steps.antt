@@ -22,13 +22,12 @@ use Rattle.proxy_turns.specs.ClientModel.{ClientModel}
 use Rattle.proxy_turns.specs.ClientTurn.{ClientEvent, Pulled, Fed, Read, HandedOut, Followed, Looked, CameBack, Posted, Drained, Pushed, Tried, Parted, Dropped}
 use Rattle.proxy_turns.specs.WorkerModel.{WorkerModel, WorkerEvent, Did, Finished, Took, FoundNone, Came, TurnedAway, FoundNobody, Left, WorkerDoes}
 use Rattle.proxy_turns.specs.CarrierModel.{CarrierEvent, Opened as OpenedLink, Reached, CarrierDoes as CarrierDoes}
-use Rattle.world_laws.specs.State.{WorldModel}
-use Rattle.world_laws.specs.World.{NoneAsks}
 use Rattle.world_laws.specs.declared.event.Event.{Event}
 use Rattle.world_laws.specs.declared.event.Event.TheVariants as core
 use Rattle.turn_laws.specs.Wire.{Wire, Exchanges, Dials, ServesNext, Execution}
 use Rattle.turn_laws.specs.System.{System, Mark, Arrived, Executed, Answered, IsInStep}
-use Rattle.turn_laws.specs.Shadow.{IsShadow, IsWorking, DownInStep}
+use Rattle.turn_laws.specs.Shadow.{IsWorking, DownInStep}
+use Rattle.turn_laws.specs.Asking.{NoneAsksIn}
 
 -- ---- what is seen of a step
 
@@ -181,9 +180,9 @@ module _ {C J : Type 0} where
   Discards s j s' = (old : Wire) × (slice_get s.closed j ≡ Some old)
       × (s' ≡ record s { closed = slice_set s.closed j (record old { items = [] }) })
 
-  -- one step of a move; a slot is imported only where no command that ASK sent is on its way, in each world that the system stands for
+  -- one step of a move; a slot is imported only where no command for it is under way that an ASK sent to the node
   abbrev pub MovesOn : System C J → Event → ClusterModel → Type 0
-  MovesOn s (core.Import slot target) k = ((w : WorldModel) → IsShadow s w → NoneAsks w slot target) × MayImport s.cluster slot target × (k ≡ import_done s.cluster slot target)
+  MovesOn s (core.Import slot target) k = NoneAsksIn s slot target × MayImport s.cluster slot target × (k ≡ import_done s.cluster slot target)
   MovesOn s (core.Migrate slot) k = MayMigrate s.cluster slot × (k ≡ migrate_done s.cluster slot)
   MovesOn s (core.MoveKey slot key) k = MayMoveKey s.cluster slot key × (k ≡ move_key_done s.cluster slot key)
   MovesOn s (core.Own slot) k = MayOwn s.cluster slot × (k ≡ own_done s.cluster slot)
