@@ -1,6 +1,7 @@
 """Checks of a crate over the libraries that the gate has proved."""
 
 import os
+import shutil
 import subprocess
 import tempfile
 from dataclasses import dataclass
@@ -70,21 +71,23 @@ def words_of(crate, crates, where):
     return [*words, "--antt-project", f"{where}/rattle/logic/antt-project.json", "--logic-built", f"{where}/logic_built", "--jobs", "1"]
 
 
-def copy_of(crate, texts, room):
-    """Puts a copy of the crate's source, with these texts in place of its own, into a folder."""
+def copy_of(crate, texts, room, removed=()):
+    """Puts a copy of the crate's source, without what is removed and with these texts in place of its own, into a folder."""
     for part in PARTS:
         if (crate.folder / part).is_dir():
             subprocess.run(["cp", "-R", crate.folder / part, room], check=True)
+    for place in removed:
+        shutil.rmtree(Path(room) / place, ignore_errors=True)
     for file, text in texts.items():
         (Path(room) / file).parent.mkdir(parents=True, exist_ok=True)
         (Path(room) / file).write_text(text, encoding="utf-8")
 
 
-def check(crate, crates, where, texts, functions, kept):
+def check(crate, crates, where, changed, functions, kept):
     """What a check of these functions says of the crate with these texts, and the seconds of a processor that it took."""
     with tempfile.TemporaryDirectory(prefix="edits-") as room:
-        copy_of(crate, texts, room)
-        words = ["nice", "-n", "10", *words_of(crate, crates, where), "--incremental", kept]
+        copy_of(crate, changed.texts, room, changed.removed)
+        words = ["nice", "-n", "10", *words_of(crate, crates, where), "--allow-holes", "--incremental", kept]
         for name in functions:
             words += ["--only", name]
         with tempfile.TemporaryFile("w+", errors="replace") as said:

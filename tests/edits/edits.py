@@ -142,6 +142,15 @@ def in_full(name, names):
     return name
 
 
+def touched_by(edit, folder, names):
+    """The functions whose texts it changes, as the prover calls them."""
+    found = set()
+    for pair in edit.pairs:
+        text = (Path(folder) / pair.file).read_text(encoding="utf-8")
+        found.add(in_full(function_at(pair.file, text, text.find(pair.old)) or "", names))
+    return found & {*names}
+
+
 def functions_of(edit, folder, names):
     """The functions that have to be refused, as the prover calls them, of whose names these are all."""
     found = list(edit.named)

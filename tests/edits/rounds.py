@@ -1,7 +1,7 @@
 """Rounds: edits of a crate are tried together, by one check of the functions that they change.
 
-Of the edits of one function the first stands in its place and each further one in a twin of it (twins.py). An edit counts as
-refused only where its own function fails with an open goal. The goals of some functions wait until all that they call is
+Of the edits of one function the first stands in its place and each further one in a twin of it (twins.py); the functions that
+no edit changes are stubs (stubs.py). An edit counts as refused only where its own function fails with an open goal. The goals of some functions wait until all that they call is
 proved: beside an edit of such a one (it says so, or a round showed it) the functions that it calls stay as they are, and their
 edits stand in twins, or in another round.
 """
@@ -12,6 +12,7 @@ from dataclasses import dataclass, field
 import calls
 import checks
 import edits
+import stubs
 import twins
 import verdicts
 from verdicts import Verdict
@@ -32,6 +33,8 @@ class Waiting:
 
     edit: edits.Edit
     functions: list
+    # The functions whose texts it changes.
+    touched: set = field(default_factory=set)
     alone: bool = False
     apart: set = field(default_factory=set)
     # What the prover calls the function in which the edit stands in this round, and whether a twin will not do.
@@ -56,7 +59,8 @@ def read_all(crate, from_folder, names):
             edit = edits.read(path)
             edit.applied({}, crate.folder)
             functions = edits.functions_of(edit, crate.folder, names)
-            waiting.append(Waiting(edit, functions, edits.is_apart(edit, crate.folder)))
+            touched = edits.touched_by(edit, crate.folder, names)
+            waiting.append(Waiting(edit, functions, touched, edits.is_apart(edit, crate.folder)))
         except edits.Misfit as why:
             bad.append(Tried(path.stem, False, f"BAD EDIT: {why}"))
     keep_callees(waiting, crate.folder)
@@ -99,7 +103,7 @@ class Round:
         functions = {*it.functions}
         if functions & (self.kept | self.changed) and self.place_in_twin(it, crate):
             return True
-        wanted = {*self.controls.values()}.union(*(other.apart for other in self.taken))
+        wanted = set().union(*(other.apart for other in self.taken))
         if functions & (self.changed | wanted):
             return False
         try:
@@ -123,12 +127,20 @@ class Round:
         return True
 
     def control(self, it, function, crate):
-        """The control of a function: itself, where it stays as it is and its proof has no files that could be copied wrongly."""
-        if function not in self.changed and not twins.proofs_of(crate.folder, crate.name, function, function):
-            return function
+        """The control of a function, or None where its proof has no files that could be copied wrongly: `rt ci` proved it so."""
+        if not twins.proofs_of(crate.folder, crate.name, function, function):
+            return None
         made = twins.control_of(it.edit, function, self.texts, crate)
         self.texts |= made.texts
         return made.name
+
+    def asked(self):
+        """The functions that are checked."""
+        return {name for it in self.taken for name in it.stands_in} | {*self.controls.values()} - {None}
+
+    def kept_whole(self):
+        """The functions that keep their bodies."""
+        return self.asked().union(*(it.touched for it in self.taken if it.stands_in == it.functions))
 
 
 def next_round(waiting, crate):
@@ -143,6 +155,8 @@ def next_round(waiting, crate):
 
 def is_in_order(answer, crate, control):
     """Whether a control's own goals are all closed."""
+    if control is None:
+        return True
     verdict = verdicts.verdict_of(answer, control)[0]
     return verdict is Verdict.PROVED or (verdict is Verdict.CALLEE and not verdicts.waits(answer, crate.name, control))
 
@@ -174,8 +188,8 @@ def try_all(crate, crates, where, from_folder, names):
     with tempfile.TemporaryDirectory(prefix="edits-kept-") as kept:
         while waiting:
             made = next_round(waiting, crate)
-            asked = {name for it in made.taken for name in it.stands_in} | {*made.controls.values()}
-            said, seconds = checks.check(crate, crates, where, made.texts, sorted(asked), kept)
+            changed = stubs.stubbed(made.texts, crate, names, made.kept_whole())
+            said, seconds = checks.check(crate, crates, where, changed, sorted(made.asked()), kept)
             answer = verdicts.read(crate.name, said)
             outcome.rounds += 1
             outcome.seconds += seconds

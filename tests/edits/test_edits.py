@@ -11,6 +11,7 @@ import checks
 import edits
 import gate
 import rounds
+import stubs
 import verdicts
 
 LIBRARY = """\
@@ -146,18 +147,74 @@ class Controls(unittest.TestCase):
         calls = "no proof: it calls `sample::g`, which is not proved"
         waits = "note: `search` has not tried the goals of `sample::f_control`, which wait for a callee's proof"
         for said, counts in {
-            "fn sample::f_control: proved": True,
+            "fn sample::f_control: no holes": True,
+            "fn sample::f_control: depends on a hole in `Rattle.sample.proofs.g.Proof.g_spec`": True,
             f"fn sample::f_control: {calls}": True,
             f"{waits}\nfn sample::f_control: {calls}": False,
             "fn sample::f_control: no proof: `search` did not prove `returns`": False,
             "fn sample::f_control: not proved": False,
         }.items():
-            answer = verdicts.read("sample", f"{refused}\n{said}\nonly=2 proved=0\n")
+            answer = verdicts.read("sample", f"{refused}\n{said}\nonly=2 holes=0\n")
             it = rounds.Waiting(edits.Edit("wrong"), ["f"], stands_in=["f_twin"])
             made = rounds.Round(set(), taken=[it], controls={"f": "f_control"})
             tried = rounds.judged(answer, checks.Crate("sample", Path(), [], []), it, made)
             self.assertEqual(tried is not None and tried.refused, counts, said)
             self.assertEqual(it.in_place, not counts, said)
+
+
+class Stubs(unittest.TestCase):
+    """The functions that no edit touches keep their contracts and lose their bodies."""
+
+    TEXT = """\
+const fn size() -> usize {
+    4
+}
+
+/// One line.
+pub fn law()
+    ensures { Law }
+{}
+
+impl Pair {
+    /// The first.
+    pub fn first(&self) -> u8
+        ensures { result ≡ self.now.first }
+    {
+        let Pair { first, .. } = self;
+        *first
+    }
+
+    fn second(&self) -> u8 {
+        if self.is_set {
+            return 1;
+        }
+        2
+    }
+}
+
+fn free(count: u8) -> u8
+    ensures { result ≡ count }
+{
+    count
+}
+"""
+
+    def test_bodies_give_way(self):
+        names = {"size", "law", "Pair::first", "Pair::second", "free"}
+        text, stubbed = stubs.stubs_in("src/lib.rt", self.TEXT, names, {"free"})
+        self.assertEqual(stubbed, ["Pair::first", "Pair::second"])
+        left = self.TEXT.replace("        let Pair { first, .. } = self;\n        *first\n", "        loop {}\n")
+        left = left.replace("        if self.is_set {\n            return 1;\n        }\n        2\n", "        loop {}\n")
+        self.assertEqual(text, left)
+
+    def test_a_stub_has_a_hole_for_a_proof(self):
+        with tempfile.TemporaryDirectory() as folder:
+            make_repository(Path(folder), {})
+            crate = checks.crates_of(folder)["sample"]
+            made = stubs.stubbed({}, crate, {"raised", "raised_again"}, {"raised"})
+            self.assertIn("raised_again_spec = ?", made.texts["proofs/raised_again/Proof.antt"])
+            self.assertNotIn("proofs/raised/Proof.antt", made.texts)
+            self.assertIn(Path("proofs/raised_again"), made.removed)
 
 
 class Lemmas(unittest.TestCase):
@@ -174,7 +231,7 @@ class Lemmas(unittest.TestCase):
             (refused, cut.replace(" and 1 more", ", e (via d)"), own, missing): True,
             (refused, own): False,
         }.items():
-            answer = verdicts.read("sample", "\n".join([*said, "fn sample::f: not proved", "only=1 proved=0", ""]))
+            answer = verdicts.read("sample", "\n".join([*said, "fn sample::f: not proved", "only=1 holes=0", ""]))
             self.assertEqual(verdicts.verdict_of(answer, "f")[0] is verdicts.Verdict.REFUSED, counts, said)
 
 

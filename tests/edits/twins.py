@@ -57,12 +57,17 @@ def changed(text, pairs):
     return text
 
 
+def places_of(function):
+    """The folders of a function's proof and of those of its closures."""
+    words = function.split("::")
+    return [Path("proofs", *it) for it in (words, *([*words[:at], "fn", *words[at:]] for at in range(len(words))))]
+
+
 def proofs_of(folder, crate, function, twin):
     """Copies of the files of a function's proof and of those of its closures, for its twin."""
-    words, made = function.split("::"), {}
-    last = twin.split("::")[-1]
-    for inside in [words, *([*words[:at], "fn", *words[at:]] for at in range(len(words)))]:
-        place, to = Path("proofs", *inside), Path("proofs", *inside[:-1], last)
+    made, last = {}, twin.split("::")[-1]
+    for place in places_of(function):
+        inside, to = place.parts[1:], place.parent / last
         for file in sorted((Path(folder) / place).glob("**/*.antt")):
             text, old = file.read_text(encoding="utf-8"), re.escape(".".join(inside))
             new = ".".join([*inside[:-1], last])
