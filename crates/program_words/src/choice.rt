@@ -4,7 +4,7 @@ use crate::local::{Playing, local_command, playing_of};
 use crate::ports::{Ports, nodes_command, ports_in};
 use crate::serving::{Serving, serve_command, serving_of};
 use clap::error::ErrorKind;
-use clap::{Command, Error};
+use clap::{ArgMatches, Command, Error};
 use std::alloc::{AllocError, Global};
 
 /// One run of the program.
@@ -33,48 +33,89 @@ const PORTS_WANTED: &str = "--ports takes three ports from 1 to 65535, with a co
 const SERVING_WANTED: &str =
     "--listen and --seed take HOST:PORT with a port from 1 to 65535, and --workers 1 to 64";
 
+/// What follows the program's name. (clap refuses words without a subcommand by itself.)
+const SUBCOMMAND_WANTED: &str = "a subcommand is asked for";
+
 /// The program's words.
 fn command<'a>(alloc: Global) -> Result<Command<'a>, AllocError> {
+    let command = with(with_streams(alloc), local_command(alloc))?;
+    let command = with(Ok(command), nodes_command(alloc))?;
+    with(Ok(command), serve_command(alloc))
+}
+
+/// The program, and the subcommands that read standard input and start no thread.
+fn with_streams<'a>(alloc: Global) -> Result<Command<'a>, AllocError> {
+    let command = with(Ok(program(alloc)), Ok(one_command(alloc)))?;
+    with(Ok(command), Ok(simulate_command(alloc)))
+}
+
+fn program<'a>(alloc: Global) -> Command<'a> {
     Command::new(alloc, "cluster_proxy")
         .about("Lets a plain Redis client use a Redis Cluster as if it were one server")
         .version(VERSION)
         .subcommand_required(true)
         .arg_required_else_help(true)
-        .subcommand(Command::new(alloc, "one").about(
-            "Answer one request from standard input as an empty Redis server would",
-        ))?
-        .subcommand(Command::new(alloc, "simulate").about(
-            "Run a script of protocol events from standard input, and print what was answered and executed",
-        ))?
-        .subcommand(local_command(alloc)?)?
-        .subcommand(nodes_command(alloc)?)?
-        .subcommand(serve_command(alloc)?)
+}
+
+fn one_command<'a>(alloc: Global) -> Command<'a> {
+    Command::new(alloc, "one").about(
+        "Answer one request from standard input as an empty Redis server would",
+    )
+}
+
+fn simulate_command<'a>(alloc: Global) -> Command<'a> {
+    Command::new(alloc, "simulate").about(
+        "Run a script of protocol events from standard input, and print what was answered and executed",
+    )
+}
+
+/// The command with one more subcommand, where there was memory for both.
+fn with<'a>(
+    command: Result<Command<'a>, AllocError>,
+    added: Result<Command<'a>, AllocError>,
+) -> Result<Command<'a>, AllocError> {
+    command?.subcommand(added?)
 }
 
 /// The run that the words ask for. An error holds the text for the caller, and the status: 2 for refused words, 0 for
 /// help that was asked for.
 pub fn choose<'a>(alloc: Global, words: &'a [String]) -> Result<Choice<'a>, Error> {
     let matches = command(alloc)?.try_get_matches_from(words)?;
+    chosen(alloc, &matches)
+}
+
+/// The run that the words of a subcommand ask for.
+fn chosen<'a>(alloc: Global, matches: &ArgMatches<'a>) -> Result<Choice<'a>, Error> {
     match matches.subcommand() {
         Some(("one", _)) => Ok(Choice::One),
         Some(("simulate", _)) => Ok(Choice::Simulate),
-        Some(("local", words)) => match playing_of(words) {
-            Some(playing) => Ok(Choice::Local(playing)),
-            None => refuse(alloc, WORKERS_WANTED),
-        },
-        Some(("nodes", words)) => match ports_in(words) {
-            Some(ports) => Ok(Choice::Nodes(ports)),
-            None => refuse(alloc, PORTS_WANTED),
-        },
-        Some(("serve", words)) => match serving_of(words) {
-            Some(serving) => Ok(Choice::Serve(serving)),
-            None => refuse(alloc, SERVING_WANTED),
-        },
-        _ => Err(command(alloc)?.error(ErrorKind::MissingSubcommand, "a subcommand is asked for")?),
+        Some(("local", words)) => or_refuse(alloc, local_in(words), WORKERS_WANTED),
+        Some(("nodes", words)) => or_refuse(alloc, nodes_in(words), PORTS_WANTED),
+        Some(("serve", words)) => or_refuse(alloc, serve_in(words), SERVING_WANTED),
+        _ => or_refuse(alloc, None, SUBCOMMAND_WANTED),
     }
 }
 
-/// Refuses words, and says what is taken in their place.
-fn refuse<'a>(alloc: Global, wanted: &str) -> Result<Choice<'a>, Error> {
-    Err(command(alloc)?.error(ErrorKind::ValueValidation, wanted)?)
+fn local_in<'a>(words: &ArgMatches<'_>) -> Option<Choice<'a>> {
+    Some(Choice::Local(playing_of(words)?))
+}
+
+fn nodes_in<'a>(words: &ArgMatches<'_>) -> Option<Choice<'a>> {
+    Some(Choice::Nodes(ports_in(words)?))
+}
+
+fn serve_in<'a>(words: &ArgMatches<'a>) -> Option<Choice<'a>> {
+    Some(Choice::Serve(serving_of(words)?))
+}
+
+/// The choice, or what is taken in place of words that ask for none.
+fn or_refuse<'a>(
+    alloc: Global,
+    choice: Option<Choice<'a>>,
+    wanted: &str,
+) -> Result<Choice<'a>, Error> {
+    match choice {
+        Some(choice) => Ok(choice),
+        None => Err(command(alloc)?.error(ErrorKind::ValueValidation, wanted)?),
+    }
 }
