@@ -18,6 +18,7 @@ use slot_map::{NodeId, NodeTable};
 use std::alloc::Global;
 use std::collections::VecDeque;
 use std::marker::Model;
+use std::mem;
 use thiserror::Error;
 
 /// Why a link refused. After each but NoMemory the link has failed, and refuses for the same reason from then on.
@@ -242,6 +243,14 @@ impl<P: NodePort> Link<P> {
     {
         self.failure = Some(failure);
         failure.fault()
+    }
+
+    /// Puts another port in place of the link's, and gives that one back.
+    pub fn swap_port(&mut self, port: P) -> P
+        ensures taken { result ≡ self.old.port }
+        ensures link { self.new ≡ record self.old { port = port } }
+    {
+        mem::replace(&mut self.port, port)
     }
 
     /// Takes off the oldest waiting ticket of a link that has failed.

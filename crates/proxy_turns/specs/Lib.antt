@@ -21,3 +21,4 @@ pub mod CarrierModel
 pub mod Owing
 pub mod Received
 pub mod Script
+pub mod Swapping

@@ -139,6 +139,7 @@ pub struct Backend<P> {
 impl<P: NodePort + Drop> Backend<P> {
     ghost use Rattle.proxy_turns.specs.Backend.{new_backend, BackendFetches, BackendRenews, HoldOutcome};
     ghost use Rattle.proxy_turns.specs.Sending.{DialOutcome};
+    ghost use Rattle.proxy_turns.specs.Swapping.{PortSwap};
 
     pub(crate) fn new() -> Self
         ensures { result ≡ new_backend }
@@ -178,6 +179,19 @@ impl<P: NodePort + Drop> Backend<P> {
             Err(DialFault::NoMemory) => Err(NoMemory),
             Err(DialFault::Failed) => Ok(Dialled::Unreached),
         }
+    }
+
+    /// Puts another port in place of that of an open link, and gives that one back.
+    pub(crate) fn swap_port(&mut self, port: P) -> Result<P, P>
+        ensures { PortSwap self.old port result self.new }
+    {
+        let Some(link) = &mut self.link else {
+            return Err(port);
+        };
+        if link.failed() {
+            return Err(port);
+        }
+        Ok(link.swap_port(port))
     }
 
     /// Takes one reply, or one ticket that is lost, off the link, where the carrier holds none of it.

@@ -76,6 +76,7 @@ where
     ghost use Rattle.proxy_turns.specs.CarrierModel.{AddsBackend, AddsBackends, AddsWorker, AddsWorkers, CarrierTurns, Connects, ConnectsSeed, DialsNode, DialsSeed, DoesMapTask, FetchesReply, GivesReply, IsSought, RenewsMap, RestsAfter, SendsRun, ServesBackend, ServesBackends, SeekOutcome, SeeksByDial, ServesLane, ServesLanes, TakesRun, TakesTurn, TellsUnsent, carrier_model, new_carrier};
     ghost use Rattle.proxy_lanes.specs.Carrier.{lanes_of};
     ghost use Rattle.proxy_turns.specs.Backend.{GaveNone};
+    ghost use Rattle.proxy_turns.specs.Swapping.{SwapOutcome};
 
     /// A carrier between these lanes and the nodes of this table, of which the first is the seed. No link is open.
     pub fn new(
@@ -96,6 +97,18 @@ where
             seed_to_dial: true,
             next_dialled: 0,
         }
+    }
+
+    /// Puts another port in place of that of the open link to a node, and gives that one back. Where no link to it is open, the
+    /// port that was given comes back.
+    pub fn swap_port(&mut self, node: NodeId, port: P) -> Result<P, P>
+        ensures { SwapOutcome node (carrier_model D.failures self.old) port result (carrier_model D.failures self.new) }
+    {
+        let at = place_of(node);
+        if at >= self.backends.len() {
+            return Err(port);
+        }
+        self.backends[at].swap_port(port)
     }
 
     // Does one task at a backend.
