@@ -13,9 +13,9 @@ returns-in-Err-clause-does g c =
 pub returns-clause-does : goal.returns-clause-does
 returns-clause-does g c =
     let wrote = c.in_default.ensures.written in
-    let all = ap (λ (o : OutboxModel). o.unsent) c.in_default-append_batch.ensures.ok in
+    let all = ap (λ (o : OutboxModel). o.unsent.bytes) c.in_default-append_batch.ensures.ok in
     rw (← c.self.view_is)
-    (wrote.0, [], wrote.1, appended c.self.inside.outbox.unsent wrote.0 c.flush_before_send.new.self.unsent (spelled (requests_of c.args.batch.now)) _ wrote.2 all, append-nil _, refl)
+    (wrote.0, [], wrote.1, appended c.self.inside.outbox.unsent.bytes wrote.0 c.flush_before_send.new.self.unsent.bytes (spelled (requests_of c.args.batch.now)) _ wrote.2 all, append-nil _, refl)
 
 pub returns-in-Err-clause-offers : goal.returns-in-Err-clause-offers
 returns-in-Err-clause-offers g c = rw (← c.self.view_is) (c.flush_before_send.new.stream, c.flush_before_send.ensures.offers, inl refl)
