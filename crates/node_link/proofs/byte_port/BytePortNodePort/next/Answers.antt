@@ -74,7 +74,7 @@ pub returns-in-Err-make_room-clause-offers : goal.returns-in-Err-make_room-claus
 returns-in-Err-make_room-clause-offers g c = rw (← c.self.view_is) (c.flush_before_read-flushed.new.stream, c.flush_before_read-flushed.ensures.offers, inl refl)
 
 pub returns-in-Err-fill-clause-offers : goal.returns-in-Err-fill-clause-offers
-returns-in-Err-fill-clause-offers g c = rw (← c.self.view_is) (c.flush_before_read-flushed.new.stream, c.flush_before_read-flushed.ensures.offers, inr c.fill.ensures.asked)
+returns-in-Err-fill-clause-offers g c = rw (← c.self.view_is, c.count_read.ensures) (c.flush_before_read-flushed.new.stream, c.flush_before_read-flushed.ensures.offers, inr c.fill.ensures.asked)
 
 pub returns-clause-offers : goal.returns-clause-offers
-returns-clause-offers g c = rw (← c.self.view_is) (c.flush_before_read-flushed.new.stream, c.flush_before_read-flushed.ensures.offers, inr c.fill.ensures.asked)
+returns-clause-offers g c = rw (← c.self.view_is, c.count_read.ensures) (c.flush_before_read-flushed.new.stream, c.flush_before_read-flushed.ensures.offers, inr c.fill.ensures.asked)
