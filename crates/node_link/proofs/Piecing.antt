@@ -68,21 +68,20 @@ written_off pieces front count sound is within =
     let front_is = taken_off pieces count sound (subst (λ (bytes : List ℕ). count ≤ length bytes) is within) ∙ ap (λ (bytes : List ℕ). take count bytes) (sym is) in
     sym (take-append-drop count (held_in pieces).unsent.bytes) ∙ ap (λ (bytes : List ℕ). bytes ++ drop count (held_in pieces).unsent.bytes) front_is
 
-offer_at : (full : List Piece) (last : List ℕ) (written refused : ℕ) → written + refused ≤ length (first_of full last)
-    → (refused ≡ 0 → written ≡ 0) → AllByRecursion (λ (p : Piece). least_offer ≤ length p.items) full
-    → (length (drop written (first_of full last)) ≡ length (drop written (joined full last))) ⊎ (least_offer ≤ length (drop written (first_of full last)))
-    ⊎ ((0 < refused) × (refused ≤ length (drop written (first_of full last))))
-offer_at [] last written refused within begun long = inl refl
-offer_at (piece ∷ later) last written zero within begun long =
-    inr (inl (omega (arith, begun refl, long.0, length-drop written piece.items)))
-offer_at (piece ∷ later) last written (suc refused) within begun long =
-    inr (inr (omega arith, omega (arith, within, length-drop written piece.items)))
+offer_at : (full : List Piece) (last : List ℕ) (written refused : ℕ) → (refused ≡ 0 → written ≡ 0)
+    → AllByRecursion (λ (p : Piece). least_offer ≤ length p.items) full
+    → (0 < refused) ⊎ ((length (drop written (first_of full last)) ≡ length (drop written (joined full last))) ⊎ (least_offer ≤ length (drop written (first_of full last))))
+offer_at [] last written refused begun long = inr (inl refl)
+offer_at (piece ∷ later) last written zero begun long = inr (inr (omega (arith, begun refl, long.0, length-drop written piece.items)))
+offer_at (piece ∷ later) last written (suc refused) begun long = inl (omega arith)
 
 is_offer : (pieces : Pieces) → IsSound pieces → IsOffer (held_in pieces).unsent.bytes pieces.refused (length (front_of pieces))
 is_offer pieces sound =
-    let all = split_at pieces.full.items (finished_in pieces) pieces.written (begun_within pieces sound) in (
-      omega (arith, ap length all, length-append (front_of pieces) (behind pieces.full.items (finished_in pieces))),
-      offer_at pieces.full.items (finished_in pieces) pieces.written pieces.refused sound.front sound.begun sound.long,
+    let full = pieces.full.items in
+    let last = finished_in pieces in (
+      omega (arith, ap length (split_at full last pieces.written (begun_within pieces sound)), length-append (front_of pieces) (behind full last)),
+      omega (arith, sound.front, length-drop pieces.written (first_of full last)),
+      offer_at full last pieces.written pieces.refused sound.begun sound.long,
     )
 
 -- a write of the front is one that may be made

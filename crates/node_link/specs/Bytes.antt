@@ -65,15 +65,15 @@ module _ {S : Type 0} (moved : S → List ℕ → List ℕ → S → Type 0) whe
 abbrev pub IsGarbled : {S : Type 0} → BytePortModel S → Type 0
 IsGarbled pipe = (fault : WireFault) × (front pipe.input.bounds pipe.input.unread ≡ Faulty fault)
 
--- of the bytes that wait a write is offered so many at least
+-- a write is offered so many bytes at least, where as many wait
 abbrev pub least_offer : ℕ
 least_offer = 65536
 
--- A write may be offered so many bytes off the front: all that wait, or so many that they are enough, or all those that the stream
--- left of what it was offered last.
+-- A write may be offered so many bytes off the front: all that the stream left of what it was offered last; and where it left none,
+-- all that wait, or so many that they are enough.
 abbrev pub IsOffer : List ℕ → ℕ → ℕ → Type 0
 IsOffer unsent refused count =
-    (count ≤ length unsent) × ((count ≡ length unsent) ⊎ (least_offer ≤ count) ⊎ ((0 < refused) × (refused ≤ count)))
+    (count ≤ length unsent) × (refused ≤ count) × ((0 < refused) ⊎ ((count ≡ length unsent) ⊎ (least_offer ≤ count)))
 
 -- how many of so many bytes a write leaves that was answered so
 abbrev pub left_of : ℕ → Flow → ℕ
