@@ -1,5 +1,5 @@
 -- Bytes in pieces.
-use Rattle.std.proofs.Common.{◌≡◌, ◌⊎◌, ◌<◌, ◌≤◌, ◌+◌, ◌++◌, ◌∷◌, [], List, ℕ, take, drop, length, ap, sym, ◌∙◌, arith, refl, inl, inr, subst, append_assoc, length-append, length-drop, suc, zero}
+use Rattle.std.proofs.Common.{◌≡◌, ◌⊎◌, ◌<◌, ◌≤◌, ◌++◌, ◌∷◌, [], List, ℕ, take, drop, length, ap, sym, ◌∙◌, arith, refl, inl, inr, subst, append_assoc, length-append, length-drop, suc, zero}
 use Rattle.std.specs.Prelude.{Vec}
 use Rattle.std.proofs.lemmas.List.{append-nil, drop-append-le, drop_all, take-append-drop, take-append-le, take_all}
 use Rattle.std.specs.List.{AllByRecursion, flat_map}
