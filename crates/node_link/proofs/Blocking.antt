@@ -15,7 +15,7 @@ use Rattle.node_link.specs.declared.port.PortFault.TheVariants.{NoMemory, Failed
 use Rattle.node_link.specs.declared.replies.Awaited.{Awaited}
 use Rattle.node_link.specs.declared.replies.Awaited.TheVariants as awaited
 use Rattle.node_link.specs.declared.stream.Gone.{Gone}
-use Rattle.node_link.specs.Bytes.{FlushOutcome, OutboxModel, spelled}
+use Rattle.node_link.specs.Bytes.{FlushOutcome, OutboxModel, UnsentModel, spelled}
 use Rattle.node_link.specs.Waiting.{GaveNone, IsWaiting}
 use Rattle.node_link.specs.Blocks.{BlockExchanges, BlockPortModel, GoesAs, IsBlockGarbled, IsShort, Item, Plain, Block, RepliesModel, Settles, awaited_by, items_for, items_of, requests_at, spelled_block, still_settles, tells-nothing, written_as}
 use Rattle.node_link.specs.Collecting.{Collects, ValueOutcome, await_each}
@@ -67,10 +67,11 @@ settles_collected old came = ([], rw (append-nil old.awaited) (tells-nothing old
 
 -- a draft that is finished stands behind what waits
 pub finished : (out drafted done : OutboxModel) (bytes : List ℕ) → out.draft ≡ [] → drafted.unsent ≡ out.unsent → drafted.draft ≡ out.draft ++ bytes
-    → done ≡ record { unsent = drafted.unsent ++ drafted.draft; draft = [] } → done.unsent ≡ out.unsent ++ bytes
+    → done ≡ record { unsent = record drafted.unsent { bytes = drafted.unsent.bytes ++ drafted.draft }; draft = [] } → done.unsent ≡ record out.unsent { bytes = out.unsent.bytes ++ bytes }
 finished out drafted done bytes none kept draft is =
     let whole : drafted.draft ≡ bytes = draft ∙ ap (λ (d : List ℕ). d ++ bytes) none in
-    ap (λ (o : OutboxModel). o.unsent) is ∙ ap (λ (u : List ℕ). u ++ drafted.draft) kept ∙ ap (λ (d : List ℕ). out.unsent ++ d) whole
+    ap (λ (o : OutboxModel). o.unsent) is ∙ ap (λ (u : UnsentModel). record u { bytes = u.bytes ++ drafted.draft }) kept
+    ∙ ap (λ (d : List ℕ). record out.unsent { bytes = out.unsent.bytes ++ d }) whole
 
 -- and one that is forgotten leaves what waits
 pub forgotten : (out drafted done : OutboxModel) → drafted.unsent ≡ out.unsent → done ≡ record drafted { draft = [] } → done.unsent ≡ out.unsent

@@ -4,7 +4,7 @@ pub mod Telling
 pub mod Matching
 pub mod Blowing
 pub mod Moves
-pub mod Ranges
+pub mod Piecing
 pub mod Words
 pub mod Answering
 pub mod Replying

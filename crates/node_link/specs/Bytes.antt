@@ -1,11 +1,11 @@
 -- A connection in bytes: the canonical spellings of the requests go out, and the spellings of the values come in.
 -- Redis serialization protocol (RESP2) specification, "Sending commands to a Redis server".
 -- Commands of any size may be cut at any byte. What a node sends is read within the largest limits of resp_wire.
-use Rattle.std.specs.Prelude.{◌≡◌, ◌⊎◌, ◌++◌, ◌∷◌, List, [], ℕ, ◌≤◌, nat_lt, Bool, true, false, Option, Some, None, Result, Ok, Err, codes, length, map, take}
+use Rattle.std.specs.Prelude.{◌≡◌, ◌⊎◌, ◌++◌, ◌∷◌, List, [], ℕ, ◌<◌, ◌≤◌, ◌-◌, Option, Some, None, Result, Ok, Err, codes, length, map, take}
 use Rattle.std.specs.List.{flat_map}
 use Rattle.resp_wire.specs.LimitsModel.{LimitsModel}
 use Rattle.resp_wire.specs.Canonical.{canonical}
-use Rattle.resp_wire.specs.Data.{Data, bulk, array, items_of}
+use Rattle.resp_wire.specs.Data.{bulk, array, items_of}
 use Rattle.resp_wire.specs.Front.{front, Whole, Partial, Faulty}
 use Rattle.resp_wire.specs.ReaderModel.{ReaderModel}
 use Rattle.resp_wire.specs.Seen.{data_of}
@@ -43,8 +43,8 @@ Splits bounds bytes (value ∷ values) rest =
 pub record BytePortModel (S : Type 0) : Type 0 where
   pub stream : S
   pub unsent : List ℕ
-  -- whether the stream left some of the bytes that it was offered last
-  pub refused : Bool
+  -- how many bytes the stream left of those that it was offered last
+  pub refused : ℕ
   pub input : ReaderModel
 
 module _ {S : Type 0} (moved : S → List ℕ → List ℕ → S → Type 0) where
@@ -65,17 +65,27 @@ module _ {S : Type 0} (moved : S → List ℕ → List ℕ → S → Type 0) whe
 abbrev pub IsGarbled : {S : Type 0} → BytePortModel S → Type 0
 IsGarbled pipe = (fault : WireFault) × (front pipe.input.bounds pipe.input.unread ≡ Faulty fault)
 
--- whether a write that was answered so leaves some of so many bytes
-abbrev pub leaves_some : Flow → ℕ → Bool
-leaves_some (flow.Bytes count) len = nat_lt count len
-leaves_some flow.Nothing len = true
-leaves_some flow.Gone len = true
+-- a write is offered so many bytes at least, where as many wait
+abbrev pub least_offer : ℕ
+least_offer = 65536
 
--- one write is offered all unsent bytes; or none is made, which may be only where no unsent byte was refused
-abbrev pub Offers : {S : Type 0} → (S → List ℕ → Flow → S → Type 0) → S → List ℕ → Bool → S → Bool → Type 0
+-- A write may be offered so many bytes off the front: all that the stream left of what it was offered last; and where it left none,
+-- all that wait, or so many that they are enough.
+abbrev pub IsOffer : List ℕ → ℕ → ℕ → Type 0
+IsOffer unsent refused count =
+    (count ≤ length unsent) × (refused ≤ count) × ((0 < refused) ⊎ ((count ≡ length unsent) ⊎ (least_offer ≤ count)))
+
+-- how many of so many bytes a write leaves that was answered so
+abbrev pub left_of : ℕ → Flow → ℕ
+left_of count (flow.Bytes taken) = count - taken
+left_of count flow.Nothing = count
+left_of count flow.Gone = count
+
+-- one write is made; or none, which may be only where no byte was refused
+abbrev pub Offers : {S : Type 0} → (S → List ℕ → Flow → S → Type 0) → S → List ℕ → ℕ → S → ℕ → Type 0
 Offers offered old unsent refused new refused' =
-    ((given : Flow) × offered old unsent given new × (refused' ≡ leaves_some given (length unsent)))
-    ⊎ (((refused ≡ false) ⊎ (unsent ≡ [])) × (refused' ≡ refused) × (new ≡ old))
+    ((count : ℕ) × IsOffer unsent refused count × (given : Flow) × offered old (take count unsent) given new × (refused' ≡ left_of count given))
+    ⊎ ((refused ≡ 0) × (refused' ≡ 0) × (new ≡ old))
 
 -- what a call of a port asks of its stream: bytes that were refused are offered again before anything else, and after the
 -- write comes one read, or none
@@ -84,9 +94,14 @@ OffersFirst {S} asked offered old new =
     (between : S) × Offers offered old.stream old.unsent old.refused between new.refused
     × ((new.stream ≡ between) ⊎ ((given : Flow) × asked between given new.stream))
 
+-- the bytes of whole requests that wait, and how many of them the stream left of those that it was offered last
+pub record UnsentModel : Type 0 where
+  pub bytes : List ℕ
+  pub refused : ℕ
+
 -- the bytes to be written: those of whole requests, and of one that is being spelled
 pub record OutboxModel : Type 0 where
-  pub unsent : List ℕ
+  pub unsent : UnsentModel
   pub draft : List ℕ
 
 -- some of the bytes were written

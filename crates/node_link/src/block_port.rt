@@ -1,6 +1,6 @@
 //! A port over a stream of bytes that sends runs as blocks.
 
-ghost use Rattle.std.specs.Prelude.{◌≡◌, ◌≤◌, ◌<◌, ◌∷◌, [], None, OnOk, false, length, map};
+ghost use Rattle.std.specs.Prelude.{◌≡◌, ◌≤◌, ◌<◌, ◌∷◌, [], None, OnOk, length, map};
 ghost use Rattle.key_split.specs.Requests.{Slots, requests_of};
 ghost use Rattle.key_split.specs.Runs.{IsTogether, count_in, requests_of_run};
 ghost use Rattle.node_link.specs.Blocks.{Block, BlockExchanges, BlockGivesNone, GoesAs, IsBlockGarbled, Plain, items_of, longest_at, spelled_block};
@@ -11,7 +11,7 @@ ghost use Rattle.node_link.specs.Waiting.{GaveNone};
 ghost use Rattle.node_link.specs.declared.replies.Awaited.TheVariants as awaited;
 
 use crate::inbox::Inbox;
-use crate::outbox::Outbox;
+use crate::outbox::{Outbox, Urgency};
 use crate::port::{NodePort, PortFault};
 use crate::replies::{Awaited, Replies};
 use crate::run_port::RunPort;
@@ -26,12 +26,11 @@ use std::marker::Model;
 const LONGEST_BLOCK: usize = 64;
 
 /// A port over a stream that does not block. A run of several commands goes as a block: MULTI, the commands, EXEC. Nothing is told
-/// before EXEC is answered. It writes and reads as `BytePort` does.
+/// before EXEC is answered. It writes and reads as `BytePort` does, but a request that finds nothing under way is written with the
+/// next read, unless another comes before.
 #[derive(Drop)]
 pub struct BlockPort<S> {
     stream: S,
-    /// The stream left some of the bytes that it was offered last.
-    refused: bool,
     outbox: Outbox,
     inbox: Inbox,
     replies: Replies,
@@ -51,7 +50,7 @@ impl<S> Model for BlockPort<S> {
     ghost coded = { Prim.hlevel (codes, coded_data) };
 
     ghost view = { λ a. record {
-      bytes = record { stream = a.stream; unsent = a.outbox.unsent; refused = a.refused; input = input_of a.inbox };
+      bytes = record { stream = a.stream; unsent = a.outbox.unsent.bytes; refused = a.outbox.unsent.refused; input = input_of a.inbox };
       replies = a.replies;
       takes_blocks = a.takes_blocks;
     } };
@@ -64,14 +63,13 @@ impl<S> BlockPort<S> {
     /// port takes runs of one.
     pub fn new(alloc: Global, stream: S, limits: Limits, takes_blocks: bool) -> Self
         ensures { result ≡ record {
-          bytes = record { stream = stream; unsent = []; refused = false; input = record { bounds = limits; unread = []; fault = None } };
+          bytes = record { stream = stream; unsent = []; refused = 0; input = record { bounds = limits; unread = []; fault = None } };
           replies = record { awaited = []; came = []; told = [] };
           takes_blocks = takes_blocks;
         } }
     {
         BlockPort {
             stream,
-            refused: false,
             outbox: Outbox::new(alloc),
             inbox: Inbox::new(alloc, limits),
             replies: Replies::new(alloc),
@@ -107,15 +105,13 @@ impl<S: Stream> NodePort for BlockPort<S> {
         ensures count { S.failures self.old.bytes.stream ≤ S.failures self.new.bytes.stream }
         ensures offers { OffersFirst S.asked S.offered self.old.bytes self.new.bytes }
     {
-        if let Err(Gone) = self
-            .outbox
-            .flush_before_send(&mut self.stream, &mut self.refused)
-        {
+        if let Err(Gone) = self.outbox.flush_before_send(&mut self.stream) {
             return Err(PortFault::Failed);
         }
+        let urgency = urgency_behind(&self.replies);
         match draft_batch(&mut self.outbox, &mut self.replies, batch) {
             Ok(()) => {
-                self.outbox.finish();
+                self.outbox.finish(urgency);
                 Ok(())
             }
             Err(NoMemory) => {
@@ -130,15 +126,13 @@ impl<S: Stream> NodePort for BlockPort<S> {
         ensures count { S.failures self.old.bytes.stream ≤ S.failures self.new.bytes.stream }
         ensures offers { OffersFirst S.asked S.offered self.old.bytes self.new.bytes }
     {
-        if let Err(Gone) = self
-            .outbox
-            .flush_before_send(&mut self.stream, &mut self.refused)
-        {
+        if let Err(Gone) = self.outbox.flush_before_send(&mut self.stream) {
             return Err(PortFault::Failed);
         }
+        let urgency = urgency_behind(&self.replies);
         match draft_slots(&mut self.outbox, &mut self.replies) {
             Ok(()) => {
-                self.outbox.finish();
+                self.outbox.finish(urgency);
                 Ok(())
             }
             Err(NoMemory) => {
@@ -154,9 +148,7 @@ impl<S: Stream> NodePort for BlockPort<S> {
         ensures offers { OffersFirst S.asked S.offered self.old.bytes self.new.bytes }
         ensures none { GaveNone result → BlockGivesNone S.asked self.new }
     {
-        let flushed = self
-            .outbox
-            .flush_before_read(&mut self.stream, &mut self.refused);
+        let flushed = self.outbox.flush_before_read(&mut self.stream);
         match self.replies.take(&mut self.inbox) {
             Ok(Some(value)) => return Ok(Some(value)), // it came before the stream failed
             Ok(None) => {}
@@ -212,15 +204,13 @@ impl<S: Stream> BlockPort<S> {
         ensures count { S.failures self.old.bytes.stream ≤ S.failures self.new.bytes.stream }
         ensures offers { OffersFirst S.asked S.offered self.old.bytes self.new.bytes }
     {
-        if let Err(Gone) = self
-            .outbox
-            .flush_before_send(&mut self.stream, &mut self.refused)
-        {
+        if let Err(Gone) = self.outbox.flush_before_send(&mut self.stream) {
             return Err(PortFault::Failed);
         }
+        let urgency = urgency_behind(&self.replies);
         match draft_block(&mut self.outbox, &mut self.replies, run) {
             Ok(()) => {
-                self.outbox.finish();
+                self.outbox.finish(urgency);
                 Ok(())
             }
             Err(NoMemory) => {
@@ -228,6 +218,15 @@ impl<S: Stream> BlockPort<S> {
                 Err(PortFault::NoMemory)
             }
         }
+    }
+}
+
+// A request that finds nothing under way has no other to wait for.
+fn urgency_behind(replies: &Replies) -> Urgency {
+    if replies.is_idle() {
+        Urgency::Urgent
+    } else {
+        Urgency::CanWait
     }
 }
 

@@ -1,6 +1,6 @@
 //! A port over a stream of bytes.
 
-ghost use Rattle.std.specs.Prelude.{◌≡◌, ◌≤◌, ◌∷◌, [], None, false};
+ghost use Rattle.std.specs.Prelude.{◌≡◌, ◌≤◌, ◌∷◌, [], None};
 ghost use Rattle.key_split.specs.Requests.{Slots, requests_of};
 ghost use Rattle.node_link.specs.Bytes.{Exchanges, IsGarbled, OffersFirst};
 ghost use Rattle.node_link.specs.Port.{SendOutcome, NextOutcome};
@@ -22,8 +22,6 @@ use std::marker::Model;
 #[derive(Drop)]
 pub struct BytePort<S> {
     stream: S,
-    /// The stream left some of the bytes that it was offered last.
-    refused: bool,
     outbox: Outbox,
     inbox: Inbox,
 }
@@ -34,7 +32,7 @@ impl<S> Model for BytePort<S> {
 
     ghost Value = { BytePortModel S };
 
-    ghost view = { λ a. record { stream = a.stream; unsent = a.outbox.unsent; refused = a.refused; input = input_of a.inbox } };
+    ghost view = { λ a. record { stream = a.stream; unsent = a.outbox.unsent.bytes; refused = a.outbox.unsent.refused; input = input_of a.inbox } };
 
     ghost invariant = { λ a. a.outbox.draft ≡ [] };
 }
@@ -42,11 +40,10 @@ impl<S> Model for BytePort<S> {
 impl<S> BytePort<S> {
     /// A port over a stream of which nothing was read or written.
     pub fn new(alloc: Global, stream: S, limits: Limits) -> Self
-        ensures { result ≡ record { stream = stream; unsent = []; refused = false; input = record { bounds = limits; unread = []; fault = None } } }
+        ensures { result ≡ record { stream = stream; unsent = []; refused = 0; input = record { bounds = limits; unread = []; fault = None } } }
     {
         BytePort {
             stream,
-            refused: false,
             outbox: Outbox::new(alloc),
             inbox: Inbox::new(alloc, limits),
         }
@@ -79,10 +76,7 @@ impl<S: Stream> NodePort for BytePort<S> {
         ensures count { S.failures self.old.stream ≤ S.failures self.new.stream }
         ensures offers { OffersFirst S.asked S.offered self.old self.new }
     {
-        if let Err(Gone) = self
-            .outbox
-            .flush_before_send(&mut self.stream, &mut self.refused)
-        {
+        if let Err(Gone) = self.outbox.flush_before_send(&mut self.stream) {
             return Err(PortFault::Failed);
         }
         if let Err(NoMemory) = append_batch(&mut self.outbox, batch) {
@@ -96,10 +90,7 @@ impl<S: Stream> NodePort for BytePort<S> {
         ensures count { S.failures self.old.stream ≤ S.failures self.new.stream }
         ensures offers { OffersFirst S.asked S.offered self.old self.new }
     {
-        if let Err(Gone) = self
-            .outbox
-            .flush_before_send(&mut self.stream, &mut self.refused)
-        {
+        if let Err(Gone) = self.outbox.flush_before_send(&mut self.stream) {
             return Err(PortFault::Failed);
         }
         if let Err(NoMemory) = append_slots(&mut self.outbox) {
@@ -114,9 +105,7 @@ impl<S: Stream> NodePort for BytePort<S> {
         ensures offers { OffersFirst S.asked S.offered self.old self.new }
         ensures none { GaveNone result → GivesNone S.asked self.new }
     {
-        let flushed = self
-            .outbox
-            .flush_before_read(&mut self.stream, &mut self.refused);
+        let flushed = self.outbox.flush_before_read(&mut self.stream);
         match self.inbox.take() {
             Ok(Some(value)) => return Ok(Some(value)), // it came before the stream failed
             Ok(None) => {}

@@ -1,6 +1,6 @@
 //! The replies that are awaited, and those of a block until the last has come.
 
-ghost use Rattle.std.specs.Prelude.{◌≡◌, ◌≤◌, ◌++◌, ◌∷◌, [], None, Some, OnOk, OnErr, length};
+ghost use Rattle.std.specs.Prelude.{◌≡◌, ◌≤◌, ◌↔◌, ◌++◌, ◌∷◌, [], None, Some, IsTrue, OnOk, OnErr, length};
 ghost use Rattle.key_split.specs.Requests.{requests_of};
 ghost use Rattle.node_link.specs.Bytes.{input_of};
 ghost use Rattle.node_link.specs.Blocks.{first_block};
@@ -62,6 +62,13 @@ impl Replies {
             came: Vec::new(alloc),
             told: Vec::new(alloc),
         }
+    }
+
+    /// Whether no reply is awaited.
+    pub fn is_idle(&self) -> bool
+        ensures { IsTrue result ↔ (self.now.awaited ≡ []) }
+    {
+        self.awaited.is_empty()
     }
 
     /// Awaits the replies to what was sent together.

@@ -10,7 +10,7 @@ ghost use Rattle.node_link.specs.Blocks.{spelled_block};
 ghost use Rattle.node_link.specs.Bytes.{spelled, spelled_words};
 ghost use Rattle.node_link.specs.Spelling.{head, spelled_bulk, spelled_bulks};
 
-use crate::outbox::Outbox;
+use crate::outbox::{Outbox, Urgency};
 use itoa::Buffer;
 use key_split::{Batch, Mode, Op, Pair, Part, Run, op_name};
 use resp_wire::NoMemory;
@@ -18,12 +18,12 @@ use resp_wire::NoMemory;
 /// Adds a batch's requests to what waits to be written, or nothing.
 pub fn append_batch(out: &mut Outbox, batch: &Batch) -> Result<(), NoMemory>
     requires { out.old.draft ≡ [] }
-    ensures ok { OnOk result (out.new ≡ record { unsent = out.old.unsent ++ spelled (requests_of batch.now); draft = [] }) }
+    ensures ok { OnOk result (out.new ≡ record { unsent = record out.old.unsent { bytes = out.old.unsent.bytes ++ spelled (requests_of batch.now) }; draft = [] }) }
     ensures err { OnErr result (out.new ≡ out.old) }
 {
     match push_batch(out, batch) {
         Ok(()) => {
-            out.finish();
+            out.finish(Urgency::CanWait);
             Ok(())
         }
         Err(NoMemory) => {
@@ -36,12 +36,12 @@ pub fn append_batch(out: &mut Outbox, batch: &Batch) -> Result<(), NoMemory>
 /// Adds the question for the slots of all nodes, or nothing.
 pub fn append_slots(out: &mut Outbox) -> Result<(), NoMemory>
     requires { out.old.draft ≡ [] }
-    ensures ok { OnOk result (out.new ≡ record { unsent = out.old.unsent ++ spelled (Slots ∷ []); draft = [] }) }
+    ensures ok { OnOk result (out.new ≡ record { unsent = record out.old.unsent { bytes = out.old.unsent.bytes ++ spelled (Slots ∷ []) }; draft = [] }) }
     ensures err { OnErr result (out.new ≡ out.old) }
 {
     match push_slots(out) {
         Ok(()) => {
-            out.finish();
+            out.finish(Urgency::CanWait);
             Ok(())
         }
         Err(NoMemory) => {

@@ -11,18 +11,18 @@ pub returns-in-Ok-Some-clause-does : goal.returns-in-Ok-Some-clause-does
 returns-in-Ok-Some-clause-does g c =
     let inside = c.self.inside in
     next_unread_at g.S.Stream.failures g.S.Stream.moved
-    (record { bytes = record { stream = inside.stream; unsent = inside.outbox.unsent; refused = inside.refused; input = input_of inside.inbox }; replies = inside.replies; takes_blocks = inside.takes_blocks })
+    (record { bytes = record { stream = inside.stream; unsent = inside.outbox.unsent.bytes; refused = inside.outbox.unsent.refused; input = input_of inside.inbox }; replies = inside.replies; takes_blocks = inside.takes_blocks })
     c.args.self.now
-    (record { bytes = record { stream = c.flush_before_read-flushed.new.stream; unsent = c.flush_before_read-flushed.new.self.unsent; refused = c.flush_before_read-flushed.new.refused; input = input_of c.take.new.inbox }; replies = c.take.new.self; takes_blocks = inside.takes_blocks })
+    (record { bytes = record { stream = c.flush_before_read-flushed.new.stream; unsent = c.flush_before_read-flushed.new.self.unsent.bytes; refused = c.flush_before_read-flushed.new.self.unsent.refused; input = input_of c.take.new.inbox }; replies = c.take.new.self; takes_blocks = inside.takes_blocks })
     c.flush_before_read-flushed.result (Ok (Some c.in-Ok-Some.value)) c.self.view_is c.flush_before_read-flushed.ensures.written (rw c.in-Ok-Some.field-0-is at c.in-Ok-Some.ensures.taken) refl
 
 pub returns-in-Err-clause-does : goal.returns-in-Err-clause-does
 returns-in-Err-clause-does g c =
     let inside = c.self.inside in
     next_unread_at g.S.Stream.failures g.S.Stream.moved
-    (record { bytes = record { stream = inside.stream; unsent = inside.outbox.unsent; refused = inside.refused; input = input_of inside.inbox }; replies = inside.replies; takes_blocks = inside.takes_blocks })
+    (record { bytes = record { stream = inside.stream; unsent = inside.outbox.unsent.bytes; refused = inside.outbox.unsent.refused; input = input_of inside.inbox }; replies = inside.replies; takes_blocks = inside.takes_blocks })
     c.args.self.now
-    (record { bytes = record { stream = c.flush_before_read-flushed.new.stream; unsent = c.flush_before_read-flushed.new.self.unsent; refused = c.flush_before_read-flushed.new.refused; input = input_of c.take.new.inbox }; replies = c.take.new.self; takes_blocks = inside.takes_blocks })
+    (record { bytes = record { stream = c.flush_before_read-flushed.new.stream; unsent = c.flush_before_read-flushed.new.self.unsent.bytes; refused = c.flush_before_read-flushed.new.self.unsent.refused; input = input_of c.take.new.inbox }; replies = c.take.new.self; takes_blocks = inside.takes_blocks })
     c.flush_before_read-flushed.result (Err c.in-Err.fault) c.self.view_is c.flush_before_read-flushed.ensures.written c.in-Err.ensures.taken refl
 
 pub returns-in-Err-flushed-clause-does : goal.returns-in-Err-flushed-clause-does
@@ -32,8 +32,8 @@ returns-in-Err-flushed-clause-does g c =
     rw (← c.self.view_is) (
       failed_at g.S.Stream.failures g.S.Stream.moved _ _ _ _ _ _ c.in-Err-flushed.is c.flush_before_read-flushed.ensures.written,
       next_unread g.S.Stream.failures g.S.Stream.moved
-          (record { bytes = record { stream = inside.stream; unsent = inside.outbox.unsent; refused = inside.refused; input = input_of inside.inbox }; replies = inside.replies; takes_blocks = inside.takes_blocks })
-          (record { bytes = record { stream = c.flush_before_read-flushed.new.stream; unsent = c.flush_before_read-flushed.new.self.unsent; refused = c.flush_before_read-flushed.new.refused; input = input_of c.take.new.inbox }; replies = c.take.new.self; takes_blocks = inside.takes_blocks })
+          (record { bytes = record { stream = inside.stream; unsent = inside.outbox.unsent.bytes; refused = inside.outbox.unsent.refused; input = input_of inside.inbox }; replies = inside.replies; takes_blocks = inside.takes_blocks })
+          (record { bytes = record { stream = c.flush_before_read-flushed.new.stream; unsent = c.flush_before_read-flushed.new.self.unsent.bytes; refused = c.flush_before_read-flushed.new.self.unsent.refused; input = input_of c.take.new.inbox }; replies = c.take.new.self; takes_blocks = inside.takes_blocks })
           c.flush_before_read-flushed.result (Ok None) c.flush_before_read-flushed.ensures.written taken refl,
     )
 
@@ -47,8 +47,8 @@ returns-in-Err-make_room-clause-does g c =
     let kept = subst (λ (i : InboxModel). ValueOutcome (input_of inside.inbox) inside.replies (Ok None) (input_of i) c.take.new.self) (sym c.make_room.ensures) taken in
     rw (← c.self.view_is)
     (next_unread g.S.Stream.failures g.S.Stream.moved
-    (record { bytes = record { stream = inside.stream; unsent = inside.outbox.unsent; refused = inside.refused; input = input_of inside.inbox }; replies = inside.replies; takes_blocks = inside.takes_blocks })
-    (record { bytes = record { stream = c.flush_before_read-flushed.new.stream; unsent = c.flush_before_read-flushed.new.self.unsent; refused = c.flush_before_read-flushed.new.refused; input = input_of c.make_room.new.self }; replies = c.take.new.self; takes_blocks = inside.takes_blocks })
+    (record { bytes = record { stream = inside.stream; unsent = inside.outbox.unsent.bytes; refused = inside.outbox.unsent.refused; input = input_of inside.inbox }; replies = inside.replies; takes_blocks = inside.takes_blocks })
+    (record { bytes = record { stream = c.flush_before_read-flushed.new.stream; unsent = c.flush_before_read-flushed.new.self.unsent.bytes; refused = c.flush_before_read-flushed.new.self.unsent.refused; input = input_of c.make_room.new.self }; replies = c.take.new.self; takes_blocks = inside.takes_blocks })
     c.flush_before_read-flushed.result (Ok None) c.flush_before_read-flushed.ensures.written kept refl)
 
 pub fill-requires-clause-empty : goal.fill-requires-clause-empty
@@ -66,8 +66,8 @@ returns-in-Err-fill-clause-does g c =
     rw (← c.self.view_is, c.count_read.ensures) (
       rose_later _ _ _ c.flush_before_read-flushed.ensures.count c.fill.ensures.count gone.0,
       next_gone g.S.Stream.failures g.S.Stream.moved g.met.S.Stream.joined
-          (record { bytes = record { stream = inside.stream; unsent = inside.outbox.unsent; refused = inside.refused; input = input_of inside.inbox }; replies = inside.replies; takes_blocks = inside.takes_blocks })
-          (record { bytes = record { stream = c.fill.new.stream; unsent = c.flush_before_read-flushed.new.self.unsent; refused = c.flush_before_read-flushed.new.refused; input = input_of c.fill.new.self }; replies = c.take.new.self; takes_blocks = inside.takes_blocks })
+          (record { bytes = record { stream = inside.stream; unsent = inside.outbox.unsent.bytes; refused = inside.outbox.unsent.refused; input = input_of inside.inbox }; replies = inside.replies; takes_blocks = inside.takes_blocks })
+          (record { bytes = record { stream = c.fill.new.stream; unsent = c.flush_before_read-flushed.new.self.unsent.bytes; refused = c.flush_before_read-flushed.new.self.unsent.refused; input = input_of c.fill.new.self }; replies = c.take.new.self; takes_blocks = inside.takes_blocks })
           c.flush_before_read-flushed.new.stream c.flush_before_read-flushed.result c.flush_before_read-flushed.ensures.written gone.1 kept refl,
     )
 
@@ -77,13 +77,13 @@ returns-clause-does g c =
     let taken = rw c.in-Ok-None.field-0-is at c.in-Ok-None.ensures.taken in
     let drained = rw c.in-Ok-None.field-0-is at c.in-Ok-None.ensures.drained in
     let filled = c.in_default-fill.ensures.read in
-    let unsent = ap (λ (o : OutboxModel). o.unsent) c.count_read.ensures in
-    let flush = subst (λ (u : List ℕ). FlushOutcome g.S.Stream.failures g.S.Stream.moved inside.stream inside.outbox.unsent c.flush_before_read-flushed.result c.flush_before_read-flushed.new.stream u)
+    let unsent = ap (λ (o : OutboxModel). o.unsent.bytes) c.count_read.ensures in
+    let flush = subst (λ (u : List ℕ). FlushOutcome g.S.Stream.failures g.S.Stream.moved inside.stream inside.outbox.unsent.bytes c.flush_before_read-flushed.result c.flush_before_read-flushed.new.stream u)
     (sym unsent) c.flush_before_read-flushed.ensures.written in
     next_read_at g.S.Stream.failures g.S.Stream.moved g.met.S.Stream.joined
-    (record { bytes = record { stream = inside.stream; unsent = inside.outbox.unsent; refused = inside.refused; input = input_of inside.inbox }; replies = inside.replies; takes_blocks = inside.takes_blocks })
+    (record { bytes = record { stream = inside.stream; unsent = inside.outbox.unsent.bytes; refused = inside.outbox.unsent.refused; input = input_of inside.inbox }; replies = inside.replies; takes_blocks = inside.takes_blocks })
     c.args.self.now
-    (record { bytes = record { stream = c.fill.new.stream; unsent = c.count_read.new.self.unsent; refused = c.flush_before_read-flushed.new.refused; input = input_of c.take-2.new.inbox }; replies = c.take-2.new.self; takes_blocks = inside.takes_blocks })
+    (record { bytes = record { stream = c.fill.new.stream; unsent = c.count_read.new.self.unsent.bytes; refused = c.count_read.new.self.unsent.refused; input = input_of c.take-2.new.inbox }; replies = c.take-2.new.self; takes_blocks = inside.takes_blocks })
     c.flush_before_read-flushed.new.stream c.flush_before_read-flushed.result c.fill.new.self.unfed c.take-2.result c.self.view_is flush filled.0
     (resumed (input_of inside.inbox) (input_of c.take.new.inbox) (input_of c.fill.new.self) (input_of c.take-2.new.inbox) c.fill.new.self.unfed inside.replies c.take.new.self c.take-2.new.self c.take-2.result
     taken.0 (filled_unread c.take.new.inbox c.take.new.inbox c.make_room.new.self c.fill.new.self refl drained.0 filled.1 c.make_room.ensures)
@@ -108,7 +108,7 @@ pub returns-in-Err-make_room-clause-offers : goal.returns-in-Err-make_room-claus
 returns-in-Err-make_room-clause-offers g c = rw (← c.self.view_is) (c.flush_before_read-flushed.new.stream, c.flush_before_read-flushed.ensures.offers, inl refl)
 
 pub returns-in-Err-fill-clause-offers : goal.returns-in-Err-fill-clause-offers
-returns-in-Err-fill-clause-offers g c = rw (← c.self.view_is) (c.flush_before_read-flushed.new.stream, c.flush_before_read-flushed.ensures.offers, inr c.fill.ensures.asked)
+returns-in-Err-fill-clause-offers g c = rw (← c.self.view_is, c.count_read.ensures) (c.flush_before_read-flushed.new.stream, c.flush_before_read-flushed.ensures.offers, inr c.fill.ensures.asked)
 
 pub returns-clause-offers : goal.returns-clause-offers
-returns-clause-offers g c = rw (← c.self.view_is) (c.flush_before_read-flushed.new.stream, c.flush_before_read-flushed.ensures.offers, inr c.fill.ensures.asked)
+returns-clause-offers g c = rw (← c.self.view_is, c.count_read.ensures) (c.flush_before_read-flushed.new.stream, c.flush_before_read-flushed.ensures.offers, inr c.fill.ensures.asked)
