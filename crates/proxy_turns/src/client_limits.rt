@@ -8,7 +8,7 @@ pub(crate) const MAX_UNPUSHED: usize = 64 * 1024;
 pub(crate) const MAX_DRAINED: usize = 64 * 1024;
 /// While replies of so many bytes may be under way or wait, no part is begun but of the oldest request.
 pub(crate) const MAX_REPLIES: usize = 256 * 1024;
-/// While so many bytes are held for all clients of a worker, each has its oldest request under way and no more.
+/// While so many bytes are held for all clients of a worker, each has its oldest request under way, and few parts behind it.
 pub(crate) const MAX_TOGETHER: usize = 32 * 1024 * 1024;
 /// A buffer that is larger is given back where it is empty.
 pub(crate) const KEPT: usize = 256 * 1024;

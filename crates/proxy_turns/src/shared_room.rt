@@ -32,7 +32,7 @@ impl SharedRoom {
         self.bytes = self.bytes.saturating_add(bytes);
     }
 
-    /// Whether so much is held that no client has more than its oldest request under way.
+    /// Whether so much is held that each client has its oldest request under way, and few parts behind it.
     pub(crate) fn is_crowded(&self) -> bool {
         self.bytes.max(self.bytes_before) > MAX_TOGETHER
     }
