@@ -1,16 +1,16 @@
 -- Just the endpoints that can be named are read as they are where a redirection names them.
-use Rattle.std.proofs.Common.{◌≡◌, ◌≢◌, ℕ, zero, suc, ◌+◌, ◌-◌, ◌≤◌, ◌<◌, ◌&&◌, ◌||◌, Bool, true, false, cond, List, [], ◌∷◌, ◌++◌, Option, Some, None, length, take, refl, sym, ap, ◌∙◌, subst, arith, append_assoc}
+use Rattle.std.proofs.Common.{◌≡◌, ◌≢◌, ℕ, zero, suc, ◌+◌, ◌≤◌, ◌&&◌, ◌||◌, Bool, true, false, cond, List, [], ◌∷◌, ◌++◌, Option, Some, None, take, refl, sym, ap, ◌∙◌, arith, append_assoc}
 use Rattle.std.specs.Prelude.{codes, nat_eq, nat_le, not, option_map}
 use Rattle.std.specs.Fmt.{decimal}
-use Rattle.std.specs.List.{after_last, before_last, list_all, list_any, prefix_len, suffix_len}
+use Rattle.std.specs.List.{after_last, before_last, list_all, list_any, prefix_len}
 use Rattle.std.specs.Str.{bytes_eq}
 use Rattle.std.proofs.lemmas.Bool.Decides.{nat_tests}
 use Rattle.std.proofs.lemmas.Slice.Eq.{bytes_eq-Decides}
 use Rattle.slot_map.specs.Table.{Endpoint}
-use Rattle.node_link.specs.Line.{endpoint_in, first_word, if_within, number_within, short_number}
-use Rattle.node_link.specs.Telling.{endpoint_meant, host_meant}
+use Rattle.node_link.specs.Line.{endpoint_in, first_word, if_within, short_number}
+use Rattle.node_link.specs.Telling.{endpoint_meant}
 use Rattle.turn_laws.specs.Writing.{CanBeNamed, NamedIsReadBack, read_back}
-use Rattle.turn_laws.proofs.WordsRead.{Lacks, endpoint-word}
+use Rattle.turn_laws.proofs.WordsRead.{endpoint-word}
 use Rattle.turn_laws.proofs.RedirectsHeard.{meant}
 
 -- ---- one that can be named

@@ -1,6 +1,6 @@
 -- A redirection to an endpoint of the table is heard as it was told: with its slot, and with the number of the endpoint.
-use Rattle.std.proofs.Common.{◌≡◌, ◌≢◌, ℕ, ◌^◌, ◌<◌, ◌==◌, ◌&&◌, ◌||◌, Bool, true, false, cond, List, [], ◌∷◌, ◌++◌, Option, Some, None, length, refl, sym, ap, ◌∙◌, subst, arith, append_assoc}
-use Rattle.std.specs.Prelude.{codes, nat_lt, position, slice_get, slice_index_or}
+use Rattle.std.proofs.Common.{◌≡◌, ℕ, ◌<◌, ◌==◌, ◌&&◌, ◌||◌, Bool, true, false, cond, List, [], ◌∷◌, ◌++◌, Option, Some, None, length, refl, sym, ap, ◌∙◌, arith, append_assoc}
+use Rattle.std.specs.Prelude.{codes, nat_lt, position, slice_index_or}
 use Rattle.std.specs.Fmt.{decimal}
 use Rattle.std.specs.List.{position_or_len}
 use Rattle.std.specs.Str.{bytes_eq}
@@ -17,7 +17,7 @@ use Rattle.node_link.specs.Line.{Target, target_in}
 use Rattle.node_link.specs.Telling.{endpoint_meant, sent_on, redirected, refusal_in}
 use Rattle.turn_laws.specs.Shadow.{AreApart}
 use Rattle.turn_laws.specs.Writing.{CanBeNamed}
-use Rattle.turn_laws.proofs.WordsRead.{target-read}
+use Rattle.turn_laws.proofs.WordsRead.{both, target-read}
 
 -- ---- the place of an endpoint in a table
 
@@ -34,9 +34,6 @@ found-at test xs k d within here alone =
     let inside : nat_lt k (length xs) ≡ true = grind (arith, nat_tests, within) in
     ap (λ (n : ℕ). cond (nat_lt n (length xs)) (Some n) None) place ∙ ap (λ (b : Bool). cond b (Some k) None) inside
 
-both : (a b : Bool) → a ≡ true → b ≡ true → (a && b) ≡ true
-both a b e f = (λ i. e i && f i)
-
 parts : (a b : Bool) → (a && b) ≡ true → (a ≡ true) × (b ≡ true)
 parts true b e = (refl, e)
 parts false b e = absurd (cc)
@@ -50,7 +47,7 @@ same-is a b e =
     (λ i. record { host = (bytes_eq-Decides a.host b.host).0 h.0 i; port = eqb-true a.port b.port h.1 i })
 
 -- each endpoint is found at its own place
-pub own-place : (table : List Endpoint) (node : ℕ) → AreApart table → node < length table → position (same_endpoint (endpoint_of table node)) table ≡ Some node
+own-place : (table : List Endpoint) (node : ℕ) → AreApart table → node < length table → position (same_endpoint (endpoint_of table node)) table ≡ Some node
 own-place table node apart within =
     let nowhere : Endpoint = record { host = []; port = 0 } in
     let at : Endpoint = endpoint_of table node in

@@ -1,5 +1,5 @@
 -- A store's reply is heard as that reply: no error that a store gives looks like a refusal.
-use Rattle.std.proofs.Common.{◌≡◌, ℕ, ℤ, pos, negsuc, ◌+ℤ◌, Bool, true, false, cond, List, [], ◌∷◌, Option, Some, None, refl, sym, ap, ◌∙◌, subst}
+use Rattle.std.proofs.Common.{◌≡◌, ℕ, pos, negsuc, Bool, true, false, cond, List, Option, Some, None, refl, sym, ap, subst}
 use Rattle.std.specs.Prelude.{is_some}
 use Rattle.resp_wire.specs.Data.{Data, simple, error, integer, bulk, null_bulk, array, null_array}
 use Rattle.resp_wire.specs.Seen.{data_of}
@@ -8,7 +8,6 @@ use Rattle.resp_wire.specs.declared.value.Value.TheVariants as value
 use Rattle.key_split.specs.declared.part.Op.{Op}
 use Rattle.key_split.specs.declared.part.Op.TheVariants.{Get, Set, SetNx, GetSet, GetDel, Append, StrLen, Incr, Decr, IncrBy, Del, Exists, MGet, MSet}
 use Rattle.key_split.specs.declared.part.Mode.TheVariants.{Always, IfAbsent, IfPresent}
-use Rattle.key_split.specs.declared.travel.Told.{Told}
 use Rattle.key_split.specs.declared.travel.Told.TheVariants.{Reply}
 use Rattle.slot_map.specs.Table.{Endpoint, host_of}
 use Rattle.node_link.specs.Telling.{refusal_in, refusal_or_reply, told_by}

@@ -1,5 +1,5 @@
 -- The slots of a new cluster stand at its nodes, and each step of a system leaves them so.
-use Rattle.std.proofs.Common.{◌≡◌, ◌⊎◌, inl, inr, ℕ, suc, ◌<◌, ◌==◌, Bool, true, false, cond, List, [], ◌∷◌, Option, Some, None, length, refl, sym, ap, ◌∙◌, subst, arith}
+use Rattle.std.proofs.Common.{◌≡◌, inl, inr, ℕ, suc, ◌<◌, ◌==◌, Bool, true, false, cond, List, [], ◌∷◌, Option, Some, None, length, refl, sym, ap, ◌∙◌, subst, arith}
 use Rattle.std.specs.Prelude.{All, IfSome, IsSome, nat_lt, unwrap_or}
 use Rattle.std.proofs.lemmas.Bool.Decides.{nat_tests}
 use Rattle.std.proofs.lemmas.List.Elements.{All-cons, All-nil}
@@ -17,7 +17,7 @@ use Rattle.world_laws.specs.declared.event.Event.TheVariants as core
 use Rattle.world_laws.proofs.Nodes.{pick-slot, runs-size, runs-slots, set-size}
 use Rattle.turn_laws.specs.Wire.{Wire, Execution, ServesNext, parts_in}
 use Rattle.turn_laws.specs.System.{System}
-use Rattle.turn_laws.specs.Steps.{SystemEvent, AtWorker, AtCarrier, AtNode, AtBroken, Thrown, Moved, MovesOn, SystemStep}
+use Rattle.turn_laws.specs.Steps.{AtWorker, AtCarrier, AtNode, AtBroken, Thrown, Moved, MovesOn}
 use Rattle.turn_laws.specs.Writing.{NewSlotsStand, SlotsStay, StandsAmong, StandsAtItsNodes}
 
 -- the second of a pair is below a count

@@ -1,16 +1,16 @@
 -- The words of a redirection are read as they were written: its slot, its host and its port.
-use Rattle.std.proofs.Common.{◌≡◌, ℕ, ◌+◌, ◌-◌, ◌*◌, ◌/◌, ◌%◌, ◌^◌, ◌<◌, ◌≤◌, ◌&&◌, ◌||◌, Bool, true, false, cond, List, [], ◌∷◌, ◌++◌, Option, Some, None, length, take, drop, reverse, refl, sym, ap, ◌∙◌, subst, arith, append_assoc, length-append}
+use Rattle.std.proofs.Common.{◌≡◌, ℕ, ◌+◌, ◌-◌, ◌*◌, ◌/◌, ◌%◌, ◌^◌, ◌<◌, ◌≤◌, ◌&&◌, ◌||◌, Bool, true, false, cond, List, [], ◌∷◌, ◌++◌, Option, Some, None, length, drop, reverse, refl, sym, ap, ◌∙◌, arith, append_assoc, length-append}
 use Rattle.std.specs.Prelude.{nat_eq, nat_le, not, option_map}
 use Rattle.std.specs.Fmt.{decimal}
 use Rattle.std.specs.Char.{is_ascii_digit}
-use Rattle.std.specs.List.{fold, before_last, after_last, list_all, list_any, prefix_len, suffix_len}
+use Rattle.std.specs.List.{before_last, after_last, list_all, list_any, prefix_len, suffix_len}
 use Rattle.std.proofs.lemmas.Bool.Decides.{nat_tests}
 use Rattle.std.proofs.lemmas.Fmt.{decimal_by_steps, decimal_nonempty, length-decimal-le}
 use Rattle.std.proofs.lemmas.List.{append-nil, take_at, take_all, drop_at, length-reverse, reverse-append}
 use Rattle.std.proofs.lemmas.List.Folds.{list_all-append, list_any-append}
 use Rattle.std.proofs.lemmas.List.Sums.{fold_push}
 use Rattle.slot_map.specs.Table.{Endpoint}
-use Rattle.node_link.specs.Line.{Target, first_word, other_words, digits_value, short_number, if_within, number_within, endpoint_in, target_at, target_in}
+use Rattle.node_link.specs.Line.{first_word, other_words, digits_value, short_number, if_within, number_within, endpoint_in, target_at, target_in}
 
 -- ---- where a byte is met first
 
@@ -18,7 +18,7 @@ use Rattle.node_link.specs.Line.{Target, first_word, other_words, digits_value, 
 abbrev pub Lacks : ℕ → List ℕ → Type 0
 Lacks byte text = list_all (λ b. not (nat_eq b byte)) text ≡ true
 
-both : (a b : Bool) → a ≡ true → b ≡ true → (a && b) ≡ true
+pub both : (a b : Bool) → a ≡ true → b ≡ true → (a && b) ≡ true
 both a b e f = (λ i. e i && f i)
 
 all-append : (test : ℕ → Bool) (xs ys : List ℕ) → list_all test xs ≡ true → list_all test ys ≡ true → list_all test (xs ++ ys) ≡ true

@@ -1,19 +1,18 @@
 -- What a node writes of a run is heard as what it told: replies where it executes, else one refusal for each command.
-use Rattle.std.proofs.Common.{◌≡◌, ℕ, ◌<◌, ◌==◌, Bool, true, false, cond, List, [], ◌∷◌, Some, length, refl, sym, ap, ◌∙◌, subst, arith}
-use Rattle.std.specs.Prelude.{All, IsTrue, slice_index_or, nat_lt}
+use Rattle.std.proofs.Common.{◌≡◌, ℕ, suc, ◌<◌, ◌==◌, Bool, true, false, cond, List, [], ◌∷◌, length, refl, sym, ap, ◌∙◌, subst, arith}
+use Rattle.std.specs.Prelude.{All, codes}
 use Rattle.std.proofs.lemmas.Bool.Decides.{nat_tests}
 use Rattle.resp_wire.specs.declared.value.Value.{Value}
-use Rattle.resp_wire.specs.declared.value.Value.TheVariants.{Error}
 use Rattle.slot_hash.specs.Slot.{slot_of}
 use Rattle.key_split.specs.PartModel.{PartModel}
-use Rattle.key_split.specs.Told.{IsWritten}
+use Rattle.key_split.specs.Told.{IsWritten, redirect}
 use Rattle.key_split.specs.declared.travel.Told.{Told}
 use Rattle.key_split.specs.declared.travel.Told.TheVariants.{Reply, Moved, Ask, TryAgain, ClusterDown, Unclear, Lost, Unsent}
 use Rattle.slot_map.specs.Table.{Endpoint, endpoint_of, host_of}
 use Rattle.node_link.specs.Telling.{refusal_or_reply, told_by}
 use Rattle.node_model.specs.Nodes.{ClusterModel, role_in, role_of, source_role, standing_at, store_at, target_role}
 use Rattle.node_model.specs.Runs.{AllTold, AreReplies, DoesRun, deed_for, first_key, have_one_key, keys_in}
-use Rattle.node_model.specs.Serving.{IsReply, by_role, deed_of, held_of}
+use Rattle.node_model.specs.Serving.{IsReply, by_role, held_of}
 use Rattle.node_model.specs.Standings.{SlotStandingModel, sends_to}
 use Rattle.node_model.specs.Store.{StoreModel, found_along, reply_to, store_after}
 use Rattle.node_model.specs.declared.role.Deed.{Deed}
@@ -115,14 +114,14 @@ unfolding slot_of
 small-slot key = omega arith
 
 module _ (k : ClusterModel) (node : ℕ) (asking : Bool) (parts : List PartModel) (stands : StandsAtItsNodes k) where
-  abbrev slot : ℕ
-  slot = slot_of (first_key parts)
+  abbrev its-slot : ℕ
+  its-slot = slot_of (first_key parts)
 
   refuses : (v : Verdict) → NamesNode k v → Refuses (length k.stores) (deed_for k node asking parts v)
   unfolding Refuses IsRefusal
   refuses verdict.Plain names =
-      by-role (length k.stores) slot (role_of k node slot) asking (held_of (store_at k node) (keys_in parts)) (have_one_key parts) (small-slot (first_key parts))
-      (role-among (length k.stores) (standing_at k slot) node (stands slot (small-slot (first_key parts))))
+      by-role (length k.stores) its-slot (role_of k node its-slot) asking (held_of (store_at k node) (keys_in parts)) (have_one_key parts) (small-slot (first_key parts))
+      (role-among (length k.stores) (standing_at k its-slot) node (stands its-slot (small-slot (first_key parts))))
   refuses (verdict.Moved to) names = (small-slot (first_key parts), grind (arith, nat_tests, names))
   refuses verdict.TryAgain names = tt
   refuses verdict.ClusterDown names = tt
@@ -140,13 +139,15 @@ module _ (k : ClusterModel) (table : List Endpoint) (node : ℕ) (h : AreEndpoin
   refusal-heard : (told : Told) (value : Value) → IsRefusal (length k.stores) told → IsWritten told table value → heard_in value node table ≡ (told, table)
   unfolding IsRefusal
   refusal-heard (Moved slot to) value is written =
-      let within = omega (arith, is.1, h.each) in
+      let within : to < length table = omega (arith, is.1, h.each) in
+      let line : Value = redirect (codes "MOVED ") slot (endpoint_of table to) in
       ap (λ (v : Value). heard_in v node table) written
-      ∙ heard _ node table (Moved slot to) refl (ap (refusal_or_reply _ table) (moved-heard table slot to (host_of table node) h.apart is.0 within (named-at to within)))
+      ∙ heard line node table (Moved slot to) refl (ap (refusal_or_reply line table) (moved-heard table slot to (host_of table node) h.apart is.0 within (named-at to within)))
   refusal-heard (Ask slot to) value is written =
-      let within = omega (arith, is.1, h.each) in
+      let within : to < length table = omega (arith, is.1, h.each) in
+      let line : Value = redirect (codes "ASK ") slot (endpoint_of table to) in
       ap (λ (v : Value). heard_in v node table) written
-      ∙ heard _ node table (Ask slot to) refl (ap (refusal_or_reply _ table) (ask-heard table slot to (host_of table node) h.apart is.0 within (named-at to within)))
+      ∙ heard line node table (Ask slot to) refl (ap (refusal_or_reply line table) (ask-heard table slot to (host_of table node) h.apart is.0 within (named-at to within)))
   refusal-heard TryAgain value is written = ap (λ (v : Value). heard_in v node table) written
   refusal-heard ClusterDown value is written = ap (λ (v : Value). heard_in v node table) written
   refusal-heard (Reply v) value is written = absurd is

@@ -135,9 +135,8 @@ pub fn log_is_written<C: Drop, J: Naming>()
     parts_of_plans_are_plain();
 }
 
-/// What a node writes of a run that it does is heard as what it told: a reply as that reply, whatever its text, and a redirection with its
-/// slot and its node. For that each endpoint of the table must be one that a redirection can name, and these are just those that are read
-/// as they were written.
+/// What a node writes of a run that it does is heard as what it told: a reply of its store as that reply, a redirection with its slot and
+/// its node. The endpoints that this asks for are just those that are read as they were written.
 pub fn written_is_heard()
     ensures heard { WrittenIsHeard }
     ensures named { NamedIsReadBack }
