@@ -8,6 +8,7 @@ ghost use Rattle.turn_laws.specs.Scripts.{GivesBack, LosesCommands, MisreadsLine
 ghost use Rattle.turn_laws.specs.Refines.{CarrierRefines, MovesRefine, NamesStay, NodesRefine, Refines, StartsRefine, ThrownRefine, WorkersRefine};
 ghost use Rattle.turn_laws.specs.LogHeadline.{HeadlineOfLogs, LogsAreHeld};
 ghost use Rattle.turn_laws.specs.Unclear.{HeardAlike, UnclearIsRefusal};
+ghost use Rattle.turn_laws.specs.Writing.{NamedIsReadBack, NewSlotsStand, SlotsStay, WrittenIsHeard};
 
 use crate::wired_port::WiredPort;
 use key_split::laws::parts_of_plans_are_plain;
@@ -133,3 +134,16 @@ pub fn log_is_written<C: Drop, J: Naming>()
     front_is_faulty();
     parts_of_plans_are_plain();
 }
+
+/// What a node writes of a run that it does is heard as what it told: a reply of its store as that reply, a redirection with its slot and
+/// its node. The endpoints that this asks for are just those that are read as they were written.
+pub fn written_is_heard()
+    ensures heard { WrittenIsHeard }
+    ensures named { NamedIsReadBack }
+{}
+
+/// What `written_is_heard` asks of the slots holds of a new cluster, and each step of a system leaves it so.
+pub fn slots_stand_at_nodes<C: Drop, J: Naming>()
+    ensures opened { NewSlotsStand }
+    ensures stay { SlotsStay C J }
+{}
