@@ -216,6 +216,21 @@ def commands_that_wait():
     return row
 
 
+def pieces_in_order():
+    """Three values of 64 KiB wait apart, and go out in order over a stream that takes a byte at each second write."""
+    row = Row("values_of_64_kib_go_out_in_order", note="3 times 65,536 bytes")
+    begin(row, ["slow"], "port")
+    sent = b""
+    for part, letter in enumerate("abc"):
+        row.call(f"port send 0.0.{part} 0 plain SET a {letter * 65_536}")
+        sent += request(b"SET", b"a", letter.encode() * 65_536)
+    row.call("port writes", "2")
+    row.call("port written", "*")
+    row.call(f"port wait {2 * len(sent)}", "none")
+    row.call("port written", quoted(sent))
+    return row
+
+
 def last_new_node():
     """MOVED to one new port after the other in a table of three nodes: 61 fit, and the next has no room."""
     row = Row("last_new_node_has_no_room")
@@ -242,5 +257,6 @@ def rows():
         thousand_commands(),
         thousand_commands_byte_by_byte(),
         commands_that_wait(),
+        pieces_in_order(),
         last_new_node(),
     ]

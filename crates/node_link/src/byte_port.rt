@@ -18,7 +18,7 @@ use std::marker::Model;
 
 /// A port over a stream that does not block. It holds what is sent until `FLUSH_AFTER_READS` reads came with nothing sent
 /// between them, or 16 KiB wait, so that under load one write and one read serve many commands. What the stream refused is
-/// offered again at the next call, with all that came behind it.
+/// offered again at the next call. One write is offered 64 KiB and a request at most.
 #[derive(Drop)]
 pub struct BytePort<S> {
     stream: S,
