@@ -1,0 +1,70 @@
+"""Ten thousand plays: what workers, the carrier and the nodes do, the steps of moves and connections that break, in an order that is
+handed in, each at random.
+
+Two workers serve three clients. Each play has lanes, nodes and clients of its own. In every other one connections break, so that
+commands are lost.
+"""
+
+import random
+
+from orders import CLIENTS, OWN, SHARED, Seen, counted, script_of, served_as_by_one_store, steps_of_moves
+from table import Row, quoted, request
+
+PLAYS = 10_000
+# So many orders come at random, and so many rounds of all take the play to its end.
+ORDERS, TO_THE_END = 60, 60
+# What may be ordered, some of it more often than the rest.
+WORDS = ["worker 0", "worker 1", "carrier", "carrier", "serve 0", "serve 1", "serve 2", "serve 2", "move"]
+BREAKS = [*WORDS, "break 2"]
+
+
+def orders_of(chance, play, words):
+    """Orders at random, among them the steps of moves in their order."""
+    steps, orders = steps_of_moves(chance, play), []
+    for _ in range(ORDERS):
+        word = chance.choice(words)
+        if word != "move":
+            orders.append(word)
+        elif steps:
+            orders.append(steps.pop(0))
+    return orders
+
+
+def add_play(row, play, words, scripts):
+    """Clients come, and the play begins and is taken to its end."""
+    for (number, worker), script in zip(CLIENTS, scripts):
+        data = b"".join(request(*(word.encode() for word in each)) for each in script)
+        row.call(f"play client {worker} {number} {quoted(data)}")
+    row.call("play begin")
+    row.call(f"play do {' '.join(orders_of(random.Random(play), play, words))}")
+    row.call(f"play do all {TO_THE_END}")
+
+
+def add_whole_play(row, play, seen):
+    """No connection breaks, and no two clients have a key in common: each is replied what one store replies."""
+    scripts = [script_of(text, play) for text in OWN]
+    add_play(row, play, WORDS, scripts)
+    for (number, _), script in zip(CLIENTS, scripts):
+        row.call(f"play held {number}", served_as_by_one_store(script, seen))
+
+
+def add_broken_play(row, play, seen):
+    """Connections break, and all count the same keys up: each count is executed at most once."""
+    scripts = [script_of(text, play) for text in SHARED]
+    add_play(row, play, BREAKS, scripts)
+    held = {}
+    for client, (number, _) in enumerate(CLIENTS):
+        row.call(f"play held {number}", counted(scripts, held, client, seen))
+
+
+def ten_thousand_plays():
+    """Whatever is done in whatever order, each client is served as by one store, and a lost count is none or one."""
+    seen = Seen(plays=PLAYS)
+    row = Row("ten_thousand_plays", note=seen)
+    for play in range(PLAYS):
+        if play:
+            row.call("reset")
+        add = add_broken_play if play % 2 else add_whole_play
+        add(row, play, seen)
+    seen["calls"] = len(row.calls)
+    return row
