@@ -141,6 +141,17 @@ class Gate:
             it.join()
         return status
 
+    def open_without_edits(self, log, only=()):
+        """The functions that edits change and that are not proved among stubs without them, of the crates that were proved."""
+        self.read_log(log)
+        left = []
+        for name in self.ready:
+            if not only or name in only:
+                args = self.crates[name], self.crates, self.where, self.edits_of(name), self.names.get(name, set())
+                left += [f"edits: {name}::{it}" for it in rounds.open_without_edits(*args)]
+                print(f"edits: {name}: its functions were tried without edits", flush=True)
+        return left
+
     def count(self, only=()):
         """How many edits were refused, and how many were not or were not tried."""
         all_edits = [it for it in self.tree.glob("crates/*/must-fail/*.edit") if not only or it.parent.parent.name in only]
@@ -172,11 +183,17 @@ def say_took(lines):
 
 
 def main(words):
-    """The gate over the tree that this file stands in; with --over FOLDER LOG [CRATE..] the edits alone, over an earlier run of it."""
+    """The gate over the tree that this file stands in; with --over FOLDER LOG [CRATE..] the edits alone, over an earlier run of it, and with
+    --controls FOLDER LOG [CRATE..] the edited functions as they stand."""
     tree, lanes = Path(__file__).resolve().parents[2], processors()
     if words[:1] == ["--took"]:
         print(TOOK.read_text(encoding="utf-8"), end="")
         return 0
+    if words[:1] == ["--controls"]:
+        gate = Gate(tree, words[1])
+        left = gate.open_without_edits(words[2], words[3:])
+        print("\n".join([*left, f"edits: {len(left)} functions are not proved among stubs as they stand"]))
+        return 1 if left else 0
     if words[:1] == ["--over"]:
         gate = Gate(tree, words[1])
         gate.run(lanes, log=words[2], only=words[3:])

@@ -201,3 +201,13 @@ def try_all(crate, crates, where, from_folder, names):
                     waiting.append(it)
     outcome.tried.sort(key=lambda it: it.edit)
     return outcome
+
+
+def open_without_edits(crate, crates, where, from_folder, names):
+    """The functions of the folder's edits that are not proved among stubs as they stand: what is refused in one of these would say nothing."""
+    waiting, _ = read_all(crate, from_folder, names)
+    functions = {name for it in waiting for name in it.functions}
+    with tempfile.TemporaryDirectory(prefix="edits-kept-") as kept:
+        said, _ = checks.check(crate, crates, where, stubs.stubbed({}, crate, names, functions), sorted(functions), kept)
+    answer = verdicts.read(crate.name, said)
+    return [name for name in sorted(functions) if verdicts.verdict_of(answer, name)[0] is not Verdict.PROVED]
