@@ -15,9 +15,9 @@ from harness import case, check_same, check_time
 # The bytes of a value, how many keys hold one, how often each client asks for one of them: 100 MiB in all.
 VALUE, KEYS, TIMES = 65536, 64, 1600
 # Mebibytes that may be held for one such client and for fifty, and once they left.
-MOST_FOR_ONE, MOST_FOR_FIFTY, MOST_KEPT = 16, 128, 48
-# Milliseconds that 99 of 100 requests of another client may take at most, beside so many times what they take just then directly
-# and over a proxy with no such clients: a busy machine keeps those waiting too.
+MOST_FOR_ONE, MOST_FOR_FIFTY, MOST_KEPT = 16, 128, 32
+# Milliseconds that 99 of 100 requests of another client may take at most; on a busy machine so many times what they take just then
+# directly, or over a proxy with no such clients, where that is more.
 MOST_WAITED, MOST_TIMES = 20, 3
 # The seconds after which others are timed, or on a slow machine what so many lone commands take.
 PAUSE, COMMANDS = 0.5, 5000
@@ -51,7 +51,7 @@ class Beside:
     def check(self, most_held):
         check_time(self.held < most_held, self.note)
         check_time(self.kept < MOST_KEPT, self.note)
-        check_time(self.late < MOST_WAITED + MOST_TIMES * max(self.usual, self.direct), self.note)
+        check_time(self.late < max(MOST_WAITED, MOST_TIMES * max(self.usual, self.direct)), self.note)
         return self.note
 
 
