@@ -1,4 +1,4 @@
-"""The programs that make the calls of rows."""
+"""The program that makes the calls of rows."""
 
 import os
 import re
@@ -8,47 +8,42 @@ import tempfile
 import time
 from pathlib import Path
 
-CRATES = Path(__file__).resolve().parents[2] / "crates"
+# $ROW_DRIVER, or the program that the repository builds.
+BUILT = Path(__file__).resolve().parents[2] / "crates/row_driver/out/row_driver"
 
 
-class Driver:
-    def __init__(self, name):
-        self.name = name
-
-    def program(self):
-        program = os.environ.get(self.name.upper(), CRATES / self.name / "out" / self.name)
-        if not os.access(program, os.X_OK):
-            sys.exit(f"{program} is not there: rt run in crates/{self.name} builds it")
-        return program
-
-    def answers(self, lines):
-        """The lines that the driver answers to these, and the seconds that it took."""
-        with tempfile.TemporaryFile() as given, tempfile.TemporaryFile() as found:
-            given.write("".join(line + "\n" for line in lines).encode())
-            given.seek(0)
-            start = time.monotonic()
-            subprocess.run([self.program()], stdin=given, stdout=found, check=True)
-            seconds = time.monotonic() - start
-            found.seek(0)
-            return found.read().decode().splitlines(), seconds
+def driver():
+    program = os.environ.get("ROW_DRIVER", BUILT)
+    if not os.access(program, os.X_OK):
+        sys.exit(f"{program} is not there: rt run in crates/row_driver builds it")
+    return program
 
 
-DRIVERS = {".rows": Driver("row_driver"), ".turns": Driver("turn_driver")}
+def answers_to(lines):
+    """The lines that the driver answers to these, and the seconds that it took."""
+    with tempfile.TemporaryFile() as given, tempfile.TemporaryFile() as found:
+        given.write("".join(line + "\n" for line in lines).encode())
+        given.seek(0)
+        start = time.monotonic()
+        subprocess.run([driver()], stdin=given, stdout=found, check=True)
+        seconds = time.monotonic() - start
+        found.seek(0)
+        return found.read().decode().splitlines(), seconds
 
 
 # How often a row is made before what it took counts as a fault: a machine that had a pause of its own may be the reason.
 TRIES = 5
 
 
-def failures_of(driver, rows):
+def failures_of(rows):
     """The rows that are answered otherwise, each with a line that says how. One run makes all that have no limit of time."""
     failures = {}
     free = [row for row in rows if not is_timed(row)]
     if free:
-        failures = failures_in(driver, free)
+        failures = failures_in(free)
     for row in filter(is_timed, rows):
         for _ in range(TRIES):
-            found = failures_in(driver, [row])
+            found = failures_in([row])
             if not is_slow(found.get(row.name, "")):
                 break
         failures.update(found)
@@ -64,11 +59,11 @@ def is_slow(failure):
     return ": took " in failure or bool(re.match(r".*, call \d+: time ", failure))
 
 
-def failures_in(driver, rows):
+def failures_in(rows):
     lines = []
     for row in rows:
         lines += (row.calls + ["reset"]) * row.times
-    found, seconds = driver.answers(lines)
+    found, seconds = answers_to(lines)
     failures = {}
     at = 0
     for row in rows:

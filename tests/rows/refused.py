@@ -8,6 +8,7 @@ import tempfile
 import time
 from collections import Counter
 
+from driver import driver
 from growths import Growths, compiler
 
 # The rows of a table that are made, but for generated ones and these.
@@ -55,7 +56,7 @@ QUIET = {
 }
 TAKE_NONE = {f"{thing} {name}".strip() for thing, names in QUIET.items() for name in names.split(" ")}
 
-# Seconds that a run of a driver may take, as a last resort.
+# Seconds that a run of the driver may take, as a last resort.
 LIMIT = 60
 
 # A line that makes the driver's buffer for lines large, so that no growth of it is among those of a row.
@@ -68,10 +69,10 @@ TICKET = re.compile(r" ?\b\d+\.\d+\.\d+\b")
 
 
 class Sweep:
-    """The sweeps of rows by a driver, and how many growths were refused in them."""
+    """The sweeps of rows, and how many growths were refused in them."""
 
-    def __init__(self, driver):
-        self.driver, self.growths = driver, Growths()
+    def __init__(self):
+        self.growths = Growths()
         self.again = self.of_driver = self.unneeded = 0
         # the kinds of calls that were made, those that found no memory, and the growths of lines that make no call
         self.made, self.refused, self.of_words = set(), set(), {}
@@ -88,7 +89,7 @@ class Sweep:
             given.seek(0)
             self.growths.refuse(number)
             try:
-                ran = subprocess.run([self.driver.program()], stdin=given, stdout=subprocess.PIPE, env=environment, timeout=LIMIT, check=True)
+                ran = subprocess.run([driver()], stdin=given, stdout=subprocess.PIPE, env=environment, timeout=LIMIT, check=True)
             except subprocess.SubprocessError:
                 return None
         return ran.stdout.decode().splitlines()[1:]
@@ -148,17 +149,17 @@ class Sweep:
 
 
 def failures_refused(tables, are_all):
-    """Sweeps the rows of tables, each with its driver, and prints how many growths were refused. Where these are all tables, each
-    kind of call is to find no memory, or is listed above."""
+    """Sweeps the rows of tables, and prints how many growths were refused. Where these are all tables, each kind of call is to
+    find no memory, or is listed above."""
     if not compiler():
         print("growths refused: NOT RUN, since no C compiler is there")
         return []
     failures, made, refused = [], set(), set()
-    for path, driver, rows in tables:
+    for path, rows in tables:
         chosen = [row for row in rows if is_swept(row)]
         if not chosen:
             continue
-        sweep, begun = Sweep(driver), time.monotonic()
+        sweep, begun = Sweep(), time.monotonic()
         for row in chosen:
             failures += [f"{path.name}: {line}" for line in sweep.failures(row)]
         sweep.close()

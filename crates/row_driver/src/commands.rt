@@ -3,7 +3,6 @@
 use crate::held::put;
 use command_future::{Command, Step, Want};
 use row_words::{Answer, Args, CallFault};
-use slot_map::NodeId;
 use std::alloc::Global;
 
 #[derive(Drop)]
@@ -22,17 +21,20 @@ impl CommandObjects {
 
     pub fn call(&mut self, args: &mut Args<'_>, answer: &mut Answer) -> Result<(), CallFault> {
         match args.name()? {
-            "new" => {
-                put(&mut self.command, Some(command_in(self.alloc, args)?));
-                answer.name("ok");
-                Ok(())
-            }
+            "new" => self.renew(args, answer),
             "finish" => finish(&mut self.command, answer),
             call => match &mut self.command {
                 Some(command) => call_of(self.alloc, command, call, args, answer),
                 None => Err(CallFault::NotMade),
             },
         }
+    }
+
+    fn renew(&mut self, args: &mut Args<'_>, answer: &mut Answer) -> Result<(), CallFault> {
+        let command = command_in(self.alloc, args)?;
+        put(&mut self.command, Some(command));
+        answer.name("ok");
+        Ok(())
     }
 }
 
@@ -50,8 +52,8 @@ fn call_of(
     answer: &mut Answer,
 ) -> Result<(), CallFault> {
     match call {
-        "batch" => show_batch(alloc, command, args.node()?, answer),
-        "posted" => post(command, args.node()?, answer),
+        "batch" => show_batch(alloc, command, args, answer),
+        "posted" => post(command, args, answer),
         "told" => tell(alloc, command, args, answer),
         "part" => Ok(answer.part(command.part())?),
         _ => look(command, call, answer),
@@ -87,9 +89,10 @@ fn show_want(want: Want, answer: &mut Answer) {
 fn show_batch(
     alloc: Global,
     command: &Command,
-    given: NodeId,
+    args: &mut Args<'_>,
     answer: &mut Answer,
 ) -> Result<(), CallFault> {
+    let given = args.node()?;
     let node = match command.want() {
         Want::Post(_, Some(named)) => named,
         Want::Post(_, None) => given,
@@ -99,7 +102,8 @@ fn show_batch(
     Ok(answer.batch(&batch)?)
 }
 
-fn post(command: &mut Command, given: NodeId, answer: &mut Answer) -> Result<(), CallFault> {
+fn post(command: &mut Command, args: &mut Args<'_>, answer: &mut Answer) -> Result<(), CallFault> {
+    let given = args.node()?;
     match command.want() {
         Want::Post(_, Some(named)) if named == given => command.posted(named),
         Want::Post(_, None) => command.posted(given),

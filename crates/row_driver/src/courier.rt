@@ -6,7 +6,7 @@ use crate::held::put;
 use command_future::{self, Command, OneCommand, Posting, Want};
 use futures::executor::block_on;
 use futures::test::MockTask;
-use key_split::{Batch, Part, Ticket, Told};
+use key_split::{Batch, Ticket, Told};
 use row_words::{Answer, Args, CallFault};
 use slot_map::NodeId;
 use std::alloc::{AllocGlobal, Global};
@@ -34,26 +34,8 @@ impl CourierObjects {
         answer: &mut Answer,
     ) -> Result<(), CallFault> {
         match args.name()? {
-            "carry" => {
-                let ticket = args.ticket()?;
-                carry(
-                    rt,
-                    &mut self.courier,
-                    ticket,
-                    args.part(rt.alloc())?,
-                    answer,
-                )
-            }
-            "poll" => {
-                let ticket = args.ticket()?;
-                poll_once(
-                    rt,
-                    &mut self.courier,
-                    ticket,
-                    args.part(rt.alloc())?,
-                    answer,
-                )
-            }
+            "carry" => carry(rt, &mut self.courier, args, answer),
+            "poll" => poll_once(rt, &mut self.courier, args, answer),
             call => self.courier.call(call, args, answer),
         }
     }
@@ -155,10 +137,11 @@ impl command_future::Courier for Courier {
 fn carry<R: Wait + RandomSource + AllocGlobal>(
     rt: &R,
     courier: &mut Courier,
-    ticket: Ticket,
-    part: Part,
+    args: &mut Args<'_>,
     answer: &mut Answer,
 ) -> Result<(), CallFault> {
+    let ticket = args.ticket()?;
+    let part = args.part(rt.alloc())?;
     match block_on(rt, OneCommand::new(Command::new(ticket, part), courier)) {
         Ok((ticket, end)) => {
             answer.ticket(ticket);
@@ -173,16 +156,21 @@ fn carry<R: Wait + RandomSource + AllocGlobal>(
 fn poll_once<R: Wait + RandomSource + AllocGlobal>(
     rt: &R,
     courier: &mut Courier,
-    ticket: Ticket,
-    part: Part,
+    args: &mut Args<'_>,
     answer: &mut Answer,
 ) -> Result<(), CallFault> {
-    let mut future = OneCommand::new(Command::new(ticket, part), courier);
     let Ok(task) = MockTask::new(rt) else {
         return Err(CallFault::NoMemory);
     };
+    let ticket = args.ticket()?;
+    let part = args.part(rt.alloc())?;
+    let mut future = OneCommand::new(Command::new(ticket, part), courier);
     let pending = task.poll(&mut future).is_pending();
-    answer.name(if pending { "pending" } else { "ready" });
-    answer.name(if task.is_woken() { "woken" } else { "still" });
+    show_poll(pending, task.is_woken(), answer);
     Ok(())
+}
+
+fn show_poll(pending: bool, woken: bool, answer: &mut Answer) {
+    answer.name(if pending { "pending" } else { "ready" });
+    answer.name(if woken { "woken" } else { "still" });
 }

@@ -2,9 +2,8 @@
 
 use crate::maps::op_of;
 use key_split::{Run, Ticket, Told};
-use proxy_lanes::{CarrierEnds, Front, Naming, NotEntered, Publisher, WorkerEnds};
+use proxy_lanes::{CarrierEnds, Front, MapView, Naming, Outlet, Publisher, WorkerEnds};
 use row_words::{Answer, Args, CallFault};
-use slot_map::NodeId;
 use std::alloc::Global;
 use std::sync::Wait;
 
@@ -49,13 +48,22 @@ impl<J: Naming, R: Wait + Drop> LaneObjects<J, R> {
         answer: &mut Answer,
     ) -> Result<(), CallFault> {
         match call {
-            "take" => take(&mut self.carrier, args.short()?, answer),
-            "finish" => finish(&mut self.carrier, args.short()?, answer),
+            "take" => take(&mut self.carrier, args, answer),
+            "finish" => finish(&mut self.carrier, args, answer),
             "hand" => hand(&mut self.carrier, args, answer),
-            _ => match self.workers.get_mut(args.size()?) {
-                Some(ends) => call_of_worker(self.alloc, ends, call, args, answer),
-                None => Err(CallFault::NotMade),
-            },
+            _ => self.call_of_worker(call, args, answer),
+        }
+    }
+
+    fn call_of_worker(
+        &mut self,
+        call: &str,
+        args: &mut Args<'_>,
+        answer: &mut Answer,
+    ) -> Result<(), CallFault> {
+        match self.workers.get_mut(args.size()?) {
+            Some(ends) => call_of_ends(self.alloc, ends, call, args, answer),
+            None => Err(CallFault::NotMade),
         }
     }
 
@@ -76,16 +84,26 @@ impl<J: Naming, R: Wait + Drop> LaneObjects<J, R> {
 
     /// `learn WORKER PLACE`
     fn learn(&mut self, args: &mut Args<'_>, answer: &mut Answer) -> Result<(), CallFault> {
-        let Some(ends) = self.workers.get_mut(args.size()?) else {
-            return Err(CallFault::NotMade);
-        };
-        match kept_at(&mut self.fronts, args.size()?) {
-            Some(front) => ends.view.learn(front),
+        let worker = args.size()?;
+        let place = args.size()?;
+        match learn_kept(&mut self.workers, worker, &mut self.fronts, place) {
+            Some(()) => answer.name("ok"),
             None => return Err(CallFault::NotMade),
         }
-        answer.name("ok");
         Ok(())
     }
+}
+
+/// A worker learns what was kept at a place. None where there is no such worker, or nothing is kept there.
+fn learn_kept<J: Naming>(
+    workers: &mut [WorkerEnds<u32, J>],
+    worker: usize,
+    kept: &mut [Option<Front<J>>],
+    place: usize,
+) -> Option<()> {
+    let ends = workers.get_mut(worker)?;
+    ends.view.learn(kept_at(kept, place)?);
+    Some(())
 }
 
 /// What was kept at a place, which is kept no longer.
@@ -101,11 +119,11 @@ fn give<M: Drop>(
     answer: &mut Answer,
 ) -> Result<(), CallFault> {
     let worker = args.short()?;
-    let ticket = args.ticket()?;
-    let told = args.told(alloc)?;
     if usize::from(worker) >= carrier.workers() {
         return Err(CallFault::NotMade);
     }
+    let ticket = args.ticket()?;
+    let told = args.told(alloc)?;
     show_given(carrier.give(worker, ticket, told), answer);
     Ok(())
 }
@@ -124,9 +142,10 @@ fn show_given(given: Result<(), (Ticket, Told)>, answer: &mut Answer) {
 /// Takes the next run of a worker.
 fn take<M: Drop>(
     carrier: &mut CarrierEnds<u32, M>,
-    worker: u16,
+    args: &mut Args<'_>,
     answer: &mut Answer,
 ) -> Result<(), CallFault> {
+    let worker = args.short()?;
     if usize::from(worker) >= carrier.workers() {
         return Err(CallFault::NotMade);
     }
@@ -142,9 +161,10 @@ fn take<M: Drop>(
 /// Finishes what goes down to a worker.
 fn finish<M: Drop>(
     carrier: &mut CarrierEnds<u32, M>,
-    worker: u16,
+    args: &mut Args<'_>,
     answer: &mut Answer,
 ) -> Result<(), CallFault> {
+    let worker = args.short()?;
     if usize::from(worker) >= carrier.workers() {
         return Err(CallFault::NotMade);
     }
@@ -174,7 +194,7 @@ fn hand<M: Drop>(
 }
 
 // A call that a worker makes on its way, with no right to wait.
-fn call_of_worker<J: Naming>(
+fn call_of_ends<J: Naming>(
     alloc: Global,
     ends: &mut WorkerEnds<u32, J>,
     call: &str,
@@ -182,21 +202,22 @@ fn call_of_worker<J: Naming>(
     answer: &mut Answer,
 ) -> Result<(), CallFault> {
     match call {
-        "post" => return post(ends, Run::one(alloc, args.batch(alloc)?), answer),
+        "post" => post(alloc, &mut ends.outlet, args, answer),
         "told" => show_told(ends.inlet.take(), answer),
         "newcomer" => show_newcomer(ends.newcomers.take(), answer),
-        "node" => show_node(ends.view.node_of(args.slot()?), answer),
-        _ => return Err(CallFault::NoSuchCall),
+        "node" => show_node(&mut ends.view, args, answer),
+        _ => Err(CallFault::NoSuchCall),
     }
-    Ok(())
 }
 
-fn post<J: Naming>(
-    ends: &mut WorkerEnds<u32, J>,
-    run: Run,
+fn post(
+    alloc: Global,
+    outlet: &mut Outlet<Run>,
+    args: &mut Args<'_>,
     answer: &mut Answer,
 ) -> Result<(), CallFault> {
-    match ends.outlet.post(run) {
+    let run = Run::one(alloc, args.batch(alloc)?);
+    match outlet.post(run) {
         Ok(()) => {
             answer.name("ok");
             Ok(())
@@ -218,7 +239,7 @@ fn show_run(run: &Run, answer: &mut Answer) -> Result<(), CallFault> {
     Ok(())
 }
 
-fn show_told(told: Option<(Ticket, Told)>, answer: &mut Answer) {
+pub fn show_told(told: Option<(Ticket, Told)>, answer: &mut Answer) -> Result<(), CallFault> {
     match told {
         Some((ticket, told)) => {
             answer.ticket(ticket);
@@ -226,19 +247,27 @@ fn show_told(told: Option<(Ticket, Told)>, answer: &mut Answer) {
         }
         None => answer.name("none"),
     }
+    Ok(())
 }
 
-fn show_newcomer(client: Option<u32>, answer: &mut Answer) {
+fn show_newcomer(client: Option<u32>, answer: &mut Answer) -> Result<(), CallFault> {
     match client {
         Some(client) => answer.number(u64::from(client)),
         None => answer.name("none"),
     }
+    Ok(())
 }
 
-fn show_node(node: Result<Option<NodeId>, NotEntered>, answer: &mut Answer) {
-    match node {
+/// The node that the published map shows for a slot.
+pub fn show_node<J: Naming>(
+    view: &mut MapView<J>,
+    args: &mut Args<'_>,
+    answer: &mut Answer,
+) -> Result<(), CallFault> {
+    match view.node_of(args.slot()?) {
         Ok(Some(node)) => answer.node(node),
         Ok(None) => answer.name("none"),
         Err(fault) => answer.debug(&fault),
     }
+    Ok(())
 }

@@ -34,19 +34,29 @@ impl LinkObjects {
     /// How the next stream is.
     pub fn stream(&mut self, args: &mut Args<'_>, answer: &mut Answer) -> Result<(), CallFault> {
         match args.name()? {
-            "gives" => self.give(args.bytes()?)?,
-            "slow" => self.stream.slow_down(),
-            "room" => self.stream.make_room(args.size()?),
-            _ => return Err(CallFault::NoSuchCall),
+            "gives" => self.give(args, answer),
+            "slow" => {
+                self.stream.slow_down();
+                answer.name("ok");
+                Ok(())
+            }
+            "room" => self.make_room(args, answer),
+            _ => Err(CallFault::NoSuchCall),
         }
+    }
+
+    /// The next stream gives these bytes.
+    fn give(&mut self, args: &mut Args<'_>, answer: &mut Answer) -> Result<(), CallFault> {
+        let coming = Vec::from_slice(self.alloc, args.bytes()?)?;
+        put(&mut self.stream, MemoryStream::new(self.alloc, coming));
         answer.name("ok");
         Ok(())
     }
 
-    /// The next stream gives these bytes.
-    fn give(&mut self, bytes: &[u8]) -> Result<(), CallFault> {
-        let coming = Vec::from_slice(self.alloc, bytes)?;
-        put(&mut self.stream, MemoryStream::new(self.alloc, coming));
+    /// The next stream fails behind so many bytes.
+    fn make_room(&mut self, args: &mut Args<'_>, answer: &mut Answer) -> Result<(), CallFault> {
+        self.stream.make_room(args.size()?);
+        answer.name("ok");
         Ok(())
     }
 
@@ -59,12 +69,7 @@ impl LinkObjects {
 
     pub fn port(&mut self, args: &mut Args<'_>, answer: &mut Answer) -> Result<(), CallFault> {
         match args.name()? {
-            "new" => {
-                let port = self.next_port();
-                put(&mut self.port, Some(port));
-                answer.name("ok");
-                Ok(())
-            }
+            "new" => self.renew_port(answer),
             call => match &mut self.port {
                 Some(port) => call_of_port(self.alloc, port, call, args, answer),
                 None => Err(CallFault::NotMade),
@@ -72,9 +77,19 @@ impl LinkObjects {
         }
     }
 
-    fn renew_link(&mut self, node: NodeId) {
+    fn renew_port(&mut self, answer: &mut Answer) -> Result<(), CallFault> {
+        let port = self.next_port();
+        put(&mut self.port, Some(port));
+        answer.name("ok");
+        Ok(())
+    }
+
+    fn renew_link(&mut self, args: &mut Args<'_>, answer: &mut Answer) -> Result<(), CallFault> {
+        let node = args.node()?;
         let port = self.next_port();
         put(&mut self.link, Some(Link::new(self.alloc, port, node)));
+        answer.name("ok");
+        Ok(())
     }
 
     pub fn link(
@@ -85,11 +100,7 @@ impl LinkObjects {
         answer: &mut Answer,
     ) -> Result<(), CallFault> {
         match args.name()? {
-            "new" => {
-                self.renew_link(args.node()?);
-                answer.name("ok");
-                Ok(())
-            }
+            "new" => self.renew_link(args, answer),
             "patience" => {
                 answer.number(u64::from(FLUSH_AFTER_READS));
                 Ok(())
@@ -121,16 +132,30 @@ fn call_of_port(
     answer: &mut Answer,
 ) -> Result<(), CallFault> {
     match call {
-        "send" => {
-            let batch = args.batch(alloc)?;
-            answer.done(port.send(&batch));
+        "send" => send_over(alloc, port, args, answer),
+        "slots" => {
+            answer.done(port.ask_slots());
+            Ok(())
         }
-        "slots" => answer.done(port.ask_slots()),
         "next" => show_next(port.next(), answer),
-        "wait" => show_next(next_within(port, args.number()?), answer),
-        _ => return moved(port, call, answer),
+        "wait" => wait_over(port, args, answer),
+        _ => moved(port, call, answer),
     }
+}
+
+fn send_over(
+    alloc: Global,
+    port: &mut Port,
+    args: &mut Args<'_>,
+    answer: &mut Answer,
+) -> Result<(), CallFault> {
+    let batch = args.batch(alloc)?;
+    answer.done(port.send(&batch));
     Ok(())
+}
+
+fn wait_over(port: &mut Port, args: &mut Args<'_>, answer: &mut Answer) -> Result<(), CallFault> {
+    show_next(next_within(port, args.number()?), answer)
 }
 
 /// The next value, of so many calls at most.
@@ -144,12 +169,13 @@ fn next_within(port: &mut Port, calls: u64) -> Result<Option<Value>, PortFault> 
     Ok(None)
 }
 
-fn show_next(next: Result<Option<Value>, PortFault>, answer: &mut Answer) {
+fn show_next(next: Result<Option<Value>, PortFault>, answer: &mut Answer) -> Result<(), CallFault> {
     match next {
         Ok(Some(value)) => answer.value(&value),
         Ok(None) => answer.name("none"),
         Err(fault) => answer.debug(&fault),
     }
+    Ok(())
 }
 
 fn call_of_link(
@@ -178,11 +204,7 @@ fn call_alone(
     answer: &mut Answer,
 ) -> Result<(), CallFault> {
     match call {
-        "send" => {
-            let batch = args.batch(alloc)?;
-            answer.done(link.send(&batch));
-            Ok(())
-        }
+        "send" => send(alloc, link, args, answer),
         "slots" => {
             answer.done(link.ask_slots());
             Ok(())
@@ -194,6 +216,17 @@ fn call_alone(
         }
         _ => moved(link.port(), call, answer),
     }
+}
+
+fn send(
+    alloc: Global,
+    link: &mut Link<Port>,
+    args: &mut Args<'_>,
+    answer: &mut Answer,
+) -> Result<(), CallFault> {
+    let batch = args.batch(alloc)?;
+    answer.done(link.send(&batch));
+    Ok(())
 }
 
 fn receive(

@@ -1,6 +1,6 @@
 //! Makes the calls that rows ask for: each line of standard input names an object, a call of it and its arguments, in the
-//! notation of `row_words`, and is answered by one line. One object of each kind is held at a time; `reset` drops them all.
-//! A line that says no call that can be made is answered `?` and why.
+//! notation of `row_words`, and is answered by one line. One object of each kind is held at a time, beside a proxy that is
+//! turned by hand; `reset` drops them all. A line that says no call that can be made is answered `?` and why.
 //!
 //! The rows stand in tests/rows, which has a table for each layer.
 #![tactic(auto)]
@@ -15,6 +15,7 @@ mod maps;
 mod nodes;
 mod objects;
 mod plans;
+mod proxy;
 mod reports;
 mod row;
 mod sessions;

@@ -34,16 +34,18 @@ impl MapObjects {
 
     pub fn table(&mut self, args: &mut Args<'_>, answer: &mut Answer) -> Result<(), CallFault> {
         match args.name()? {
-            "new" => {
-                put(&mut self.table, NodeTable::new(self.alloc));
-                answer.name("ok");
-                Ok(())
-            }
+            "new" => self.renew_table(answer),
             "intern" => intern(&mut self.table, args, answer),
             "beside" => intern_beside(&mut self.table, args, answer),
-            "endpoint" => show_endpoint(&self.table, args.node()?, answer),
+            "endpoint" => show_endpoint(&self.table, args, answer),
             _ => Err(CallFault::NoSuchCall),
         }
+    }
+
+    fn renew_table(&mut self, answer: &mut Answer) -> Result<(), CallFault> {
+        put(&mut self.table, NodeTable::new(self.alloc));
+        answer.name("ok");
+        Ok(())
     }
 
     pub fn map(
@@ -149,8 +151,12 @@ fn show_node(node: Result<NodeId, MapFault>, answer: &mut Answer) {
     }
 }
 
-fn show_endpoint(table: &NodeTable, node: NodeId, answer: &mut Answer) -> Result<(), CallFault> {
-    match table.endpoint(node) {
+fn show_endpoint(
+    table: &NodeTable,
+    args: &mut Args<'_>,
+    answer: &mut Answer,
+) -> Result<(), CallFault> {
+    match table.endpoint(args.node()?) {
         Some((host, port)) => {
             answer.bytes(host);
             answer.number(u64::from(port));

@@ -1,4 +1,4 @@
-//! The objects of a row, by name.
+//! The objects of the layers, by name.
 
 use crate::commands::CommandObjects;
 use crate::courier::CourierObjects;
@@ -19,15 +19,15 @@ use std::alloc::{AllocGlobal, Global};
 use std::random::RandomSource;
 use std::sync::Wait;
 
-/// All objects, and the runtime in which a command is carried.
+/// The objects of all layers, and the runtime in which a command is carried.
 #[derive(Drop)]
-pub struct LaneRow<J: Naming, R: Wait + Drop> {
+pub struct LayerObjects<J: Naming, R: Wait + Drop> {
     pub rt: R,
     pub lanes: LaneObjects<J, R>,
     pub others: RowObjects,
 }
 
-impl<J, R> Objects for LaneRow<J, R>
+impl<J, R> Objects for LayerObjects<J, R>
 where
     J: Naming,
     R: Wait + RandomSource + AllocGlobal + Drop,

@@ -76,10 +76,7 @@ impl PlanObjects {
 
     /// The reply that the ends become.
     fn join(&mut self, answer: &mut Answer) -> Result<(), CallFault> {
-        let Ok(planned) = planned(self.alloc, &self.words) else {
-            return Err(CallFault::NotNow);
-        };
-        let reply = joined(self.alloc, &planned, &self.ends)?;
+        let reply = joined(self.alloc, &self.words, &self.ends)?;
         answer.value(&reply);
         Ok(())
     }
@@ -88,19 +85,15 @@ impl PlanObjects {
     fn alike(&self, args: &mut Args<'_>, answer: &mut Answer) -> Result<(), CallFault> {
         let one = args.size()?;
         let other = args.size()?;
-        let Ok(Planned::Parts(_, parts)) = planned(self.alloc, &self.words) else {
-            return Err(CallFault::NotNow);
-        };
-        answer.yes_or_no(are_alike(parts.as_slice(), one, other)?);
-        Ok(())
+        match planned(self.alloc, &self.words) {
+            Ok(Planned::Parts(_, parts)) => show_alike(parts.as_slice(), one, other, answer),
+            _ => Err(CallFault::NotNow),
+        }
     }
 
     /// The reply to a request that is refused.
     fn refusal(&mut self, answer: &mut Answer) -> Result<(), CallFault> {
-        let Err(fault) = planned(self.alloc, &self.words) else {
-            return Err(CallFault::NotNow);
-        };
-        let reply = refusal(self.alloc, &fault)?;
+        let reply = refused(self.alloc, &self.words)?;
         answer.value(&reply);
         Ok(())
     }
@@ -123,7 +116,14 @@ fn planned(alloc: Global, words: &[Bytes]) -> Result<Planned, PlanFault>
     plan(alloc, words)
 }
 
-fn joined(alloc: Global, planned: &Planned, ends: &[Ended]) -> Result<Value, CallFault>
+fn joined(alloc: Global, words: &[Bytes], ends: &[Ended]) -> Result<Value, CallFault> {
+    match planned(alloc, words) {
+        Ok(planned) => joined_of(alloc, &planned, ends),
+        Err(_) => Err(CallFault::NotNow),
+    }
+}
+
+fn joined_of(alloc: Global, planned: &Planned, ends: &[Ended]) -> Result<Value, CallFault>
     requires { CanBeJoined planned.now }
 {
     match planned {
@@ -131,6 +131,13 @@ fn joined(alloc: Global, planned: &Planned, ends: &[Ended]) -> Result<Value, Cal
             Ok(join(alloc, joining, ends)?)
         }
         _ => Err(CallFault::NotNow),
+    }
+}
+
+fn refused(alloc: Global, words: &[Bytes]) -> Result<Value, CallFault> {
+    match planned(alloc, words) {
+        Ok(_) => Err(CallFault::NotNow),
+        Err(fault) => Ok(refusal(alloc, &fault)?),
     }
 }
 
@@ -174,29 +181,40 @@ fn show_parts(parts: &[Part], answer: &mut Answer) -> Result<(), CallFault> {
     Ok(())
 }
 
-fn are_alike(parts: &[Part], one: usize, other: usize) -> Result<bool, CallFault> {
+fn show_alike(
+    parts: &[Part],
+    one: usize,
+    other: usize,
+    answer: &mut Answer,
+) -> Result<(), CallFault> {
     match (parts.get(one), parts.get(other)) {
-        (Some(part), Some(other)) => Ok(part == other),
-        _ => Err(CallFault::NotMade),
+        (Some(part), Some(other)) => answer.yes_or_no(part == other),
+        _ => return Err(CallFault::NotMade),
     }
+    Ok(())
 }
 
 /// A copy of a part, and whether it is the same.
 fn copy_part(alloc: Global, args: &mut Args<'_>, answer: &mut Answer) -> Result<(), CallFault> {
     let part = args.part(alloc)?;
-    let copy = part.copy(alloc)?;
+    show_part_copy(&part, &part.copy(alloc)?, answer)
+}
+
+fn show_part_copy(part: &Part, copy: &Part, answer: &mut Answer) -> Result<(), CallFault> {
     answer.yes_or_no(copy == part);
-    answer.part(&copy)?;
-    Ok(())
+    Ok(answer.part(copy)?)
 }
 
 /// A copy of an end, and whether it is the same.
 fn copy_end(alloc: Global, args: &mut Args<'_>, answer: &mut Answer) -> Result<(), CallFault> {
     let end = args.end(alloc)?;
-    let copy = end.copy(alloc)?;
-    answer.yes_or_no(copy == end);
-    answer.end(&copy);
+    show_end_copy(&end, &end.copy(alloc)?, answer);
     Ok(())
+}
+
+fn show_end_copy(end: &Ended, copy: &Ended, answer: &mut Answer) {
+    answer.yes_or_no(copy == end);
+    answer.end(copy);
 }
 
 fn show_name(args: &mut Args<'_>, answer: &mut Answer) -> Result<(), CallFault> {

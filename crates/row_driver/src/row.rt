@@ -4,7 +4,8 @@ ghost use Rattle.std.specs.Prelude.{◌≡◌};
 ghost use Rattle.proxy_lanes.specs.Opened.{book_of};
 
 use crate::lanes::LaneObjects;
-use crate::objects::{LaneRow, RowObjects};
+use crate::objects::{LayerObjects, RowObjects};
+use crate::proxy;
 use proxy_lanes::{Naming, Opened, lanes};
 use row_words::Rows;
 use std::alloc::{AllocGlobal, Global};
@@ -12,6 +13,7 @@ use std::io::{self, BufRead, Write};
 use std::marker::Brand;
 use std::random::RandomSource;
 use std::sync::Wait;
+use std::time::Clock;
 
 /// How many workers have lanes.
 const WORKERS: u16 = 2;
@@ -19,7 +21,7 @@ const WORKERS: u16 = 2;
 /// Answers all rows.
 pub fn answer_rows<R, B, W>(rt: R, mut rows: Rows<B, W>) -> io::Result<()>
 where
-    R: Wait + RandomSource + AllocGlobal + Copy + Drop,
+    R: Wait + RandomSource + Clock + AllocGlobal + Copy + Drop,
     B: BufRead + Drop,
     W: Write + Drop,
 {
@@ -34,7 +36,7 @@ where
 /// Answers the lines of one row. It is false where that was the last one.
 fn next_row<R, B, W>(rt: R, rows: &mut Rows<B, W>) -> io::Result<bool>
 where
-    R: Wait + RandomSource + AllocGlobal + Copy + Drop,
+    R: Wait + RandomSource + Clock + AllocGlobal + Copy + Drop,
     B: BufRead,
     W: Write,
 {
@@ -44,17 +46,20 @@ where
 fn row_named<J, R, B, W>(rt: R, opened: Opened, rows: &mut Rows<B, W>) -> io::Result<bool>
 where
     J: Naming,
-    R: Wait + RandomSource + AllocGlobal + Copy + Drop,
+    R: Wait + RandomSource + Clock + AllocGlobal + Copy + Drop,
     B: BufRead,
     W: Write,
     requires { book_of opened ≡ J.book }
 {
     match lanes::<u32, J, R>(rt.alloc(), rt, opened, WORKERS) {
-        Ok((workers, carrier)) => rows.answer_row(LaneRow {
-            rt,
-            lanes: LaneObjects::new(rt.alloc(), workers, carrier),
-            others: RowObjects::new(rt.alloc()),
-        }),
+        Ok((workers, carrier)) => {
+            let layers = LayerObjects {
+                rt,
+                lanes: LaneObjects::new(rt.alloc(), workers, carrier),
+                others: RowObjects::new(rt.alloc()),
+            };
+            proxy::answer_row(rt, layers, rows)
+        }
         Err(_) => Ok(false),
     }
 }

@@ -25,25 +25,30 @@ impl SessionObjects {
         match args.name()? {
             "new" => self.renew(args, answer),
             "ready" => show_given(self.session.ready(), answer),
-            "follow" => self.follow(args.ticket()?, answer),
+            "follow" => self.follow(args, answer),
             "ended" => self.end(args, answer),
             "drain" => drain(self.alloc, &mut self.session, answer),
-            call => self.look(call, args, answer),
+            call => self.call_of_bytes(call, args, answer),
         }
     }
 
-    fn look(
+    fn call_of_bytes(
         &mut self,
         call: &str,
         args: &mut Args<'_>,
         answer: &mut Answer,
     ) -> Result<(), CallFault> {
         match call {
-            "feed" => show_fed(self.session.feed(args.bytes()?), answer),
+            "feed" => self.feed(args, answer),
             "read" => show_read(self.session.read(), answer),
-            "awaits" => answer.yes_or_no(self.session.awaits(args.ticket()?)),
-            "finished" => answer.yes_or_no(self.session.finished()),
-            _ => return Err(CallFault::NoSuchCall),
+            _ => look(&self.session, call, args, answer),
+        }
+    }
+
+    fn feed(&mut self, args: &mut Args<'_>, answer: &mut Answer) -> Result<(), CallFault> {
+        match self.session.feed(args.bytes()?) {
+            Ok(count) => answer.number(count as u64),
+            Err(fault) => answer.debug(&fault),
         }
         Ok(())
     }
@@ -61,7 +66,8 @@ impl SessionObjects {
     }
 
     // The part behind one that is out.
-    fn follow(&mut self, ticket: Ticket, answer: &mut Answer) -> Result<(), CallFault> {
+    fn follow(&mut self, args: &mut Args<'_>, answer: &mut Answer) -> Result<(), CallFault> {
+        let ticket = args.ticket()?;
         if !self.session.awaits(ticket) {
             answer.name("none");
             return Ok(());
@@ -87,18 +93,26 @@ fn tell(session: &mut Session, ticket: Ticket, end: Ended) -> &'static str {
     }
 }
 
-fn show_fed(fed: Result<usize, SessionFault>, answer: &mut Answer) {
-    match fed {
-        Ok(count) => answer.number(count as u64),
-        Err(fault) => answer.debug(&fault),
+fn look(
+    session: &Session,
+    call: &str,
+    args: &mut Args<'_>,
+    answer: &mut Answer,
+) -> Result<(), CallFault> {
+    match call {
+        "awaits" => answer.yes_or_no(session.awaits(args.ticket()?)),
+        "finished" => answer.yes_or_no(session.finished()),
+        _ => return Err(CallFault::NoSuchCall),
     }
+    Ok(())
 }
 
-fn show_read(read: Result<bool, SessionFault>, answer: &mut Answer) {
+fn show_read(read: Result<bool, SessionFault>, answer: &mut Answer) -> Result<(), CallFault> {
     match read {
         Ok(was_read) => answer.yes_or_no(was_read),
         Err(fault) => answer.debug(&fault),
     }
+    Ok(())
 }
 
 fn show_given(given: Option<(Ticket, Part)>, answer: &mut Answer) -> Result<(), CallFault> {

@@ -34,16 +34,15 @@ impl WireObjects {
     pub fn reader(&mut self, args: &mut Args<'_>, answer: &mut Answer) -> Result<(), CallFault> {
         match args.name()? {
             "new" => self.new_reader(args, answer),
-            "feed" => {
-                answer.done(self.reader.feed(args.bytes()?));
-                Ok(())
-            }
-            "next" => {
-                show_next(self.reader.next(), answer);
-                Ok(())
-            }
+            "feed" => self.feed(args, answer),
+            "next" => show_next(self.reader.next(), answer),
             _ => Err(CallFault::NoSuchCall),
         }
+    }
+
+    fn feed(&mut self, args: &mut Args<'_>, answer: &mut Answer) -> Result<(), CallFault> {
+        answer.done(self.reader.feed(args.bytes()?));
+        Ok(())
     }
 
     /// A reader within full limits, or within those of the words.
@@ -118,8 +117,9 @@ impl WireObjects {
     }
 
     fn equals(&mut self, args: &mut Args<'_>, answer: &mut Answer) -> Result<(), CallFault> {
+        let held = self.held()?;
         let other = args.value(self.alloc)?;
-        answer.yes_or_no(*self.held()? == other);
+        answer.yes_or_no(*held == other);
         Ok(())
     }
 }
@@ -141,10 +141,11 @@ fn limits_in(args: &mut Args<'_>) -> Result<Option<Limits>, CallFault> {
     Ok(Limits::new(bulk, items, depth, line))
 }
 
-fn show_next(next: Result<Option<Value>, WireFault>, answer: &mut Answer) {
+fn show_next(next: Result<Option<Value>, WireFault>, answer: &mut Answer) -> Result<(), CallFault> {
     match next {
         Ok(Some(value)) => answer.value(&value),
         Ok(None) => answer.name("none"),
         Err(fault) => answer.debug(&fault),
     }
+    Ok(())
 }

@@ -25,7 +25,7 @@ impl Answer {
         self.alloc
     }
 
-    /// The words so far, or None where some of them found no memory.
+    /// The words of the line so far, or None where some of them found no memory.
     pub fn text(&self) -> Option<&str> {
         if self.cut {
             return None;
@@ -36,6 +36,7 @@ impl Answer {
     /// Begins a new line.
     pub fn clear(&mut self) {
         self.text.clear();
+        self.cut = false;
     }
 
     /// A word that needs no quotes.

@@ -25,6 +25,14 @@ pub struct Rows<B, W> {
     reader: B,
     writer: W,
     line: String,
+    answer: Answer,
+}
+
+/// What a line was.
+enum Line {
+    Call,
+    Reset,
+    End,
 }
 
 impl<B: BufRead, W: Write> Rows<B, W> {
@@ -34,37 +42,42 @@ impl<B: BufRead, W: Write> Rows<B, W> {
             reader,
             writer,
             line: String::new(alloc),
+            answer: Answer::new(alloc),
         }
     }
 
     /// Answers the lines of one row, by calls of these objects. It is false where that was the last one.
     pub fn answer_row<O: Objects + Drop>(&mut self, mut objects: O) -> io::Result<bool> {
-        let mut answer = Answer::new(self.alloc);
         for _ in 0..u64::MAX {
-            if !self.read_line()? {
-                return Ok(false);
+            match self.next_line()? {
+                Line::Call => self.answer_line(&mut objects)?,
+                Line::Reset => return self.end_row(),
+                Line::End => return Ok(false),
             }
-            let line = self.line.as_str().trim_end();
-            if line == "reset" {
-                self.writer.write_all(b"ok\n")?;
-                return Ok(true);
-            }
-            answer_line(self.alloc, &mut objects, line, &mut answer);
-            self.write_answer(&answer)?;
         }
         Ok(false)
     }
 
-    /// Reads the next line. It is false where there is none.
-    fn read_line(&mut self) -> io::Result<bool> {
+    fn next_line(&mut self) -> io::Result<Line> {
         self.line.clear();
-        Ok(self.reader.read_line(&mut self.line)? > 0)
+        if self.reader.read_line(&mut self.line)? == 0 {
+            return Ok(Line::End);
+        }
+        if self.line.as_str().trim_end() == "reset" {
+            return Ok(Line::Reset);
+        }
+        Ok(Line::Call)
     }
 
-    fn write_answer(&mut self, answer: &Answer) -> io::Result<()> {
-        let text = answer.text().unwrap_or("? NoMemory");
-        self.writer.write_all(text.as_bytes())?;
-        self.writer.write_all(b"\n")
+    fn answer_line<O: Objects>(&mut self, objects: &mut O) -> io::Result<()> {
+        let line = self.line.as_str().trim_end();
+        answer_call(self.alloc, objects, line, &mut self.answer);
+        write_answer(&mut self.writer, &self.answer)
+    }
+
+    fn end_row(&mut self) -> io::Result<bool> {
+        self.writer.write_all(b"ok\n")?;
+        Ok(true)
     }
 
     /// Writes out all answers.
@@ -73,8 +86,14 @@ impl<B: BufRead, W: Write> Rows<B, W> {
     }
 }
 
+fn write_answer<W: Write>(writer: &mut W, answer: &Answer) -> io::Result<()> {
+    let text = answer.text().unwrap_or("? NoMemory");
+    writer.write_all(text.as_bytes())?;
+    writer.write_all(b"\n")
+}
+
 /// Answers a line by what its call answers, or by `?` and why there is no such call.
-fn answer_line<O: Objects>(alloc: Global, objects: &mut O, line: &str, answer: &mut Answer) {
+fn answer_call<O: Objects>(alloc: Global, objects: &mut O, line: &str, answer: &mut Answer) {
     answer.clear();
     if let Err(fault) = call(alloc, objects, line, answer) {
         answer.clear();
@@ -90,7 +109,14 @@ fn call<O: Objects>(
     answer: &mut Answer,
 ) -> Result<(), CallFault> {
     let words = words_in(alloc, line.as_bytes())?;
-    let mut args = Args::new(&words);
+    call_of(objects, Args::new(&words), answer)
+}
+
+fn call_of<O: Objects>(
+    objects: &mut O,
+    mut args: Args<'_>,
+    answer: &mut Answer,
+) -> Result<(), CallFault> {
     let object = args.name()?;
     objects.call(object, &mut args, answer)?;
     if args.is_empty() {

@@ -4,6 +4,8 @@ use crate::args::{Args, number_in};
 use crate::fault::CallFault;
 use key_split::{Batch, Ended, Part, Planned, Ticket, Told, plan};
 use resp_wire::Bytes;
+use slot_hash::Slot;
+use slot_map::NodeId;
 use std::alloc::Global;
 
 impl<'a> Args<'a> {
@@ -41,10 +43,22 @@ impl<'a> Args<'a> {
     pub fn told(&mut self, alloc: Global) -> Result<Told, CallFault> {
         match self.name()? {
             "reply" => Ok(Told::Reply(self.value(alloc)?)),
-            "moved" => Ok(Told::Moved(self.slot()?, self.node()?)),
-            "ask" => Ok(Told::Ask(self.slot()?, self.node()?)),
+            "moved" => {
+                let (slot, node) = self.redirect()?;
+                Ok(Told::Moved(slot, node))
+            }
+            "ask" => {
+                let (slot, node) = self.redirect()?;
+                Ok(Told::Ask(slot, node))
+            }
             name => told_alone(name),
         }
+    }
+
+    /// A slot, and the node that a command for it is sent to.
+    fn redirect(&mut self) -> Result<(Slot, NodeId), CallFault> {
+        let slot = self.slot()?;
+        Ok((slot, self.node()?))
     }
 
     pub fn end(&mut self, alloc: Global) -> Result<Ended, CallFault> {
@@ -70,15 +84,22 @@ fn told_alone(name: &str) -> Result<Told, CallFault> {
 }
 
 fn ticket_in(word: &[u8]) -> Option<Ticket> {
-    let mut numbers = word.split(|byte| *byte == b'.');
-    let worker = number_in(numbers.next()?)?;
-    let client = number_in(numbers.next()?)?;
-    let part = number_in(numbers.next()?)?;
+    let [worker, client, part] = numbers_in(word)?;
     Some(Ticket {
         worker: u16::try_from(worker).ok()?,
         client: u32::try_from(client).ok()?,
         part,
     })
+}
+
+/// The first three numbers of a word that has `.` between them.
+fn numbers_in(word: &[u8]) -> Option<[u64; 3]> {
+    let mut pieces = word.split(|byte| *byte == b'.');
+    let mut numbers = [0; 3];
+    for number in numbers.iter_mut() {
+        *number = number_in(pieces.next()?)?;
+    }
+    Some(numbers)
 }
 
 /// The last part of a request, which is its only one where its keys are of one slot.

@@ -1,10 +1,11 @@
 //! `lane`: a worker's ends without a worker.
 
-use crate::proxy::MemoryEnds;
-use key_split::{Batch, Run, Ticket, Told};
-use proxy_lanes::{MapView, Naming};
+use crate::held::put;
+use crate::lanes::{show_node, show_told};
+use crate::proxy::memory::MemoryEnds;
+use key_split::{Batch, Run};
+use proxy_lanes::{Naming, Outlet};
 use row_words::{Answer, Args, CallFault};
-use slot_hash::Slot;
 use std::alloc::Global;
 
 /// The ends of a worker's lane, until a future takes them.
@@ -41,33 +42,29 @@ fn call_of<J: Naming>(
     answer: &mut Answer,
 ) -> Result<(), CallFault> {
     match args.name()? {
-        "post" => post(ends, run_in(alloc, args)?, answer),
-        "run" => match held.take() {
-            Some(run) => post(ends, run, answer),
-            None => return Err(CallFault::NotMade),
-        },
+        "post" => post(&mut ends.outlet, run_in(alloc, args)?, answer),
         "take" => show_told(ends.inlet.take(), answer),
-        "node" => show_node(&mut ends.view, args.slot()?, answer),
-        name => return call_of_run(alloc, held, name, args, answer),
+        "node" => show_node(&mut ends.view, args, answer),
+        name => call_of_run(alloc, &mut ends.outlet, held, name, args, answer),
     }
-    Ok(())
 }
 
-/// Puts a run together.
+/// Puts a run together, or posts it.
 fn call_of_run(
     alloc: Global,
+    outlet: &mut Outlet<Run>,
     held: &mut Option<Run>,
     name: &str,
     args: &mut Args<'_>,
     answer: &mut Answer,
 ) -> Result<(), CallFault> {
     match name {
-        "begin" => {
-            *held = Some(run_in(alloc, args)?);
-            answer.name("ok");
-            Ok(())
-        }
+        "begin" => begin(alloc, held, args, answer),
         "behind" => put_behind(held, args.batch(alloc)?, answer),
+        "run" => match held.take() {
+            Some(run) => post(outlet, run, answer),
+            None => Err(CallFault::NotMade),
+        },
         _ => Err(CallFault::NoSuchCall),
     }
 }
@@ -77,9 +74,22 @@ fn run_in(alloc: Global, args: &mut Args<'_>) -> Result<Run, CallFault> {
     Ok(Run::one(alloc, args.batch(alloc)?))
 }
 
-fn post<J: Naming>(ends: &mut MemoryEnds<J>, run: Run, answer: &mut Answer) {
-    let posted = ends.outlet.post(run).is_ok();
+fn post(outlet: &mut Outlet<Run>, run: Run, answer: &mut Answer) -> Result<(), CallFault> {
+    let posted = outlet.post(run).is_ok();
     answer.name(if posted { "ok" } else { "full" });
+    Ok(())
+}
+
+fn begin(
+    alloc: Global,
+    held: &mut Option<Run>,
+    args: &mut Args<'_>,
+    answer: &mut Answer,
+) -> Result<(), CallFault> {
+    let run = run_in(alloc, args)?;
+    put(held, Some(run));
+    answer.name("ok");
+    Ok(())
 }
 
 /// Puts a command behind those of the run, where it goes with them.
@@ -96,23 +106,4 @@ fn put_behind(held: &mut Option<Run>, batch: Batch, answer: &mut Answer) -> Resu
     }
     answer.name("ok");
     Ok(())
-}
-
-fn show_told(taken: Option<(Ticket, Told)>, answer: &mut Answer) {
-    match taken {
-        Some((ticket, told)) => {
-            answer.ticket(ticket);
-            answer.told(&told);
-        }
-        None => answer.name("none"),
-    }
-}
-
-/// The node that the published map shows for a slot.
-fn show_node<J: Naming>(view: &mut MapView<J>, slot: Slot, answer: &mut Answer) {
-    match view.node_of(slot) {
-        Ok(Some(node)) => answer.node(node),
-        Ok(None) => answer.name("none"),
-        Err(fault) => answer.debug(&fault),
-    }
 }

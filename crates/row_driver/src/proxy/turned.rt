@@ -1,6 +1,6 @@
 //! What can be turned, and workers and a carrier that are.
 
-use crate::client::SharedClient;
+use crate::proxy::client::SharedClient;
 use resp_wire::NoMemory;
 use row_words::CallFault;
 use std::cell::RefCell;

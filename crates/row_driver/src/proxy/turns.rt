@@ -1,7 +1,7 @@
 //! `turns`: clients that come, and turns of the workers and the carrier.
 
-use crate::clients::Clients;
-use crate::turned::{Hands, Turned, Turns};
+use crate::proxy::clients::Clients;
+use crate::proxy::turned::{Hands, Turned, Turns};
 use row_words::{Answer, Args, CallFault};
 
 pub fn call<W: Turned, C: Hands>(

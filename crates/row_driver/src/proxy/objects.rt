@@ -1,10 +1,10 @@
 //! The objects of a row, by name.
 
-use crate::clients::Clients;
-use crate::lane::Lane;
-use crate::nodes::SharedNodes;
-use crate::turned::{Hands, Turned, Turns};
-use crate::{future, steps, timing, turns};
+use crate::proxy::clients::Clients;
+use crate::proxy::lane::Lane;
+use crate::proxy::nodes::SharedNodes;
+use crate::proxy::turned::{Hands, Turned, Turns};
+use crate::proxy::{future, steps, timing, turns};
 use proxy_lanes::Naming;
 use row_words::{Answer, Args, CallFault, Objects};
 use std::alloc::AllocGlobal;
@@ -12,22 +12,24 @@ use std::random::RandomSource;
 use std::sync::Wait;
 use std::time::Clock;
 
-/// Workers and a carrier, with their clients and nodes, and the lane of the last worker.
+/// Workers and a carrier, with their clients and nodes, the lane of the last worker, and objects that are asked for no turn.
 #[derive(Drop)]
-pub struct TurnObjects<J: Naming, R, W, C> {
+pub struct TurnObjects<J: Naming, R, W, C, O> {
     pub rt: R,
     pub clients: Clients,
     pub nodes: SharedNodes,
     pub turned: Turns<W, C>,
     pub lane: Lane<J>,
+    pub others: O,
 }
 
-impl<J, R, W, C> Objects for TurnObjects<J, R, W, C>
+impl<J, R, W, C, O> Objects for TurnObjects<J, R, W, C, O>
 where
     J: Naming,
     R: Wait + RandomSource + Clock + AllocGlobal,
     W: Turned,
     C: Hands,
+    O: Objects,
 {
     fn call(
         &mut self,
@@ -51,7 +53,7 @@ where
             }
             "lane" => self.lane.call(args, answer),
             "nodes" => steps::call(&self.nodes, args, answer),
-            _ => Err(CallFault::NoSuchObject),
+            _ => self.others.call(object, args, answer),
         }
     }
 }

@@ -1,10 +1,10 @@
 //! Workers and a carrier of the proxy, between clients and nodes in memory.
 
-use crate::client::SharedClient;
-use crate::dial::MemoryDial;
-use crate::gate::Open;
-use crate::port::MemoryPort;
-use crate::turned::{Hands, Turned};
+use crate::proxy::client::SharedClient;
+use crate::proxy::dial::MemoryDial;
+use crate::proxy::gate::Open;
+use crate::proxy::port::MemoryPort;
+use crate::proxy::turned::{Hands, Turned};
 use node_link::Fuse;
 use proxy_lanes::{CarrierEnds, Naming, Publisher, WorkerEnds};
 use proxy_turns::{Carrier, Newcomer, Worker};

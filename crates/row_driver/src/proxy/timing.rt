@@ -1,6 +1,6 @@
 //! `time`: what a turn costs that moves nothing.
 
-use crate::turned::{Hands, Turned, Turns};
+use crate::proxy::turned::{Hands, Turned, Turns};
 use row_words::{Answer, Args, CallFault};
 use std::time::{Clock, Instant};
 

@@ -1,6 +1,6 @@
 //! `nodes`: how the nodes can be reached, how slots move, and how many commands came.
 
-use crate::nodes::{Nodes, SharedNodes};
+use crate::proxy::nodes::{Nodes, SharedNodes};
 use node_model::MoveFault;
 use row_words::{Answer, Args, CallFault};
 
@@ -26,7 +26,7 @@ fn call_of(nodes: &mut Nodes, args: &mut Args<'_>, answer: &mut Answer) -> Resul
         "fail" => nodes.calls = args.number()?,
         "longest" => nodes.behind = behind_first(args.short()?)?,
         name => {
-            show_step(step(nodes, name, args)?, answer);
+            answer.done(step(nodes, name, args)?);
             return Ok(());
         }
     }
@@ -54,11 +54,4 @@ fn step(
         "release" => nodes.cluster().release_slot(slot),
         _ => return Err(CallFault::NoSuchCall),
     })
-}
-
-fn show_step(made: Result<(), MoveFault>, answer: &mut Answer) {
-    match made {
-        Ok(()) => answer.name("ok"),
-        Err(fault) => answer.debug(&fault),
-    }
 }

@@ -1,6 +1,6 @@
 //! The clients of a row, by their numbers.
 
-use crate::client::SharedClient;
+use crate::proxy::client::SharedClient;
 use resp_wire::Bytes;
 use row_words::{Answer, Args, CallFault};
 use std::alloc::Global;
