@@ -87,7 +87,8 @@ def check(crate, crates, where, changed, functions, kept):
     """What a check of these functions says of the crate with these texts, and the seconds of a processor that it took."""
     with tempfile.TemporaryDirectory(prefix="edits-") as room:
         copy_of(crate, changed.texts, room, changed.removed)
-        words = ["nice", "-n", "10", *words_of(crate, crates, where), "--allow-holes", "--incremental", kept]
+        words = ["nice", "-n", "10", *words_of(crate, crates, where), "--incremental", kept]
+        words += ["--allow-holes"] * bool(changed.removed)
         for name in functions:
             words += ["--only", name]
         with tempfile.TemporaryFile("w+", errors="replace") as said:

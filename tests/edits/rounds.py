@@ -138,9 +138,13 @@ class Round:
         """The functions that are checked."""
         return {name for it in self.taken for name in it.stands_in} | {*self.controls.values()} - {None}
 
-    def kept_whole(self):
-        """The functions that keep their bodies."""
-        return self.asked().union(*(it.touched for it in self.taken if it.stands_in == it.functions))
+    def stubbed(self, crate, names):
+        """The round's texts, with stubs for the functions that no edit touches. An edit of a definition stands among whole ones: past
+        holes a check does not say what rests on a lemma that it refused."""
+        if any(it.alone for it in self.taken):
+            return stubs.Stubs(self.texts)
+        kept = self.asked().union(*(it.touched for it in self.taken if it.stands_in == it.functions))
+        return stubs.stubbed(self.texts, crate, names, kept)
 
 
 def next_round(waiting, crate):
@@ -188,7 +192,7 @@ def try_all(crate, crates, where, from_folder, names):
     with tempfile.TemporaryDirectory(prefix="edits-kept-") as kept:
         while waiting:
             made = next_round(waiting, crate)
-            changed = stubs.stubbed(made.texts, crate, names, made.kept_whole())
+            changed = made.stubbed(crate, names)
             said, seconds = checks.check(crate, crates, where, changed, sorted(made.asked()), kept)
             answer = verdicts.read(crate.name, said)
             outcome.rounds += 1

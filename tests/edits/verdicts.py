@@ -58,7 +58,7 @@ def read(crate, text):
             fault = None
         if told:
             answer.functions[told[1]] = told[2]
-        answer.ended |= re.match(r"only=\d+ holes=\d+", line) is not None
+        answer.ended |= re.match(r"only=\d+ (?:proved|holes)=\d+", line) is not None
     return answer
 
 
@@ -113,7 +113,7 @@ def verdict_of(answer, function):
         goals = OPEN.search(told)
         if is_own(function, name) and goals:
             return Verdict.REFUSED, goals[1].rstrip(", ")
-    if line.startswith(("no holes", "depends on a hole")):
+    if line.startswith(("proved", "no holes", "depends on a hole")):
         return Verdict.PROVED, line
     own = [it for it in answer.faults if it.file.startswith(tuple(folders_of(function)))]
     for fault in own:
