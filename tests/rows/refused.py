@@ -65,6 +65,9 @@ FIRST = 'none "' + 4096 * "x" + '"'
 # What is answered for want of memory: a fault, or by the driver that the words are no part or no plan.
 REFUSALS = ("NoMemory", "? NoMemory", "? NoPart", "? NotNow")
 
+# What is answered where a call was made and its answer found no memory.
+NOT_SHOWN = "? NotShown"
+
 TICKET = re.compile(r" ?\b\d+\.\d+\.\d+\b")
 
 
@@ -139,10 +142,10 @@ class Sweep:
         return f"{row.name}: growth {number}, at {row.calls[at][:80]}: found {odd[:80]}, wanted {wanted[:80]}"
 
     def is_of_driver(self, odd, wanted, found, behind):
-        """Whether the call was made, and the driver could not show its answer, and then no other one, or not all its tickets; or
-        its stream in memory failed, since it could not keep what was written."""
-        if odd == "? NoMemory":
-            return found == behind or set(found) <= {odd}
+        """Whether the call was made, and the driver could not show its answer, or not all its tickets; or its stream in memory
+        failed, since it could not keep what was written."""
+        if odd in (NOT_SHOWN, "? NoMemory"):
+            return found == behind
         if odd in ("PortFailed", "Failed"):
             return True
         return TICKET.sub("", wanted).strip() == TICKET.sub("", odd).strip() and found == behind

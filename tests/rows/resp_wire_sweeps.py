@@ -139,5 +139,18 @@ def long_texts_in_small_pieces():
     ]
 
 
+# Requests that are read and written back, and their bytes, whole and in pieces.
+REQUESTS_BACK, BYTES_BACK = 1_000, 30_000
+PIECES = (BYTES_BACK, 1, 16, 4_096)
+
+
+def requests_written_back():
+    """However they are cut, no request is lost, and no byte of it."""
+    row = Row("requests_written_back_whole_and_in_pieces", note=f"{REQUESTS_BACK} requests in pieces of {PIECES}")
+    for size in PIECES:
+        row.call(f"reader round {REQUESTS_BACK} {size}", f"{REQUESTS_BACK} {BYTES_BACK}")
+    return row
+
+
 def rows():
-    return [cut_at_each_place(), whole_and_byte_by_byte(), changed_bytes(), *long_texts_in_small_pieces()]
+    return [cut_at_each_place(), whole_and_byte_by_byte(), changed_bytes(), requests_written_back(), *long_texts_in_small_pieces()]

@@ -53,16 +53,27 @@ fn call_of(
     answer: &mut Answer,
 ) -> Result<(), CallFault> {
     match call {
-        "serve" => {
-            let batch = args.batch(alloc)?;
-            show_served(state.serve(&batch), answer);
+        "serve" => serve(alloc, state, args, answer),
+        "history" => {
+            answer.number(state.history().len() as u64);
+            Ok(())
         }
-        "history" => answer.number(state.history().len() as u64),
         _ => {
             let step = step_in(alloc, call, args)?;
             answer.done(state.step(&step));
+            Ok(())
         }
     }
+}
+
+fn serve(
+    alloc: Global,
+    state: &mut LocalState,
+    args: &mut Args<'_>,
+    answer: &mut Answer,
+) -> Result<(), CallFault> {
+    let batch = args.batch(alloc)?;
+    show_served(state.serve(&batch), answer);
     Ok(())
 }
 

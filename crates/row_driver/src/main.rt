@@ -17,6 +17,7 @@ mod objects;
 mod plans;
 mod proxy;
 mod reports;
+mod round;
 mod row;
 mod sessions;
 mod slots;

@@ -21,18 +21,29 @@ impl ReportObjects {
 
     pub fn call(&mut self, args: &mut Args<'_>, answer: &mut Answer) -> Result<(), CallFault> {
         match args.name()? {
-            "new" => put(&mut self.report, empty(self.alloc)),
-            "part" => self.part(args)?,
-            "end" => self.end(args)?,
-            "entry" => self.entry(args)?,
             "audit" => {
                 answer.yes_or_no(audit(self.alloc, &self.report)?);
-                return Ok(());
+                Ok(())
             }
-            _ => return Err(CallFault::NoSuchCall),
+            call => {
+                self.change(call, args)?;
+                answer.name("ok");
+                Ok(())
+            }
         }
-        answer.name("ok");
-        Ok(())
+    }
+
+    fn change(&mut self, call: &str, args: &mut Args<'_>) -> Result<(), CallFault> {
+        match call {
+            "new" => {
+                put(&mut self.report, empty(self.alloc));
+                Ok(())
+            }
+            "part" => self.part(args),
+            "end" => self.end(args),
+            "entry" => self.entry(args),
+            _ => Err(CallFault::NoSuchCall),
+        }
     }
 
     /// `part TICKET WORDS..`

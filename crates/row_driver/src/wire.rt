@@ -1,6 +1,7 @@
 //! Bytes and values: a reader, and a value that is held.
 
 use crate::held::put;
+use crate::round;
 use resp_wire::{Limits, Reader, Value, WireFault, write_value};
 use row_words::{Answer, Args, CallFault};
 use std::alloc::Global;
@@ -36,6 +37,7 @@ impl WireObjects {
             "new" => self.new_reader(args, answer),
             "feed" => self.feed(args, answer),
             "next" => show_next(self.reader.next(), answer),
+            "round" => round::call(self.alloc, args, answer),
             _ => Err(CallFault::NoSuchCall),
         }
     }

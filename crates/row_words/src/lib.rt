@@ -14,7 +14,8 @@
 //! protocol are such a word; a ticket is WORKER.CLIENT.PART; a batch is `TICKET NODE plain|asking WORDS..`; what a command
 //! is told is `reply BYTES`, `moved SLOT NODE`, `ask SLOT NODE`, `tryagain`, `clusterdown`, `unclear`, `lost` or `unsent`,
 //! and an end is `answered BYTES`, `gaveup` or `lost`. Answers are words of the same kinds, and a value in them is
-//! `simple TEXT`, `error TEXT`, `integer NUMBER`, `bulk BYTES`, `null`, `nullarray` or `array [ VALUE.. ]`.
+//! `simple TEXT`, `error TEXT`, `integer NUMBER`, `bulk BYTES`, `null`, `nullarray` or `array [ VALUE.. ]`. An answer for
+//! which there is no memory is `? NotShown`.
 #![tactic(auto)]
 
 mod answer;

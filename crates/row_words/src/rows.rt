@@ -86,8 +86,9 @@ impl<B: BufRead, W: Write> Rows<B, W> {
     }
 }
 
+/// Writes the answer's line, or that the call was made and its answer found no memory.
 fn write_answer<W: Write>(writer: &mut W, answer: &Answer) -> io::Result<()> {
-    let text = answer.text().unwrap_or("? NoMemory");
+    let text = answer.text().unwrap_or("? NotShown");
     writer.write_all(text.as_bytes())?;
     writer.write_all(b"\n")
 }

@@ -31,14 +31,13 @@ where
     R: Wait + RandomSource + AllocGlobal,
     C: Turned,
 {
-    if args.name()? != "run" {
-        return Err(CallFault::NoSuchCall);
-    }
-    let count = args.client()?;
-    let gate = gate_in(lane.alloc, carrier, clients, args)?;
-    match lane.ends.take() {
-        Some(own) => run(rt, own, &gate, count, answer),
-        None => Err(CallFault::NotNow),
+    match args.name()? {
+        "run" => {
+            let count = args.client()?;
+            let gate = gate_in(lane.alloc, carrier, clients, args)?;
+            run_over(rt, lane, &gate, count, answer)
+        }
+        _ => Err(CallFault::NoSuchCall),
     }
 }
 
@@ -73,6 +72,24 @@ fn injected_in(
         after,
         bytes,
     }))
+}
+
+fn run_over<J, R, C>(
+    rt: &R,
+    lane: &mut Lane<J>,
+    gate: &TurningGate<'_, C>,
+    clients: u32,
+    answer: &mut Answer,
+) -> Result<(), CallFault>
+where
+    J: Naming,
+    R: Wait + RandomSource + AllocGlobal,
+    C: Turned,
+{
+    match lane.ends.take() {
+        Some(own) => run(rt, own, gate, clients, answer),
+        None => Err(CallFault::NotNow),
+    }
 }
 
 fn run<J, R, C>(

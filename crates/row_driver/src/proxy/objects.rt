@@ -39,20 +39,38 @@ where
     ) -> Result<(), CallFault> {
         match object {
             "turns" => turns::call(&mut self.turned, &mut self.clients, args, answer),
-            "time" => timing::call(&self.rt, &mut self.turned, args, answer),
-            "future" => {
-                let carrier = &self.turned.carrier;
-                future::call(
-                    &self.rt,
-                    &mut self.lane,
-                    carrier,
-                    &self.clients,
-                    args,
-                    answer,
-                )
-            }
             "lane" => self.lane.call(args, answer),
             "nodes" => steps::call(&self.nodes, args, answer),
+            _ => self.call_of_runtime(object, args, answer),
+        }
+    }
+}
+
+impl<J, R, W, C, O> TurnObjects<J, R, W, C, O>
+where
+    J: Naming,
+    R: Wait + RandomSource + Clock + AllocGlobal,
+    W: Turned,
+    C: Hands,
+    O: Objects,
+{
+    /// A call that needs the runtime, or of another object.
+    fn call_of_runtime(
+        &mut self,
+        object: &str,
+        args: &mut Args<'_>,
+        answer: &mut Answer,
+    ) -> Result<(), CallFault> {
+        match object {
+            "time" => timing::call(&self.rt, &mut self.turned, args, answer),
+            "future" => future::call(
+                &self.rt,
+                &mut self.lane,
+                &self.turned.carrier,
+                &self.clients,
+                args,
+                answer,
+            ),
             _ => self.others.call(object, args, answer),
         }
     }

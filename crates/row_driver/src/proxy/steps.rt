@@ -17,21 +17,26 @@ pub fn call(
 
 fn call_of(nodes: &mut Nodes, args: &mut Args<'_>, answer: &mut Answer) -> Result<(), CallFault> {
     match args.name()? {
-        "served" => {
-            answer.number(nodes.served);
-            return Ok(());
-        }
+        "served" => answer.number(nodes.served),
+        name => answer.done(change(nodes, name, args)?),
+    }
+    Ok(())
+}
+
+/// Changes how the nodes can be reached, or makes a step of a slot's move.
+fn change(
+    nodes: &mut Nodes,
+    name: &str,
+    args: &mut Args<'_>,
+) -> Result<Result<(), MoveFault>, CallFault> {
+    match name {
         "refuse" => nodes.refuses = true,
         "leave" => nodes.listens = false,
         "fail" => nodes.calls = args.number()?,
         "longest" => nodes.behind = behind_first(args.short()?)?,
-        name => {
-            answer.done(step(nodes, name, args)?);
-            return Ok(());
-        }
+        _ => return step(nodes, name, args),
     }
-    answer.name("ok");
-    Ok(())
+    Ok(Ok(()))
 }
 
 /// How many commands go behind the first of so many.

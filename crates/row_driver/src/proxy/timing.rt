@@ -20,15 +20,27 @@ pub fn call<R: Clock, W: Turned, C: Hands>(
 ) -> Result<(), CallFault> {
     let who = who_in(args)?;
     let count = args.number()?;
+    match nanoseconds_of(rt, turned, who, count)? {
+        Some(spent) => answer.number(spent / count.max(1)),
+        None => answer.name("moved"),
+    }
+    Ok(())
+}
+
+/// How long so many turns took, or None where one of them moved something.
+fn nanoseconds_of<R: Clock, W: Turned, C: Hands>(
+    rt: &R,
+    turned: &mut Turns<W, C>,
+    who: Who,
+    count: u64,
+) -> Result<Option<u64>, CallFault> {
     let Ok(start) = Instant::now(rt) else {
         return Err(CallFault::NotNow);
     };
     if turn(turned, who, count)? {
-        answer.name("moved");
-        return Ok(());
+        return Ok(None);
     }
-    answer.number(nanoseconds_since(rt, start)? / count.max(1));
-    Ok(())
+    Ok(Some(nanoseconds_since(rt, start)?))
 }
 
 fn who_in(args: &mut Args<'_>) -> Result<Who, CallFault> {

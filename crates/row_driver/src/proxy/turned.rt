@@ -60,12 +60,12 @@ impl<W: Turned, C: Hands> Turns<W, C> {
     }
 
     /// One turn of the carrier.
-    pub fn turn_carrier(&mut self) -> Result<bool, NoMemory> {
-        self.carrier.get_mut().turn()
+    pub fn turn_carrier(&mut self) -> Result<bool, CallFault> {
+        Ok(self.carrier.get_mut().turn()?)
     }
 
     /// So many turns of each. True where something moved.
-    pub fn turn_all(&mut self, count: u64) -> Result<bool, NoMemory> {
+    pub fn turn_all(&mut self, count: u64) -> Result<bool, CallFault> {
         let mut moved = false;
         for _ in 0..count {
             moved |= self.turn_workers()?;

@@ -15,11 +15,14 @@ pub fn call<W: Turned, C: Hands>(
         "hears" => clients.hears(args, answer),
         "held" => clients.show_held(args, answer),
         name => {
-            let moved = turn(turned, name, args)?;
-            answer.name(if moved { "moved" } else { "rests" });
+            show_moved(turn(turned, name, args)?, answer);
             Ok(())
         }
     }
+}
+
+fn show_moved(moved: bool, answer: &mut Answer) {
+    answer.name(if moved { "moved" } else { "rests" });
 }
 
 /// `client WORKER NUMBER BYTES`
@@ -31,10 +34,21 @@ fn come<W: Turned, C: Hands>(
 ) -> Result<(), CallFault> {
     let worker = args.short()?;
     let number = args.client()?;
-    let port = clients.add(number, args.bytes()?)?;
-    let handed = turned.hand(worker, number, port)?;
+    let handed = hand(turned, clients, worker, number, args.bytes()?)?;
     answer.name(if handed { "ok" } else { "full" });
     Ok(())
+}
+
+/// Hands a new client that sends these bytes to its worker. False where its lane is full.
+fn hand<W: Turned, C: Hands>(
+    turned: &mut Turns<W, C>,
+    clients: &mut Clients,
+    worker: u16,
+    number: u32,
+    bytes: &[u8],
+) -> Result<bool, CallFault> {
+    let port = clients.add(number, bytes)?;
+    turned.hand(worker, number, port)
 }
 
 /// Makes some turns. True where something moved.
@@ -45,8 +59,8 @@ fn turn<W: Turned, C: Hands>(
 ) -> Result<bool, CallFault> {
     match name {
         "worker" => turned.turn_worker(usize::from(args.short()?)),
-        "carrier" => Ok(turned.turn_carrier()?),
-        "all" => Ok(turned.turn_all(args.number()?)?),
+        "carrier" => turned.turn_carrier(),
+        "all" => turned.turn_all(args.number()?),
         _ => Err(CallFault::NoSuchCall),
     }
 }

@@ -1,0 +1,86 @@
+//! Requests that are read in pieces and written back.
+
+ghost use Rattle.std.specs.Prelude.{◌<◌};
+
+use resp_wire::{Limits, Reader, Value, WireFault, write_value};
+use row_words::{Answer, Args, CallFault};
+use std::alloc::{AllocError, Global};
+
+/// A reader, and what came of the values that it gave.
+#[derive(Drop)]
+struct Round {
+    reader: Reader,
+    /// The last value, written back.
+    out: Vec<u8>,
+    /// Values that were read.
+    values: u64,
+    /// Bytes that they were written back in.
+    bytes: u64,
+}
+
+/// `COUNT SIZE`: reads so many requests in pieces of so many bytes, and writes each back. Answers how many values came, and
+/// how many bytes were written.
+pub fn call(alloc: Global, args: &mut Args<'_>, answer: &mut Answer) -> Result<(), CallFault> {
+    let text = requests(alloc, args.number()?)?;
+    let mut round = Round::new(alloc);
+    match round.read_all(&text, args.size()?.max(1)) {
+        Ok(()) => {
+            answer.number(round.values);
+            answer.number(round.bytes);
+        }
+        Err(fault) => answer.debug(&fault),
+    }
+    Ok(())
+}
+
+/// So many requests for a key of ten bytes.
+fn requests(alloc: Global, count: u64) -> Result<Vec<u8>, AllocError> {
+    let mut text = Vec::new(alloc);
+    for _ in 0..count {
+        text.extend_from_slice(b"*2\r\n$3\r\nGET\r\n$10\r\nkey:001234\r\n")?;
+    }
+    Ok(text)
+}
+
+impl Round {
+    fn new(alloc: Global) -> Round {
+        Round {
+            reader: Reader::new(alloc, Limits::full()),
+            out: Vec::new(alloc),
+            values: 0,
+            bytes: 0,
+        }
+    }
+
+    /// Reads a text in pieces of so many bytes.
+    fn read_all(&mut self, text: &[u8], size: usize) -> Result<(), WireFault>
+        requires { 0 < size }
+    {
+        for piece in text.chunks(size) {
+            self.reader.feed(piece)?;
+            self.write_back()?;
+        }
+        Ok(())
+    }
+
+    /// Takes the values that are whole, and writes each.
+    fn write_back(&mut self) -> Result<(), WireFault> {
+        for _ in 0..u64::MAX {
+            match self.reader.next()? {
+                Some(value) => self.write(&value)?,
+                None => return Ok(()),
+            }
+        }
+        Ok(())
+    }
+
+    fn write(&mut self, value: &Value) -> Result<(), WireFault> {
+        self.out.clear();
+        if write_value(&mut self.out, value).is_err() {
+            return Err(WireFault::NoMemory);
+        }
+        self.values = self.values.saturating_add(1);
+        self.bytes = self.bytes.saturating_add(self.out.len() as u64);
+        Ok(())
+    }
+}
