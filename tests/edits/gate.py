@@ -24,7 +24,7 @@ FREE = 5_000_000_000
 # Rounds that run at once while `rt ci` still runs.
 BESIDE = 2
 # A program of tests that tests/program runs once more.
-TESTS = "run_threads_tests"
+TESTS = "thread_tests_tests"
 # What the last run of the gate took.
 TOOK = Path(__file__).resolve().parent / "out/took.txt"
 

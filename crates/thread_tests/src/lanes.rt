@@ -1,6 +1,6 @@
 //! One lane: between two threads, and when it is finished.
 
-use crate::runs::run;
+use crate::numbered::run;
 use key_split::Run;
 use proxy_lanes::{Inlet, Outlet, lane};
 use std::alloc::Global;

@@ -1,5 +1,5 @@
 use Rattle.proxy_lanes.specs.Opened.{book_of}
-use Rattle.lane_threads.proofs.maps.another_thread_sees_what_it_learnt.Given as goal
+use Rattle.thread_tests.proofs.maps.another_thread_sees_what_it_learnt.Given as goal
 
 -- the history that was just opened
 abbrev pub ghosts-learns : goal.ghosts-learns
