@@ -1,0 +1,9 @@
+mod Refining
+mod Numbers
+mod Breaking
+mod Served
+mod Swapping
+mod Turning
+mod Playing
+mod Orders
+mod Starting

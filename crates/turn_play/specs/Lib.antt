@@ -1,0 +1,11 @@
+pub mod May
+pub mod Played
+pub mod Turns
+pub mod Waiting
+pub mod Port
+pub mod Serving
+pub mod Playing
+pub mod Moving
+pub mod Play
+pub mod Dialling
+pub mod Starting
