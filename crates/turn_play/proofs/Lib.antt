@@ -1,9 +1,10 @@
 mod Refining
 mod Numbers
 mod Breaking
-mod Served
 mod Swapping
 mod Turning
 mod Playing
-mod Orders
+mod Obeyed
 mod Starting
+mod Kept
+mod Said

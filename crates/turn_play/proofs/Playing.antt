@@ -1,6 +1,6 @@
 -- What each order does is steps of a system.
 use Rattle.std.proofs.Common.{◌≡◌, inl, inr, ℕ, zero, suc, Bool, true, false, List, [], ◌∷◌, ◌++◌, Some, Ok, refl, sym, ap, ◌∙◌, subst}
-use Rattle.std.specs.Prelude.{slice_get, slice_set}
+use Rattle.std.specs.Prelude.{Result, Err, slice_get, slice_set}
 use Rattle.resp_wire.specs.declared.value.Value.{Value}
 use Rattle.slot_map.specs.Table.{Endpoint}
 use Rattle.node_model.specs.Nodes.{ClusterModel}
@@ -12,15 +12,17 @@ use Rattle.proxy_turns.specs.WorkerModel.{WorkerModel}
 use Rattle.proxy_turns.specs.CarrierModel.{CarrierModel}
 use Rattle.proxy_turns.specs.Swapping.{SwapOutcome, with_port}
 use Rattle.world_laws.specs.declared.event.Event.{Event}
-use Rattle.turn_laws.specs.Wire.{Wire, Item, Execution, executions}
+use Rattle.turn_laws.specs.Wire.{Wire, Item, Asks, Runs, Lists, Execution, executions, parts_in}
 use Rattle.turn_laws.specs.System.{System}
 use Rattle.turn_laws.specs.Steps.{AtNode, Moved, log_of}
 use Rattle.turn_laws.specs.AnyPort.{IsWired, AreWired, over_link, link_over, over_backend, over_backends, over_wires}
+use Rattle.turn_play.specs.declared.fault.PlayFault.{PlayFault}
 use Rattle.turn_play.specs.May.{MayServeNext, ClusterMoves}
 use Rattle.turn_play.specs.Played.{Step, Leads, PlaysRefine}
 use Rattle.turn_play.specs.Turns.{PlaysWorker, ShowsCarrier, PlaysCarrier}
 use Rattle.turn_play.specs.Port.{PortModel, IsEnd}
-use Rattle.turn_play.specs.Serving.{PortServes, Replies, DidServe, ServesAt, BreaksAt}
+use Rattle.turn_play.specs.Waiting.{asking_after}
+use Rattle.turn_play.specs.Serving.{IsSaid, PortServes, ServeOutcome, ServesAt, BreaksAt, okay}
 use Rattle.turn_play.specs.Playing.{PlayModel, PlaysTo, PlaysSoundly}
 use Rattle.turn_play.proofs.Turning.{set-itself}
 
@@ -58,49 +60,54 @@ abbrev Served : List Endpoint → ClusterModel → ℕ → Wire → Verdict → 
 Served table k node wire verdict k' port' =
     (wire' : Wire) × (values : List Value) × (done : List Execution) × MayServeNext table k node wire verdict k' wire' values done × (wire'.values ≡ wire.values ++ values) × IsEnd port' wire'
 
-module _ (table : List Endpoint) (k : ClusterModel) (node : ℕ) (port : PortModel) (wire : Wire) (on : IsEnd port wire) (verdict : Verdict) (k' : ClusterModel) (port' : PortModel) where
-  ends : (rest : List Item) (asking : Bool) (value : Value) → Replies (record port { items = rest }) asking value port' → IsEnd port' (record wire { items = rest; values = wire.values ++ value ∷ []; asking = asking })
-  ends rest asking value x = (
+module _ (table : List Endpoint) (k : ClusterModel) (node : ℕ) (port : PortModel) (wire : Wire) (on : IsEnd port wire) (verdict : Verdict) (k' : ClusterModel) (port' : PortModel) (rest : List Item) (said : List Value) where
+  -- the wire after it, and the port at its end
+  ends : (asking : Bool) → port' ≡ record port { items = rest; values = port.values ++ said; asking = asking } → IsEnd port' (record wire { items = rest; values = wire.values ++ said; asking = asking })
+  ends asking x = (
     ap (λ (p : PortModel). p.items) x,
-    ap (λ (p : PortModel). p.values) x ∙ ap (λ values. values ++ value ∷ []) on.1,
+    ap (λ (p : PortModel). p.values) x ∙ ap (λ values. values ++ said) on.1,
     ap (λ (p : PortModel). p.asking) x,
   )
 
-  served : PortServes table k node port verdict k' port' → Served table k node wire verdict k' port'
-  served (inl x) = (
-    record wire { items = x.0; values = wire.values ++ x.1 ∷ []; asking = true },
-    x.1 ∷ [],
+  by-item : (first : Item) → port.items ≡ first ∷ rest → IsSaid table k node port.asking first verdict k' said → port' ≡ record port { items = rest; values = port.values ++ said; asking = asking_after first port.asking }
+      → Served table k node wire verdict k' port'
+  by-item Asks is says x = (
+    record wire { items = rest; values = wire.values ++ said; asking = true },
+    said,
     [],
-    inl (x.0, x.1, sym on.0 ∙ x.2, refl, x.3, refl, refl),
+    inl (rest, okay, sym on.0 ∙ is, says.1, says.0, refl, refl),
     refl,
-    ends x.0 true x.1 x.4,
+    ends true x,
   )
-  served (inr (inl x)) = (
-    record wire { items = x.0; values = wire.values ++ x.2 ∷ []; asking = false },
-    x.2 ∷ [],
-    executions (x.1 ∷ []) (x.4.0 ∷ []),
+  by-item (Runs parts) is says x = (
+    record wire { items = rest; values = wire.values ++ said; asking = false },
+    said,
+    executions parts says.0,
     inr (inl (
-      x.0,
-      x.1 ∷ [],
-      x.4.0 ∷ [],
-      sym on.0 ∙ x.3,
-      x.4.1,
-      subst (λ (b : Bool). DoesRun (deed_for k node b (x.1.1 ∷ []) verdict) k node (x.1.1 ∷ []) (x.4.0 ∷ []) k') on.2 x.4.2,
-      (x.4.3, tt),
+      rest,
+      parts,
+      says.0,
+      sym on.0 ∙ is,
+      says.1,
+      subst (λ (b : Bool). DoesRun (deed_for k node b (parts_in parts) verdict) k node (parts_in parts) says.0 k') on.2 says.2,
+      says.3,
       refl,
       refl,
     )),
     refl,
-    ends x.0 false x.2 x.5,
+    ends false x,
   )
-  served (inr (inr x)) = (
-    record wire { items = x.0; values = wire.values ++ x.1 ∷ [] },
-    x.1 ∷ [],
+  by-item Lists is says x = (
+    record wire { items = rest; values = wire.values ++ said },
+    said,
     [],
-    inr (inr (x.0, x.1, sym on.0 ∙ x.2, refl, x.3, refl, refl)),
+    inr (inr (rest, says.0, sym on.0 ∙ is, says.2, says.1, refl, refl)),
     refl,
-    subst (λ (b : Bool). IsEnd port' (record wire { items = x.0; values = wire.values ++ x.1 ∷ []; asking = b })) on.2 (ends x.0 port.asking x.1 x.4),
+    subst (λ (b : Bool). IsEnd port' (record wire { items = rest; values = wire.values ++ said; asking = b })) on.2 (ends port.asking x),
   )
+
+served : (table : List Endpoint) (k : ClusterModel) (node : ℕ) (port : PortModel) (wire : Wire) → IsEnd port wire → (verdict : Verdict) (k' : ClusterModel) (port' : PortModel) → PortServes table k node port verdict k' port' → Served table k node wire verdict k' port'
+served table k node port wire on verdict k' port' x = by-item table k node port wire on verdict k' port' x.1 x.2 x.0 x.3 x.4 x.5
 
 -- ---- a play
 
@@ -191,7 +198,7 @@ module _ {C J : Type 0} where
 
   -- it is broken
   pub broke : (old : PlayModel C J) (node : ℕ) (new : CarrierModel (Newcomer C J) PortModel) → BreaksAt node old.carrier new → PlaysTo old (record old { carrier = new })
-  broke old node new (inl same) s shows = (s, ([], refl), record { workers = shows.workers; carrier = subst (λ (c : CarrierModel (Newcomer C J) PortModel). ShowsCarrier IsEnd c s) (sym same) shows.carrier; cluster = shows.cluster; nodes = shows.nodes })
+  broke old node new (inl same) s shows = (s, ([], refl), record { workers = shows.workers; carrier = subst (λ (c : CarrierModel (Newcomer C J) PortModel). ShowsCarrier IsEnd c s) (sym same.1) shows.carrier; cluster = shows.cluster; nodes = shows.nodes })
   broke old node new (inr x) s shows =
       let end = at-end old.carrier new node x.0 (record x.0 { broken = true }) x.1 s shows.carrier in
       let its = its-end old.carrier new node x.0 (record x.0 { broken = true }) x.1 s shows.carrier in
@@ -251,11 +258,16 @@ module _ {C J : Type 0} where
         },
       )
 
-  did-serve : (old : PlayModel C J) (node : ℕ) (verdict : Verdict) (k : ClusterModel) (new : CarrierModel (Newcomer C J) PortModel) (port port' : PortModel) (moved : Bool) → SwapOutcome node old.carrier port' (Ok port) new → DidServe old.nodes old.cluster node port verdict moved k port'
+  did-serve : (old : PlayModel C J) (node : ℕ) (verdict : Verdict) (k : ClusterModel) (new : CarrierModel (Newcomer C J) PortModel) (port port' : PortModel) (moved : Bool) → SwapOutcome node old.carrier port' (Ok port) new → ServeOutcome old.nodes old.cluster node port verdict (Ok moved) k port'
       → PlaysTo old (record old { carrier = new; cluster = k })
   did-serve old node verdict k new port port' true x y = served-at old node verdict k new port port' x y
-  did-serve old node verdict k new port port' false x y = idle-at old node k new port port' x y.0 y.1
+  did-serve old node verdict k new port port' false x y = idle-at old node k new port port' x y.1 y.2
 
-  pub serves : (old : PlayModel C J) (node : ℕ) (verdict : Verdict) (k : ClusterModel) (new : CarrierModel (Newcomer C J) PortModel) → ServesAt old.nodes old.cluster node old.carrier verdict k new → PlaysTo old (record old { carrier = new; cluster = k })
-  serves old node verdict k new (inl same) = λ s shows. (s, ([], refl), record { workers = shows.workers; carrier = subst (λ (c : CarrierModel (Newcomer C J) PortModel). ShowsCarrier IsEnd c s) (sym same.1) shows.carrier; cluster = shows.cluster ∙ sym same.0; nodes = shows.nodes })
-  serves old node verdict k new (inr x) = did-serve old node verdict k new x.0 x.1 x.2 x.3 x.4
+  -- nothing has changed
+  stays : (old : PlayModel C J) (k : ClusterModel) (new : CarrierModel (Newcomer C J) PortModel) → k ≡ old.cluster → new ≡ old.carrier → PlaysTo old (record old { carrier = new; cluster = k })
+  stays old k new same same-carrier s shows = (s, ([], refl), record { workers = shows.workers; carrier = subst (λ (c : CarrierModel (Newcomer C J) PortModel). ShowsCarrier IsEnd c s) (sym same-carrier) shows.carrier; cluster = shows.cluster ∙ sym same; nodes = shows.nodes })
+
+  pub serves : (old : PlayModel C J) (node : ℕ) (verdict : Verdict) (result : Result (Unit {0}) PlayFault) (k : ClusterModel) (new : CarrierModel (Newcomer C J) PortModel) → ServesAt old.nodes old.cluster node old.carrier verdict result k new → PlaysTo old (record old { carrier = new; cluster = k })
+  serves old node verdict (Ok u) k new (inl x) = stays old k new x.1 x.2
+  serves old node verdict (Ok u) k new (inr x) = did-serve old node verdict k new x.0 x.1 x.2 x.3 x.4
+  serves old node verdict (Err why) k new x = stays old k new x.3 x.4

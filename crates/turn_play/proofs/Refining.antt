@@ -22,6 +22,7 @@ use Rattle.turn_laws.specs.System.{System}
 use Rattle.turn_laws.specs.Shadow.{IsShadow, IsWorking}
 use Rattle.turn_laws.specs.Steps.{SystemEvent, AtWorker, AtCarrier, AtNode, AtBroken, Thrown, Moved, SystemStep, WorkerStep, Serves, MovesOn}
 use Rattle.turn_laws.specs.Refines.{Refines, IsStart}
+use Rattle.turn_laws.specs.LogHeadline.{HeadlineOfLogs, LogsAreHeld}
 use Rattle.turn_play.specs.May.{MayStep, WorkerMay, ServesMay, MayServeNext, ClusterMoves, AreWritten, IsReadBack, MayMoveNow, MayNow, IsInOrder}
 use Rattle.turn_play.specs.Played.{Step, events_of, Leads, AreInOrder, PlaysRefine}
 
@@ -124,9 +125,9 @@ module _ (C J : Type 0) (refines : Refines C J) (start : System C J) (fresh : Is
       let x = step-holds s step.next r.0 r.2 step.event go.0 order.0 order.1 in
       (step.next, x, along (before ++ step.event ∷ []) step.next s' steps (folds-on before start s step.event step.next f x) go.1 order.2)
 
-module _ (C J : Type 0) (refines : Refines C J) where
+module _ (C J : Type 0) (refines : Refines C J) (headline : HeadlineOfLogs C J) (held : LogsAreHeld C J) where
   pub plays-refine : PlaysRefine C J
   plays-refine start s' steps fresh go order =
       let f = along C J refines start fresh [] start s' steps refl go order in
-      let r = refines start s' (events_of steps) fresh f in
-      (f, r.0, r.1, r.2, r.3)
+      let events = events_of steps in
+      (f, headline start s' events fresh f, held start s' events fresh f, refines start s' events fresh f)

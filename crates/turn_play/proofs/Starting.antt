@@ -1,6 +1,6 @@
 -- A play over new lanes begins at a start.
 use Rattle.std.proofs.Common.{◌≡◌, ℕ, zero, suc, ◌+◌, List, [], ◌∷◌, ◌++◌, Some, None, refl, sym, ap, ◌∙◌, subst, arith, length}
-use Rattle.std.specs.Prelude.{Option, IsSome, IsSomeAnd, map, drop, slice_get}
+use Rattle.std.specs.Prelude.{Option, IsSome, IsSomeAnd, map, drop, slice_get, slice_set}
 use Rattle.key_split.specs.declared.travel.Ticket.{Ticket}
 use Rattle.key_split.specs.declared.travel.Told.{Told}
 use Rattle.proxy_lanes.specs.declared.ring.Outlet.{Outlet}
@@ -14,7 +14,9 @@ use Rattle.proxy_turns.specs.WorkerModel.{WorkerModel}
 use Rattle.proxy_turns.specs.Worker.{new_worker}
 use Rattle.turn_laws.specs.System.{between, IsInStep}
 use Rattle.turn_laws.specs.Shadow.{down_in, DownInStep, seat_of}
-use Rattle.turn_play.specs.Starting.{AreOpenAt, AreOpenFrom, workers_on, PlaysStart}
+use Rattle.proxy_lanes.specs.Carrier.{AreLanesFrom}
+use Rattle.proxy_lanes.specs.Ends.{HandsOver}
+use Rattle.turn_play.specs.Starting.{AreOpenAt, AreOpenFrom, workers_on, PlaysStart, LanesAreOpen, HandingKeeps}
 
 module _ {T : Type 0} where
   nothing-between : (outlet : Outlet T) (inlet : Inlet T) → IsNewLane outlet inlet → between outlet inlet ≡ []
@@ -94,7 +96,7 @@ module _ {C J : Type 0} (left : Option ℕ) (ends : List (WorkerEnds (Newcomer C
 
 module _ (C J : Type 0) where
   pub plays-start : PlaysStart C J
-  plays-start left ends lanes table cluster nodes are new listed = (
+  plays-start left ends lanes published table cluster nodes begins = let are = begins.are_open in (
     record { workers = refl; carrier = ([], tt, refl); cluster = refl; nodes = refl },
     record {
       idle = λ k model at.
@@ -116,14 +118,48 @@ module _ (C J : Type 0) where
           is-some lane.down r.0.inlet r.2.3;
       pending_runs = refl;
       backends = refl;
-      each = listed.each;
-      apart = listed.apart;
-      room = listed.room;
-      table = listed.front;
-      seed = listed.seed;
-      published = refl;
+      each = begins.listed.each;
+      apart = begins.listed.apart;
+      room = begins.listed.room;
+      table = begins.listed.front;
+      seed = begins.listed.seed;
+      published = begins.none_published;
       closed = refl;
       log = refl;
-      new = new;
+      new = begins.is_new;
     },
   )
+
+-- ---- lanes that were made, and clients that were handed over
+
+module _ {H J : Type 0} (workers : ℕ) where
+  made-open : (k : ℕ) (ends : List (WorkerEnds H J)) (lanes : List (LaneEnds H)) → AreLanesFrom workers k ends lanes → AreOpenFrom workers k ends lanes
+  made-open k [] [] are = tt
+  made-open k [] (l ∷ lanes) are = are
+  made-open k (e ∷ ends) [] are = are
+  made-open k (e ∷ ends) (l ∷ lanes) are = ((are.0.0, are.0.1, are.0.2, are.0.3), made-open (k + 1) ends lanes are.1)
+
+  -- a lane whose door alone has changed is still open
+  still-open : (k : ℕ) (e : WorkerEnds H J) (l l' : LaneEnds H) → l' ≡ record l { door = l'.door } → AreOpenAt workers k e l → AreOpenAt workers k e l'
+  still-open k e l l' same of = (
+    of.0,
+    of.1,
+    subst (λ up. IsNewLane e.outlet up) (sym (ap (λ (x : LaneEnds H). x.up) same)) of.2,
+    subst (λ down. IsSomeAnd down (λ outlet. IsNewLane outlet e.inlet)) (sym (ap (λ (x : LaneEnds H). x.down) same)) of.3,
+  )
+
+  handed-at : (k : ℕ) (ends : List (WorkerEnds H J)) (lanes : List (LaneEnds H)) (worker : ℕ) (l l' : LaneEnds H) → AreOpenFrom workers k ends lanes → slice_get lanes worker ≡ Some l → l' ≡ record l { door = l'.door }
+      → AreOpenFrom workers k ends (slice_set lanes worker l')
+  handed-at k [] [] worker l l' are at same = tt
+  handed-at k [] (m ∷ lanes) worker l l' are at same = absurd are
+  handed-at k (e ∷ ends) [] worker l l' are at same = are
+  handed-at k (e ∷ ends) (m ∷ lanes) zero l l' are at same = (still-open k e l l' same (subst (λ x. AreOpenAt workers k e x) (one-thing m l at) are.0), are.1)
+  handed-at k (e ∷ ends) (m ∷ lanes) (suc worker) l l' are at same = (are.0, handed-at (k + 1) ends lanes worker l l' are.1 at same)
+
+module _ (H J : Type 0) where
+  pub lanes-are-open : LanesAreOpen H J
+  lanes-are-open workers ends lanes size are = subst (λ n. AreOpenFrom n 0 ends lanes) (sym size) (made-open workers 0 ends lanes are)
+
+  pub handing-keeps : HandingKeeps H J
+  handing-keeps workers k ends old new worker client handed are x =
+      subst (λ lanes. AreOpenFrom workers k ends lanes) (sym x.3) (handed-at workers k ends old worker x.0 x.1 are x.2 x.4.0)

@@ -16,13 +16,13 @@ use Rattle.proxy_turns.specs.declared.newcomer.Newcomer.{Newcomer}
 use Rattle.proxy_turns.specs.declared.backend.Backend.{Backend}
 use Rattle.proxy_turns.specs.WorkerModel.{WorkerModel, WorkerEvent, WorkerDoes}
 use Rattle.proxy_turns.specs.CarrierModel.{CarrierEvent, CarrierDoes}
-use Rattle.world_laws.specs.State.{WorldModel}
-use Rattle.world_laws.specs.World.{NoneAsks, NamesNode}
+use Rattle.world_laws.specs.World.{NamesNode}
 use Rattle.world_laws.specs.declared.event.Event.{Event}
 use Rattle.world_laws.specs.declared.event.Event.TheVariants as core
 use Rattle.turn_laws.specs.Wire.{Wire, Item, Part, Asks, Runs, Lists, Exchanges, Execution, AreTold, executions, parts_in}
 use Rattle.turn_laws.specs.System.{System, Mark}
-use Rattle.turn_laws.specs.Shadow.{IsShadow, IsWorking, DownInStep}
+use Rattle.turn_laws.specs.Shadow.{IsWorking, DownInStep}
+use Rattle.turn_laws.specs.Asking.{NoneAsksIn}
 use Rattle.turn_laws.specs.Steps.{SystemEvent, AtWorker, AtCarrier, AtNode, AtBroken, Thrown, Moved, IsSeen, Opens, Breaks, UpsInStep, ServesLate, Discards, any_moves, any_failures, any_garbled, any_none, opened_by, log_of}
 
 -- what a node wrote, of each command that it told
@@ -107,9 +107,9 @@ module _ {C J : Type 0} where
     pub views : (k : ℕ) (model : WorkerModel C J) → slice_get s.workers k ≡ Some model → IsPrefix model.view s.carrier.published
     pub table : IsPrefix s.carrier.nodes s.nodes
 
-  -- a slot is imported only where no command that ASK sent is on its way
+  -- a slot is imported only where no command for it is under way that an ASK sent to the node
   abbrev pub MayMoveNow : System C J → Event → Type 0
-  MayMoveNow s (core.Import slot target) = (w : WorldModel) → IsShadow s w → NoneAsks w slot target
+  MayMoveNow s (core.Import slot target) = NoneAsksIn s slot target
   MayMoveNow s event = Unit {0}
 
   -- what node k tells the commands of the run that is next at it is read in what it writes

@@ -8,6 +8,7 @@ use Rattle.turn_laws.specs.System.{System}
 use Rattle.turn_laws.specs.Shadow.{IsShadow}
 use Rattle.turn_laws.specs.Steps.{SystemEvent, SystemStep}
 use Rattle.turn_laws.specs.Refines.{IsStart}
+use Rattle.turn_laws.specs.LogHeadline.{LogHeadline, IsHeld}
 use Rattle.turn_play.specs.May.{MayStep, MayNow, IsInOrder}
 
 -- an event, and the system that it led to
@@ -34,9 +35,12 @@ module _ {C J : Type 0} where
   abbrev pub Plays : System C J → System C J → Type 0
   Plays s s' = (steps : List (Step C J)) × Leads s steps s'
 
-  -- the machine may do what these steps did, and the headline holds of it
+  -- These steps are steps of the system. So the headline holds of its log, and its nodes hold the store that the log leaves; and the
+  -- machine may do what they did.
   abbrev pub Holds : System C J → List (Step C J) → System C J → Type 0
-  Holds start steps s' = FoldsTo SystemStep start (events_of steps) s' × (w : WorldModel) × IsWalked w × IsShadow s' w × Headline w
+  Holds start steps s' =
+      FoldsTo SystemStep start (events_of steps) s' × LogHeadline s'.log × IsHeld s'.log s'.cluster
+      × ((w : WorldModel) × IsWalked w × IsShadow s' w × Headline w)
 
 module _ (C J : Type 0) where
   -- From a start, where the premises hold along them, steps that the code made are steps of the system: so the headline holds.

@@ -36,6 +36,14 @@ no_count port = 2 ^ 64 - 1
 abbrev pub any_bytes : PortModel → Type 0
 any_bytes port = Unit {0}
 
+-- it gives no value only where none has come
+abbrev pub IsRead : PortModel → Type 0
+IsRead port = port.values ≡ []
+
+-- how many commands a run may have
+abbrev pub longest_run : PortModel → ℕ
+longest_run port = 64
+
 -- what waits is kept, or nothing is
 abbrev pub KeepOutcome : {U E : Type 0} → PortModel → List Request → Result U E → PortModel → Type 0
 KeepOutcome old requests (Ok _) new = new ≡ record old { items = old.items ++ items_of requests }

@@ -1,11 +1,14 @@
 -- Where a play begins: over lanes in which nothing was posted, with no connection, and nodes that hold no key.
-use Rattle.std.specs.Prelude.{◌≡◌, ◌<◌, ◌≤◌, ◌+◌, ℕ, List, [], ◌∷◌, Option, IsSomeAnd, length}
+use Rattle.std.specs.Prelude.{◌≡◌, ◌<◌, ◌≤◌, ◌+◌, ℕ, List, [], ◌∷◌, Option, IsSomeAnd, Result, length}
 use mathlib.Core.List.{IsPrefix}
 use Rattle.slot_map.specs.Table.{Endpoint}
+use Rattle.slot_map.specs.declared.ops.MapOp.{MapOp}
 use Rattle.node_model.specs.Nodes.{ClusterModel}
 use Rattle.proxy_lanes.specs.declared.ends.lane_ends.LaneEnds.{LaneEnds}
 use Rattle.proxy_lanes.specs.declared.ends.WorkerEnds.{WorkerEnds}
 use Rattle.proxy_lanes.specs.Lane.{IsNewLane}
+use Rattle.proxy_lanes.specs.Carrier.{AreLanes}
+use Rattle.proxy_lanes.specs.Ends.{ChangesAt, HandsOver}
 use Rattle.proxy_turns.specs.declared.newcomer.Newcomer.{Newcomer}
 use Rattle.proxy_turns.specs.WorkerModel.{WorkerModel}
 use Rattle.proxy_turns.specs.Worker.{new_worker}
@@ -37,9 +40,9 @@ workers_on left (ends ∷ more) = new_worker ends left ∷ workers_on left more
 abbrev pub start_of : {C J : Type 0} → PlayModel C J → System C J
 start_of play = record { workers = play.workers; carrier = over_wires play.carrier []; closed = []; opened = 0; cluster = play.cluster; nodes = play.nodes; log = [] }
 
--- a play over these ends of lanes, whose carrier has this table
-abbrev pub new_play : {C J : Type 0} → Option ℕ → List (WorkerEnds (Newcomer C J) J) → List (LaneEnds (Newcomer C J)) → List Endpoint → ClusterModel → List Endpoint → PlayModel C J
-new_play left ends lanes table cluster nodes = record { workers = workers_on left ends; carrier = new_carrier lanes table [] 0; cluster = cluster; nodes = nodes }
+-- a play over these ends of lanes, whose carrier has this table, and has published these operations of the slot map
+abbrev pub new_play : {C J : Type 0} → Option ℕ → List (WorkerEnds (Newcomer C J) J) → List (LaneEnds (Newcomer C J)) → List MapOp → List Endpoint → ClusterModel → List Endpoint → PlayModel C J
+new_play left ends lanes published table cluster nodes = record { workers = workers_on left ends; carrier = new_carrier lanes table published 0; cluster = cluster; nodes = nodes }
 
 -- the nodes of a cluster, each with its endpoint, and a table that lists the first of them
 pub record AreListedFrom (table : List Endpoint) (cluster : ClusterModel) (nodes : List Endpoint) : Type 0 where
@@ -49,9 +52,29 @@ pub record AreListedFrom (table : List Endpoint) (cluster : ClusterModel) (nodes
   pub front : IsPrefix table nodes
   pub seed : 0 < length table
 
+-- over such lanes, with nothing published and a new cluster
+pub record IsBeginning {H J : Type 0} (ends : List (WorkerEnds H J)) (lanes : List (LaneEnds H)) (published : List MapOp) (table : List Endpoint) (cluster : ClusterModel) (nodes : List Endpoint) : Type 0 where
+  pub are_open : AreOpenFrom (length ends) 0 ends lanes
+  pub none_published : published ≡ []
+  pub is_new : IsNew cluster
+  pub listed : AreListedFrom table cluster nodes
+
+-- a system shows this play, and has done nothing
+abbrev pub ShowsStart : {C J : Type 0} → PlayModel C J → Type 0
+ShowsStart play = Shows play (start_of play) × IsStart (start_of play)
+
 module _ (C J : Type 0) where
-  -- over such lanes, with a new cluster, a play shows a start
+  -- so a play shows a start
   abbrev pub PlaysStart : Type 0
-  PlaysStart = (left : Option ℕ) (ends : List (WorkerEnds (Newcomer C J) J)) (lanes : List (LaneEnds (Newcomer C J))) (table : List Endpoint) (cluster : ClusterModel) (nodes : List Endpoint)
-      → AreOpenFrom (length ends) 0 ends lanes → IsNew cluster → AreListedFrom table cluster nodes
-      → Shows (new_play left ends lanes table cluster nodes) (start_of (new_play left ends lanes table cluster nodes)) × IsStart (start_of (new_play left ends lanes table cluster nodes))
+  PlaysStart = (left : Option ℕ) (ends : List (WorkerEnds (Newcomer C J) J)) (lanes : List (LaneEnds (Newcomer C J))) (published : List MapOp) (table : List Endpoint) (cluster : ClusterModel) (nodes : List Endpoint)
+      → IsBeginning ends lanes published table cluster nodes → ShowsStart (new_play left ends lanes published table cluster nodes)
+
+module _ (H J : Type 0) where
+  -- lanes that were made are such
+  abbrev pub LanesAreOpen : Type 0
+  LanesAreOpen = (workers : ℕ) (ends : List (WorkerEnds H J)) (lanes : List (LaneEnds H)) → length ends ≡ workers → AreLanes workers ends lanes → AreOpenFrom (length ends) 0 ends lanes
+
+  -- and still are after a client was handed over
+  abbrev pub HandingKeeps : Type 0
+  HandingKeeps = (workers k : ℕ) (ends : List (WorkerEnds H J)) (old new : List (LaneEnds H)) (worker : ℕ) (client : H) (handed : Result Unit H)
+      → AreOpenFrom workers k ends old → ChangesAt old worker new (λ before after. HandsOver before after client handed) → AreOpenFrom workers k ends new

@@ -1,6 +1,5 @@
 //! What happens at the other end of the carrier's connections.
 
-ghost use Rattle.std.specs.Prelude.{OnOk};
 ghost use Rattle.proxy_turns.specs.CarrierModel.{carrier_model};
 ghost use Rattle.turn_play.specs.Serving.{BreaksAt, ServesAt};
 ghost use Rattle.turn_play.specs.Dialling.{no_failures};
@@ -15,7 +14,7 @@ use slot_map::{NodeId, NodeTable};
 use std::alloc::Global;
 use std::sync::Wait;
 
-/// The node at the other end of the open connection to it serves what waits first, where there is one.
+/// The node at the other end of the open connection to it serves what waits first, where a connection is open.
 pub(crate) fn serve_at<H: Drop, J: Naming, R: Wait + Drop>(
     alloc: Global,
     carrier: &mut Carrier<H, Publisher<J, R>, PlayDial, PlayPort>,
@@ -24,34 +23,31 @@ pub(crate) fn serve_at<H: Drop, J: Naming, R: Wait + Drop>(
     cluster: &mut Cluster,
     nodes: &NodeTable,
 ) -> Result<(), PlayFault>
-    ensures { OnOk result (ServesAt nodes.now cluster.old node (carrier_model no_failures carrier.old) verdict cluster.new (carrier_model no_failures carrier.new)) }
+    ensures { ServesAt nodes.now cluster.old node (carrier_model no_failures carrier.old) verdict result cluster.new (carrier_model no_failures carrier.new) }
 {
     let Ok(taken) = carrier.swap_port(node, PlayPort::new(alloc)) else {
         return Ok(());
     };
     let mut port = taken;
-    port.serve(node, verdict, cluster, nodes)?;
-    let Ok(_) = carrier.swap_port(node, port) else {
-        return Err(PlayFault::NotServed);
-    };
+    let served = port.serve(node, verdict, cluster, nodes);
+    // whatever it answered, the port goes back to the link, which is open
+    let _ = carrier.swap_port(node, port);
+    served?;
     Ok(())
 }
 
-/// The open connection to a node breaks, where there is one.
+/// The open connection to a node breaks, where one is open.
 pub(crate) fn break_at<H: Drop, J: Naming, R: Wait + Drop>(
     alloc: Global,
     carrier: &mut Carrier<H, Publisher<J, R>, PlayDial, PlayPort>,
     node: NodeId,
-) -> Result<(), PlayFault>
-    ensures { OnOk result (BreaksAt node (carrier_model no_failures carrier.old) (carrier_model no_failures carrier.new)) }
+)
+    ensures { BreaksAt node (carrier_model no_failures carrier.old) (carrier_model no_failures carrier.new) }
 {
     let Ok(taken) = carrier.swap_port(node, PlayPort::new(alloc)) else {
-        return Ok(());
+        return;
     };
     let mut port = taken;
     port.break_off();
-    let Ok(_) = carrier.swap_port(node, port) else {
-        return Err(PlayFault::NotServed);
-    };
-    Ok(())
+    let _ = carrier.swap_port(node, port);
 }

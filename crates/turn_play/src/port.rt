@@ -1,19 +1,22 @@
 //! A connection to a node, in memory: what is sent waits for the node, and what the node says waits for the carrier.
 
-ghost use Rattle.turn_play.specs.Port.{IsEnd, PortExchanges, any_bytes, no_count, port-stands, port-still};
+ghost use Rattle.turn_play.specs.Port.{IsEnd, IsRead, PortExchanges, any_bytes, longest_run, no_count, port-stands, port-still};
 
 use crate::fault::PlayFault;
-use crate::serving::serve_one;
-use crate::waiting::{Waiting, keep};
+use crate::serving::serve_first;
+use crate::waiting::{Waiting, keep_batch, keep_run};
 use key_split::{Batch, Run};
 use node_link::{NodePort, PortFault, RunPort};
 use node_model::{Cluster, Verdict};
-use resp_wire::{Line, NoMemory, Value};
+use resp_wire::{NoMemory, Value};
 use slot_map::{NodeId, NodeTable};
 use std::alloc::Global;
 use std::collections::VecDeque;
 use std::marker::Model;
 use turn_laws::WiredPort;
+
+/// A run has so many commands at most.
+const LONGEST_RUN: usize = 64;
 
 /// The carrier's end of a connection. From its break on each call fails.
 #[derive(Drop)]
@@ -40,10 +43,11 @@ impl Model for PlayPort {
 }
 
 impl PlayPort {
-    ghost use Rattle.std.specs.Prelude.{◌≡◌, ◌∷◌, [], true, false, OnOk};
+    ghost use Rattle.std.specs.Prelude.{◌≡◌, ◌∷◌, [], true, false};
     ghost use Rattle.key_split.specs.Requests.{requests_of, Slots};
+    ghost use Rattle.key_split.specs.Runs.{requests_of_run};
     ghost use Rattle.turn_play.specs.Port.{KeepOutcome};
-    ghost use Rattle.turn_play.specs.Serving.{Replies, ServeOutcome, TakesFirst};
+    ghost use Rattle.turn_play.specs.Serving.{ServeOutcome};
 
     /// A connection over which nothing went.
     pub fn new(alloc: Global) -> PlayPort
@@ -58,7 +62,7 @@ impl PlayPort {
         }
     }
 
-    /// From now on each call fails. The node may still serve what waits.
+    /// From now on each call of the carrier fails. The node may still serve what waits.
     pub fn break_off(&mut self)
         ensures { self.new ≡ record self.old { broken = true } }
     {
@@ -69,7 +73,14 @@ impl PlayPort {
     fn keep(&mut self, batch: &Batch) -> Result<(), NoMemory>
         ensures { KeepOutcome self.old (requests_of batch.now) result self.new }
     {
-        keep(self.alloc, &mut self.waiting, batch)
+        keep_batch(self.alloc, &mut self.waiting, batch)
+    }
+
+    // Lets a run wait.
+    fn keep_run(&mut self, run: &Run) -> Result<(), NoMemory>
+        ensures { KeepOutcome self.old (requests_of_run run.now) result self.new }
+    {
+        keep_run(self.alloc, &mut self.waiting, run)
     }
 
     // Lets CLUSTER SLOTS wait.
@@ -81,7 +92,8 @@ impl PlayPort {
         Ok(())
     }
 
-    /// The node at the other end serves what waits first, and writes what it says. False where nothing waits.
+    /// The node at the other end serves what waits first, and writes what it says. False where nothing waits. After a fault
+    /// nothing has changed.
     pub fn serve(
         &mut self,
         node: NodeId,
@@ -91,49 +103,24 @@ impl PlayPort {
     ) -> Result<bool, PlayFault>
         ensures { ServeOutcome nodes.now cluster.old node self.old verdict result cluster.new self.new }
     {
-        match self.take_first() {
-            None => Ok(false),
-            Some(Waiting::Asking) => {
-                let okay = Line::from_text(self.alloc, b"OK")?;
-                self.reply(true, Value::Simple(okay))?;
-                Ok(true)
-            }
-            Some(Waiting::Command(_, part)) => {
-                let value = serve_one(
-                    self.alloc,
-                    node,
-                    self.asking,
-                    part,
-                    verdict,
-                    cluster,
-                    nodes,
-                )?;
-                self.reply(false, value)?;
-                Ok(true)
-            }
-            Some(Waiting::Slots) => {
-                let listing = cluster.slots_value(nodes)?;
-                self.reply(self.asking, listing)?;
-                Ok(true)
-            }
-        }
-    }
-
-    // Takes what waits first.
-    fn take_first(&mut self) -> Option<Waiting>
-        ensures { TakesFirst self.old result self.new }
-    {
-        self.waiting.pop_front()
-    }
-
-    // Puts a value behind the others, and the flag that ASKING sets.
-    fn reply(&mut self, asking: bool, value: Value) -> Result<(), NoMemory>
-        ensures { OnOk result (Replies self.old asking value self.new) }
-    {
-        self.values.reserve(1)?;
-        self.values.push_back_reserved(value);
-        self.asking = asking;
-        Ok(())
+        let Some(first) = self.waiting.front() else {
+            return Ok(false);
+        };
+        // room for what is said, so that nothing is executed whose reply has no place
+        self.values.reserve(first.replies())?;
+        let mut said = serve_first(
+            self.alloc,
+            first,
+            node,
+            self.asking,
+            verdict,
+            cluster,
+            nodes,
+        )?;
+        self.asking = first.asking_after(self.asking);
+        self.waiting.pop_front();
+        let _ = self.values.append(&mut said);
+        Ok(true)
     }
 }
 
@@ -143,6 +130,8 @@ impl NodePort for PlayPort {
     ghost is_garbled = { any_bytes };
 
     ghost exchange = { PortExchanges };
+
+    ghost gives_none = { IsRead };
 
     ghost still = { port-still };
 
@@ -174,16 +163,21 @@ impl NodePort for PlayPort {
     }
 }
 
-/// Runs of one command.
 impl RunPort for PlayPort {
-    ghost longest = { λ _. 1 };
+    ghost longest = { longest_run };
 
     fn longest_run(&self) -> usize {
-        1
+        LONGEST_RUN
     }
 
     fn send_run(&mut self, run: &Run) -> Result<(), PortFault> {
-        self.send(run.first())
+        if self.broken {
+            return Err(PortFault::Failed);
+        }
+        match self.keep_run(run) {
+            Ok(()) => Ok(()),
+            Err(NoMemory) => Err(PortFault::NoMemory),
+        }
     }
 }
 
