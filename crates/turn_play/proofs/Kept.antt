@@ -1,5 +1,6 @@
 -- What goes over a port, as what waits at it.
-use Rattle.std.proofs.Common.{◌≡◌, ◌∙◌, ℕ, zero, suc, List, [], ◌∷◌, ◌++◌, Bool, true, false, refl, sym, ap, subst, arith}
+use Rattle.std.proofs.Common.{◌≡◌, ◌∙◌, ◌<◌, ℕ, zero, suc, List, [], ◌∷◌, ◌++◌, Bool, true, false, refl, sym, ap, subst, arith, length}
+use Rattle.std.proofs.lemmas.List.{append-nil}
 use Rattle.std.specs.Prelude.{Ok, Err, OnOk, Result, All, map, if◌then◌else◌}
 use Rattle.std.specs.List.{flat_map}
 use Rattle.key_split.specs.Requests.{Request, Asking, Command, requests_of}
@@ -55,7 +56,7 @@ items-of-run run together = go run.later refl
         subst (λ (later : List Batch). items_of (flat_map requests_of (run.first ∷ later)) ≡ items_for run.first.asking (map command_of (run.first ∷ later))) (sym e)
         (plain-items run.first (c ∷ later) plain.1 ∙ (λ i. items_for (sym plain.0 i) (map command_of (run.first ∷ c ∷ later))))
 
--- the same items, where they were kept
-pub kept-as : {U E : Type 0} (r : Result U E) (news olds items items' : List Item) → items ≡ items' → OnOk r (news ≡ olds ++ items) → OnOk r (news ≡ olds ++ items')
-kept-as (Ok u) news olds items items' e x = x ∙ ap (λ more. olds ++ more) e
-kept-as (Err why) news olds items items' e x = x
+-- all its commands were taken
+pub all-kept : (run : RunModel) → IsTogether run → (rest : List Batch) (commands : List Part) → length rest < 1 → commands ++ map command_of rest ≡ commands_in run → items_of (requests_of_run run) ≡ items_for run.first.asking commands
+all-kept run together [] commands lt e = items-of-run run together ∙ ap (items_for run.first.asking) (sym e ∙ append-nil commands)
+all-kept run together (b ∷ bs) commands lt e = absurd (omega (arith, lt))

@@ -8,3 +8,4 @@ mod Obeyed
 mod Starting
 mod Kept
 mod Said
+mod Front

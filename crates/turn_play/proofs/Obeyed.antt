@@ -83,7 +83,7 @@ module _ (C J : Type 0) (moves : Moves C) (gives_none takes_none : C → Type 0)
   obeyed old order.Carrier (Ok u) new x = carried old (Ok x.0) new x.1
   obeyed old order.Carrier (Err why) new x = carried old (Err x.1.0) new x.1.1
   obeyed old (order.Serve node verdict) result new x = subst (PlaysTo old) (sym x.1) (serves old node verdict result new.cluster new.carrier x.0)
-  obeyed old (order.Break node) result new x = subst (PlaysTo old) (sym x.2) (broke old node new.carrier x.1)
+  obeyed old (order.Break node) result new x = subst (PlaysTo old) (sym x.1.1) (broke old node new.carrier x.1.0)
   obeyed old (order.Move move) result new x = subst (PlaysTo old) (sym x.1) (moves-on old move result new.cluster x.0)
 
   obeyed-all : (orders : List Order) (old : PlayModel C J) (result : Result (Unit {0}) PlayFault) (new : PlayModel C J) → ObeysAll moves gives_none takes_none old orders result new → PlaysTo old new

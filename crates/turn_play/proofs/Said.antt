@@ -7,7 +7,7 @@ use Rattle.resp_wire.specs.declared.value.Value.{Value}
 use Rattle.key_split.specs.PartModel.{PartModel}
 use Rattle.key_split.specs.declared.travel.Told.{Told}
 use Rattle.key_split.specs.declared.travel.Told.TheVariants.{Reply, Moved, Ask, TryAgain, ClusterDown, Unclear, Lost, Unsent}
-use Rattle.key_split.specs.Told.{CanBeWritten}
+use Rattle.key_split.specs.Told.{CanBeWritten, IsWritten}
 use Rattle.slot_map.specs.Table.{Endpoint}
 use Rattle.node_model.specs.Nodes.{ClusterModel}
 use Rattle.node_model.specs.Runs.{AllTold, AreReplies, DoesRun, RunAnswers, ServesAll, deed_for}
@@ -61,6 +61,13 @@ said-length table k node asking Asks verdict k' said x = ap length x.1
 said-length table k node asking (Runs parts) verdict k' said x =
     as-many-written table x.0 said x.3 ∙ as-many (deed_for k node asking (parts_in parts) verdict) k node (parts_in parts) x.0 k' x.2 ∙ as-many-parts parts
 said-length table k node asking Lists verdict k' said x = ap length x.2
+
+-- one more is written
+pub written-more : (table : List Endpoint) (tolds : List Told) (values : List Value) (told : Told) (value : Value) → AreWritten table tolds values → IsWritten told table value → AreWritten table (tolds ++ told ∷ []) (values ++ value ∷ [])
+written-more table [] [] told value x y = (y, tt)
+written-more table [] (v ∷ values) told value x y = absurd x
+written-more table (t ∷ tolds) [] told value x y = absurd x
+written-more table (t ∷ tolds) (v ∷ values) told value x y = (x.0, written-more table tolds values told value x.1 y)
 
 -- ---- what can't be written
 
@@ -127,7 +134,7 @@ module _ (table : List Endpoint) (k : ClusterModel) (node : ℕ) (asking : Bool)
   for-refusal serve.NoSuchNode x = inr (inl x)
   for-refusal serve.NotThisVerdict x = inr (inl x)
 
-  by-fault : (o : Option ServeFault) → refusal_of k node verdict ≡ o → (why : ServeFault) → MatchOption o (RunAnswers (deed_for k node asking cs verdict) k node cs (Err why) k') (λ other. (Err why ≡ Err other) × (k' ≡ k))
+  by-fault : (o : Option ServeFault) → refusal_of k node verdict ≡ o → (why : ServeFault) → MatchOption o (RunAnswers (deed_for k node asking cs verdict) k node cs (Err why) k') (λ other. (◌≡◌ {A = Result (Vec Told Global) ServeFault} (Err why) (Err other)) × (k' ≡ k))
       → (k' ≡ k) × CannotServeRun table k node asking cs verdict (of_serve why)
   by-fault None e why x = (x.1, subst (λ w. CannotServeRun table k node asking cs verdict (of_serve w)) (sym x.0) tt)
   by-fault (Some other) e why x = (x.1, for-refusal why (subst IsSome (sym e) refl))
