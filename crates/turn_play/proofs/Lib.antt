@@ -9,3 +9,4 @@ mod Starting
 mod Kept
 mod Said
 mod Front
+mod Placed
