@@ -1,6 +1,6 @@
 -- A play over new lanes begins at a start.
-use Rattle.std.proofs.Common.{◌≡◌, ℕ, zero, suc, ◌+◌, List, [], ◌∷◌, ◌++◌, Some, None, refl, sym, ap, ◌∙◌, subst, arith, length}
-use Rattle.std.specs.Prelude.{Option, IsSome, IsSomeAnd, map, drop, slice_get, slice_set}
+use Rattle.std.proofs.Common.{◌≡◌, ℕ, zero, suc, ◌+◌, List, [], ◌∷◌, ◌++◌, Some, None, refl, sym, ap, ◌∙◌, subst, arith, length, Ok, Err}
+use Rattle.std.specs.Prelude.{IfOk, Option, Result, IsSome, IsSomeAnd, map, drop, slice_get, slice_set}
 use Rattle.key_split.specs.declared.travel.Ticket.{Ticket}
 use Rattle.key_split.specs.declared.travel.Told.{Told}
 use Rattle.proxy_lanes.specs.declared.ring.Outlet.{Outlet}
@@ -16,7 +16,8 @@ use Rattle.turn_laws.specs.System.{between, IsInStep}
 use Rattle.turn_laws.specs.Shadow.{down_in, DownInStep, seat_of}
 use Rattle.proxy_lanes.specs.Carrier.{AreLanesFrom}
 use Rattle.proxy_lanes.specs.Ends.{HandsOver}
-use Rattle.turn_play.specs.Starting.{AreOpenAt, AreOpenFrom, workers_on, PlaysStart, LanesAreOpen, HandingKeeps}
+use Rattle.turn_play.specs.Starting.{AreOpenAt, AreOpenFrom, workers_on, PlaysStart, LanesAreOpen, HandingKeeps, ShowsStart}
+use Rattle.turn_play.specs.Playing.{PlayModel}
 
 module _ {T : Type 0} where
   nothing-between : (outlet : Outlet T) (inlet : Inlet T) → IsNewLane outlet inlet → between outlet inlet ≡ []
@@ -163,3 +164,8 @@ module _ (H J : Type 0) where
   pub handing-keeps : HandingKeeps H J
   handing-keeps workers k ends old new worker client handed are x =
       subst (λ lanes. AreOpenFrom workers k ends lanes) (sym x.3) (handed-at workers k ends old worker x.0 x.1 are x.2 x.4.0)
+
+-- a play that is this one shows the start that this one shows
+pub started : {A E C J : Type 0} (result : Result A E) (model : A → PlayModel C J) (first : PlayModel C J) → ShowsStart first → IfOk result (λ play. model play ≡ first) → IfOk result (λ play. ShowsStart (model play))
+started (Ok play) model first shows is = subst ShowsStart (sym is) shows
+started (Err fault) model first shows is = is

@@ -20,9 +20,14 @@ returns-in_err-turn g c =
     let m = g.C.ClientPort in
     subst
     (λ r. TurnsWorker m.moves m.gives_none m.takes_none old c.args.k r (record old { workers = map worker_model (slice_set workers c.args.k c.turn.new.self) }))
-    (sym is)
-    (refl, (refused, turned-at m.moves m.gives_none m.takes_none worker_model workers old c.args.k c.index_mut.result.now c.turn.new.self (Err refused) refl here e.turns
-    (at-rest m.gives_none m.takes_none (Err refused) (worker_model c.turn.new.self) e.no_newcomer e.nothing_to_tell e.clients_rest e.posted_rest)))
+    (sym is) (
+      refl,
+      (
+        refused,
+        turned-at m.moves m.gives_none m.takes_none worker_model workers old c.args.k c.index_mut.result.now c.turn.new.self (Err refused) refl here e.turns
+            (at-rest m.gives_none m.takes_none (Err refused) (worker_model c.turn.new.self) e.no_newcomer e.nothing_to_tell e.clients_rest e.posted_rest),
+      ),
+    )
 
 pub returns : goal.returns
 returns g c =
@@ -33,5 +38,8 @@ returns g c =
     let e = c.in_ok-turn.ensures in
     let moved = c.in_ok-turn.field-0 in
     let m = g.C.ClientPort in
-    inr (moved, turned-at m.moves m.gives_none m.takes_none worker_model workers old c.args.k c.index_mut.result.now c.turn.new.self (Ok moved) refl here e.turns
-    (at-rest m.gives_none m.takes_none (Ok moved) (worker_model c.turn.new.self) e.no_newcomer e.nothing_to_tell e.clients_rest e.posted_rest))
+    inr (
+      moved,
+      turned-at m.moves m.gives_none m.takes_none worker_model workers old c.args.k c.index_mut.result.now c.turn.new.self (Ok moved) refl here e.turns
+          (at-rest m.gives_none m.takes_none (Ok moved) (worker_model c.turn.new.self) e.no_newcomer e.nothing_to_tell e.clients_rest e.posted_rest),
+    )
