@@ -1,12 +1,12 @@
 -- What goes over a port, as what waits at it.
-use Rattle.std.proofs.Common.{◌≡◌, ◌∙◌, ◌<◌, ℕ, zero, suc, List, [], ◌∷◌, ◌++◌, Bool, true, false, refl, sym, ap, subst, arith, length}
+use Rattle.std.proofs.Common.{◌≡◌, ◌∙◌, ◌<◌, zero, suc, List, [], ◌∷◌, ◌++◌, Bool, true, false, refl, sym, ap, subst, arith, length}
 use Rattle.std.proofs.lemmas.List.{append-nil}
-use Rattle.std.specs.Prelude.{Ok, Err, OnOk, Result, All, map, if◌then◌else◌}
+use Rattle.std.specs.Prelude.{All, map, if◌then◌else◌}
 use Rattle.std.specs.List.{flat_map}
 use Rattle.key_split.specs.Requests.{Request, Asking, Command, requests_of}
 use Rattle.key_split.specs.Runs.{RunModel, GoTogether, IsTogether, requests_of_run}
 use Rattle.key_split.specs.declared.travel.Batch.{Batch}
-use Rattle.turn_laws.specs.Wire.{Item, Part, Asks, Runs, items_of, joined}
+use Rattle.turn_laws.specs.Wire.{Part, Runs, items_of, joined}
 use Rattle.turn_play.specs.Waiting.{command_of, commands_in, items_for}
 
 one-item : (b : Batch) (asks : Bool) → items_of ((if asks then Asking ∷ [] else []) ++ Command b.ticket b.part ∷ []) ≡ items_for asks (command_of b ∷ [])

@@ -1,10 +1,8 @@
 -- What each order does is steps of a system.
-use Rattle.std.proofs.Common.{◌≡◌, inl, inr, ℕ, Bool, List, [], ◌∷◌, Ok, Err, refl, sym, ap, ◌∙◌, subst}
+use Rattle.std.proofs.Common.{◌≡◌, inl, inr, ℕ, Bool, List, [], ◌∷◌, Ok, Err, refl, sym, subst}
 use Rattle.std.specs.Prelude.{Result}
 use Rattle.resp_wire.specs.declared.fault.NoMemory.{NoMemory}
 use Rattle.node_model.specs.Nodes.{ClusterModel}
-use Rattle.node_model.specs.Moves.{Moves as ClusterCalls}
-use Rattle.node_model.specs.declared.standing.MoveFault.{MoveFault}
 use Rattle.node_model.specs.declared.standing.MoveFault.TheVariants as cause
 use Rattle.proxy_turns.specs.Port.{Moves}
 use Rattle.turn_play.specs.declared.fault.PlayFault.{PlayFault}
@@ -13,7 +11,6 @@ use Rattle.turn_play.specs.declared.moves.Move.{Move}
 use Rattle.turn_play.specs.declared.moves.Move.TheVariants as step
 use Rattle.turn_play.specs.declared.order.Order.{Order}
 use Rattle.turn_play.specs.declared.order.Order.TheVariants as order
-use Rattle.turn_play.specs.Dialling.{no_failures}
 use Rattle.turn_play.specs.May.{ClusterMoves}
 use Rattle.turn_play.specs.Moving.{MoveOutcome, MovesOrNot, event_of}
 use Rattle.turn_play.specs.Obeying.{CarrierIsTurned, IsTurned, Obeys, ObeysAll, ObeyedIsSound}

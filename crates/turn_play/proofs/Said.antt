@@ -1,6 +1,6 @@
 -- What a node says of what waits first.
-use Rattle.std.proofs.Common.{◌≡◌, ◌∙◌, inl, inr, ℕ, zero, suc, List, [], ◌∷◌, ◌++◌, Bool, true, false, Some, None, Ok, Err, refl, sym, ap, subst, length}
-use Rattle.std.specs.Prelude.{IsSome, IsTrue, MatchOption, Option, Result, Vec, if◌then◌else◌, map, nat_lt}
+use Rattle.std.proofs.Common.{◌≡◌, ◌∙◌, inl, inr, ℕ, suc, List, [], ◌∷◌, ◌++◌, Bool, true, false, Some, None, Ok, Err, refl, sym, ap, subst, length}
+use Rattle.std.specs.Prelude.{IsSome, MatchOption, Option, Result, Vec, if◌then◌else◌, nat_lt}
 use Rattle.std.specs.declared.alloc.Global.{Global}
 use Rattle.resp_wire.specs.Data.{Data}
 use Rattle.resp_wire.specs.declared.value.Value.{Value}

@@ -15,7 +15,6 @@ use Rattle.proxy_turns.specs.Worker.{new_worker}
 use Rattle.turn_laws.specs.System.{between, IsInStep}
 use Rattle.turn_laws.specs.Shadow.{down_in, DownInStep, seat_of}
 use Rattle.proxy_lanes.specs.Carrier.{AreLanesFrom}
-use Rattle.proxy_lanes.specs.Ends.{HandsOver}
 use Rattle.turn_play.specs.Starting.{AreOpenAt, AreOpenFrom, workers_on, PlaysStart, LanesAreOpen, HandingKeeps, ShowsStart}
 use Rattle.turn_play.specs.Playing.{PlayModel}
 

@@ -1,5 +1,5 @@
 -- A step of a move: it is made exactly where it may be made now, as the clauses of the cluster say.
-use Rattle.std.specs.Prelude.{◌≡◌, ◌⊎◌, Result, Ok, Err}
+use Rattle.std.specs.Prelude.{◌⊎◌, Result, Ok, Err}
 use Rattle.node_model.specs.Nodes.{ClusterModel, standing_at}
 use Rattle.node_model.specs.Moves.{Moves, NeedsNone, NeedsSome, NeedsToSend, MayImport, MayMigrate, MayMoveKey, MayOwn, MayRelease, MayForget, MayStay, import_done, migrate_done, move_key_done, own_done, release_done, forget_done, stay_done}
 use Rattle.node_model.specs.declared.standing.MoveFault.{MoveFault}

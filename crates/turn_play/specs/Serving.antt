@@ -1,5 +1,5 @@
 -- What a node does with what waits first at the other end of a connection, and what a fault says.
-use Rattle.std.specs.Prelude.{◌≡◌, ◌⊎◌, ℕ, Bool, true, false, List, [], ◌∷◌, ◌++◌, Option, Some, None, IsSome, Result, Ok, Err, codes, slice_get}
+use Rattle.std.specs.Prelude.{◌≡◌, ◌⊎◌, ℕ, Bool, true, false, List, [], ◌∷◌, ◌++◌, Some, None, IsSome, Result, Ok, Err, codes, slice_get}
 use Rattle.resp_wire.specs.Seen.{data_of}
 use Rattle.resp_wire.specs.declared.value.Value.{Value}
 use Rattle.resp_wire.specs.declared.value.Value.TheVariants.{Simple}
@@ -19,7 +19,7 @@ use Rattle.proxy_turns.specs.declared.backend.Backend.{Backend}
 use Rattle.proxy_turns.specs.CarrierModel.{CarrierModel}
 use Rattle.proxy_turns.specs.Swapping.{IsClosed, SwapOutcome}
 use Rattle.world_laws.specs.World.{NamesNode}
-use Rattle.turn_laws.specs.Wire.{Item, Part, Asks, Runs, Lists, parts_in}
+use Rattle.turn_laws.specs.Wire.{Item, Asks, Runs, Lists, parts_in}
 use Rattle.turn_play.specs.declared.fault.PlayFault.{PlayFault}
 use Rattle.turn_play.specs.declared.fault.PlayFault.TheVariants.{NoMemory, NotServed}
 use Rattle.turn_play.specs.May.{AreWritten}

@@ -1,5 +1,5 @@
-use Rattle.std.proofs.Common.{◌≡◌, ◌∙◌, ◌<◌, ◌≤◌, ◌++◌, ◌+◌, rules, Err, ap, arith, length, refl}
-use Rattle.std.specs.Prelude.{is_ok, true}
+use Rattle.std.proofs.Common.{◌≡◌, ◌∙◌, ◌≤◌, ◌++◌, ◌+◌, rules, Err, ap, arith, length, refl}
+use Rattle.std.specs.Prelude.{is_ok}
 use Rattle.std.specs.VecDeque.{deque_capacity, deque_len}
 use Rattle.turn_play.specs.Waiting.{item_of, replies_to}
 use Rattle.turn_play.specs.declared.fault.PlayFault.TheVariants.{NoMemory}
