@@ -37,7 +37,8 @@ pub struct Play<'g, C: ClientPort + Drop, J: Naming, R: Wait + Drop, G: Gate> {
 impl<'g, C: ClientPort + Drop, J: Naming, R: Wait + Drop, G: Gate> Play<'g, C, J, R, G> {
     /// A play in which nothing was done: a worker over each of these ends, which is to take so many clients, the carrier over
     /// the other ends, with the seeds for its table, and a cluster whose nodes listen where `nodes` says. Clients are handed over
-    /// before, through the carrier's ends.
+    /// before, through the carrier's ends. The seeds are the first of `nodes`, which has the others in the order in which the
+    /// carrier learns them: where that is not known, let all be seeds.
     pub fn new(
         alloc: Global,
         gate: &'g G,
