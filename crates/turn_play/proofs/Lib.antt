@@ -1,0 +1,12 @@
+mod Refining
+mod Numbers
+mod Breaking
+mod Swapping
+mod Turning
+mod Playing
+mod Obeyed
+mod Starting
+mod Kept
+mod Said
+mod Front
+mod Placed

@@ -1,0 +1,106 @@
+-- What each order does is steps of a system.
+use Rattle.std.proofs.Common.{◌≡◌, inl, inr, ℕ, Bool, List, [], ◌∷◌, Ok, Err, refl, sym, subst}
+use Rattle.std.specs.Prelude.{Result}
+use Rattle.resp_wire.specs.declared.fault.NoMemory.{NoMemory}
+use Rattle.node_model.specs.Nodes.{ClusterModel}
+use Rattle.node_model.specs.declared.standing.MoveFault.TheVariants as cause
+use Rattle.proxy_turns.specs.Port.{Moves}
+use Rattle.turn_play.specs.declared.fault.PlayFault.{PlayFault}
+use Rattle.turn_play.specs.declared.fault.PlayFault.TheVariants as fault
+use Rattle.turn_play.specs.declared.moves.Move.{Move}
+use Rattle.turn_play.specs.declared.moves.Move.TheVariants as step
+use Rattle.turn_play.specs.declared.order.Order.{Order}
+use Rattle.turn_play.specs.declared.order.Order.TheVariants as order
+use Rattle.turn_play.specs.May.{ClusterMoves}
+use Rattle.turn_play.specs.Moving.{MoveOutcome, MovesOrNot, event_of}
+use Rattle.turn_play.specs.Obeying.{CarrierIsTurned, IsTurned, Obeys, ObeysAll, ObeyedIsSound}
+use Rattle.turn_play.specs.Played.{PlaysRefine}
+use Rattle.turn_play.specs.Playing.{PlayModel, PlaysTo}
+use Rattle.turn_play.specs.Port.{IsEnd, IsFresh, IsRead, PortExchanges, any_bytes, longest_run, no_count, port-opens}
+use Rattle.turn_play.specs.Turns.{CarriersPlay, WorkersPlay}
+use Rattle.turn_play.proofs.Playing.{broke, carrier-turned, moved, plays-none, plays-on, plays-soundly, serves, worker-turned}
+
+-- ---- a step of a move
+
+-- it was made
+made-step : (k : ClusterModel) (move : Move) (k' : ClusterModel) → MoveOutcome k move (Ok tt) k' → ClusterMoves k (event_of move) k'
+made-step k (step.Import slot target) k' x = x
+made-step k (step.Migrate slot) k' x = x
+made-step k (step.Key slot key) k' x = x
+made-step k (step.Own slot) k' x = x
+made-step k (step.Release slot) k' x = x
+made-step k (step.Forget slot) k' x = x
+made-step k (step.Stay slot) k' x = x
+
+-- it may not be made now
+not-now : (k : ClusterModel) (move : Move) (k' : ClusterModel) → MoveOutcome k move (Err cause.NotNow) k' → k' ≡ k
+not-now k (step.Import slot target) k' x = x.1
+not-now k (step.Migrate slot) k' x = x.1
+not-now k (step.Key slot key) k' x = x.1
+not-now k (step.Own slot) k' x = x.1
+not-now k (step.Release slot) k' x = x.1
+not-now k (step.Forget slot) k' x = x.1
+not-now k (step.Stay slot) k' x = x.1
+
+-- there was no memory for it
+no-memory : (k : ClusterModel) (move : Move) (k' : ClusterModel) → MoveOutcome k move (Err cause.NoMemory) k' → k' ≡ k
+no-memory k (step.Import slot target) k' x = x.1
+no-memory k (step.Migrate slot) k' x = x.1
+no-memory k (step.Key slot key) k' x = x.1
+no-memory k (step.Own slot) k' x = x.1
+no-memory k (step.Release slot) k' x = x.1
+no-memory k (step.Forget slot) k' x = x.1
+no-memory k (step.Stay slot) k' x = x.1
+
+module _ {C J : Type 0} where
+  -- nothing has changed
+  same : (old new : PlayModel C J) → new ≡ old → PlaysTo old new
+  same old new e = subst (PlaysTo old) (sym e) (plays-none old)
+
+  same-cluster : (old : PlayModel C J) (k : ClusterModel) → k ≡ old.cluster → PlaysTo old (record old { cluster = k })
+  same-cluster old k e = same old (record old { cluster = k }) (λ i. record old { cluster = e i })
+
+  moves-on : (old : PlayModel C J) (move : Move) (result : Result (Unit {0}) PlayFault) (k : ClusterModel) → MovesOrNot old.cluster move result k → PlaysTo old (record old { cluster = k })
+  moves-on old move (Ok u) k (inl x) = moved old (event_of move) k (made-step old.cluster move k x)
+  moves-on old move (Ok u) k (inr x) = same-cluster old k (not-now old.cluster move k x)
+  moves-on old move (Err fault.NoMemory) k x = same-cluster old k (no-memory old.cluster move k x)
+  moves-on old move (Err fault.NotServed) k x = absurd x
+
+module _ (C J : Type 0) (moves : Moves C) (gives_none takes_none : C → Type 0) (workers : WorkersPlay C J moves) (carriers : CarriersPlay C J IsEnd no_count any_bytes PortExchanges IsRead IsFresh longest_run) where
+  turned : (old : PlayModel C J) (k : ℕ) (result : Result Bool NoMemory) (new : PlayModel C J) → IsTurned moves gives_none takes_none old k result new → PlaysTo old new
+  turned old k result new x = subst (PlaysTo old) (sym x.5) (worker-turned old k x.0 x.1 x.2 (λ s at. workers s k x.0 x.1 result at x.3))
+
+  carried : (old : PlayModel C J) (result : Result Bool NoMemory) (new : PlayModel C J) → CarrierIsTurned old result new → PlaysTo old new
+  carried old result new x = subst (PlaysTo old) (sym x.2) (carrier-turned old new.carrier (λ s shows. carriers port-opens s old.carrier new.carrier result shows x.0))
+
+  obeyed : (old : PlayModel C J) (what : Order) (result : Result (Unit {0}) PlayFault) (new : PlayModel C J) → Obeys moves gives_none takes_none old what result new → PlaysTo old new
+  obeyed old (order.Worker k) (Ok u) new (inl x) = same old new x.1
+  obeyed old (order.Worker k) (Ok u) new (inr x) = turned old k (Ok x.0) new x.1
+  obeyed old (order.Worker k) (Err why) new x = turned old k (Err x.1.0) new x.1.1
+  obeyed old order.Carrier (Ok u) new x = carried old (Ok x.0) new x.1
+  obeyed old order.Carrier (Err why) new x = carried old (Err x.1.0) new x.1.1
+  obeyed old (order.Serve node verdict) result new x = subst (PlaysTo old) (sym x.1) (serves old node verdict result new.cluster new.carrier x.0)
+  obeyed old (order.Break node) result new x = subst (PlaysTo old) (sym x.1.1) (broke old node new.carrier x.1.0)
+  obeyed old (order.Move move) result new x = subst (PlaysTo old) (sym x.1) (moves-on old move result new.cluster x.0)
+
+  obeyed-all : (orders : List Order) (old : PlayModel C J) (result : Result (Unit {0}) PlayFault) (new : PlayModel C J) → ObeysAll moves gives_none takes_none old orders result new → PlaysTo old new
+  obeyed-all [] old result new x = same old new x.1
+  obeyed-all (what ∷ orders) old result new (inl x) = plays-on old x.0 new (obeyed old what (Ok tt) x.0 x.1) (obeyed-all orders x.0 result new x.2)
+  obeyed-all (what ∷ orders) old result new (inr x) = obeyed old what (Err x.0) new x.2
+
+  pub obeyed-is-sound : PlaysRefine C J → ObeyedIsSound C J moves gives_none takes_none
+  obeyed-is-sound refine old new orders result x = plays-soundly refine old new (obeyed-all orders old result new x)
+
+-- ---- the next order
+
+module _ {C J : Type 0} (moves : Moves C) (gives_none takes_none : C → Type 0) where
+  -- what obeying from here on gives, obeying from the first order gives
+  abbrev pub GoesOn : PlayModel C J → List Order → PlayModel C J → List Order → Type 0
+  GoesOn first orders now rest = (result : Result (Unit {0}) PlayFault) (new : PlayModel C J) → ObeysAll moves gives_none takes_none now rest result new → ObeysAll moves gives_none takes_none first orders result new
+
+  pub goes-on : (first : PlayModel C J) (orders : List Order) (now : PlayModel C J) (what : Order) (rest : List Order) (next : PlayModel C J) → GoesOn first orders now (what ∷ rest) → Obeys moves gives_none takes_none now what (Ok tt) next → GoesOn first orders next rest
+  goes-on first orders now what rest next goes x result new later = goes result new (inl (next, x, later))
+
+  pub ends-here : (first : PlayModel C J) (orders : List Order) (now : PlayModel C J) (what : Order) (rest : List Order) (why : PlayFault) (next : PlayModel C J) → GoesOn first orders now (what ∷ rest) → Obeys moves gives_none takes_none now what (Err why) next
+      → ObeysAll moves gives_none takes_none first orders (Err why) next
+  ends-here first orders now what rest why next goes x = goes (Err why) next (inr (why, refl, x))

@@ -1,0 +1,273 @@
+-- What each order does is steps of a system.
+use Rattle.std.proofs.Common.{◌≡◌, inl, inr, ℕ, zero, suc, Bool, true, false, List, [], ◌∷◌, ◌++◌, Some, Ok, refl, sym, ap, ◌∙◌, subst}
+use Rattle.std.specs.Prelude.{Result, Err, slice_get, slice_set}
+use Rattle.resp_wire.specs.declared.value.Value.{Value}
+use Rattle.slot_map.specs.Table.{Endpoint}
+use Rattle.node_model.specs.Nodes.{ClusterModel}
+use Rattle.node_model.specs.Runs.{deed_for, DoesRun}
+use Rattle.node_model.specs.declared.role.Verdict.{Verdict}
+use Rattle.proxy_turns.specs.declared.newcomer.Newcomer.{Newcomer}
+use Rattle.proxy_turns.specs.declared.backend.Backend.{Backend}
+use Rattle.proxy_turns.specs.WorkerModel.{WorkerModel}
+use Rattle.proxy_turns.specs.CarrierModel.{CarrierModel}
+use Rattle.proxy_turns.specs.Swapping.{SwapOutcome, with_port}
+use Rattle.world_laws.specs.declared.event.Event.{Event}
+use Rattle.turn_laws.specs.Wire.{Wire, Item, Asks, Runs, Lists, Execution, executions, parts_in}
+use Rattle.turn_laws.specs.System.{System}
+use Rattle.turn_laws.specs.Steps.{AtNode, Moved, log_of}
+use Rattle.turn_laws.specs.AnyPort.{IsWired, AreWired, over_link, link_over, over_backend, over_backends, over_wires}
+use Rattle.turn_play.specs.declared.fault.PlayFault.{PlayFault}
+use Rattle.turn_play.specs.May.{MayServeNext, ClusterMoves}
+use Rattle.turn_play.specs.Played.{Step, Leads, PlaysRefine}
+use Rattle.turn_play.specs.Turns.{PlaysWorker, ShowsCarrier, PlaysCarrier}
+use Rattle.turn_play.specs.Port.{PortModel, IsEnd}
+use Rattle.turn_play.specs.Waiting.{asking_after}
+use Rattle.turn_play.specs.Serving.{IsSaid, PortServes, ServeOutcome, ServesAt, BreaksAt, okay}
+use Rattle.turn_play.specs.Playing.{PlayModel, PlaysTo, PlaysSoundly}
+use Rattle.turn_play.proofs.Turning.{set-itself}
+
+-- ---- the wire of a backend
+
+module _ {P : Type 0} (wired : P → Wire → Type 0) where
+  abbrev WireAt : List (Backend P) → List Wire → ℕ → Backend P → Type 0
+  WireAt backends wires k backend = (wire : Wire) × IsWired wired backend.link wire × (slice_get (over_backends backends wires) k ≡ Some (over_backend backend wire))
+
+  wire-at : (backends : List (Backend P)) (wires : List Wire) → AreWired wired backends wires → (k : ℕ) (backend : Backend P) → slice_get backends k ≡ Some backend → WireAt backends wires k backend
+  wire-at [] wires on k backend e = absurd (cc)
+  wire-at (b ∷ bs) [] on k backend e = absurd on
+  wire-at (b ∷ bs) (w ∷ ws) on zero backend e = let same : b ≡ backend = cc in (w, subst (λ (x : Backend P). IsWired wired x.link w) same on.0, λ i. Some (over_backend (same i) w))
+  wire-at (b ∷ bs) (w ∷ ws) on (suc k) backend e = wire-at bs ws on.1 k backend e
+
+  set-wired : (backends : List (Backend P)) (wires : List Wire) → AreWired wired backends wires → (k : ℕ) (backend : Backend P) (wire : Wire) → IsWired wired backend.link wire
+      → AreWired wired (slice_set backends k backend) (slice_set wires k wire)
+  set-wired [] [] on k backend wire x = tt
+  set-wired [] (w ∷ ws) on k backend wire x = absurd on
+  set-wired (b ∷ bs) [] on k backend wire x = absurd on
+  set-wired (b ∷ bs) (w ∷ ws) on zero backend wire x = (x, on.1)
+  set-wired (b ∷ bs) (w ∷ ws) on (suc k) backend wire x = (on.0, set-wired bs ws on.1 k backend wire x)
+
+  set-over : (backends : List (Backend P)) (wires : List Wire) → AreWired wired backends wires → (k : ℕ) (backend : Backend P) (wire : Wire)
+      → over_backends (slice_set backends k backend) (slice_set wires k wire) ≡ slice_set (over_backends backends wires) k (over_backend backend wire)
+  set-over [] [] on k backend wire = refl
+  set-over [] (w ∷ ws) on k backend wire = absurd on
+  set-over (b ∷ bs) [] on k backend wire = absurd on
+  set-over (b ∷ bs) (w ∷ ws) on zero backend wire = refl
+  set-over (b ∷ bs) (w ∷ ws) on (suc k) backend wire = ap (λ xs. over_backend b w ∷ xs) (set-over bs ws on.1 k backend wire)
+
+-- ---- what a node serves of a port, it serves of its wire
+
+abbrev Served : List Endpoint → ClusterModel → ℕ → Wire → Verdict → ClusterModel → PortModel → Type 0
+Served table k node wire verdict k' port' =
+    (wire' : Wire) × (values : List Value) × (done : List Execution) × MayServeNext table k node wire verdict k' wire' values done × (wire'.values ≡ wire.values ++ values) × IsEnd port' wire'
+
+module _ (table : List Endpoint) (k : ClusterModel) (node : ℕ) (port : PortModel) (wire : Wire) (on : IsEnd port wire) (verdict : Verdict) (k' : ClusterModel) (port' : PortModel) (rest : List Item) (said : List Value) where
+  -- the wire after it, and the port at its end
+  ends : (asking : Bool) → port' ≡ record port { items = rest; values = port.values ++ said; asking = asking } → IsEnd port' (record wire { items = rest; values = wire.values ++ said; asking = asking })
+  ends asking x = (
+    ap (λ (p : PortModel). p.items) x,
+    ap (λ (p : PortModel). p.values) x ∙ ap (λ values. values ++ said) on.1,
+    ap (λ (p : PortModel). p.asking) x,
+  )
+
+  by-item : (first : Item) → port.items ≡ first ∷ rest → IsSaid table k node port.asking first verdict k' said → port' ≡ record port { items = rest; values = port.values ++ said; asking = asking_after first port.asking }
+      → Served table k node wire verdict k' port'
+  by-item Asks is says x = (
+    record wire { items = rest; values = wire.values ++ said; asking = true },
+    said,
+    [],
+    inl (rest, okay, sym on.0 ∙ is, says.1, says.0, refl, refl),
+    refl,
+    ends true x,
+  )
+  by-item (Runs parts) is says x = (
+    record wire { items = rest; values = wire.values ++ said; asking = false },
+    said,
+    executions parts says.0,
+    inr (inl (
+      rest,
+      parts,
+      says.0,
+      sym on.0 ∙ is,
+      says.1,
+      subst (λ (b : Bool). DoesRun (deed_for k node b (parts_in parts) verdict) k node (parts_in parts) says.0 k') on.2 says.2,
+      says.3,
+      refl,
+      refl,
+    )),
+    refl,
+    ends false x,
+  )
+  by-item Lists is says x = (
+    record wire { items = rest; values = wire.values ++ said },
+    said,
+    [],
+    inr (inr (rest, says.0, sym on.0 ∙ is, says.2, says.1, refl, refl)),
+    refl,
+    subst (λ (b : Bool). IsEnd port' (record wire { items = rest; values = wire.values ++ said; asking = b })) on.2 (ends port.asking x),
+  )
+
+served : (table : List Endpoint) (k : ClusterModel) (node : ℕ) (port : PortModel) (wire : Wire) → IsEnd port wire → (verdict : Verdict) (k' : ClusterModel) (port' : PortModel) → PortServes table k node port verdict k' port' → Served table k node wire verdict k' port'
+served table k node port wire on verdict k' port' x = by-item table k node port wire on verdict k' port' x.1 x.2 x.0 x.3 x.4 x.5
+
+-- ---- a play
+
+module _ {C J : Type 0} where
+  leads-join : (a : System C J) (steps : List (Step C J)) (b : System C J) (later : List (Step C J)) (c : System C J) → Leads a steps b → Leads b later c → Leads a (steps ++ later) c
+  leads-join a [] b later c x y = subst (λ (s : System C J). Leads s later c) (sym x) y
+  leads-join a (step ∷ steps) b later c x y = (x.0, leads-join step.next steps b later c x.1 y)
+
+  pub plays-on : (a b c : PlayModel C J) → PlaysTo a b → PlaysTo b c → PlaysTo a c
+  plays-on a b c x y s shows =
+      let one = x s shows in
+      let two = y one.0 one.2 in
+      (two.0, (one.1.0 ++ two.1.0, leads-join s one.1.0 one.0 two.1.0 two.0 one.1.1 two.1.1), two.2)
+
+  pub plays-none : (a : PlayModel C J) → PlaysTo a a
+  plays-none a s shows = (s, ([], refl), shows)
+
+  pub plays-soundly : PlaysRefine C J → (a b : PlayModel C J) → PlaysTo a b → PlaysSoundly a b
+  plays-soundly refine a b x s shows =
+      let one = x s shows in
+      (one.0, one.1.0, one.1.1, one.2, λ fresh order. refine s one.0 one.1.0 fresh one.1.1 order)
+
+  -- a worker's turn
+  pub worker-turned : (old : PlayModel C J) (k : ℕ) (model new : WorkerModel C J) → slice_get old.workers k ≡ Some model
+      → ((s : System C J) → slice_get s.workers k ≡ Some model → PlaysWorker s k new) → PlaysTo old (record old { workers = slice_set old.workers k new })
+  worker-turned old k model new at turns s shows =
+      let x = turns s (ap (λ ws. slice_get ws k) shows.workers ∙ at) in (
+        x.0,
+        x.1,
+        record {
+          workers = ap (λ (t : System C J). t.workers) x.2 ∙ ap (λ ws. slice_set ws k new) shows.workers;
+          carrier = (shows.carrier.0, shows.carrier.1, ap (λ (t : System C J). t.carrier) x.2 ∙ shows.carrier.2);
+          cluster = ap (λ (t : System C J). t.cluster) x.2 ∙ shows.cluster;
+          nodes = ap (λ (t : System C J). t.nodes) x.2 ∙ shows.nodes;
+        },
+      )
+
+  -- the carrier's
+  pub carrier-turned : (old : PlayModel C J) (new : CarrierModel (Newcomer C J) PortModel) → ((s : System C J) → ShowsCarrier IsEnd old.carrier s → PlaysCarrier IsEnd s new) → PlaysTo old (record old { carrier = new })
+  carrier-turned old new turns s shows =
+      let x = turns s shows.carrier in (
+        x.0,
+        x.1,
+        record {
+          workers = ap (λ (t : System C J). t.workers) x.3 ∙ shows.workers;
+          carrier = x.2;
+          cluster = ap (λ (t : System C J). t.cluster) x.3 ∙ shows.cluster;
+          nodes = ap (λ (t : System C J). t.nodes) x.3 ∙ shows.nodes;
+        },
+      )
+
+  -- a step of a move
+  pub moved : (old : PlayModel C J) (event : Event) (k : ClusterModel) → ClusterMoves old.cluster event k → PlaysTo old (record old { cluster = k })
+  moved old event k x s shows =
+      let next : System C J = record s { cluster = k } in (
+        next,
+        (record { event = Moved event; next = next } ∷ [], ((subst (λ (c : ClusterModel). ClusterMoves c event k) (sym shows.cluster) x, refl), refl)),
+        record { workers = shows.workers; carrier = shows.carrier; cluster = refl; nodes = shows.nodes },
+      )
+
+  -- ---- a port that is changed
+
+  module _ (old new : CarrierModel (Newcomer C J) PortModel) (node : ℕ) (port port' : PortModel) (x : SwapOutcome node old port' (Ok port) new) (s : System C J) (shows : ShowsCarrier IsEnd old s) where
+    -- the wire at the other end
+    at-end : WireAt IsEnd old.backends shows.0 node x.0
+    at-end = wire-at IsEnd old.backends shows.0 shows.1 node x.0 x.2
+
+    its-end : IsEnd port at-end.0
+    its-end =
+        let linked : IsEnd x.1.port at-end.0 = subst (λ o. IsWired IsEnd o at-end.0) x.3 at-end.1 in
+        subst (λ (p : PortModel). IsEnd p at-end.0) (sym x.5) linked
+
+    -- the system's backend
+    there : slice_get s.carrier.backends node ≡ Some (over_backend x.0 at-end.0)
+    there = ap (λ (c : CarrierModel (Newcomer C J) Wire). slice_get c.backends node) shows.2 ∙ at-end.2
+
+    -- the carrier over the wires after it
+    abbrev after : Wire → CarrierModel (Newcomer C J) Wire
+    after wire' = record s.carrier { backends = slice_set s.carrier.backends node (record (over_backend x.0 at-end.0) { link = Some (record (over_link x.1 at-end.0) { port = wire' }) }) }
+
+    shows-after : (wire' : Wire) → IsEnd port' wire' → (t : System C J) → t.carrier ≡ after wire' → ShowsCarrier IsEnd new t
+    shows-after wire' on t e = (
+      slice_set shows.0 node wire',
+      subst (λ bs. AreWired IsEnd bs (slice_set shows.0 node wire')) (sym (ap (λ (c : CarrierModel (Newcomer C J) PortModel). c.backends) x.6)) (set-wired IsEnd old.backends shows.0 shows.1 node (with_port x.0 x.1 port') wire' on),
+      e ∙ (λ i. record (shows.2 i) { backends = slice_set (shows.2 i).backends node (over_backend (with_port x.0 x.1 port') wire') })
+          ∙ sym ((λ i. over_wires (x.6 i) (slice_set shows.0 node wire')) ∙ (λ i. record (over_wires old shows.0) { backends = set-over IsEnd old.backends shows.0 shows.1 node (with_port x.0 x.1 port') wire' i })),
+    )
+
+  -- it is broken
+  pub broke : (old : PlayModel C J) (node : ℕ) (new : CarrierModel (Newcomer C J) PortModel) → BreaksAt node old.carrier new → PlaysTo old (record old { carrier = new })
+  broke old node new (inl same) s shows = (s, ([], refl), record { workers = shows.workers; carrier = subst (λ (c : CarrierModel (Newcomer C J) PortModel). ShowsCarrier IsEnd c s) (sym same.1) shows.carrier; cluster = shows.cluster; nodes = shows.nodes })
+  broke old node new (inr x) s shows =
+      let end = at-end old.carrier new node x.0 (record x.0 { broken = true }) x.1 s shows.carrier in
+      let its = its-end old.carrier new node x.0 (record x.0 { broken = true }) x.1 s shows.carrier in
+      let here = there old.carrier new node x.0 (record x.0 { broken = true }) x.1 s shows.carrier in
+      let same : record (over_backend x.1.0 end.0) { link = Some (record (over_link x.1.1 end.0) { port = end.0 }) } ≡ over_backend x.1.0 end.0 = λ i. over_backend (record x.1.0 { link = sym x.1.3 i }) end.0 in (
+        s,
+        ([], refl),
+        record {
+          workers = shows.workers;
+          carrier = shows-after old.carrier new node x.0 (record x.0 { broken = true }) x.1 s shows.carrier end.0 its s
+              (sym ((λ i. record s.carrier { backends = slice_set s.carrier.backends node (same i) }) ∙ (λ i. record s.carrier { backends = set-itself s.carrier.backends node (over_backend x.1.0 end.0) here i })));
+          cluster = shows.cluster;
+          nodes = shows.nodes;
+        },
+      )
+
+  -- what waits first is served
+  served-at : (old : PlayModel C J) (node : ℕ) (verdict : Verdict) (k : ClusterModel) (new : CarrierModel (Newcomer C J) PortModel) (port port' : PortModel) → SwapOutcome node old.carrier port' (Ok port) new → PortServes old.nodes old.cluster node port verdict k port'
+      → PlaysTo old (record old { carrier = new; cluster = k })
+  served-at old node verdict k new port port' x y s shows =
+      let end = at-end old.carrier new node port port' x s shows.carrier in
+      let its = its-end old.carrier new node port port' x s shows.carrier in
+      let here = there old.carrier new node port port' x s shows.carrier in
+      let r = served old.nodes old.cluster node port end.0 its verdict k port' y in
+      let carrier : CarrierModel (Newcomer C J) Wire = after old.carrier new node port port' x s shows.carrier r.0 in
+      let next : System C J = record s { cluster = k; carrier = carrier; log = s.log ++ log_of r.2 } in
+      let nodes-so = subst (λ (ns : List Endpoint). MayServeNext ns old.cluster node end.0 verdict k r.0 r.1 r.2) (sym shows.nodes) r.3 in
+      let serves = subst (λ (c : ClusterModel). MayServeNext s.nodes c node end.0 verdict k r.0 r.1 r.2) (sym shows.cluster) nodes-so in (
+        next,
+        (
+          record { event = AtNode node verdict; next = next } ∷ [],
+          ((over_backend x.0 end.0, over_link x.1 end.0, r.0, r.1, r.2, here, ap (λ o. link_over o end.0) x.3, x.4, serves, r.4, refl), refl),
+        ),
+        record {
+          workers = shows.workers;
+          carrier = shows-after old.carrier new node port port' x s shows.carrier r.0 r.5 next refl;
+          cluster = refl;
+          nodes = shows.nodes;
+        },
+      )
+
+  -- nothing waited, so the port is as it was
+  idle-at : (old : PlayModel C J) (node : ℕ) (k : ClusterModel) (new : CarrierModel (Newcomer C J) PortModel) (port port' : PortModel) → SwapOutcome node old.carrier port' (Ok port) new → k ≡ old.cluster → port' ≡ port → PlaysTo old (record old { carrier = new; cluster = k })
+  idle-at old node k new port port' x same-cluster same-port s shows =
+      let end = at-end old.carrier new node port port' x s shows.carrier in
+      let its = its-end old.carrier new node port port' x s shows.carrier in
+      let here = there old.carrier new node port port' x s shows.carrier in
+      let same : record (over_backend x.0 end.0) { link = Some (record (over_link x.1 end.0) { port = end.0 }) } ≡ over_backend x.0 end.0 = λ i. over_backend (record x.0 { link = sym x.3 i }) end.0 in (
+        s,
+        ([], refl),
+        record {
+          workers = shows.workers;
+          carrier = shows-after old.carrier new node port port' x s shows.carrier end.0 (subst (λ (p : PortModel). IsEnd p end.0) (sym same-port) its) s
+              (sym ((λ i. record s.carrier { backends = slice_set s.carrier.backends node (same i) }) ∙ (λ i. record s.carrier { backends = set-itself s.carrier.backends node (over_backend x.0 end.0) here i })));
+          cluster = shows.cluster ∙ sym same-cluster;
+          nodes = shows.nodes;
+        },
+      )
+
+  did-serve : (old : PlayModel C J) (node : ℕ) (verdict : Verdict) (k : ClusterModel) (new : CarrierModel (Newcomer C J) PortModel) (port port' : PortModel) (moved : Bool) → SwapOutcome node old.carrier port' (Ok port) new → ServeOutcome old.nodes old.cluster node port verdict (Ok moved) k port'
+      → PlaysTo old (record old { carrier = new; cluster = k })
+  did-serve old node verdict k new port port' true x y = served-at old node verdict k new port port' x y
+  did-serve old node verdict k new port port' false x y = idle-at old node k new port port' x y.1 y.2
+
+  -- nothing has changed
+  stays : (old : PlayModel C J) (k : ClusterModel) (new : CarrierModel (Newcomer C J) PortModel) → k ≡ old.cluster → new ≡ old.carrier → PlaysTo old (record old { carrier = new; cluster = k })
+  stays old k new same same-carrier s shows = (s, ([], refl), record { workers = shows.workers; carrier = subst (λ (c : CarrierModel (Newcomer C J) PortModel). ShowsCarrier IsEnd c s) (sym same-carrier) shows.carrier; cluster = shows.cluster ∙ sym same; nodes = shows.nodes })
+
+  pub serves : (old : PlayModel C J) (node : ℕ) (verdict : Verdict) (result : Result (Unit {0}) PlayFault) (k : ClusterModel) (new : CarrierModel (Newcomer C J) PortModel) → ServesAt old.nodes old.cluster node old.carrier verdict result k new → PlaysTo old (record old { carrier = new; cluster = k })
+  serves old node verdict (Ok u) k new (inl x) = stays old k new x.1 x.2
+  serves old node verdict (Ok u) k new (inr x) = did-serve old node verdict k new x.0 x.1 x.2 x.3 x.4
+  serves old node verdict (Err why) k new x = stays old k new x.3 x.4

@@ -1,0 +1,13 @@
+pub mod May
+pub mod Played
+pub mod Turns
+pub mod Waiting
+pub mod Port
+pub mod Faults
+pub mod Serving
+pub mod Playing
+pub mod Moving
+pub mod Obeying
+pub mod Play
+pub mod Dialling
+pub mod Starting

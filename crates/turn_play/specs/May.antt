@@ -1,0 +1,127 @@
+-- What the turns of the code, the serving of its nodes and the steps of its moves do to a system: `SystemStep`, without what no contract
+-- of the code says. What is left out is said apart, as premises: `IsInOrder` of each system, `MayNow` of each step.
+use Rattle.std.specs.Prelude.{◌≡◌, ◌⊎◌, ◌++◌, ◌∷◌, [], ℕ, List, true, false, Some, None, slice_get, slice_set}
+use mathlib.Core.List.{IsPrefix}
+use Rattle.resp_wire.specs.declared.value.Value.{Value}
+use Rattle.key_split.specs.declared.travel.Told.{Told}
+use Rattle.key_split.specs.Told.{IsWritten}
+use Rattle.slot_map.specs.Table.{Endpoint}
+use Rattle.node_model.specs.Nodes.{ClusterModel}
+use Rattle.node_model.specs.Moves.{MayImport, MayMigrate, MayMoveKey, MayOwn, MayRelease, MayForget, MayStay, import_done, migrate_done, move_key_done, own_done, release_done, forget_done, stay_done}
+use Rattle.node_model.specs.Runs.{deed_for, DoesRun}
+use Rattle.node_model.specs.declared.role.Verdict.{Verdict}
+use Rattle.node_link.specs.LinkModel.{LinkModel}
+use Rattle.proxy_lanes.specs.declared.ends.lane_ends.LaneEnds.{LaneEnds}
+use Rattle.proxy_turns.specs.declared.newcomer.Newcomer.{Newcomer}
+use Rattle.proxy_turns.specs.declared.backend.Backend.{Backend}
+use Rattle.proxy_turns.specs.WorkerModel.{WorkerModel, WorkerEvent, WorkerDoes}
+use Rattle.proxy_turns.specs.CarrierModel.{CarrierEvent, CarrierDoes}
+use Rattle.world_laws.specs.World.{NamesNode}
+use Rattle.world_laws.specs.declared.event.Event.{Event}
+use Rattle.world_laws.specs.declared.event.Event.TheVariants as core
+use Rattle.turn_laws.specs.Wire.{Wire, Item, Part, Asks, Runs, Lists, Exchanges, Execution, AreTold, executions, parts_in}
+use Rattle.turn_laws.specs.System.{System, Mark}
+use Rattle.turn_laws.specs.Shadow.{IsWorking, DownInStep}
+use Rattle.turn_laws.specs.Asking.{NoneAsksIn}
+use Rattle.turn_laws.specs.Steps.{SystemEvent, AtWorker, AtCarrier, AtNode, AtBroken, Thrown, Moved, IsSeen, Opens, Breaks, UpsInStep, ServesLate, Discards, any_moves, any_failures, any_garbled, any_none, opened_by, log_of}
+
+-- what a node wrote, of each command that it told
+abbrev pub AreWritten : List Endpoint → List Told → List Value → Type 0
+AreWritten table [] [] = Unit {0}
+AreWritten table [] (value ∷ values) = ⊥
+AreWritten table (told ∷ tolds) [] = ⊥
+AreWritten table (told ∷ tolds) (value ∷ values) = IsWritten told table value × AreWritten table tolds values
+
+-- A node serves the first item of a wire, as in `ServesNext`, and writes what it says.
+abbrev pub MayServeNext : List Endpoint → ClusterModel → ℕ → Wire → Verdict → ClusterModel → Wire → List Value → List Execution → Type 0
+MayServeNext table k node old verdict k' new values done =
+    ((rest : List Item) × (value : Value) × (old.items ≡ Asks ∷ rest) × (values ≡ value ∷ []) × (k' ≡ k) × (done ≡ [])
+    × (new ≡ record old { items = rest; values = new.values; asking = true }))
+    ⊎ ((rest : List Item) × (parts : List Part) × (tolds : List Told)
+    × (old.items ≡ Runs parts ∷ rest) × NamesNode k verdict
+    × DoesRun (deed_for k node old.asking (parts_in parts) verdict) k node (parts_in parts) tolds k'
+    × AreWritten table tolds values × (done ≡ executions parts tolds)
+    × (new ≡ record old { items = rest; values = new.values; asking = false }))
+    ⊎ ((rest : List Item) × (value : Value) × (old.items ≡ Lists ∷ rest) × (values ≡ value ∷ []) × (k' ≡ k) × (done ≡ [])
+    × (new ≡ record old { items = rest; values = new.values }))
+
+-- a step of a move, whoever is on the way
+abbrev pub ClusterMoves : ClusterModel → Event → ClusterModel → Type 0
+ClusterMoves k (core.Import slot target) k' = MayImport k slot target × (k' ≡ import_done k slot target)
+ClusterMoves k (core.Migrate slot) k' = MayMigrate k slot × (k' ≡ migrate_done k slot)
+ClusterMoves k (core.MoveKey slot key) k' = MayMoveKey k slot key × (k' ≡ move_key_done k slot key)
+ClusterMoves k (core.Own slot) k' = MayOwn k slot × (k' ≡ own_done k slot)
+ClusterMoves k (core.Release slot) k' = MayRelease k slot × (k' ≡ release_done k slot)
+ClusterMoves k (core.Forget slot) k' = MayForget k slot × (k' ≡ forget_done k slot)
+ClusterMoves k (core.Stay slot) k' = MayStay k slot × (k' ≡ stay_done k slot)
+ClusterMoves k event k' = ⊥
+
+module _ {C J : Type 0} where
+  -- an event of a worker's turn
+  pub record WorkerMay (s : System C J) (k : ℕ) (event : WorkerEvent) (s' : System C J) : Type 0 where
+    pub old : WorkerModel C J
+    pub new : WorkerModel C J
+    pub marks : List Mark
+    pub at : slice_get s.workers k ≡ Some old
+    pub does : WorkerDoes any_moves old event new
+    pub seen : IsSeen old event new marks
+    pub leaves : s' ≡ record s { workers = slice_set s.workers k new; log = s.log ++ marks }
+
+  -- an event of the carrier's turn
+  pub record CarrierMay (s : System C J) (event : CarrierEvent) (s' : System C J) : Type 0 where
+    pub longest : Wire → ℕ
+    pub does : CarrierDoes any_failures any_garbled Exchanges any_none (Opens s) longest s.carrier event s'.carrier
+    pub breaks : Breaks s s'
+    pub leaves : s' ≡ record s { carrier = s'.carrier; closed = s'.closed; opened = opened_by event s.opened }
+
+  -- Node k serves what is next of the open connection at its backend. That this connection leads to node k is no premise: of a system
+  -- that stands for a world of the machine it holds.
+  abbrev pub ServesMay : System C J → ℕ → Verdict → System C J → Type 0
+  ServesMay s k verdict s' =
+      (backend : Backend Wire) × (link : LinkModel Wire) × (wire : Wire) × (values : List Value) × (done : List Execution)
+      × (slice_get s.carrier.backends k ≡ Some backend) × (backend.link ≡ Some link) × (link.failure ≡ None)
+      × MayServeNext s.nodes s.cluster k link.port verdict s'.cluster wire values done
+      × (wire.values ≡ link.port.values ++ values)
+      × (s' ≡ record s {
+        cluster = s'.cluster;
+        carrier = record s.carrier { backends = slice_set s.carrier.backends k (record backend { link = Some (record link { port = wire }) }) };
+        log = s.log ++ log_of done;
+      })
+
+  abbrev pub MayStep : System C J → SystemEvent → System C J → Type 0
+  MayStep s (AtWorker k event) s' = WorkerMay s k event s'
+  MayStep s (AtCarrier event) s' = CarrierMay s event s'
+  MayStep s (AtNode k verdict) s' = ServesMay s k verdict s'
+  MayStep s (AtBroken j verdict) s' = ServesLate s j verdict s'
+  MayStep s (Thrown j) s' = Discards s j s'
+  MayStep s (Moved event) s' = ClusterMoves s.cluster event s'.cluster × (s' ≡ record s { cluster = s'.cluster })
+
+  -- ---- the premises
+
+  -- What two threads would share is in order: a lane gives what was put in, in that order, a worker sees a front of what was published of
+  -- the slot map, and the carrier's table, as far as it has grown, lists nodes of the cluster, in their order.
+  pub record IsInOrder (s : System C J) : Type 0 where
+    pub ups : UpsInStep s
+    pub downs : (k : ℕ) (model : WorkerModel C J) (lane : LaneEnds (Newcomer C J)) → slice_get s.workers k ≡ Some model → slice_get s.carrier.lanes k ≡ Some lane
+        → DownInStep lane model
+    pub views : (k : ℕ) (model : WorkerModel C J) → slice_get s.workers k ≡ Some model → IsPrefix model.view s.carrier.published
+    pub table : IsPrefix s.carrier.nodes s.nodes
+
+  -- a slot is imported only where no command for it is under way that an ASK sent to the node
+  abbrev pub MayMoveNow : System C J → Event → Type 0
+  MayMoveNow s (core.Import slot target) = NoneAsksIn s slot target
+  MayMoveNow s event = Unit {0}
+
+  -- what node k tells the commands of the run that is next at it is read in what it writes
+  abbrev pub IsReadBack : System C J → ℕ → Verdict → Type 0
+  IsReadBack s k verdict =
+      (link : LinkModel Wire) (parts : List Part) (rest : List Item) (tolds : List Told) (k' : ClusterModel) (values : List Value) → IsWorking s.carrier k link → link.port.items ≡ Runs parts ∷ rest
+      → DoesRun (deed_for s.cluster k link.port.asking (parts_in parts) verdict) s.cluster k (parts_in parts) tolds k' → AreWritten s.nodes tolds values → AreTold s.nodes k values tolds
+
+  abbrev pub MayNow : System C J → SystemEvent → Type 0
+  MayNow s (AtWorker k event) = Unit {0}
+  MayNow s (AtCarrier event) = Unit {0}
+  MayNow s (AtNode k verdict) = IsReadBack s k verdict
+  MayNow s (AtBroken j verdict) = Unit {0}
+  MayNow s (Thrown j) = Unit {0}
+  MayNow s (Moved event) = MayMoveNow s event

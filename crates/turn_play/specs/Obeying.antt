@@ -1,0 +1,86 @@
+-- What each order does to a play, and where a fault ends it.
+-- A worker's or the carrier's turn that moved nothing has nothing left to do: that is why a turn can't be left out.
+use Rattle.std.specs.Prelude.{◌≡◌, ◌≤◌, ◌⊎◌, ℕ, Bool, List, [], ◌∷◌, Some, Result, Ok, Err, length, slice_get, slice_set}
+use Rattle.resp_wire.specs.declared.fault.NoMemory.{NoMemory}
+use Rattle.node_model.specs.declared.role.Verdict.{Verdict}
+use Rattle.proxy_turns.specs.Port.{Moves}
+use Rattle.proxy_turns.specs.Backend.{GaveNone}
+use Rattle.proxy_turns.specs.ClientRest.{IfStill}
+use Rattle.proxy_turns.specs.WorkerRest.{AreClientsAtRest, ArePostedAtRest, HasNoNewcomer, HasNothingToTell}
+use Rattle.proxy_turns.specs.WorkerModel.{WorkerModel, WorkerTurns}
+use Rattle.proxy_turns.specs.CarrierModel.{CarrierTurns, RestsAfter}
+use Rattle.turn_play.specs.declared.fault.PlayFault.{PlayFault}
+use Rattle.turn_play.specs.declared.fault.PlayFault.TheVariants as fault
+use Rattle.turn_play.specs.declared.moves.Move.{Move}
+use Rattle.turn_play.specs.declared.order.Order.{Order}
+use Rattle.turn_play.specs.declared.order.Order.TheVariants as order
+use Rattle.turn_play.specs.Moving.{MovesOrNot}
+use Rattle.turn_play.specs.Port.{IsFresh, IsRead, PortExchanges, any_bytes, longest_run, no_count}
+use Rattle.turn_play.specs.Serving.{BreaksAt, ServesAt}
+use Rattle.turn_play.specs.Playing.{PlayModel, PlaysSoundly}
+
+module _ {C J : Type 0} where
+  -- what a turn of a worker leaves that moved nothing
+  pub record IsAtRest (gives_none takes_none : C → Type 0) (worker : WorkerModel C J) : Type 0 where
+    pub newcomers : HasNoNewcomer worker
+    pub told : HasNothingToTell worker
+    pub clients : AreClientsAtRest gives_none takes_none worker
+    pub posted : ArePostedAtRest worker
+
+  module _ (moves : Moves C) (gives_none takes_none : C → Type 0) where
+    -- the worker at place k had its turn
+    abbrev pub IsTurned : PlayModel C J → ℕ → Result Bool NoMemory → PlayModel C J → Type 0
+    IsTurned old k result new =
+        (worker : WorkerModel C J) × (worker' : WorkerModel C J)
+        × (slice_get old.workers k ≡ Some worker) × WorkerTurns moves worker result worker' × IfStill result (IsAtRest gives_none takes_none worker')
+        × (new ≡ record old { workers = slice_set old.workers k worker' })
+
+    -- the same, where there is a worker k
+    abbrev pub TurnsWorker : PlayModel C J → ℕ → Result (Unit {0}) PlayFault → PlayModel C J → Type 0
+    TurnsWorker old k (Ok _) new = ((length old.workers ≤ k) × (new ≡ old)) ⊎ ((moved : Bool) × IsTurned old k (Ok moved) new)
+    TurnsWorker old k (Err why) new = (why ≡ fault.NoMemory) × ((refused : NoMemory) × IsTurned old k (Err refused) new)
+
+  -- the carrier had its turn
+  abbrev pub CarrierIsTurned : PlayModel C J → Result Bool NoMemory → PlayModel C J → Type 0
+  CarrierIsTurned old result new =
+      CarrierTurns no_count any_bytes PortExchanges IsRead IsFresh longest_run old.carrier result new.carrier
+      × RestsAfter (GaveNone no_count any_bytes PortExchanges IsRead) result new.carrier
+      × (new ≡ record old { carrier = new.carrier })
+
+  abbrev pub TurnsCarrier : PlayModel C J → Result (Unit {0}) PlayFault → PlayModel C J → Type 0
+  TurnsCarrier old (Ok _) new = (moved : Bool) × CarrierIsTurned old (Ok moved) new
+  TurnsCarrier old (Err why) new = (why ≡ fault.NoMemory) × ((refused : NoMemory) × CarrierIsTurned old (Err refused) new)
+
+  -- a node served what waits first at the open connection to it
+  abbrev pub ServesNode : PlayModel C J → ℕ → Verdict → Result (Unit {0}) PlayFault → PlayModel C J → Type 0
+  ServesNode old node verdict result new =
+      ServesAt old.nodes old.cluster node old.carrier verdict result new.cluster new.carrier × (new ≡ record old { cluster = new.cluster; carrier = new.carrier })
+
+  -- the open connection to a node broke
+  abbrev pub BreaksLink : PlayModel C J → ℕ → PlayModel C J → Type 0
+  BreaksLink old node new = BreaksAt node old.carrier new.carrier × (new ≡ record old { carrier = new.carrier })
+
+  -- a step of a move was made, or may not be made now
+  abbrev pub MovesSlot : PlayModel C J → Move → Result (Unit {0}) PlayFault → PlayModel C J → Type 0
+  MovesSlot old step result new = MovesOrNot old.cluster step result new.cluster × (new ≡ record old { cluster = new.cluster })
+
+  module _ (moves : Moves C) (gives_none takes_none : C → Type 0) where
+    -- what an order did
+    abbrev pub Obeys : PlayModel C J → Order → Result (Unit {0}) PlayFault → PlayModel C J → Type 0
+    Obeys old (order.Worker k) result new = TurnsWorker moves gives_none takes_none old k result new
+    Obeys old order.Carrier result new = TurnsCarrier old result new
+    Obeys old (order.Serve node verdict) result new = ServesNode old node verdict result new
+    Obeys old (order.Break node) result new = (result ≡ Ok tt) × BreaksLink old node new
+    Obeys old (order.Move step) result new = MovesSlot old step result new
+
+    -- all were obeyed, in their order, or those up to one that ended in this fault
+    abbrev pub ObeysAll : PlayModel C J → List Order → Result (Unit {0}) PlayFault → PlayModel C J → Type 0
+    ObeysAll old [] result new = (result ≡ Ok tt) × (new ≡ old)
+    ObeysAll old (order ∷ orders) result new =
+        ((mid : PlayModel C J) × Obeys old order (Ok tt) mid × ObeysAll mid orders result new)
+        ⊎ ((why : PlayFault) × (result ≡ Err why) × Obeys old order (Err why) new)
+
+module _ (C J : Type 0) (moves : Moves C) (gives_none takes_none : C → Type 0) where
+  -- whatever orders were obeyed, what was done is sound
+  abbrev pub ObeyedIsSound : Type 0
+  ObeyedIsSound = (old new : PlayModel C J) (orders : List Order) (result : Result (Unit {0}) PlayFault) → ObeysAll moves gives_none takes_none old orders result new → PlaysSoundly old new

@@ -1,0 +1,52 @@
+//! Why a play stopped.
+
+use node_model::ServeFault;
+use resp_wire::NoMemory;
+use std::alloc::AllocError;
+use thiserror::Error;
+
+/// Why a play stopped before its last order. What it did before stands.
+#[derive(Clone, Copy, Debug, PartialEq, Eq, Drop, Error)]
+pub enum PlayFault {
+    #[error("out of memory")]
+    NoMemory,
+    #[error("a node was to say what it cannot")]
+    NotServed,
+}
+
+impl From<NoMemory> for PlayFault {
+    ghost use Rattle.std.specs.Prelude.{◌≡◌};
+    ghost use Rattle.turn_play.specs.declared.fault.PlayFault.TheVariants as fault;
+
+    ghost from_gives = { λ _ given. given ≡ fault.NoMemory };
+
+    fn from(_: NoMemory) -> Self {
+        PlayFault::NoMemory
+    }
+}
+
+impl From<AllocError> for PlayFault {
+    ghost use Rattle.std.specs.Prelude.{◌≡◌};
+    ghost use Rattle.turn_play.specs.declared.fault.PlayFault.TheVariants as fault;
+
+    ghost from_gives = { λ _ given. given ≡ fault.NoMemory };
+
+    fn from(_: AllocError) -> Self {
+        PlayFault::NoMemory
+    }
+}
+
+impl From<ServeFault> for PlayFault {
+    ghost use Rattle.std.specs.Prelude.{◌≡◌};
+    ghost use Rattle.turn_play.specs.Faults.{of_serve};
+
+    ghost from_gives = { λ fault given. given ≡ of_serve fault };
+
+    fn from(fault: ServeFault) -> Self {
+        match fault {
+            ServeFault::NoMemory => PlayFault::NoMemory,
+            ServeFault::NoSuchNode => PlayFault::NotServed,
+            ServeFault::NotThisVerdict => PlayFault::NotServed,
+        }
+    }
+}

@@ -1,0 +1,57 @@
+//! What follows of the steps that the code made. Each law is the contract of a function that does nothing.
+
+ghost use Rattle.turn_play.specs.Obeying.{ObeyedIsSound};
+ghost use Rattle.turn_play.specs.Played.{PlaysRefine};
+ghost use Rattle.turn_play.specs.Starting.{HandingKeeps, LanesAreOpen, PlaysStart};
+ghost use Rattle.turn_play.specs.Turns.{CarriersPlay, WorkersPlay};
+
+use crate::dial::PlayDial;
+use crate::port::PlayPort;
+use proxy_lanes::Naming;
+use proxy_turns::{ClientPort, Dial, Newcomer};
+use turn_laws::WiredPort;
+use turn_laws::laws::{any_client, any_port, headline_of_logs, refines};
+
+/// From a start, where the premises hold along them, the steps that the code made are steps of the system: so the headline holds of
+/// its log, and its nodes hold the store that the log leaves.
+pub fn plays_refine<C: Drop, J: Naming>()
+    ensures { PlaysRefine C J }
+{
+    refines::<C, J>();
+    headline_of_logs::<C, J>();
+}
+
+/// A worker's turn is steps of a system.
+pub fn workers_play<C: ClientPort + Drop, J: Naming>()
+    ensures { WorkersPlay C J C.moves }
+{
+    any_client::<C, J>();
+}
+
+/// A carrier's turn over ports that stand for wires is steps of a system.
+pub fn carriers_play<C: Drop, J: Naming, P: WiredPort, D: Dial<Port = P>>()
+    ensures { CarriersPlay C J P.wired P.failures P.is_garbled P.exchange P.gives_none D.opens P.longest }
+{
+    any_port::<Newcomer<C, J>, P, D>();
+}
+
+/// Whatever orders a play obeyed, it made steps of a system. From a start, where the premises hold along them, the headline holds of
+/// them.
+pub fn obeyed_is_sound<C: ClientPort + Drop, J: Naming>()
+    ensures { ObeyedIsSound C J C.moves C.gives_none C.takes_none }
+{
+    workers_play::<C, J>();
+    carriers_play::<C, J, PlayPort, PlayDial>();
+    plays_refine::<C, J>();
+}
+
+/// A play over new lanes, with a new cluster, shows a start.
+pub fn plays_start<C: Drop, J: Naming>()
+    ensures { PlaysStart C J }
+{}
+
+/// Lanes are new where they were made, and still after clients were handed over.
+pub fn lanes_are_open<H: Drop, J: Naming>()
+    ensures made { LanesAreOpen H J }
+    ensures handed { HandingKeeps H J }
+{}

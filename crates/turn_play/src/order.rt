@@ -1,0 +1,21 @@
+//! What a play is told to do.
+
+use crate::moves::Move;
+use node_model::Verdict;
+use slot_map::NodeId;
+
+/// What is done next.
+#[derive(Drop)]
+pub enum Order {
+    /// One turn of the worker at that place, where there is one.
+    Worker(usize),
+    /// One turn of the carrier.
+    Carrier,
+    /// The node serves what waits first at the carrier's open connection to it, as the verdict says. Nothing happens where
+    /// nothing waits, or no connection is open.
+    Serve(NodeId, Verdict),
+    /// The carrier's open connection to the node breaks, where there is one. The carrier sees it at its next call.
+    Break(NodeId),
+    /// One step of a move, where it may be made now.
+    Move(Move),
+}

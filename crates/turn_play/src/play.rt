@@ -1,0 +1,196 @@
+//! A play: what is done, and in what order, is handed in.
+
+ghost use Rattle.std.specs.Prelude.{◌≡◌, IfOk, map};
+ghost use Rattle.proxy_lanes.specs.Carrier.{lanes_of};
+ghost use Rattle.proxy_turns.specs.Worker.{worker_model};
+ghost use Rattle.turn_play.specs.Obeying.{BreaksLink, MovesSlot, Obeys, ObeysAll, ServesNode, TurnsCarrier, TurnsWorker};
+ghost use Rattle.turn_play.specs.Play.{play_model};
+ghost use Rattle.turn_play.specs.Playing.{PlaysSoundly};
+ghost use Rattle.turn_play.specs.Starting.{IsBeginning, ShowsStart, new_play, workers_on};
+
+use crate::connection::{break_at, serve_at};
+use crate::dial::PlayDial;
+use crate::fault::PlayFault;
+use crate::laws::{obeyed_is_sound, plays_start};
+use crate::moves::{Move, make};
+use crate::order::Order;
+use crate::port::PlayPort;
+use node_model::{Cluster, MoveFault, Verdict};
+use proxy_lanes::{CarrierEnds, Naming, Publisher, WorkerEnds};
+use proxy_turns::{Carrier, ClientPort, Gate, Newcomer, Worker};
+use resp_wire::NoMemory;
+use slot_map::{NodeId, NodeTable};
+use std::alloc::Global;
+use std::sync::Wait;
+
+/// Workers, a carrier and a cluster.
+#[derive(Drop)]
+pub struct Play<'g, C: ClientPort + Drop, J: Naming, R: Wait + Drop, G: Gate> {
+    alloc: Global,
+    workers: Vec<Worker<'g, C, J, G>>,
+    carrier: Carrier<Newcomer<C, J>, Publisher<J, R>, PlayDial, PlayPort>,
+    cluster: Cluster,
+    /// Where each node listens.
+    nodes: NodeTable,
+}
+
+impl<'g, C: ClientPort + Drop, J: Naming, R: Wait + Drop, G: Gate> Play<'g, C, J, R, G> {
+    /// A play in which nothing was done: a worker over each of these ends, which is to take so many clients, the carrier over
+    /// the other ends, with the seeds for its table, and a cluster whose nodes listen where `nodes` says. Clients are handed over
+    /// before, through the carrier's ends. The seeds are the first of `nodes`, which has the others in the order in which the
+    /// carrier learns them: where that is not known, let all be seeds.
+    pub fn new(
+        alloc: Global,
+        gate: &'g G,
+        clients: Option<u32>,
+        worker_ends: Vec<WorkerEnds<Newcomer<C, J>, J>>,
+        carrier_ends: CarrierEnds<Newcomer<C, J>, Publisher<J, R>>,
+        seeds: NodeTable,
+        cluster: Cluster,
+        nodes: NodeTable,
+    ) -> Result<Self, NoMemory>
+        ensures model { IfOk result (λ play. play_model play ≡ new_play clients worker_ends.items (lanes_of carrier_ends) carrier_ends.map seeds cluster nodes) }
+        ensures starts { IsBeginning worker_ends.items (lanes_of carrier_ends) carrier_ends.map seeds cluster nodes → IfOk result (λ play. ShowsStart (play_model play)) }
+    {
+        plays_start::<C, J>();
+        Self::begin(
+            alloc,
+            gate,
+            clients,
+            worker_ends,
+            carrier_ends,
+            seeds,
+            cluster,
+            nodes,
+        )
+    }
+
+    fn begin(
+        alloc: Global,
+        gate: &'g G,
+        clients: Option<u32>,
+        worker_ends: Vec<WorkerEnds<Newcomer<C, J>, J>>,
+        carrier_ends: CarrierEnds<Newcomer<C, J>, Publisher<J, R>>,
+        seeds: NodeTable,
+        cluster: Cluster,
+        nodes: NodeTable,
+    ) -> Result<Self, NoMemory>
+        ensures { IfOk result (λ play. play_model play ≡ new_play clients worker_ends.items (lanes_of carrier_ends) carrier_ends.map seeds cluster nodes) }
+    {
+        Ok(Play {
+            alloc,
+            workers: workers_over(alloc, gate, clients, worker_ends)?,
+            carrier: Carrier::new(alloc, carrier_ends, PlayDial::new(alloc), seeds),
+            cluster,
+            nodes,
+        })
+    }
+
+    /// The nodes, as they are now.
+    pub fn cluster(&self) -> &Cluster
+        ensures { result.now ≡ (play_model self.now).cluster }
+    {
+        &self.cluster
+    }
+
+    /// Does what is handed in, in its order. Where memory runs out in a turn, what it did before stands; after any other fault
+    /// the order at which it came has changed nothing. In both cases the orders behind it were left out, and the play may go on.
+    ///
+    /// Of a system that shows the play before, what was done is steps to one that shows it after; from a start, where the premises
+    /// hold along them, the headline holds of them.
+    pub fn play(&mut self, orders: &[Order]) -> Result<(), PlayFault>
+        ensures obeys { ObeysAll C.moves C.gives_none C.takes_none (play_model self.old) orders.now result (play_model self.new) }
+        ensures sound { PlaysSoundly (play_model self.old) (play_model self.new) }
+    {
+        obeyed_is_sound::<C, J>();
+        self.obey_all(orders)
+    }
+
+    fn obey_all(&mut self, orders: &[Order]) -> Result<(), PlayFault>
+        ensures { ObeysAll C.moves C.gives_none C.takes_none (play_model self.old) orders.now result (play_model self.new) }
+    {
+        let mut rest = orders;
+        while let [order, later @ ..] = rest {
+            self.obey(order)?;
+            rest = later;
+        }
+        Ok(())
+    }
+
+    fn obey(&mut self, order: &Order) -> Result<(), PlayFault>
+        ensures { Obeys C.moves C.gives_none C.takes_none (play_model self.old) order.now result (play_model self.new) }
+    {
+        match order {
+            Order::Worker(k) => self.turn_worker(*k),
+            Order::Carrier => self.turn_carrier(),
+            Order::Serve(node, verdict) => self.serve(*node, *verdict),
+            Order::Break(node) => {
+                self.break_off(*node);
+                Ok(())
+            }
+            Order::Move(step) => self.move_on(step),
+        }
+    }
+
+    fn turn_worker(&mut self, k: usize) -> Result<(), PlayFault>
+        ensures { TurnsWorker C.moves C.gives_none C.takes_none (play_model self.old) k result (play_model self.new) }
+    {
+        if k >= self.workers.len() {
+            return Ok(());
+        }
+        self.workers[k].turn()?;
+        Ok(())
+    }
+
+    fn turn_carrier(&mut self) -> Result<(), PlayFault>
+        ensures { TurnsCarrier (play_model self.old) result (play_model self.new) }
+    {
+        self.carrier.turn()?;
+        Ok(())
+    }
+
+    fn serve(&mut self, node: NodeId, verdict: Verdict) -> Result<(), PlayFault>
+        ensures { ServesNode (play_model self.old) node verdict result (play_model self.new) }
+    {
+        serve_at(
+            self.alloc,
+            &mut self.carrier,
+            node,
+            verdict,
+            &mut self.cluster,
+            &self.nodes,
+        )
+    }
+
+    fn break_off(&mut self, node: NodeId)
+        ensures { BreaksLink (play_model self.old) node (play_model self.new) }
+    {
+        break_at(self.alloc, &mut self.carrier, node);
+    }
+
+    fn move_on(&mut self, step: &Move) -> Result<(), PlayFault>
+        ensures { MovesSlot (play_model self.old) step.now result (play_model self.new) }
+    {
+        match make(&mut self.cluster, step) {
+            Ok(()) => Ok(()),
+            Err(MoveFault::NotNow) => Ok(()),
+            Err(MoveFault::NoMemory) => Err(PlayFault::NoMemory),
+        }
+    }
+}
+
+/// A worker over each of these ends.
+fn workers_over<'g, C: ClientPort + Drop, J: Naming, G: Gate>(
+    alloc: Global,
+    gate: &'g G,
+    clients: Option<u32>,
+    ends: Vec<WorkerEnds<Newcomer<C, J>, J>>,
+) -> Result<Vec<Worker<'g, C, J, G>>, NoMemory>
+    ensures { IfOk result (λ workers. map worker_model workers.items ≡ workers_on clients ends.items) }
+{
+    let mut workers = Vec::with_capacity(alloc, ends.len())?;
+    for own in ends {
+        workers.push(Worker::new(alloc, own, gate, clients))?;
+    }
+    Ok(workers)
+}
