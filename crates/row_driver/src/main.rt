@@ -15,6 +15,7 @@ mod maps;
 mod nodes;
 mod objects;
 mod plans;
+mod play;
 mod proxy;
 mod reports;
 mod round;

@@ -4,14 +4,14 @@
 //! which runs a worker over it to its end. The carrier's table has the seed alone, 127.0.0.1:7001. Of the three nodes, which
 //! listen at the ports 7001 to 7003, the last one owns all slots at first.
 
-mod client;
-mod clients;
+pub mod client;
+pub mod clients;
 mod dial;
 mod future;
-mod gate;
+pub mod gate;
 mod lane;
-mod memory;
-mod nodes;
+pub mod memory;
+pub mod nodes;
 mod objects;
 mod outside;
 mod port;

@@ -5,7 +5,7 @@ ghost use Rattle.proxy_lanes.specs.Opened.{book_of};
 
 use crate::lanes::LaneObjects;
 use crate::objects::{LayerObjects, RowObjects};
-use crate::proxy;
+use crate::play;
 use proxy_lanes::{Naming, Opened, lanes};
 use row_words::Rows;
 use std::alloc::{AllocGlobal, Global};
@@ -58,7 +58,7 @@ where
                 lanes: LaneObjects::new(rt.alloc(), workers, carrier),
                 others: RowObjects::new(rt.alloc()),
             };
-            proxy::answer_row(rt, layers, rows)
+            play::answer_row(rt, layers, rows)
         }
         Err(_) => Ok(false),
     }

@@ -40,23 +40,25 @@ impl<J: Naming, R: Wait + Drop> Turned for MemoryCarrier<J, R> {
 
 impl<J: Naming, R: Wait + Drop> Hands for MemoryCarrier<J, R> {
     fn hand(&mut self, worker: u16, number: u32, port: SharedClient) -> Result<bool, CallFault> {
-        let newcomer = Newcomer {
-            number,
-            port,
-            front: None,
-        };
-        hand_to(self.ends(), worker, newcomer)
+        newcomer_to(self.ends(), worker, number, port)
     }
 }
 
-fn hand_to<J: Naming, R: Wait + Drop>(
+/// Hands a new client to its worker. False where the worker's lane is full.
+pub fn newcomer_to<J: Naming, R: Wait + Drop>(
     ends: &mut MemoryCarrierEnds<J, R>,
     worker: u16,
-    newcomer: Newcomer<SharedClient, J>,
+    number: u32,
+    port: SharedClient,
 ) -> Result<bool, CallFault> {
     if usize::from(worker) >= ends.workers() {
         return Err(CallFault::BadNumber);
     }
+    let newcomer = Newcomer {
+        number,
+        port,
+        front: None,
+    };
     Ok(ends.hand(worker, newcomer).is_ok())
 }
 

@@ -32,7 +32,7 @@ pub struct Nodes {
 
 pub type SharedNodes = Rc<RefCell<Nodes>>;
 
-fn table_of_three(alloc: Global) -> Result<NodeTable, NoMemory> {
+pub fn table_of_three(alloc: Global) -> Result<NodeTable, NoMemory> {
     let mut table = NodeTable::new(alloc);
     for port in [7001, 7002, 7003] {
         if table.intern(b"127.0.0.1", port).is_err() {
@@ -43,7 +43,7 @@ fn table_of_three(alloc: Global) -> Result<NodeTable, NoMemory> {
 }
 
 /// A cluster whose slots are all the last node's.
-fn cluster_of_three(alloc: Global) -> Result<Cluster, NoMemory> {
+pub fn cluster_of_three(alloc: Global) -> Result<Cluster, NoMemory> {
     let (Some(first), Some(last), Some(owner)) = (Slot::new(0), Slot::new(16383), NodeId::new(2))
     else {
         return Err(NoMemory);
