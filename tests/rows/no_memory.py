@@ -48,6 +48,8 @@ BY_ROWS = {
     "lanes, CarrierEnds::publish": ("proxy_lanes", "a_view_shows_what_was_published", "lanes publish"),
     "Carrier::turn": ("carrier", "a_reply_is_given", "turns all"),
     "Worker::turn": ("workers", "the_first_post_is_moved", "turns all"),
+    "Play::new": ("plays", "a_key_moves_in_a_play", "play begin"),
+    "Play::play": ("plays", "a_key_moves_in_a_play", "play do"),
 }
 
 BY_TESTS = {

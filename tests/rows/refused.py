@@ -27,6 +27,11 @@ LEFT_OUT = {
     "a_worker_is_ready_once_its_clients_are_served",
     "a_worker_is_ready_once_its_client_is_gone",
     "a_worker_is_stopped_by_its_gate",
+    # a play that finds no memory leaves the orders behind out, and one that can't begin is gone
+    "refused_together_then_one_by_one",
+    "a_key_moves_in_a_play",
+    "a_connection_breaks_behind_a_command",
+    "a_play_that_has_not_begun",
 }
 
 # Calls that take no memory, by their object: all others find none at least once. Some lines are of one word.

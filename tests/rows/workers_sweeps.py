@@ -9,7 +9,6 @@ sys.path.append(os.path.join(os.path.dirname(os.path.abspath(__file__)), "..", "
 
 from answers import Fitting, one_of, slot_of, spelled
 from orders import ten_thousand_orders_of_turns
-from plays import ten_thousand_plays
 from store import Store
 from table import Row, quoted, request
 
@@ -179,7 +178,6 @@ def rows():
     return [
         each_client_is_served_as_by_one_store(),
         ten_thousand_orders_of_turns(),
-        ten_thousand_plays(),
         a_client_that_is_gone_drops_what_was_not_posted(),
         a_turn_that_moves_nothing_is_cheap(),
     ]

@@ -5,14 +5,19 @@ Two workers serve three clients. Each play has lanes, nodes and clients of its o
 commands are lost.
 """
 
+import os
 import random
+import sys
 
+sys.path.append(os.path.join(os.path.dirname(os.path.abspath(__file__)), "..", "program"))
+
+from answers import slot_of
 from orders import CLIENTS, OWN, SHARED, Seen, counted, script_of, served_as_by_one_store, steps_of_moves
 from table import Row, quoted, request
 
 PLAYS = 10_000
 # So many orders come at random, and so many rounds of all take the play to its end.
-ORDERS, TO_THE_END = 60, 60
+ORDERS, TO_THE_END = 60, 40
 # What may be ordered, some of it more often than the rest.
 WORDS = ["worker 0", "worker 1", "carrier", "carrier", "serve 0", "serve 1", "serve 2", "serve 2", "move"]
 BREAKS = [*WORDS, "break 2"]
@@ -30,14 +35,20 @@ def orders_of(chance, play, words):
     return orders
 
 
+def last_steps(play):
+    """Steps after which both slots are settled, whatever steps were made before."""
+    slots = [slot_of(f"{{{play}{tag}}}") for tag in "pq"]
+    return [step for slot in slots for step in (*4 * [f"movekey {slot}"], f"own {slot}", f"release {slot}")]
+
+
 def add_play(row, play, words, scripts):
-    """Clients come, and the play begins and is taken to its end."""
+    """Clients come, and the play begins and is taken to its end, with both slots settled."""
     for (number, worker), script in zip(CLIENTS, scripts):
         data = b"".join(request(*(word.encode() for word in each)) for each in script)
         row.call(f"play client {worker} {number} {quoted(data)}")
     row.call("play begin")
     row.call(f"play do {' '.join(orders_of(random.Random(play), play, words))}")
-    row.call(f"play do all {TO_THE_END}")
+    row.call(f"play do all {TO_THE_END} {' '.join(last_steps(play))} all {TO_THE_END}")
 
 
 def add_whole_play(row, play, seen):
@@ -68,3 +79,7 @@ def ten_thousand_plays():
         add(row, play, seen)
     seen["calls"] = len(row.calls)
     return row
+
+
+def rows():
+    return [ten_thousand_plays()]
