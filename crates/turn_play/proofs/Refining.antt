@@ -1,6 +1,6 @@
 -- Steps that the code made, with their premises, are steps of a system.
 use Rattle.std.proofs.Common.{◌≡◌, inl, inr, ⊎_elim, ℕ, zero, suc, List, [], ◌∷◌, ◌++◌, Some, refl, sym, ap, ◌∙◌, subst, arith, length}
-use Rattle.std.specs.Prelude.{slice_get}
+use Rattle.std.specs.Prelude.{All, slice_get}
 use Rattle.std.specs.List.{FoldsTo}
 use mathlib.Core.List.{IsPrefix}
 use Rattle.slot_map.specs.Table.{Endpoint}
@@ -16,14 +16,15 @@ use Rattle.node_model.specs.Nodes.{ClusterModel}
 use Rattle.node_model.specs.declared.role.Verdict.{Verdict}
 use Rattle.node_model.specs.Runs.{deed_for, DoesRun}
 use Rattle.resp_wire.specs.declared.value.Value.{Value}
-use Rattle.key_split.specs.declared.travel.Told.{Told}
-use Rattle.turn_laws.specs.Wire.{Wire, Item, Part, Runs, Execution, AreTold, ServesNext, parts_in}
+use Rattle.turn_laws.specs.Wire.{Wire, Execution, AreTold, ServesNext, parts_in}
 use Rattle.turn_laws.specs.System.{System}
 use Rattle.turn_laws.specs.Shadow.{IsShadow, IsWorking}
 use Rattle.turn_laws.specs.Steps.{SystemEvent, AtWorker, AtCarrier, AtNode, AtBroken, Thrown, Moved, SystemStep, WorkerStep, Serves, MovesOn}
-use Rattle.turn_laws.specs.Refines.{Refines, IsStart}
+use Rattle.turn_laws.specs.Naming.{NamesNodes}
+use Rattle.turn_laws.specs.Refines.{NamesStay, Refines, StartsRefine, IsStart}
 use Rattle.turn_laws.specs.LogHeadline.{HeadlineOfLogs, LogsAreHeld}
-use Rattle.turn_play.specs.May.{MayStep, WorkerMay, ServesMay, MayServeNext, ClusterMoves, AreWritten, IsReadBack, MayMoveNow, MayNow, IsInOrder}
+use Rattle.turn_laws.specs.Writing.{AreEndpointsOf, CanBeNamed, SlotsStay, StandsAtItsNodes, WrittenIsHeard}
+use Rattle.turn_play.specs.May.{MayStep, WorkerMay, ServesMay, MayServeNext, ClusterMoves, HearsItsNodes, MayMoveNow, MayNow, IsInOrder}
 use Rattle.turn_play.specs.Played.{Step, events_of, Leads, AreInOrder, PlaysRefine}
 
 -- a list as long as another has an item at each of its places
@@ -34,23 +35,22 @@ beside (x ∷ xs) [] i y e at = absurd (omega (arith, e))
 beside (x ∷ xs) (z ∷ ys) zero y e at = (x, refl)
 beside (x ∷ xs) (z ∷ ys) (suc i) y e at = beside xs ys i y (omega (arith, e)) at
 
--- a node that writes what is read back serves the wire that leads to it
-next-holds : (table : List Endpoint) (cluster : ClusterModel) (k : ℕ) (old : Wire) (verdict : Verdict) (cluster' : ClusterModel) (new : Wire) (values : List Value) (done : List Execution) → k ≡ old.node
-    → ((parts : List Part) (rest : List Item) (tolds : List Told) → old.items ≡ Runs parts ∷ rest → DoesRun (deed_for cluster k old.asking (parts_in parts) verdict) cluster k (parts_in parts) tolds cluster' → AreWritten table tolds values → AreTold table k values tolds)
+-- what a node of the cluster tells is heard in what it writes, so it serves the wire that leads to it
+next-holds : WrittenIsHeard → (table : List Endpoint) (cluster : ClusterModel) → AreEndpointsOf cluster table → StandsAtItsNodes cluster → (k : ℕ) (old : Wire) (verdict : Verdict) (cluster' : ClusterModel) (new : Wire) (values : List Value) (done : List Execution) → k ≡ old.node
     → MayServeNext table cluster k old verdict cluster' new values done → ServesNext table cluster old verdict cluster' new values done
-next-holds table cluster k old verdict cluster' new values done there back (inl x) = inl x
-next-holds table cluster k old verdict cluster' new values done there back (inr (inl x)) = inr (inl (
+next-holds heard table cluster ends stands k old verdict cluster' new values done there (inl x) = inl x
+next-holds heard table cluster ends stands k old verdict cluster' new values done there (inr (inl x)) = inr (inl (
   x.0,
   x.1,
   x.2,
   x.3,
   x.4,
   subst (λ (n : ℕ). DoesRun (deed_for cluster n old.asking (parts_in x.1) verdict) cluster n (parts_in x.1) x.2 cluster') there x.5,
-  subst (λ (n : ℕ). AreTold table n values x.2) there (back x.1 x.0 x.2 x.3 x.5 x.6),
+  subst (λ (n : ℕ). AreTold table n values x.2) there (heard table cluster k old.asking (parts_in x.1) verdict x.2 cluster' values ends stands x.4 x.5 x.6),
   x.7,
   x.8,
 ))
-next-holds table cluster k old verdict cluster' new values done there back (inr (inr x)) = inr (inr x)
+next-holds heard table cluster ends stands k old verdict cluster' new values done there (inr (inr x)) = inr (inr x)
 
 module _ {C J : Type 0} where
   -- one more step
@@ -83,11 +83,15 @@ module _ {C J : Type 0} where
       let r = h.links.backends k link works in
       ⊎_elim (λ y. y.4.wired) (λ y. y.1.wired) r.2 ∙ r.0
 
-  serves-holds : (s s' : System C J) (w : WorldModel) → IsShadow s w → (k : ℕ) (verdict : Verdict) → ServesMay s k verdict s' → IsReadBack s k verdict → Serves s k verdict s'
-  serves-holds s s' w h k verdict x back =
+  -- the endpoints of a system that hears its nodes are those of its cluster
+  endpoints : (s : System C J) (w : WorldModel) → IsShadow s w → NamesNodes s → HearsItsNodes s → AreEndpointsOf s.cluster s.nodes
+  endpoints s w h names hears = record { each = names.each; apart = h.apart; named = hears.named }
+
+  serves-holds : WrittenIsHeard → (s s' : System C J) (w : WorldModel) → IsShadow s w → NamesNodes s → HearsItsNodes s → (k : ℕ) (verdict : Verdict) → ServesMay s k verdict s' → Serves s k verdict s'
+  serves-holds heard s s' w h names hears k verdict x =
       let works : IsWorking s.carrier k x.1 = (x.0, x.5, x.6, x.7) in
       let there : k ≡ x.1.port.node = sym (leads-there s w h k x.1 works) in
-      (x.0, x.1, x.2, x.3, x.4, x.5, x.6, x.7, next-holds s.nodes s.cluster k x.1.port verdict s'.cluster x.2 x.3 x.4 there (λ parts rest tolds. back x.1 parts rest tolds s'.cluster x.3 works) x.8, x.9, x.10)
+      (x.0, x.1, x.2, x.3, x.4, x.5, x.6, x.7, next-holds heard s.nodes s.cluster (endpoints s w h names hears) hears.stands k x.1.port verdict s'.cluster x.2 x.3 x.4 there x.8, x.9, x.10)
 
   moves-hold : (s : System C J) (event : Event) (k : ClusterModel) → ClusterMoves s.cluster event k → MayMoveNow s event → MovesOn s event k
   moves-hold s (core.Import slot target) k x now = (now, x.0, x.1)
@@ -108,26 +112,49 @@ module _ {C J : Type 0} where
   moves-hold s (core.Discard link) k x now = x
   moves-hold s (core.Answer client) k x now = x
 
-  step-holds : (s s' : System C J) (w : WorldModel) → IsShadow s w → (event : SystemEvent) → MayStep s event s' → MayNow s event → IsInOrder s' → SystemStep s event s'
-  step-holds s s' w h (AtWorker k event) x now order = worker-holds s s' w h k event x order
-  step-holds s s' w h (AtCarrier event) x now order = record { longest = x.longest; does = x.does; breaks = x.breaks; leaves = x.leaves; in_step = order.ups; table = subst (λ (nodes : List Endpoint). IsPrefix s'.carrier.nodes nodes) (ap (λ (t : System C J). t.nodes) x.leaves) order.table }
-  step-holds s s' w h (AtNode k verdict) x now order = serves-holds s s' w h k verdict x now
-  step-holds s s' w h (AtBroken j verdict) x now order = x
-  step-holds s s' w h (Thrown j) x now order = x
-  step-holds s s' w h (Moved event) x now order = (moves-hold s event s'.cluster x.0 now, x.1)
+  step-holds : WrittenIsHeard → (s s' : System C J) (w : WorldModel) → IsShadow s w → NamesNodes s → HearsItsNodes s → (event : SystemEvent) → MayStep s event s' → MayNow s event → IsInOrder s' → SystemStep s event s'
+  step-holds heard s s' w h names hears (AtWorker k event) x now order = worker-holds s s' w h k event x order
+  step-holds heard s s' w h names hears (AtCarrier event) x now order = record { longest = x.longest; does = x.does; breaks = x.breaks; leaves = x.leaves; in_step = order.ups; table = subst (λ (nodes : List Endpoint). IsPrefix s'.carrier.nodes nodes) (ap (λ (t : System C J). t.nodes) x.leaves) order.table }
+  step-holds heard s s' w h names hears (AtNode k verdict) x now order = serves-holds heard s s' w h names hears k verdict x
+  step-holds heard s s' w h names hears (AtBroken j verdict) x now order = x
+  step-holds heard s s' w h names hears (Thrown j) x now order = x
+  step-holds heard s s' w h names hears (Moved event) x now order = (moves-hold s event s'.cluster x.0 now, x.1)
 
-module _ (C J : Type 0) (refines : Refines C J) (start : System C J) (fresh : IsStart start) where
+  -- no step changes the nodes' endpoints
+  same-nodes : (s s' : System C J) (event : SystemEvent) → MayStep s event s' → s'.nodes ≡ s.nodes
+  same-nodes s s' (AtWorker k event) x = ap (λ (t : System C J). t.nodes) x.leaves
+  same-nodes s s' (AtCarrier event) x = ap (λ (t : System C J). t.nodes) x.leaves
+  same-nodes s s' (AtNode k verdict) x = ap (λ (t : System C J). t.nodes) x.10
+  same-nodes s s' (AtBroken j verdict) x = ap (λ (t : System C J). t.nodes) x.7
+  same-nodes s s' (Thrown j) x = ap (λ (t : System C J). t.nodes) x.2
+  same-nodes s s' (Moved event) x = ap (λ (t : System C J). t.nodes) x.1
+
+-- what is brought in of the system's laws
+pub record Laws (C J : Type 0) : Type 0 where
+  pub starts : StartsRefine C J
+  pub refines : Refines C J
+  pub names : NamesStay C J
+  pub slots : SlotsStay C J
+  pub heard : WrittenIsHeard
+
+module _ (C J : Type 0) (laws : Laws C J) (start : System C J) (fresh : IsStart start) where
+  -- the nodes are heard after a step too
+  hears-on : (s s' : System C J) (event : SystemEvent) → MayStep s event s' → SystemStep s event s' → HearsItsNodes s → HearsItsNodes s'
+  hears-on s s' event may x hears = record { named = subst (λ (nodes : List Endpoint). All CanBeNamed nodes) (sym (same-nodes s s' event may)) hears.named; stands = laws.slots event s s' x hears.stands }
+
   -- the steps after some that the system made
-  along : (before : List SystemEvent) (s s' : System C J) (steps : List (Step C J)) → FoldsTo SystemStep start before s → Leads s steps s' → AreInOrder s steps → FoldsTo SystemStep s (events_of steps) s'
-  along before s s' [] f go order = go
-  along before s s' (step ∷ steps) f go order =
-      let r = refines start s before fresh f in
-      let x = step-holds s step.next r.0 r.2 step.event go.0 order.0 order.1 in
-      (step.next, x, along (before ++ step.event ∷ []) step.next s' steps (folds-on before start s step.event step.next f x) go.1 order.2)
+  along : (before : List SystemEvent) (s s' : System C J) (steps : List (Step C J)) → FoldsTo SystemStep start before s → NamesNodes s → HearsItsNodes s → Leads s steps s' → AreInOrder s steps → FoldsTo SystemStep s (events_of steps) s'
+  along before s s' [] f names hears go order = go
+  along before s s' (step ∷ steps) f names hears go order =
+      let r = laws.refines start s before fresh f in
+      let x = step-holds laws.heard s step.next r.0 r.2 names hears step.event go.0 order.0 order.1 in
+      let named = laws.names step.event s step.next r.0 r.2 names x in
+      let later = along (before ++ step.event ∷ []) step.next s' steps (folds-on before start s step.event step.next f x) named (hears-on s step.next step.event go.0 x hears) go.1 order.2 in
+      (step.next, x, later)
 
-module _ (C J : Type 0) (refines : Refines C J) (headline : HeadlineOfLogs C J) (held : LogsAreHeld C J) where
+module _ (C J : Type 0) (laws : Laws C J) (headline : HeadlineOfLogs C J) (held : LogsAreHeld C J) where
   pub plays-refine : PlaysRefine C J
-  plays-refine start s' steps fresh go order =
-      let f = along C J refines start fresh [] start s' steps refl go order in
+  plays-refine start s' steps fresh hears go order =
+      let f = along C J laws start fresh [] start s' steps refl (laws.starts start fresh).3 hears go order in
       let events = events_of steps in
-      (f, headline start s' events fresh f, held start s' events fresh f, refines start s' events fresh f)
+      (f, headline start s' events fresh f, held start s' events fresh f, laws.refines start s' events fresh f)

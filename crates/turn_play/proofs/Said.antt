@@ -20,10 +20,10 @@ use Rattle.node_model.specs.declared.role.ServeFault.TheVariants as serve
 use Rattle.node_model.specs.declared.role.Verdict.{Verdict}
 use Rattle.world_laws.specs.World.{NamesNode}
 use Rattle.turn_laws.specs.Wire.{Item, Part, Asks, Runs, Lists, parts_in}
+use Rattle.turn_laws.specs.Writing.{AreWritten}
 use Rattle.turn_play.specs.declared.fault.PlayFault.{PlayFault}
 use Rattle.turn_play.specs.declared.fault.PlayFault.TheVariants as fault
 use Rattle.turn_play.specs.Faults.{of_serve}
-use Rattle.turn_play.specs.May.{AreWritten}
 use Rattle.turn_play.specs.Serving.{CannotServeRun, CannotWrite, IsRefusal, IsRunSaid, IsSaid}
 use Rattle.turn_play.specs.Waiting.{replies_to}
 

@@ -128,6 +128,7 @@ module _ (C J : Type 0) where
       log = refl;
       new = begins.is_new;
     },
+    record { named = begins.listed.named; stands = begins.stands },
   )
 
 -- ---- lanes that were made, and clients that were handed over

@@ -1,10 +1,10 @@
 -- What the turns of the code, the serving of its nodes and the steps of its moves do to a system: `SystemStep`, without what no contract
--- of the code says. What is left out is said apart, as premises: `IsInOrder` of each system, `MayNow` of each step.
-use Rattle.std.specs.Prelude.{◌≡◌, ◌⊎◌, ◌++◌, ◌∷◌, [], ℕ, List, true, false, Some, None, slice_get, slice_set}
+-- of the code says. What is left out is said apart, as premises: `HearsItsNodes` of the start, `IsInOrder` of each system, `MayNow` of
+-- each step.
+use Rattle.std.specs.Prelude.{◌≡◌, ◌⊎◌, ◌++◌, ◌∷◌, [], ℕ, List, All, true, false, Some, None, slice_get, slice_set}
 use mathlib.Core.List.{IsPrefix}
 use Rattle.resp_wire.specs.declared.value.Value.{Value}
 use Rattle.key_split.specs.declared.travel.Told.{Told}
-use Rattle.key_split.specs.Told.{IsWritten}
 use Rattle.slot_map.specs.Table.{Endpoint}
 use Rattle.node_model.specs.Nodes.{ClusterModel}
 use Rattle.node_model.specs.Moves.{MayImport, MayMigrate, MayMoveKey, MayOwn, MayRelease, MayForget, MayStay, import_done, migrate_done, move_key_done, own_done, release_done, forget_done, stay_done}
@@ -19,18 +19,12 @@ use Rattle.proxy_turns.specs.CarrierModel.{CarrierEvent, CarrierDoes}
 use Rattle.world_laws.specs.World.{NamesNode}
 use Rattle.world_laws.specs.declared.event.Event.{Event}
 use Rattle.world_laws.specs.declared.event.Event.TheVariants as core
-use Rattle.turn_laws.specs.Wire.{Wire, Item, Part, Asks, Runs, Lists, Exchanges, Execution, AreTold, executions, parts_in}
+use Rattle.turn_laws.specs.Wire.{Wire, Item, Part, Asks, Runs, Lists, Exchanges, Execution, executions, parts_in}
 use Rattle.turn_laws.specs.System.{System, Mark}
-use Rattle.turn_laws.specs.Shadow.{IsWorking, DownInStep}
+use Rattle.turn_laws.specs.Shadow.{DownInStep}
 use Rattle.turn_laws.specs.Asking.{NoneAsksIn}
 use Rattle.turn_laws.specs.Steps.{SystemEvent, AtWorker, AtCarrier, AtNode, AtBroken, Thrown, Moved, IsSeen, Opens, Breaks, UpsInStep, ServesLate, Discards, any_moves, any_failures, any_garbled, any_none, opened_by, log_of}
-
--- what a node wrote, of each command that it told
-abbrev pub AreWritten : List Endpoint → List Told → List Value → Type 0
-AreWritten table [] [] = Unit {0}
-AreWritten table [] (value ∷ values) = ⊥
-AreWritten table (told ∷ tolds) [] = ⊥
-AreWritten table (told ∷ tolds) (value ∷ values) = IsWritten told table value × AreWritten table tolds values
+use Rattle.turn_laws.specs.Writing.{AreWritten, CanBeNamed, StandsAtItsNodes}
 
 -- A node serves the first item of a wire, as in `ServesNext`, and writes what it says.
 abbrev pub MayServeNext : List Endpoint → ClusterModel → ℕ → Wire → Verdict → ClusterModel → Wire → List Value → List Execution → Type 0
@@ -98,6 +92,12 @@ module _ {C J : Type 0} where
 
   -- ---- the premises
 
+  -- What is asked of the start alone: a redirection can name each node, and no slot stands at a node that is not of the cluster. So what a
+  -- node writes is heard as what it told.
+  pub record HearsItsNodes (s : System C J) : Type 0 where
+    pub named : All CanBeNamed s.nodes
+    pub stands : StandsAtItsNodes s.cluster
+
   -- What two threads would share is in order: a lane gives what was put in, in that order, a worker sees a front of what was published of
   -- the slot map, and the carrier's table, as far as it has grown, lists nodes of the cluster, in their order.
   pub record IsInOrder (s : System C J) : Type 0 where
@@ -112,16 +112,10 @@ module _ {C J : Type 0} where
   MayMoveNow s (core.Import slot target) = NoneAsksIn s slot target
   MayMoveNow s event = Unit {0}
 
-  -- what node k tells the commands of the run that is next at it is read in what it writes
-  abbrev pub IsReadBack : System C J → ℕ → Verdict → Type 0
-  IsReadBack s k verdict =
-      (link : LinkModel Wire) (parts : List Part) (rest : List Item) (tolds : List Told) (k' : ClusterModel) (values : List Value) → IsWorking s.carrier k link → link.port.items ≡ Runs parts ∷ rest
-      → DoesRun (deed_for s.cluster k link.port.asking (parts_in parts) verdict) s.cluster k (parts_in parts) tolds k' → AreWritten s.nodes tolds values → AreTold s.nodes k values tolds
-
   abbrev pub MayNow : System C J → SystemEvent → Type 0
   MayNow s (AtWorker k event) = Unit {0}
   MayNow s (AtCarrier event) = Unit {0}
-  MayNow s (AtNode k verdict) = IsReadBack s k verdict
+  MayNow s (AtNode k verdict) = Unit {0}
   MayNow s (AtBroken j verdict) = Unit {0}
   MayNow s (Thrown j) = Unit {0}
   MayNow s (Moved event) = MayMoveNow s event

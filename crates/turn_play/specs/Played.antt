@@ -9,7 +9,7 @@ use Rattle.turn_laws.specs.Shadow.{IsShadow}
 use Rattle.turn_laws.specs.Steps.{SystemEvent, SystemStep}
 use Rattle.turn_laws.specs.Refines.{IsStart}
 use Rattle.turn_laws.specs.LogHeadline.{LogHeadline, IsHeld}
-use Rattle.turn_play.specs.May.{MayStep, MayNow, IsInOrder}
+use Rattle.turn_play.specs.May.{MayStep, HearsItsNodes, MayNow, IsInOrder}
 
 -- an event, and the system that it led to
 pub record Step (C J : Type 0) : Type 0 where
@@ -43,6 +43,7 @@ module _ {C J : Type 0} where
       × ((w : WorldModel) × IsWalked w × IsShadow s' w × Headline w)
 
 module _ (C J : Type 0) where
-  -- From a start, where the premises hold along them, steps that the code made are steps of the system: so the headline holds.
+  -- From a start that hears its nodes, where the premises hold along them, steps that the code made are steps of the system: so the
+  -- headline holds.
   abbrev pub PlaysRefine : Type 0
-  PlaysRefine = (start s' : System C J) (steps : List (Step C J)) → IsStart start → Leads start steps s' → AreInOrder start steps → Holds start steps s'
+  PlaysRefine = (start s' : System C J) (steps : List (Step C J)) → IsStart start → HearsItsNodes start → Leads start steps s' → AreInOrder start steps → Holds start steps s'

@@ -8,6 +8,7 @@ use Rattle.proxy_turns.specs.CarrierModel.{CarrierModel}
 use Rattle.turn_laws.specs.System.{System}
 use Rattle.turn_laws.specs.Refines.{IsStart}
 use Rattle.turn_play.specs.Port.{PortModel, IsEnd}
+use Rattle.turn_play.specs.May.{HearsItsNodes}
 use Rattle.turn_play.specs.Turns.{ShowsCarrier}
 use Rattle.turn_play.specs.Played.{Step, Leads, Plays, AreInOrder, Holds}
 
@@ -31,6 +32,6 @@ module _ {C J : Type 0} where
   abbrev pub PlaysTo : PlayModel C J → PlayModel C J → Type 0
   PlaysTo old new = (s : System C J) → Shows old s → (s' : System C J) × Plays s s' × Shows new s'
 
-  -- the same, and from a start, where the premises hold along these steps, the headline holds of them
+  -- the same, and from a start that hears its nodes, where the premises hold along these steps, the headline holds of them
   abbrev pub PlaysSoundly : PlayModel C J → PlayModel C J → Type 0
-  PlaysSoundly old new = (s : System C J) → Shows old s → (s' : System C J) × (steps : List (Step C J)) × Leads s steps s' × Shows new s' × (IsStart s → AreInOrder s steps → Holds s steps s')
+  PlaysSoundly old new = (s : System C J) → Shows old s → (s' : System C J) × (steps : List (Step C J)) × Leads s steps s' × Shows new s' × (IsStart s → HearsItsNodes s → AreInOrder s steps → Holds s steps s')

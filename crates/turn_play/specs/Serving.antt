@@ -20,9 +20,9 @@ use Rattle.proxy_turns.specs.CarrierModel.{CarrierModel}
 use Rattle.proxy_turns.specs.Swapping.{IsClosed, SwapOutcome}
 use Rattle.world_laws.specs.World.{NamesNode}
 use Rattle.turn_laws.specs.Wire.{Item, Asks, Runs, Lists, parts_in}
+use Rattle.turn_laws.specs.Writing.{AreWritten}
 use Rattle.turn_play.specs.declared.fault.PlayFault.{PlayFault}
 use Rattle.turn_play.specs.declared.fault.PlayFault.TheVariants.{NoMemory, NotServed}
-use Rattle.turn_play.specs.May.{AreWritten}
 use Rattle.turn_play.specs.Waiting.{asking_after}
 use Rattle.turn_play.specs.Port.{PortModel}
 

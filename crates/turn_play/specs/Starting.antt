@@ -1,5 +1,5 @@
 -- Where a play begins: over lanes in which nothing was posted, with no connection, and nodes that hold no key.
-use Rattle.std.specs.Prelude.{◌≡◌, ◌<◌, ◌≤◌, ◌+◌, ℕ, List, [], ◌∷◌, Option, IsSomeAnd, Result, length}
+use Rattle.std.specs.Prelude.{◌≡◌, ◌<◌, ◌≤◌, ◌+◌, ℕ, List, All, [], ◌∷◌, Option, IsSomeAnd, Result, length}
 use mathlib.Core.List.{IsPrefix}
 use Rattle.slot_map.specs.Table.{Endpoint}
 use Rattle.slot_map.specs.declared.ops.MapOp.{MapOp}
@@ -18,6 +18,8 @@ use Rattle.turn_laws.specs.System.{System}
 use Rattle.turn_laws.specs.Shadow.{AreApart, most_nodes}
 use Rattle.turn_laws.specs.AnyPort.{over_wires}
 use Rattle.turn_laws.specs.Refines.{IsStart}
+use Rattle.turn_laws.specs.Writing.{CanBeNamed, StandsAtItsNodes}
+use Rattle.turn_play.specs.May.{HearsItsNodes}
 use Rattle.turn_play.specs.Playing.{PlayModel, Shows}
 
 -- The two ends of the lanes up and down of this one of so many workers, in which nothing was posted. Clients may have been handed over.
@@ -44,24 +46,27 @@ start_of play = record { workers = play.workers; carrier = over_wires play.carri
 abbrev pub new_play : {C J : Type 0} → Option ℕ → List (WorkerEnds (Newcomer C J) J) → List (LaneEnds (Newcomer C J)) → List MapOp → List Endpoint → ClusterModel → List Endpoint → PlayModel C J
 new_play left ends lanes published table cluster nodes = record { workers = workers_on left ends; carrier = new_carrier lanes table published 0; cluster = cluster; nodes = nodes }
 
--- the nodes of a cluster, each with its endpoint, and a table that lists the first of them
+-- the nodes of a cluster, each with its endpoint, which a redirection can name, and a table that lists the first of them
 pub record AreListedFrom (table : List Endpoint) (cluster : ClusterModel) (nodes : List Endpoint) : Type 0 where
   pub each : length nodes ≡ length cluster.stores
   pub apart : AreApart nodes
+  pub named : All CanBeNamed nodes
   pub room : length nodes ≤ most_nodes
   pub front : IsPrefix table nodes
   pub seed : 0 < length table
 
--- over such lanes, with nothing published and a new cluster
+-- Over such lanes, with nothing published and a new cluster. That its slots stand at its nodes is a clause of its own: that it is new says
+-- that they are settled, and not where. Of a cluster that `Cluster::new` made both hold.
 pub record IsBeginning {H J : Type 0} (ends : List (WorkerEnds H J)) (lanes : List (LaneEnds H)) (published : List MapOp) (table : List Endpoint) (cluster : ClusterModel) (nodes : List Endpoint) : Type 0 where
   pub are_open : AreOpenFrom (length ends) 0 ends lanes
   pub none_published : published ≡ []
   pub is_new : IsNew cluster
+  pub stands : StandsAtItsNodes cluster
   pub listed : AreListedFrom table cluster nodes
 
--- a system shows this play, and has done nothing
+-- a system shows this play, has done nothing, and hears its nodes
 abbrev pub ShowsStart : {C J : Type 0} → PlayModel C J → Type 0
-ShowsStart play = Shows play (start_of play) × IsStart (start_of play)
+ShowsStart play = Shows play (start_of play) × IsStart (start_of play) × HearsItsNodes (start_of play)
 
 module _ (C J : Type 0) where
   -- so a play shows a start

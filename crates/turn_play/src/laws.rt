@@ -10,14 +10,21 @@ use crate::port::PlayPort;
 use proxy_lanes::Naming;
 use proxy_turns::{ClientPort, Dial, Newcomer};
 use turn_laws::WiredPort;
-use turn_laws::laws::{any_client, any_port, headline_of_logs, refines};
+use turn_laws::laws::{
+    any_client, any_port, headline_of_logs, names_stay, refines, slots_stand_at_nodes,
+    starts_refine, written_is_heard,
+};
 
-/// From a start, where the premises hold along them, the steps that the code made are steps of the system: so the headline holds of
-/// its log, and its nodes hold the store that the log leaves.
+/// From a start that hears its nodes, where the premises hold along them, the steps that the code made are steps of the system: so the
+/// headline holds of its log, and its nodes hold the store that the log leaves.
 pub fn plays_refine<C: Drop, J: Naming>()
     ensures { PlaysRefine C J }
 {
+    starts_refine::<C, J>();
     refines::<C, J>();
+    names_stay::<C, J>();
+    slots_stand_at_nodes::<C, J>();
+    written_is_heard();
     headline_of_logs::<C, J>();
 }
 
@@ -35,8 +42,8 @@ pub fn carriers_play<C: Drop, J: Naming, P: WiredPort, D: Dial<Port = P>>()
     any_port::<Newcomer<C, J>, P, D>();
 }
 
-/// Whatever orders a play obeyed, it made steps of a system. From a start, where the premises hold along them, the headline holds of
-/// them.
+/// Whatever orders a play obeyed, it made steps of a system. From a start that hears its nodes, where the premises hold along them, the
+/// headline holds of them.
 pub fn obeyed_is_sound<C: ClientPort + Drop, J: Naming>()
     ensures { ObeyedIsSound C J C.moves C.gives_none C.takes_none }
 {
@@ -45,7 +52,7 @@ pub fn obeyed_is_sound<C: ClientPort + Drop, J: Naming>()
     plays_refine::<C, J>();
 }
 
-/// A play over new lanes, with a new cluster, shows a start.
+/// A play over new lanes, with a new cluster whose nodes can be named, shows a start that hears its nodes.
 pub fn plays_start<C: Drop, J: Naming>()
     ensures { PlaysStart C J }
 {}

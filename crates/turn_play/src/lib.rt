@@ -6,8 +6,8 @@
 //! ```
 //!
 //! Promise: each order does what `Obeys` of `specs/Obeying.antt` says of it, and the headline holds of the turns that ran: what
-//! `Play::play` did is a list of steps of a system (`PlaysSoundly` of `specs/Playing.antt`); from a start, which `Play::new` gives,
-//! where the premises of `specs/May.antt` hold along this list, it is a run of the machine.
+//! `Play::play` did is a list of steps of a system (`PlaysSoundly` of `specs/Playing.antt`); from a start that hears its nodes, which
+//! `Play::new` gives, where the premises of `specs/May.antt` hold along this list, it is a run of the machine.
 #![tactic(auto)]
 
 mod connection;

@@ -96,8 +96,8 @@ impl<'g, C: ClientPort + Drop, J: Naming, R: Wait + Drop, G: Gate> Play<'g, C, J
     /// Does what is handed in, in its order. Where memory runs out in a turn, what it did before stands; after any other fault
     /// the order at which it came has changed nothing. In both cases the orders behind it were left out, and the play may go on.
     ///
-    /// Of a system that shows the play before, what was done is steps to one that shows it after; from a start, where the premises
-    /// hold along them, the headline holds of them.
+    /// Of a system that shows the play before, what was done is steps to one that shows it after; from a start that hears its nodes,
+    /// where the premises hold along them, the headline holds of them.
     pub fn play(&mut self, orders: &[Order]) -> Result<(), PlayFault>
         ensures obeys { ObeysAll C.moves C.gives_none C.takes_none (play_model self.old) orders.now result (play_model self.new) }
         ensures sound { PlaysSoundly (play_model self.old) (play_model self.new) }

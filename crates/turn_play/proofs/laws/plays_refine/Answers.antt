@@ -1,5 +1,7 @@
-use Rattle.turn_play.proofs.Refining.{plays-refine}
+use Rattle.turn_play.proofs.Refining.{Laws, plays-refine}
 use Rattle.turn_play.proofs.laws.plays_refine.Goals as goal
 
 pub returns : goal.returns
-returns g c = plays-refine g.row.C.Denot g.row.J.Denot c.refines.ensures c.headline_of_logs.ensures.headline c.headline_of_logs.ensures.held
+returns g c =
+    let laws : Laws g.row.C.Denot g.row.J.Denot = record { starts = c.starts_refine.ensures; refines = c.refines.ensures; names = c.names_stay.ensures; slots = c.slots_stand_at_nodes.ensures.stay; heard = c.written_is_heard.ensures.heard } in
+    plays-refine g.row.C.Denot g.row.J.Denot laws c.headline_of_logs.ensures.headline c.headline_of_logs.ensures.held

@@ -2,7 +2,7 @@ use Rattle.std.proofs.Common.{◌≡◌, List, suc, arith, ap, length, sym, subs
 use Rattle.resp_wire.specs.declared.value.Value.{Value}
 use Rattle.std.proofs.lemmas.Grind.{common_steps}
 use Rattle.std.specs.Vec.Iter.{into_iter_items}
-use Rattle.turn_play.specs.May.{AreWritten}
+use Rattle.turn_laws.specs.Writing.{AreWritten}
 use Rattle.turn_play.proofs.Said.{written-more}
 use Rattle.turn_play.proofs.serving.write_all.Goals as goal
 

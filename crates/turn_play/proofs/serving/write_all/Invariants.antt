@@ -1,7 +1,7 @@
 use Rattle.std.proofs.Common.{◌≡◌, ◌++◌, ◌+◌, ◌≤◌, length}
 use Rattle.std.specs.Vec.Iter.{into_iter_items}
 use Rattle.std.specs.VecDeque.{deque_len, deque_capacity}
-use Rattle.turn_play.specs.May.{AreWritten}
+use Rattle.turn_laws.specs.Writing.{AreWritten}
 use Rattle.turn_play.proofs.serving.write_all.Given as goal
 
 abbrev pub invariant-loop-told : goal.invariant-loop-told
