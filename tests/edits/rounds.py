@@ -1,9 +1,9 @@
 """Rounds: edits of a crate are tried together, by one check of the functions that they change.
 
 Of the edits of one function the first stands in its place and each further one in a twin of it (twins.py); the functions that
-no edit changes are stubs (stubs.py). An edit counts as refused only where its own function fails with an open goal. The goals of some functions wait until all that they call is
-proved: beside an edit of such a one (it says so, or a round showed it) the functions that it calls stay as they are, and their
-edits stand in twins, or in another round.
+no edit changes are stubs (stubs.py). An edit counts as refused only where its own function fails with an open goal. The goals
+of some functions wait until all that they call is proved: beside an edit of such a one (it says so, or a round showed it) the
+functions that it calls stay as they are, and their edits stand in twins, or in another round.
 """
 
 import tempfile
