@@ -14,6 +14,8 @@ pub mod ResumeLaws
 pub mod StepLaws
 pub mod PlaceLaws
 pub mod ReaderLaws
+pub mod PartLaws
+pub mod BodyLaws
 pub mod BuildLaws
 pub mod Integers
 pub mod LawProofs

@@ -1,4 +1,6 @@
 pub mod Held
+pub mod Bodies
+pub mod Shared
 pub mod Data
 pub mod Stored
 pub mod Seen

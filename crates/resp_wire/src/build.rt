@@ -4,11 +4,12 @@ ghost use Rattle.std.specs.Prelude.{◌≡◌, map, IsTrue};
 ghost use Rattle.resp_wire.specs.Text.{is_one_line};
 ghost use Rattle.resp_wire.specs.Data.{items_of};
 ghost use Rattle.resp_wire.specs.Seen.{data_of, items_view};
+ghost use Rattle.resp_wire.specs.Bodies.{AreEndOf};
 ghost use Rattle.resp_wire.specs.Gives.{Builds, byte_of};
 ghost use Rattle.resp_wire.specs.Reading as reading;
 ghost use Rattle.resp_wire.specs.Reading.{value_at, items_at, items_in, integer_at, bulk_at, array_at, counted_array};
 
-use crate::bytes::Bytes;
+use crate::bodies::Bodies;
 use crate::fault::WireFault;
 use crate::head::{body_at, length_of, line_at};
 use crate::limits::Limits;
@@ -21,18 +22,26 @@ use std::alloc::Global;
 /// The bytes of the shortest value: an empty line of its kind.
 const LEAST_VALUE_BYTES: usize = 3;
 
+/// What values are built with.
+#[derive(Drop)]
+pub(crate) struct Building<'a> {
+    pub(crate) alloc: Global,
+    pub(crate) limits: Limits,
+    pub(crate) bodies: Bodies<'a>,
+}
+
 /// The value at the front, and what follows it, where so many arrays may still stand one inside another.
 #[cycle(build)]
 pub(crate) fn build<'a>(
-    alloc: Global,
-    limits: &Limits,
+    how: &Building<'_>,
     room: usize,
     bytes: &'a [u8],
 ) -> Result<Option<(Value, &'a [u8])>, WireFault>
-    ensures { Builds data_of result (value_at limits.now room bytes.now) }
+    requires { AreEndOf bytes.now how.now.bodies }
+    ensures { Builds data_of result (value_at how.now.limits room bytes.now) }
 {
-    match line_at(limits, bytes) {
-        Ok(Some((kind, text, rest))) => build_after(alloc, limits, room, kind, text, rest),
+    match line_at(&how.limits, bytes) {
+        Ok(Some((kind, text, rest))) => build_after(how, room, kind, text, rest),
         Ok(None) => Ok(None),
         Err(fault) => Err(fault),
     }
@@ -41,23 +50,23 @@ pub(crate) fn build<'a>(
 /// The value that a line of this kind and text begins.
 #[cycle(build)]
 fn build_after<'a>(
-    alloc: Global,
-    limits: &Limits,
+    how: &Building<'_>,
     room: usize,
     kind: Kind,
     text: &[u8],
     rest: &'a [u8],
 ) -> Result<Option<(Value, &'a [u8])>, WireFault>
-    requires { IsTrue (is_one_line text.now) }
+    requires text { IsTrue (is_one_line text.now) }
+    requires end { AreEndOf rest.now how.now.bodies }
     ensures { Builds data_of result
-        (reading.after_line limits.now (items_in limits.now room) (byte_of kind) text.now rest.now) }
+        (reading.after_line how.now.limits (items_in how.now.limits room) (byte_of kind) text.now rest.now) }
 {
     match kind {
-        Kind::Simple => match Line::from_text(alloc, text) {
+        Kind::Simple => match Line::from_text(how.alloc, text) {
             Ok(line) => Ok(Some((Value::Simple(line), rest))),
             Err(_) => Err(WireFault::NoMemory),
         },
-        Kind::Error => match Line::from_text(alloc, text) {
+        Kind::Error => match Line::from_text(how.alloc, text) {
             Ok(line) => Ok(Some((Value::Error(line), rest))),
             Err(_) => Err(WireFault::NoMemory),
         },
@@ -66,12 +75,12 @@ fn build_after<'a>(
             None => Err(WireFault::BadNumber),
         },
         Kind::Bulk => match length_of(text) {
-            Ok(Some(len)) => build_bulk(alloc, limits, len, rest),
+            Ok(Some(len)) => build_bulk(how, len, rest),
             Ok(None) => Ok(Some((Value::NullBulk, rest))),
             Err(fault) => Err(fault),
         },
         Kind::Array => match length_of(text) {
-            Ok(Some(len)) => build_array(alloc, limits, room, len, rest),
+            Ok(Some(len)) => build_array(how, room, len, rest),
             Ok(None) => Ok(Some((Value::NullArray, rest))),
             Err(fault) => Err(fault),
         },
@@ -80,18 +89,18 @@ fn build_after<'a>(
 
 /// A bulk string of so many bytes.
 fn build_bulk<'a>(
-    alloc: Global,
-    limits: &Limits,
+    how: &Building<'_>,
     len: usize,
     rest: &'a [u8],
 ) -> Result<Option<(Value, &'a [u8])>, WireFault>
-    ensures { Builds data_of result (reading.counted_bulk limits.now rest.now len) }
+    requires { AreEndOf rest.now how.now.bodies }
+    ensures { Builds data_of result (reading.counted_bulk how.now.limits rest.now len) }
 {
-    if len > limits.bulk() {
+    if len > how.limits.bulk() {
         return Err(WireFault::TooLong);
     }
     match body_at(rest, len) {
-        Ok(Some((body, after))) => match Bytes::from_slice(alloc, body) {
+        Ok(Some((_, after))) => match how.bodies.body(how.alloc, rest, len) {
             Ok(bytes) => Ok(Some((Value::Bulk(bytes), after))),
             Err(_) => Err(WireFault::NoMemory),
         },
@@ -103,21 +112,21 @@ fn build_bulk<'a>(
 /// An array of so many items.
 #[cycle(build)]
 fn build_array<'a>(
-    alloc: Global,
-    limits: &Limits,
+    how: &Building<'_>,
     room: usize,
     len: usize,
     rest: &'a [u8],
 ) -> Result<Option<(Value, &'a [u8])>, WireFault>
-    ensures { Builds data_of result (counted_array (items_in limits.now room) rest.now len) }
+    requires { AreEndOf rest.now how.now.bodies }
+    ensures { Builds data_of result (counted_array (items_in how.now.limits room) rest.now len) }
 {
     if room == 0 {
         return Err(WireFault::TooDeep);
     }
-    if len > limits.items() {
+    if len > how.limits.items() {
         return Err(WireFault::TooMany);
     }
-    match build_items(alloc, limits, room - 1, len, rest) {
+    match build_items(how, room - 1, len, rest) {
         Ok(Some((items, after))) => Ok(Some((Value::Array(Values::new(items)), after))),
         Ok(None) => Ok(None),
         Err(fault) => Err(fault),
@@ -127,21 +136,21 @@ fn build_array<'a>(
 /// So many values, one after another. Their room is made at once, but for no more than the bytes can spell.
 #[cycle(build)]
 fn build_items<'a>(
-    alloc: Global,
-    limits: &Limits,
+    how: &Building<'_>,
     room: usize,
     len: usize,
     bytes: &'a [u8],
 ) -> Result<Option<(Vec<Value>, &'a [u8])>, WireFault>
-    ensures { Builds items_view result (items_at (value_at limits.now room) len bytes.now) }
+    requires { AreEndOf bytes.now how.now.bodies }
+    ensures { Builds items_view result (items_at (value_at how.now.limits room) len bytes.now) }
 {
     let most = bytes.len() / LEAST_VALUE_BYTES;
-    let Ok(mut items) = Vec::with_capacity(alloc, len.min(most)) else {
+    let Ok(mut items) = Vec::with_capacity(how.alloc, len.min(most)) else {
         return Err(WireFault::NoMemory);
     };
     let mut rest = bytes;
     for _ in 0..len {
-        match build(alloc, limits, room, rest) {
+        match build(how, room, rest) {
             Ok(Some((value, after))) => match items.push(value) {
                 Ok(()) => rest = after,
                 Err(_) => return Err(WireFault::NoMemory),

@@ -1,25 +1,36 @@
 //! A queue of bytes in one buffer: bytes come in at the back and go off at the front.
 
-ghost use Rattle.std.specs.Prelude.{◌≡◌, ◌≤◌, ◌++◌, [], length, drop, OnOk, OnErr};
+ghost use Rattle.std.specs.Prelude.{◌≡◌, ◌≤◌, ◌++◌, [], length, drop, OnOk, OnErr, MatchOption};
 ghost use Rattle.resp_wire.specs.Canonical.{canonical};
 ghost use Rattle.resp_wire.specs.Seen.{data_of};
 
 use crate::fault::NoMemory;
+use crate::part::Part;
 use crate::value::Value;
 use crate::write::write_value;
-use std::alloc::Global;
+use std::alloc::{AllocFailed, Global};
 use std::marker::Model;
+use std::mem;
 
 /// How many bytes a buffer may have room for and be kept while nothing is in it.
 const MOST_KEPT_BYTES: usize = 65_536;
 
+/// How many bytes come before room is made for as many as came lately.
+const MOST_SMALL_BYTES: usize = 16_384;
+
+/// How many bytes room is made for at most before they come.
+const MOST_EXPECTED_BYTES: usize = 262_144;
+
 /// Bytes that come in at the back and go off at the front. The room of those that went is used again once it is more than
-/// half of the buffer, so that each byte is moved a bounded number of times. A large buffer that is empty is given back.
+/// half of the buffer, so that each byte is moved a bounded number of times. A large buffer that is empty is given back. The
+/// next one then gets as much room at once, and less where fewer bytes come.
 #[derive(Debug, Drop)]
 pub struct ByteQueue {
     bytes: Vec<u8>,
     /// Where those that are left begin.
     start: usize,
+    /// How much room was needed lately.
+    expected: usize,
 }
 
 impl Model for ByteQueue {
@@ -40,6 +51,7 @@ impl ByteQueue {
         ByteQueue {
             bytes: Vec::new(alloc),
             start: 0,
+            expected: 0,
         }
     }
 
@@ -55,12 +67,38 @@ impl ByteQueue {
         &self.bytes[self.start..]
     }
 
+    /// How many bytes the buffer has room for.
+    pub(crate) fn capacity(&self) -> usize {
+        self.bytes.capacity()
+    }
+
+    /// Takes all the bytes off, with their buffer, which may then have several owners. None where memory is wanting.
+    pub(crate) fn give_up(&mut self) -> Option<Part>
+        ensures { MatchOption result (self.new ≡ self.old) (λ part. (part ≡ self.old) × (self.new ≡ [])) }
+    {
+        let alloc = self.allocator();
+        let bytes = mem::replace(&mut self.bytes, Vec::new(alloc));
+        let expected = expected_after(self.expected, bytes.len());
+        match Part::new(alloc, bytes, self.start) {
+            Ok(part) => {
+                self.expected = expected;
+                self.start = 0;
+                Some(part)
+            }
+            Err(AllocFailed { value }) => {
+                self.bytes = value;
+                None
+            }
+        }
+    }
+
     /// Puts a piece at the back.
     pub fn push(&mut self, piece: &[u8]) -> Result<(), NoMemory>
         ensures ok { OnOk result (self.new ≡ self.old ++ piece.now) }
         ensures err { OnErr result (self.new ≡ self.old) }
     {
         self.compact();
+        self.make_room(piece.len());
         match self.bytes.extend_from_slice(piece) {
             Ok(()) => Ok(()),
             Err(_) => Err(NoMemory),
@@ -86,6 +124,19 @@ impl ByteQueue {
         }
     }
 
+    /// Makes the room that was needed lately, where the next bytes do not fit in the buffer and are more than a few. Where
+    /// it is refused, the buffer grows by what it must.
+    fn make_room(&mut self, count: usize)
+        ensures { self.new ≡ self.old }
+    {
+        let len = self.bytes.len();
+        let needed = len.saturating_add(count);
+        let is_large = needed > MOST_SMALL_BYTES && needed > self.bytes.capacity();
+        if is_large && needed < self.expected {
+            let _ = self.bytes.reserve_exact(self.expected - len);
+        }
+    }
+
     /// Drops this many bytes from the front.
     pub fn skip(&mut self, count: usize)
         requires { count ≤ length self.old }
@@ -101,6 +152,10 @@ impl ByteQueue {
     fn clear(&mut self)
         ensures { self.new ≡ [] }
     {
+        let len = self.bytes.len();
+        if len > MOST_SMALL_BYTES || self.expected > 0 {
+            self.expected = expected_after(self.expected, len);
+        }
         self.start = 0;
         if self.bytes.capacity() > MOST_KEPT_BYTES {
             self.bytes = Vec::new(self.allocator());
@@ -108,4 +163,13 @@ impl ByteQueue {
             self.bytes.clear();
         }
     }
+}
+
+/// How much room to expect after so many bytes came: an eighth more, since the next may be a little longer. What was
+/// expected before fades by a quarter.
+fn expected_after(expected: usize, len: usize) -> usize {
+    let came = len.min(MOST_EXPECTED_BYTES);
+    (came + came / 8)
+        .min(MOST_EXPECTED_BYTES)
+        .max(expected - expected / 4)
 }

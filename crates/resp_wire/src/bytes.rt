@@ -9,6 +9,7 @@ ghost use Rattle.std.specs.Cmp.Lexicographic.{slice_cmp, pointwise, nat_list_cmp
 ghost use Rattle.std.specs.Ordering.{nat_cmp, as_partial_cmp};
 
 use crate::fault::NoMemory;
+use crate::part::Part;
 use crate::short::Short;
 use std::alloc::Global;
 use std::cmp::Ordering;
@@ -16,7 +17,6 @@ use std::fmt;
 use std::fmt::{Debug, Formatter, Write};
 use std::hash::{Hash, Hasher};
 use std::marker::Model;
-use std::sync::Arc;
 
 /// The bytes of a bulk string.
 pub struct Bytes {
@@ -28,8 +28,8 @@ pub(crate) enum Held {
     Short(Short),
     /// What was made from a vector.
     Owned(Vec<u8>),
-    /// Long ones, which lie once for all copies.
-    Shared(Arc<Vec<u8>, Global>),
+    /// Long ones, which lie once for all copies, and large ones in the buffer that they came in.
+    Shared(Part),
 }
 
 // So that a caller's proof has one case where a value goes, and not one for each form.
@@ -63,9 +63,17 @@ impl Bytes {
     {
         let held = match Short::new(bytes) {
             Some(short) => Held::Short(short),
-            None => Held::Shared(Arc::new(alloc, Vec::from_slice(alloc, bytes)?)?),
+            None => Held::Shared(Part::new(alloc, Vec::from_slice(alloc, bytes)?, 0)?),
         };
         Ok(Bytes { held })
+    }
+
+    pub(crate) fn from_part(part: Part) -> Bytes
+        ensures { result ≡ part }
+    {
+        Bytes {
+            held: Held::Shared(part),
+        }
     }
 
     /// The same bytes. Long ones lie in memory once, but for what was made from a vector.
@@ -75,7 +83,7 @@ impl Bytes {
         let held = match &self.held {
             Held::Short(short) => Held::Short(short.copy()),
             Held::Owned(bytes) => return Bytes::from_slice(alloc, bytes),
-            Held::Shared(bytes) => Held::Shared(Arc::try_clone(bytes)?),
+            Held::Shared(part) => Held::Shared(part.copy()?),
         };
         Ok(Bytes { held })
     }
@@ -86,7 +94,7 @@ impl Bytes {
         match &self.held {
             Held::Short(short) => short.as_slice(),
             Held::Owned(bytes) => bytes.as_slice(),
-            Held::Shared(bytes) => bytes.as_slice(),
+            Held::Shared(part) => part.as_slice(),
         }
     }
 

@@ -10,6 +10,7 @@
 //! is the first (`specs/Faults.antt`), however the bytes are cut; what is written is `specs/Canonical.antt`.
 #![tactic(auto)]
 
+mod bodies;
 mod build;
 mod byte_queue;
 mod bytes;
@@ -20,11 +21,13 @@ pub mod laws;
 mod limits;
 mod line;
 mod number;
+mod part;
 mod place;
 mod reader;
 mod scan;
 mod short;
 mod text;
+mod unread;
 mod value;
 mod words;
 mod write;

@@ -37,6 +37,11 @@ impl Place {
         self.position == 0 && self.plain == 0
     }
 
+    /// Where the next item begins: behind the value at the front, once that is whole.
+    pub(crate) fn end(&self) -> usize {
+        self.position
+    }
+
     /// Reads on as far as the bytes go: whether the value at the front is whole. It then ends at the position.
     pub(crate) fn read_on(&mut self, limits: &Limits, bytes: &[u8]) -> Result<bool, WireFault>
         requires { IsPlace limits.now bytes.now self.old }

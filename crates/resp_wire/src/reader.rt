@@ -5,11 +5,11 @@ ghost use Rattle.resp_wire.specs.Stream.{ReaderAnswers};
 ghost use Rattle.resp_wire.specs.Front.{Feeds, ReaderTakes};
 ghost use Rattle.resp_wire.specs.Taken.{TakesOff, TakesAtOnce, AnswersAndTakes};
 
-use crate::build::build;
-use crate::byte_queue::ByteQueue;
+use crate::build::{Building, build};
 use crate::fault::{NoMemory, WireFault};
 use crate::limits::Limits;
 use crate::place::Place;
+use crate::unread::Unread;
 use crate::value::Value;
 use std::alloc::Global;
 use std::marker::Model;
@@ -18,7 +18,7 @@ use std::marker::Model;
 #[derive(Drop)]
 pub struct Reader {
     limits: Limits,
-    unread: ByteQueue,
+    unread: Unread,
     /// How far the value at the front was read.
     place: Place,
     /// The fault that was found, and is answered from then on.
@@ -44,7 +44,7 @@ impl Reader {
     {
         Reader {
             limits,
-            unread: ByteQueue::new(alloc),
+            unread: Unread::new(alloc),
             place: Place::start(),
             fault: None,
         }
@@ -85,7 +85,8 @@ impl Reader {
         if !self.place.is_start() {
             return None;
         }
-        match self.take() {
+        let most_copied = self.unread.least_shared();
+        match self.take(most_copied) {
             Ok(Some(value)) => Some(value),
             Ok(None) => None,
             Err(_) => None,
@@ -98,7 +99,10 @@ impl Reader {
         ensures { AnswersAndTakes self.old result self.new }
     {
         match self.place.read_on(&self.limits, self.unread.as_slice()) {
-            Ok(true) => self.take(),
+            Ok(true) => {
+                self.unread.share(self.place.end());
+                self.take(usize::MAX)
+            }
             Ok(false) => Ok(None),
             Err(fault) => {
                 self.fault = Some(fault);
@@ -107,13 +111,17 @@ impl Reader {
         }
     }
 
-    /// Takes the value at the front off, where it is whole.
-    fn take(&mut self) -> Result<Option<Value>, WireFault>
+    /// Takes the value at the front off, where it is whole. A body is copied that has at most so many bytes.
+    fn take(&mut self, most_copied: usize) -> Result<Option<Value>, WireFault>
         ensures { TakesOff self.old result self.new }
     {
         let bytes = self.unread.as_slice();
-        let alloc = self.unread.allocator();
-        match build(alloc, &self.limits, self.limits.depth(), bytes) {
+        let how = Building {
+            alloc: self.unread.allocator(),
+            limits: self.limits,
+            bodies: self.unread.bodies(most_copied),
+        };
+        match build(&how, self.limits.depth(), bytes) {
             Ok(Some((value, rest))) => {
                 let count = bytes.len() - rest.len();
                 self.unread.skip(count);

@@ -1,6 +1,7 @@
 use Rattle.std.proofs.Common.{true, false, subst, List, ℕ, Ok, Err}
 use Rattle.resp_wire.specs.Places.{IsPlace}
-use Rattle.resp_wire.proofs.ReaderLaws.{found_at, kept_fault, read_whole, read_partial, read_faulty}
+use Rattle.resp_wire.specs.Taken.{TakesOff}
+use Rattle.resp_wire.proofs.ReaderLaws.{input, found_at, kept_fault, read_whole, read_partial, read_faulty}
 use Rattle.resp_wire.proofs.reader.Reader.read_on.Goals as goal
 
 pub invariant_of-self-in-Err : goal.invariant_of-self-in-Err
@@ -11,7 +12,7 @@ invariant_of-self-in-Err c =
 pub returns-in-Ok-true : goal.returns-in-Ok-true
 returns-in-Ok-true c =
     let found = found_at c.self.inside.limits c.self.inside.unread c.as_slice.result.now c.read_on.new.self.position (Ok true) c.as_slice.ensures (rw (c.in-Ok-true.is, c.in-Ok-true.field-0-test) at c.read_on.ensures.found) in
-    read_whole c.self.inside.limits c.self.inside.unread c.read_on.new.self.position c.self.inside.fault c.args.self.now c.take.new.self c.take.result c.self.view_is c.requires found c.take.ensures
+    read_whole c.self.inside.limits c.self.inside.unread c.read_on.new.self.position c.self.inside.fault c.args.self.now c.take.new.self c.take.result c.self.view_is c.requires found (subst (λ (u : List ℕ). TakesOff (input c.self.inside.limits u c.self.inside.fault) c.take.result c.take.new.self) c.share.ensures c.take.ensures)
 
 pub returns-in-Ok-false : goal.returns-in-Ok-false
 returns-in-Ok-false c =
