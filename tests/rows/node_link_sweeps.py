@@ -231,6 +231,36 @@ def pieces_in_order():
     return row
 
 
+def large_words_in_parts():
+    """Values of 300,000 bytes among small words go out in order over a stream that takes 1,000 bytes at once."""
+    row = Row("values_of_300000_bytes_go_out_in_parts", note="3 values of 300,000 bytes, 1,000 bytes at once")
+    begin(row, ["moves 1000"], "port")
+    x, y, z = (letter * 300_000 for letter in "xyz")
+    row.call("port send 0.0.0 0 plain SET a 1")
+    row.call(f"port send 0.0.1 0 plain SET a {x} NX")
+    row.call(f"port send 0.0.2 0 plain MSET {{a}}1 {y} {{a}}2 2 {{a}}3 {z}")
+    row.call("port send 0.0.3 0 plain GET a")
+    sent = request(b"SET", b"a", b"1") + request(b"SET", b"a", x.encode(), b"NX")
+    sent += request(b"MSET", b"{a}1", y.encode(), b"{a}2", b"2", b"{a}3", z.encode()) + request(b"GET", b"a")
+    row.call(f"port wait {len(sent) // 1000 + 20}", "none")
+    row.call("port written", quoted(sent))
+    return row
+
+
+def large_word_in_one_write():
+    """What stands before a large value goes out with it by one write, and the rest of the request with the next call."""
+    row = Row("a_value_of_300000_bytes_goes_out_in_two_writes")
+    begin(row, [], "port")
+    value = "x" * 300_000
+    row.call(f"port send 0.0.0 0 plain SET a {value}")
+    row.call("port next", "none")
+    row.call("port writes", "1")
+    row.call("port next", "none")
+    row.call("port writes", "2")
+    row.call("port written", quoted(request(b"SET", b"a", value.encode())))
+    return row
+
+
 def last_new_node():
     """MOVED to one new port after the other in a table of three nodes: 61 fit, and the next has no room."""
     row = Row("last_new_node_has_no_room")
@@ -258,5 +288,7 @@ def rows():
         thousand_commands_byte_by_byte(),
         commands_that_wait(),
         pieces_in_order(),
+        large_words_in_parts(),
+        large_word_in_one_write(),
         last_new_node(),
     ]

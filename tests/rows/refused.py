@@ -54,7 +54,7 @@ QUIET = {
     "slot": "new node of tag",
     "state": "forget history import migrate own",
     "store": "new",
-    "stream": "room slow",
+    "stream": "moves room slow",
     "table": "endpoint new",
     "turns": " held jump worker",
     "value": "request show",

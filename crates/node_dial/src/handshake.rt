@@ -69,7 +69,7 @@ impl Handshake {
         if rest.is_empty() {
             return Flow::Nothing;
         }
-        let flow = socket.write(rest);
+        let flow = socket.write(rest, &[]);
         if let Flow::Bytes(count) = flow {
             self.sent = self.sent.saturating_add(count);
         }

@@ -137,8 +137,8 @@ impl Stream for NodeStream {
         }
     }
 
-    fn write(&mut self, bytes: &[u8]) -> Flow {
-        match self.socket.write(bytes) {
+    fn write(&mut self, first: &[u8], second: &[u8]) -> Flow {
+        match self.socket.write(first, second) {
             Flow::Bytes(count) => Flow::Bytes(count),
             Flow::Nothing => Flow::Nothing,
             Flow::Gone => self.end(),

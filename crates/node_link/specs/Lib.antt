@@ -8,6 +8,7 @@ pub mod LinkCalls
 pub mod Laws
 pub mod Spelling
 pub mod Bytes
+pub mod Piece
 pub mod Pieces
 pub mod Runs
 pub mod Items

@@ -21,6 +21,7 @@ mod inbox;
 mod laws;
 mod link;
 mod outbox;
+mod piece;
 mod pieces;
 mod port;
 mod redirect;

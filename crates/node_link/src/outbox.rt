@@ -5,7 +5,7 @@ ghost use Rattle.node_link.specs.Bytes.{FlushOutcome, Offers};
 
 use crate::pieces::Pieces;
 use crate::stream::{Gone, Stream};
-use resp_wire::NoMemory;
+use resp_wire::{Bytes, NoMemory};
 use std::alloc::Global;
 use std::marker::Model;
 
@@ -13,6 +13,10 @@ use std::marker::Model;
 const FLUSH_SIZE: usize = 16 * 1024;
 /// Writes are held back until this many reads came with nothing sent between them.
 pub const FLUSH_AFTER_READS: u32 = 4;
+
+/// A word of so many bytes is not copied, in bytes: it is written from where it stands. A shorter one costs less to copy than
+/// a write of its own for what follows it.
+const LARGE_WORD: usize = 256 * 1024;
 
 /// Whether a request may wait for others to go out with it.
 #[derive(Clone, Copy)]
@@ -62,6 +66,18 @@ impl Outbox {
         self.pieces.push(piece)
     }
 
+    /// Spells a word of a request. A large one is not copied.
+    pub fn push_word(&mut self, word: &Bytes) -> Result<(), NoMemory>
+        ensures ok { OnOk result (self.new ≡ record self.old { draft = self.old.draft ++ word.now }) }
+        ensures err { OnErr result (self.new ≡ self.old) }
+    {
+        let bytes = word.as_slice();
+        if bytes.len() < LARGE_WORD {
+            return self.pieces.push(bytes);
+        }
+        self.pieces.push_large(self.alloc, word)
+    }
+
     /// The request that is being spelled is whole.
     pub fn finish(&mut self, urgency: Urgency)
         ensures { self.new ≡ record { unsent = record self.old.unsent { bytes = self.old.unsent.bytes ++ self.old.draft }; draft = [] } }
@@ -79,9 +95,10 @@ impl Outbox {
 
     /// Writes some of what waits, where the stream refused some of it, or where it is so much that it does not wait for more.
     pub fn flush_before_send<S: Stream>(&mut self, stream: &mut S) -> Result<(), Gone>
+        requires { self.old.draft ≡ [] }
         ensures written { FlushOutcome S.failures S.moved stream.old self.old.unsent.bytes result stream.new self.new.unsent.bytes }
         ensures offers { Offers S.offered stream.old self.old.unsent.bytes self.old.unsent.refused stream.new self.new.unsent.refused }
-        ensures draft { self.new.draft ≡ self.old.draft }
+        ensures draft { self.new.draft ≡ [] }
         ensures count { S.failures stream.old ≤ S.failures stream.new }
     {
         if !self.pieces.is_due(FLUSH_SIZE) {
@@ -96,9 +113,10 @@ impl Outbox {
 
     /// The same, and where it waited long enough.
     pub fn flush_before_read<S: Stream>(&mut self, stream: &mut S) -> Result<(), Gone>
+        requires { self.old.draft ≡ [] }
         ensures written { FlushOutcome S.failures S.moved stream.old self.old.unsent.bytes result stream.new self.new.unsent.bytes }
         ensures offers { Offers S.offered stream.old self.old.unsent.bytes self.old.unsent.refused stream.new self.new.unsent.refused }
-        ensures draft { self.new.draft ≡ self.old.draft }
+        ensures draft { self.new.draft ≡ [] }
         ensures count { S.failures stream.old ≤ S.failures stream.new }
     {
         if self.quiet_reads < FLUSH_AFTER_READS {

@@ -1,12 +1,13 @@
 //! Bytes in pieces, of which only the last grows.
 
-ghost use Rattle.std.specs.Prelude.{◌≡◌, ◌≤◌, ◌-◌, ◌++◌, [], OnOk, OnErr, drop, false, length};
-ghost use Rattle.node_link.specs.Bytes.{FlushOutcome, Offers};
-ghost use Rattle.node_link.specs.Pieces.{DropsFirst, IsSound, front_of, held_in};
+ghost use Rattle.std.specs.Prelude.{◌≡◌, ◌≤◌, ◌-◌, ◌++◌, [], OnOk, OnErr, drop, false, length, take};
+ghost use Rattle.node_link.specs.Bytes.{FlushOutcome, Offers, least_offer};
+ghost use Rattle.node_link.specs.Pieces.{DropsFirst, IsSettled, IsSound, first_of, front_of, held_in, spelled_first, waiting_in};
 
-use crate::byte_queue::{drop_front, free_large};
+use crate::byte_queue::free_large;
+use crate::piece::Piece;
 use crate::stream::{Flow, Gone, Stream};
-use resp_wire::NoMemory;
+use resp_wire::{Bytes, NoMemory};
 use std::alloc::Global;
 use std::collections::VecDeque;
 use std::mem;
@@ -16,20 +17,25 @@ const PIECE: usize = 64 * 1024;
 /// A new piece has room for so many bytes, and an empty one with room for more gives it back, in bytes.
 const PIECE_ROOM: usize = 80 * 1024;
 
-/// Bytes that wait to be written, and behind them those of a request that is being spelled. A request is never cut, so a piece
-/// has 64 KiB and one request at most. One that was written is freed, and no byte is moved.
+/// Bytes that wait to be written, and behind them those of a request that is being spelled. A request is cut only behind a
+/// large word, so a piece has 64 KiB and one request at most. One that was written is freed, and no byte is moved. Nothing is
+/// written while a request is being spelled.
 #[derive(Drop)]
 pub struct Pieces {
     /// The pieces that take no more, the oldest first.
-    full: VecDeque<Vec<u8>>,
-    /// The piece that is being filled.
+    full: VecDeque<Piece>,
+    /// How many of them, at the back, were filled by the request that is being spelled.
+    drafted: usize,
+    /// What is spelled in the piece that is being filled.
     last: Vec<u8>,
     /// How many bytes of the first piece were written.
     written: usize,
-    /// How many bytes of the last piece are of whole requests.
+    /// Where the request that is being spelled begins, in the piece in which it begins.
     finished: usize,
     /// How many bytes the stream left of those that it was offered last.
     refused: usize,
+    /// The first piece begins with the rest of a request, whose large word was written.
+    is_cut: bool,
 }
 
 impl Pieces {
@@ -39,10 +45,12 @@ impl Pieces {
     {
         Pieces {
             full: VecDeque::new(alloc),
+            drafted: 0,
             last: Vec::new(alloc),
             written: 0,
             finished: 0,
             refused: 0,
+            is_cut: false,
         }
     }
 
@@ -59,12 +67,34 @@ impl Pieces {
         }
     }
 
+    /// Adds a large word to a request, and begins a new piece.
+    pub fn push_large(&mut self, alloc: Global, word: &Bytes) -> Result<(), NoMemory>
+        requires sound { IsSound self.old }
+        requires large { least_offer ≤ length word.now }
+        ensures ok { OnOk result (held_in self.new ≡ record (held_in self.old) { draft = (held_in self.old).draft ++ word.now }) }
+        ensures err { OnErr result (held_in self.new ≡ held_in self.old) }
+        ensures sound { IsSound self.new }
+    {
+        if self.full.reserve(1).is_err() {
+            return Err(NoMemory);
+        }
+        let word = word.copy(alloc)?;
+        let spelled = mem::replace(&mut self.last, Vec::new(alloc));
+        self.full.push_back_reserved(Piece {
+            spelled,
+            word: Some(word),
+        });
+        self.drafted += 1;
+        Ok(())
+    }
+
     /// The request that is being spelled is whole.
     pub fn finish(&mut self)
         requires { IsSound self.old }
         ensures held { held_in self.new ≡ record { unsent = record (held_in self.old).unsent { bytes = (held_in self.old).unsent.bytes ++ (held_in self.old).draft }; draft = [] } }
         ensures sound { IsSound self.new }
     {
+        self.drafted = 0;
         self.finished = self.last.len();
     }
 
@@ -74,68 +104,74 @@ impl Pieces {
         ensures held { held_in self.new ≡ record (held_in self.old) { draft = [] } }
         ensures sound { IsSound self.new }
     {
+        take_back(&mut self.full, self.drafted, &mut self.last);
+        self.drafted = 0;
         self.last.truncate(self.finished);
     }
 
-    /// Begins a new piece where the last is full and has whole requests alone. Where there is no room for one, the last grows on.
+    /// Begins a new piece where the last is full. Where there is no room for one, the last grows on.
     pub fn seal(&mut self, alloc: Global)
-        requires { IsSound self.old }
+        requires sound { IsSound self.old }
+        requires no_draft { (held_in self.old).draft ≡ [] }
         ensures held { held_in self.new ≡ held_in self.old }
         ensures sound { IsSound self.new }
     {
-        if self.finished < PIECE || self.finished < self.last.len() {
-            return;
-        }
-        if self.full.reserve(1).is_err() {
+        if self.last.len() < PIECE || self.full.reserve(1).is_err() {
             return;
         }
         let Ok(next) = Vec::with_capacity(alloc, PIECE_ROOM) else {
             return;
         };
-        let full = mem::replace(&mut self.last, next);
-        self.full.push_back_reserved(full);
+        let spelled = mem::replace(&mut self.last, next);
+        self.full.push_back_reserved(Piece {
+            spelled,
+            word: None,
+        });
         self.finished = 0;
     }
 
-    /// Whether the stream left some of what it was offered last, or would be offered so many bytes.
+    /// Whether the stream left some of what it was offered last, or would be offered so many bytes or the rest of a request.
     pub fn is_due(&self, count: usize) -> bool
-        requires { IsSound self.now }
+        requires sound { IsSound self.now }
+        requires no_draft { (held_in self.now).draft ≡ [] }
         ensures { result ≡ false → self.now.refused ≡ 0 }
     {
-        if self.refused > 0 {
+        if self.refused > 0 || self.is_cut {
             return true;
         }
-        self.front().len() >= count
+        let (spelled, word) = self.front();
+        spelled.len() >= count || word.len() >= count
     }
 
-    // The bytes of the first piece that wait.
-    fn front(&self) -> &[u8]
-        requires { IsSound self.now }
-        ensures { result.now ≡ front_of self.now }
+    // The bytes of the first piece that wait, in two parts.
+    fn front(&self) -> (&[u8], &[u8])
+        requires { IsSettled self.now }
+        ensures { result.0.now ++ result.1.now ≡ front_of self.now }
     {
         match self.full.front() {
-            Some(piece) => &piece[self.written..],
-            None => &self.last[self.written..self.finished],
+            Some(piece) => piece.rest(self.written),
+            None => (&self.last[self.written..], &[]),
         }
     }
 
     /// Offers the first piece to the stream, by one call, where bytes wait.
     pub fn write_front<S: Stream>(&mut self, stream: &mut S) -> Result<(), Gone>
-        requires { IsSound self.old }
+        requires sound { IsSound self.old }
+        requires no_draft { (held_in self.old).draft ≡ [] }
         ensures written { FlushOutcome S.failures S.moved stream.old (held_in self.old).unsent.bytes result stream.new (held_in self.new).unsent.bytes }
         ensures offers { Offers S.offered stream.old (held_in self.old).unsent.bytes self.old.refused stream.new self.new.refused }
-        ensures draft { (held_in self.new).draft ≡ (held_in self.old).draft }
+        ensures draft { (held_in self.new).draft ≡ [] }
         ensures count { S.failures stream.old ≤ S.failures stream.new }
         ensures sound { IsSound self.new }
     {
-        let front = self.front();
-        let len = front.len();
+        let (spelled, word) = self.front();
+        let len = spelled.len() + word.len();
         if len == 0 {
             return Ok(());
         }
-        match stream.write(front) {
+        match stream.write(spelled, word) {
             Flow::Bytes(count) => {
-                self.count_written(count);
+                self.leave(len - count);
                 Ok(())
             }
             Flow::Nothing => {
@@ -149,34 +185,61 @@ impl Pieces {
         }
     }
 
-    // So many bytes of the first piece were written.
-    fn count_written(&mut self, count: usize)
-        requires sound { IsSound self.old }
-        requires within { count ≤ length (front_of self.old) }
-        ensures held { held_in self.new ≡ record (held_in self.old) { unsent = record { bytes = drop count (held_in self.old).unsent.bytes; refused = length (front_of self.old) - count } } }
-        ensures sound { IsSound self.new }
+    // So many bytes of the first piece were left.
+    fn leave(&mut self, left: usize)
+        requires settled { IsSettled self.old }
+        requires within { left ≤ length (front_of self.old) }
+        ensures waiting { waiting_in self.new ≡ drop (length (front_of self.old) - left) (waiting_in self.old) }
+        ensures refused { self.new.refused ≡ left }
+        ensures settled { IsSettled self.new }
     {
-        self.refused = self.front().len() - count;
-        self.written += count;
-        if self.refused > 0 {
+        self.refused = left;
+        if left > 0 {
+            self.written = self.first_len() - left;
             return;
         }
         self.written = 0;
-        drop_first(&mut self.full, &mut self.last, &mut self.finished);
+        self.is_cut = drop_first(&mut self.full, &mut self.last);
+        self.finished = self.last.len();
+    }
+
+    fn first_len(&self) -> usize
+        ensures { result ≡ length (first_of self.now.full.items self.now.last.items) }
+    {
+        match self.full.front() {
+            Some(piece) => piece.len(),
+            None => self.last.len(),
+        }
     }
 }
 
-// Drops the first piece; of the last, what is of whole requests.
-fn drop_first(full: &mut VecDeque<Vec<u8>>, last: &mut Vec<u8>, finished: &mut usize)
-    requires { finished.old ≤ length last.old.items }
-    ensures { DropsFirst full.old.items last.old.items finished.old full.new.items last.new.items finished.new }
+// Takes back so many pieces at the back, but for what is spelled in the first of them.
+fn take_back(full: &mut VecDeque<Piece>, count: usize, last: &mut Vec<u8>)
+    requires { count ≤ length full.old.items }
+    ensures full { full.new.items ≡ take (length full.old.items - count) full.old.items }
+    ensures last { last.new.items ≡ spelled_first (drop (length full.old.items - count) full.old.items) last.old.items }
+{
+    if count == 0 {
+        return;
+    }
+    full.truncate(full.len() - count + 1);
+    let Some(Piece { spelled, word }) = full.pop_back() else {
+        return;
+    };
+    drop(word);
+    *last = spelled;
+}
+
+// Drops the first piece, and says whether it had a large word.
+fn drop_first(full: &mut VecDeque<Piece>, last: &mut Vec<u8>) -> bool
+    ensures { DropsFirst full.old.items last.old.items full.new.items last.new.items }
 {
     match full.pop_front() {
-        Some(_) => {}
+        Some(piece) => piece.word.is_some(),
         None => {
-            drop_front(last, *finished);
+            last.clear();
             free_large(last, PIECE_ROOM);
-            *finished = 0;
+            false
         }
     }
 }

@@ -13,7 +13,7 @@ ghost use Rattle.node_link.specs.Spelling.{head, spelled_bulk, spelled_bulks};
 use crate::outbox::{Outbox, Urgency};
 use itoa::Buffer;
 use key_split::{Batch, Mode, Op, Pair, Part, Run, op_name};
-use resp_wire::NoMemory;
+use resp_wire::{Bytes, NoMemory};
 
 /// Adds a batch's requests to what waits to be written, or nothing.
 pub fn append_batch(out: &mut Outbox, batch: &Batch) -> Result<(), NoMemory>
@@ -111,8 +111,8 @@ fn push_part(out: &mut Outbox, part: &Part) -> Result<(), NoMemory>
     let op = part.op();
     push_head(out, b'*', word_count(part))?;
     push_bulk(out, op_name(op).text())?;
-    push_bulk(out, part.key().as_slice())?;
-    push_behind(out, op, part.arg().as_slice())?;
+    push_word_bulk(out, part.key())?;
+    push_behind(out, op, part.arg())?;
     push_pairs(out, op, part.rest())
 }
 
@@ -141,21 +141,21 @@ fn push_pairs(out: &mut Outbox, op: Op, pairs: &[Pair]) -> Result<(), NoMemory>
 {
     let mut rest = pairs;
     while let [(key, arg), further @ ..] = rest {
-        push_bulk(out, key.as_slice())?;
-        push_behind(out, op, arg.as_slice())?;
+        push_word_bulk(out, key)?;
+        push_behind(out, op, arg)?;
         rest = further;
     }
     Ok(())
 }
 
 // What stands behind a key.
-fn push_behind(out: &mut Outbox, op: Op, arg: &[u8]) -> Result<(), NoMemory>
+fn push_behind(out: &mut Outbox, op: Op, arg: &Bytes) -> Result<(), NoMemory>
     ensures ok { OnOk result (out.new.draft ≡ out.old.draft ++ spelled_bulks (behind_key op arg.now)) }
     ensures kept { out.new.unsent ≡ out.old.unsent }
 {
     match op {
         Op::Set(mode) => push_mode(out, mode, arg),
-        Op::SetNx | Op::GetSet | Op::Append | Op::MSet => push_bulk(out, arg),
+        Op::SetNx | Op::GetSet | Op::Append | Op::MSet => push_word_bulk(out, arg),
         Op::IncrBy(amount) => {
             let mut buffer = Buffer::new();
             push_bulk(out, buffer.format(amount).as_bytes())
@@ -166,11 +166,11 @@ fn push_behind(out: &mut Outbox, op: Op, arg: &[u8]) -> Result<(), NoMemory>
 }
 
 // The value of SET, and when it writes.
-fn push_mode(out: &mut Outbox, mode: Mode, arg: &[u8]) -> Result<(), NoMemory>
+fn push_mode(out: &mut Outbox, mode: Mode, arg: &Bytes) -> Result<(), NoMemory>
     ensures ok { OnOk result (out.new.draft ≡ out.old.draft ++ spelled_bulks (behind_key (Op.Set mode) arg.now)) }
     ensures kept { out.new.unsent ≡ out.old.unsent }
 {
-    push_bulk(out, arg)?;
+    push_word_bulk(out, arg)?;
     match mode {
         Mode::Always => Ok(()),
         Mode::IfAbsent => push_bulk(out, b"NX"),
@@ -184,6 +184,16 @@ fn push_bulk(out: &mut Outbox, word: &[u8]) -> Result<(), NoMemory>
 {
     push_head(out, b'$', word.len() as u128)?;
     out.push(word)?;
+    out.push(b"\r\n")
+}
+
+// A word that may be large.
+fn push_word_bulk(out: &mut Outbox, word: &Bytes) -> Result<(), NoMemory>
+    ensures ok { OnOk result (out.new.draft ≡ out.old.draft ++ spelled_bulk word.now) }
+    ensures kept { out.new.unsent ≡ out.old.unsent }
+{
+    push_head(out, b'$', word.as_slice().len() as u128)?;
+    out.push_word(word)?;
     out.push(b"\r\n")
 }
 

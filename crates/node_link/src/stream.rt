@@ -37,11 +37,11 @@ pub trait Stream {
         ensures count { failures self.old ≤ failures self.new }
         ensures asked { asked self.old result self.new };
 
-    /// Writes some bytes off the front.
-    fn write(&mut self, bytes: &[u8]) -> Flow
-        ensures written { WriteOutcome failures moved self.old bytes.now result self.new }
+    /// Writes some bytes off the front of two slices, which stand one behind the other.
+    fn write(&mut self, first: &[u8], second: &[u8]) -> Flow
+        ensures written { WriteOutcome failures moved self.old (first.now ++ second.now) result self.new }
         ensures count { failures self.old ≤ failures self.new }
-        ensures offered { offered self.old bytes.now result self.new };
+        ensures offered { offered self.old (first.now ++ second.now) result self.new };
 
     /// Where no call is made, nothing moves.
     ghost still: { (stream : Self) → moved stream [] [] stream };

@@ -109,7 +109,7 @@ impl Connection {
     pub fn send<S: Stream>(&mut self, stream: &mut S) -> Flow
         ensures { SendOutcome S.moved stream.old self.old result stream.new self.new }
     {
-        match stream.write(self.unsent.as_slice()) {
+        match stream.write(self.unsent.as_slice(), &[]) {
             Flow::Bytes(count) => {
                 self.unsent.skip(count);
                 Flow::Bytes(count)

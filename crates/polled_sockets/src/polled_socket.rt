@@ -101,14 +101,14 @@ impl Stream for PolledSocket {
         }
     }
 
-    fn write(&mut self, bytes: &[u8]) -> Flow {
+    fn write(&mut self, first: &[u8], second: &[u8]) -> Flow {
         if !self.registration.may_write() {
             return Flow::Nothing;
         }
-        match self.socket.write(bytes) {
+        match self.socket.write(first, second) {
             Flow::Bytes(count) => {
                 self.registration.note_written(count);
-                if count < bytes.len() {
+                if count < first.len() + second.len() {
                     self.registration.clear_writable();
                 }
                 Flow::Bytes(count)

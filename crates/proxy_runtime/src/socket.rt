@@ -6,7 +6,7 @@ use mio::net::TcpStream;
 use mio::{Interest, Registry, Token};
 use node_link::{Flow, Stream};
 use std::io;
-use std::io::{ErrorKind, Read, Write};
+use std::io::{ErrorKind, IoSlice, Read, Write};
 use std::net::Shutdown;
 
 /// A connection of the system's, whose calls do not wait and whose bytes go out without delay. Of what the other end
@@ -97,8 +97,8 @@ impl Stream for Socket {
         }
     }
 
-    fn write(&mut self, bytes: &[u8]) -> Flow {
-        match self.stream.write(bytes) {
+    fn write(&mut self, first: &[u8], second: &[u8]) -> Flow {
+        match self.write_both(first, second) {
             Ok(0) => self.fail(),
             Ok(count) => Flow::Bytes(count),
             Err(error) if is_wait(&error) => Flow::Nothing,
@@ -109,7 +109,21 @@ impl Stream for Socket {
 
 impl Socket {
     ghost use Rattle.node_link.specs.Port.{Rose};
+    ghost use Rattle.std.specs.Prelude.{◌++◌};
+    ghost use Rattle.std.specs.Io.{WritesAtMost};
     ghost use Rattle.node_link.specs.declared.stream.Flow.TheVariants as flow;
+
+    /// Offers both slices to the system, by one call.
+    fn write_both(&mut self, first: &[u8], second: &[u8]) -> io::Result<usize>
+        ensures bound { WritesAtMost result (first.now ++ second.now) }
+        ensures kept { self.new.failures ≡ self.old.failures }
+    {
+        if second.is_empty() {
+            return self.stream.write(first);
+        }
+        self.stream
+            .write_vectored(&[IoSlice::new(first), IoSlice::new(second)])
+    }
 
     /// Counts one failure more: for a caller that gives the connection up, as after a timeout.
     pub fn fail(&mut self) -> Flow

@@ -41,6 +41,7 @@ impl LinkObjects {
                 Ok(())
             }
             "room" => self.make_room(args, answer),
+            "moves" => self.slow_to(args, answer),
             _ => Err(CallFault::NoSuchCall),
         }
     }
@@ -56,6 +57,13 @@ impl LinkObjects {
     /// The next stream fails behind so many bytes.
     fn make_room(&mut self, args: &mut Args<'_>, answer: &mut Answer) -> Result<(), CallFault> {
         self.stream.make_room(args.size()?);
+        answer.name("ok");
+        Ok(())
+    }
+
+    /// The next stream moves so many bytes at once.
+    fn slow_to(&mut self, args: &mut Args<'_>, answer: &mut Answer) -> Result<(), CallFault> {
+        self.stream.slow_to(args.size()?);
         answer.name("ok");
         Ok(())
     }

@@ -3,7 +3,7 @@
 ghost use Rattle.std.specs.Prelude.{◌^◌};
 
 use node_link::{Flow, Stream};
-use std::alloc::Global;
+use std::alloc::{AllocError, Global};
 
 #[derive(Drop)]
 pub struct MemoryStream {
@@ -45,6 +45,11 @@ impl MemoryStream {
         self.waits = true;
     }
 
+    /// From now on a call moves so many bytes at most.
+    pub fn slow_to(&mut self, at_once: usize) {
+        self.at_once = at_once;
+    }
+
     /// So many bytes are taken before the stream fails.
     pub fn make_room(&mut self, room: usize) {
         self.room = room;
@@ -76,6 +81,13 @@ impl MemoryStream {
         self.write_waited = self.waits && !self.write_waited;
         self.write_waited
     }
+
+    /// Keeps what was written, or nothing of it.
+    fn keep(&mut self, first: &[u8], second: &[u8]) -> Result<(), AllocError> {
+        self.taken.reserve(first.len() + second.len())?;
+        self.taken.extend_from_slice(first)?;
+        self.taken.extend_from_slice(second)
+    }
 }
 
 impl Stream for MemoryStream {
@@ -103,16 +115,19 @@ impl Stream for MemoryStream {
         Flow::Bytes(count)
     }
 
-    fn write(&mut self, bytes: &[u8]) -> Flow {
+    fn write(&mut self, first: &[u8], second: &[u8]) -> Flow {
         self.writes = self.writes.saturating_add(1);
         if self.write_must_wait() {
             return Flow::Nothing;
         }
-        let count = bytes.len().min(self.at_once).min(self.room);
-        if count == 0 || self.taken.extend_from_slice(&bytes[..count]).is_err() {
+        let most = self.at_once.min(self.room);
+        let first = &first[..most.min(first.len())];
+        let second = &second[..(most - first.len()).min(second.len())];
+        let count = first.len() + second.len();
+        if count == 0 || self.keep(first, second).is_err() {
             return Flow::Gone;
         }
-        self.room -= count;
+        self.room = self.room.saturating_sub(count);
         Flow::Bytes(count)
     }
 }

@@ -1,6 +1,6 @@
 //! A reader of bytes that are all there.
 
-ghost use Rattle.std.specs.Prelude.{◌≡◌, IfOk};
+ghost use Rattle.std.specs.Prelude.{◌≡◌, ◌<◌, ◌^◌, IfOk, length};
 ghost use Rattle.script_runs.specs.Wanted.{IsOpen};
 
 use resp_wire::{Bytes, Limits, NoMemory, Reader};
@@ -10,6 +10,7 @@ use std::alloc::Global;
 pub(crate) fn reader_of(alloc: Global, bytes: &Bytes) -> Result<Reader, NoMemory>
     ensures open { IfOk result IsOpen }
     ensures fed { IfOk result (λ reader. reader.unread ≡ bytes.now) }
+    ensures bound { IfOk result (λ reader. length reader.unread < 2 ^ 63) }
 {
     let mut reader = Reader::new(alloc, Limits::full());
     match reader.feed(bytes.as_slice()) {

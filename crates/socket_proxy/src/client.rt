@@ -121,7 +121,7 @@ impl ClientPort for SocketClient {
         let Some(socket) = &mut self.socket else {
             return Ok(Flow::Gone);
         };
-        let flow = socket.write(bytes);
+        let flow = socket.write(bytes, &[]);
         if flow == Flow::Gone {
             self.leave();
         }

@@ -5,8 +5,8 @@ pub returns-clause-ok : goal.returns-clause-ok
 returns-clause-ok c =
     let head = c.in_ok-push_head.ensures.ok in
     let name = rw (c.text.ensures, c.op_name.ensures, c.op-op.ensures) at c.in_ok-push_bulk.ensures.ok in
-    let key = rw (c.as_slice.ensures, c.key.ensures) at c.in_ok-push_bulk-2.ensures.ok in
-    let behind = rw (c.as_slice-2.ensures, c.arg.ensures, c.op-op.ensures) at c.in_ok-push_behind.ensures.ok in
+    let key = rw c.key.ensures at c.in_ok-push_word_bulk.ensures.ok in
+    let behind = rw (c.arg.ensures, c.op-op.ensures) at c.in_ok-push_behind.ensures.ok in
     on_ok c.push_pairs.result
     (λ last. part_pieces c.args.part.now c.word_count.result _ _ _ _ _ _ c.word_count.ensures head name key behind (rw (c.rest.ensures.value, c.op-op.ensures) at last))
     c.push_pairs.ensures.ok

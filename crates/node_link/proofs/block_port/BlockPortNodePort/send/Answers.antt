@@ -21,7 +21,7 @@ returns-in-Ok-clause-does g c =
     let inside = c.self.inside in
     let drafted = c.in-Ok.ensures in
     let unsent = ap (λ (u : UnsentModel). u.bytes)
-    (finished c.flush_before_send.new.self c.draft_batch.new.out c.finish.new.self _ (c.flush_before_send.ensures.draft ∙ c.self.invariant) drafted.0 drafted.1 c.finish.ensures) in
+    (finished c.flush_before_send.new.self c.draft_batch.new.out c.finish.new.self _ c.flush_before_send.ensures.draft drafted.0 drafted.1 c.finish.ensures) in
     rw (← c.self.view_is)
     (sends_plain g.S.Stream.failures g.S.Stream.moved
     (record { bytes = record { stream = inside.stream; unsent = inside.outbox.unsent.bytes; refused = inside.outbox.unsent.refused; input = input_of inside.inbox }; replies = inside.replies; takes_blocks = inside.takes_blocks })
@@ -33,7 +33,7 @@ returns-in-Ok-clause-goes g c =
     let inside = c.self.inside in
     let drafted = c.in-Ok.ensures in
     let unsent = ap (λ (u : UnsentModel). u.bytes)
-    (finished c.flush_before_send.new.self c.draft_batch.new.out c.finish.new.self _ (c.flush_before_send.ensures.draft ∙ c.self.invariant) drafted.0 drafted.1 c.finish.ensures) in
+    (finished c.flush_before_send.new.self c.draft_batch.new.out c.finish.new.self _ c.flush_before_send.ensures.draft drafted.0 drafted.1 c.finish.ensures) in
     rw (← c.self.view_is)
     (goes_plain g.S.Stream.failures g.S.Stream.moved
     (record { bytes = record { stream = inside.stream; unsent = inside.outbox.unsent.bytes; refused = inside.outbox.unsent.refused; input = input_of inside.inbox }; replies = inside.replies; takes_blocks = inside.takes_blocks })
@@ -61,7 +61,7 @@ returns-in-Ok-clause-offers g c =
     let inside = c.self.inside in
     let drafted = c.in-Ok.ensures in
     let kept = ap (λ (u : UnsentModel). u.refused)
-    (finished c.flush_before_send.new.self c.draft_batch.new.out c.finish.new.self _ (c.flush_before_send.ensures.draft ∙ c.self.invariant) drafted.0 drafted.1 c.finish.ensures) in
+    (finished c.flush_before_send.new.self c.draft_batch.new.out c.finish.new.self _ c.flush_before_send.ensures.draft drafted.0 drafted.1 c.finish.ensures) in
     let offers = subst (λ (r : ℕ). Offers g.S.Stream.offered inside.stream inside.outbox.unsent.bytes inside.outbox.unsent.refused c.flush_before_send.new.stream r)
     (sym kept) c.flush_before_send.ensures.offers in
     rw (← c.self.view_is) (c.flush_before_send.new.stream, offers, inl refl)

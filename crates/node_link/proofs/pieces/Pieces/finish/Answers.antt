@@ -1,10 +1,13 @@
-use Rattle.std.proofs.Common.{◌≡◌, arith, length, rules}
-use Rattle.node_link.proofs.Piecing.{finished_behind, none_behind, outgoing}
+use Rattle.std.proofs.Common.{◌≡◌, length, rules}
+use Rattle.node_link.proofs.Piecing.{finish_held, finish_settled, is_sound}
 use Rattle.node_link.proofs.pieces.Pieces.finish.Goals as goal
 
 pub returns-clause-held : goal.returns-clause-held
 returns-clause-held c =
-    let old = c.args.self.now in
-    let len : c.len-self.result ≡ length old.last.items = search rules in
-    outgoing _ _ _ _ old.refused (finished_behind old.full.items old.last.items old.written old.finished c.len-self.result len (omega (arith, c.requires.front)))
-    (none_behind old.last.items c.len-self.result len)
+    let len : c.len-self.result ≡ length c.args.self.now.last.items = search rules in
+    finish_held c.args.self.now c.len-self.result c.requires len
+
+pub returns-clause-sound : goal.returns-clause-sound
+returns-clause-sound c =
+    let len : c.len-self.result ≡ length c.args.self.now.last.items = search rules in
+    is_sound _ (finish_settled c.args.self.now c.len-self.result c.requires len)

@@ -1,27 +1,45 @@
-use Rattle.std.proofs.Common.{ap, ◌∙◌, ◌++◌, ◌-◌, List, ℕ, length, refl, sym, take}
-use Rattle.node_link.specs.Bytes.{OutboxModel}
+use Rattle.std.proofs.Common.{◌≡◌, ◌++◌, ◌+◌, ◌-◌, ◌∙◌, ap, arith, length, length-append, refl, sym, take}
 use Rattle.node_link.specs.declared.stream.Flow.TheVariants as flow
-use Rattle.node_link.proofs.Piecing.{offers_front, written_off}
+use Rattle.node_link.proofs.Piecing.{offered_front, refused_sound, settled, wrote}
 use Rattle.node_link.proofs.pieces.Pieces.write_front.Goals as goal
 
 pub returns-in-Bytes-clause-written : goal.returns-in-Bytes-clause-written
 returns-in-Bytes-clause-written g c =
-    let wrote = c.in-Bytes.ensures.written in
-    let front = take c.in-Bytes.count c.front-front.result.now in
-    let left = ap (λ (o : OutboxModel). o.unsent.bytes) c.count_written.ensures.held in
-    (front, wrote.1, written_off c.args.self.now c.front-front.result.now c.in-Bytes.count c.requires c.front-front.ensures wrote.0 ∙ ap (λ (bytes : List ℕ). front ++ bytes) (sym left))
+    let old = c.args.self.now in
+    let front = c.front.result.0.now ++ c.front.result.1.now in
+    let len : length c.front.result.0.now + length c.front.result.1.now ≡ length front = sym (length-append c.front.result.0.now c.front.result.1.now) in
+    let moved = c.in-Bytes.ensures.written in
+    (take c.in-Bytes.count front, moved.1, wrote old c.leave.new.self front _ c.in-Bytes.count (settled old c.requires.sound c.requires.no_draft) c.leave.ensures.settled c.front.ensures len moved.0 c.leave.ensures.waiting)
 
 pub returns-in-Bytes-clause-offers : goal.returns-in-Bytes-clause-offers
 returns-in-Bytes-clause-offers g c =
-    let left = ap (λ (o : OutboxModel). o.unsent.refused) c.count_written.ensures.held in
-    offers_front g.S.Stream.offered c.args.stream.now c.write.new.self c.args.self.now c.front-front.result.now (flow.Bytes c.in-Bytes.count) c.count_written.new.self.refused
-    c.requires c.front-front.ensures c.in-Bytes.ensures.offered
-    (left ∙ ap (λ (bytes : List ℕ). length bytes - c.in-Bytes.count) (sym c.front-front.ensures))
+    let old = c.args.self.now in
+    let front = c.front.result.0.now ++ c.front.result.1.now in
+    let len : length c.front.result.0.now + length c.front.result.1.now ≡ length front = sym (length-append c.front.result.0.now c.front.result.1.now) in
+    offered_front g.S.Stream.offered c.args.stream.now c.write.new.self old front (flow.Bytes c.in-Bytes.count) c.leave.new.self.refused
+    (settled old c.requires.sound c.requires.no_draft) c.front.ensures c.in-Bytes.ensures.offered
+    (c.leave.ensures.refused ∙ ap (λ n. n - c.in-Bytes.count) len)
 
 pub returns-in-Nothing-clause-offers : goal.returns-in-Nothing-clause-offers
 returns-in-Nothing-clause-offers g c =
-    offers_front g.S.Stream.offered c.args.stream.now c.write.new.self c.args.self.now c.front-front.result.now flow.Nothing _ c.requires c.front-front.ensures c.in-Nothing.ensures.offered refl
+    let old = c.args.self.now in
+    offered_front g.S.Stream.offered c.args.stream.now c.write.new.self old (c.front.result.0.now ++ c.front.result.1.now) flow.Nothing _
+    (settled old c.requires.sound c.requires.no_draft) c.front.ensures c.in-Nothing.ensures.offered (sym (length-append c.front.result.0.now c.front.result.1.now))
+
+pub returns-in-Nothing-clause-sound : goal.returns-in-Nothing-clause-sound
+returns-in-Nothing-clause-sound g c =
+    let old = c.args.self.now in
+    let len = sym (length-append c.front.result.0.now c.front.result.1.now) ∙ ap length c.front.ensures in
+    refused_sound old _ (settled old c.requires.sound c.requires.no_draft) len c.if-len-eq0.false
 
 pub returns-in-Gone-clause-offers : goal.returns-in-Gone-clause-offers
 returns-in-Gone-clause-offers g c =
-    offers_front g.S.Stream.offered c.args.stream.now c.write.new.self c.args.self.now c.front-front.result.now flow.Gone _ c.requires c.front-front.ensures c.in-Gone.ensures.offered refl
+    let old = c.args.self.now in
+    offered_front g.S.Stream.offered c.args.stream.now c.write.new.self old (c.front.result.0.now ++ c.front.result.1.now) flow.Gone _
+    (settled old c.requires.sound c.requires.no_draft) c.front.ensures c.in-Gone.ensures.offered (sym (length-append c.front.result.0.now c.front.result.1.now))
+
+pub returns-in-Gone-clause-sound : goal.returns-in-Gone-clause-sound
+returns-in-Gone-clause-sound g c =
+    let old = c.args.self.now in
+    let len = sym (length-append c.front.result.0.now c.front.result.1.now) ∙ ap length c.front.ensures in
+    refused_sound old _ (settled old c.requires.sound c.requires.no_draft) len c.if-len-eq0.false

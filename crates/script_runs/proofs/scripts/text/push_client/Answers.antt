@@ -69,3 +69,8 @@ returns c =
     let takes = rw c.in_default.is at c.in_ok-value.ensures in
     lines-all c.args.client c.loop-reader.number c.args.bytes.now c.args.out.now.items c.loop-reader.out.items c.loop-reader.reader c.next_value.new.reader takes
     c.loop-reader.invariant.reaches
+
+pub overflow_add-number : goal.overflow_add-number
+overflow_add-number c =
+    let takes = rw c.in-Some.is at c.in_ok-value.ensures in
+    omega (arith, c.loop-reader.invariant.few, takes.2, c.in_ok-reader.ensures.bound, ap length c.in_ok-reader.ensures.fed)
