@@ -83,11 +83,13 @@ def copy_of(crate, texts, room, removed=()):
         (Path(room) / file).write_text(text, encoding="utf-8")
 
 
-def check(crate, crates, where, changed, functions, kept):
-    """What a check of these functions says of the crate with these texts, and the seconds of a processor that it took."""
+def check(crate, crates, where, changed, functions, kept=None):
+    """What a check of these functions says of the crate with these texts, and the seconds of a processor that it took. What it
+    keeps for later checks of the crate goes into the folder `kept`."""
     with tempfile.TemporaryDirectory(prefix="edits-") as room:
         copy_of(crate, changed.texts, room, changed.removed)
-        words = ["nice", "-n", "10", *words_of(crate, crates, where), "--incremental", kept]
+        words = ["nice", "-n", "10", *words_of(crate, crates, where)]
+        words += ["--incremental", kept] if kept else []
         words += ["--allow-holes"] * bool(changed.removed)
         for name in functions:
             words += ["--only", name]

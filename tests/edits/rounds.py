@@ -3,7 +3,8 @@
 Of the edits of one function the first stands in its place and each further one in a twin of it (twins.py); the functions that
 no edit changes are stubs (stubs.py). An edit counts as refused only where its own function fails with an open goal. The goals
 of some functions wait until all that they call is proved: beside an edit of such a one (it says so, or a round showed it) the
-functions that it calls stay as they are, and their edits stand in twins, or in another round.
+functions that it calls stay as they are, and their edits stand in twins, or in another round. Edits of definitions stand in copies
+of the files of their laws (copies.py), in one round.
 """
 
 import tempfile
@@ -11,6 +12,7 @@ from dataclasses import dataclass, field
 
 import calls
 import checks
+import copies
 import edits
 import stubs
 import twins
@@ -36,6 +38,8 @@ class Waiting:
     # The functions whose texts it changes.
     touched: set = field(default_factory=set)
     alone: bool = False
+    # Whether it may be tried in copies of the files that stand on what it changes.
+    in_copies: bool = False
     apart: set = field(default_factory=set)
     # What the prover calls the function in which the edit stands in this round, and whether a twin will not do.
     stands_in: list = field(default_factory=list)
@@ -60,7 +64,9 @@ def read_all(crate, from_folder, names):
             edit.applied({}, crate.folder)
             functions = edits.functions_of(edit, crate.folder, names)
             touched = edits.touched_by(edit, crate.folder, names)
-            waiting.append(Waiting(edit, functions, touched, edits.is_apart(edit, crate.folder)))
+            alone = edits.is_apart(edit, crate.folder)
+            in_copies = alone and len(functions) == 1 and all(pair.file.startswith("specs/") for pair in edit.pairs)
+            waiting.append(Waiting(edit, functions, touched, alone, in_copies))
         except edits.Misfit as why:
             bad.append(Tried(path.stem, False, f"BAD EDIT: {why}"))
     keep_callees(waiting, crate.folder)
@@ -88,11 +94,15 @@ class Round:
     texts: dict = field(default_factory=dict)
     # The functions that are changed in their places.
     changed: set = field(default_factory=set)
-    # The control of each function that has twins.
+    # The control of each function that has twins, and of each that has copies of some files.
     controls: dict = field(default_factory=dict)
+    # The copies of each edit that stands in such.
+    copies: dict = field(default_factory=dict)
 
     def may_take(self, it):
         """Whether an edit may be tried beside those that were taken."""
+        if self.taken and it.in_copies and self.taken[0].in_copies:
+            return True
         if self.taken and (it.alone or self.taken[0].alone):
             return False
         return not self.changed & it.apart
@@ -100,6 +110,8 @@ class Round:
     def place(self, it, crate):
         """Puts an edit into its function, or into a twin of it. False where it does not fit beside the others."""
         it.stands_in = it.functions
+        if it.in_copies:
+            return self.place_in_copies(it, crate)
         functions = {*it.functions}
         if functions & (self.kept | self.changed) and self.place_in_twin(it, crate):
             return True
@@ -126,6 +138,23 @@ class Round:
             self.controls[function] = self.control(it, function, crate)
         return True
 
+    def place_in_copies(self, it, crate):
+        """Puts an edit into copies of the files that stand on what it changes, with copies without an edit beside the first of these
+        files. False where there can be none: then it is tried in its place, in a round of its own."""
+        (function,) = it.functions
+        number, key = len(self.taken), control_key(it)
+        made = copies.copied(it.edit, it.edit.pairs, function, f"copy_{number}", self.texts, crate)
+        if made is None:
+            it.in_copies = False
+            return not self.taken and self.place(it, crate)
+        self.texts |= made.texts
+        self.copies[it.edit.name], it.stands_in = made, [made.name]
+        if key not in self.controls:
+            control = copies.copied(it.edit, [], function, f"control_{number}", self.texts, crate)
+            self.texts |= control.texts
+            self.controls[key] = control.name
+        return True
+
     def control(self, it, function, crate):
         """The control of a function, or None where its proof has no files that could be copied wrongly: `rt ci` proved it so."""
         if not twins.proofs_of(crate.folder, crate.name, function, function):
@@ -147,6 +176,11 @@ class Round:
         return stubs.stubbed(self.texts, crate, names, kept)
 
 
+def control_key(it):
+    """What edits have in common that stand in copies of the same files."""
+    return it.functions[0], frozenset(pair.file for pair in it.edit.pairs)
+
+
 def next_round(waiting, crate):
     """Takes edits whose texts fit into one copy."""
     made = Round(set().union(*(it.apart for it in waiting)))
@@ -165,8 +199,20 @@ def is_in_order(answer, crate, control):
     return verdict is Verdict.PROVED or (verdict is Verdict.CALLEE and not verdicts.waits(answer, crate.name, control))
 
 
+def judged_in_copies(answer, crate, it, made):
+    """What came of an edit that stands in copies, or None where it is to be tried in its place."""
+    (function,), (stands,) = it.functions, it.stands_in
+    verdict, text = verdicts.verdict_of(verdicts.within(answer, made.copies[it.edit.name].own), stands)
+    if verdict is Verdict.REFUSED and is_in_order(answer, crate, made.controls[control_key(it)]):
+        return Tried(it.edit.name, True, f"refused by {function}: {text}")
+    it.in_copies = False
+    return None
+
+
 def judged(answer, crate, it, made):
     """What came of one edit of a round, or None where it is to be tried again."""
+    if it.in_copies:
+        return judged_in_copies(answer, crate, it, made)
     found = [(name, stands, *verdicts.verdict_of(answer, stands)) for name, stands in zip(it.functions, it.stands_in)]
     name, stands, verdict, text = next((one for one in found if one[2] is not Verdict.REFUSED), found[0])
     is_twin = it.stands_in != it.functions
@@ -186,14 +232,16 @@ def judged(answer, crate, it, made):
 
 
 def try_all(crate, crates, where, from_folder, names):
-    """Tries all edits of the folder, in as few rounds as their functions allow, over kept work of this run alone."""
+    """Tries all edits of the folder, in as few rounds as their functions allow. Where there are several, they share kept work of this
+    run alone; for a single one it would cost more than it brings."""
     waiting, bad = read_all(crate, from_folder, names)
     outcome = Outcome(bad)
     with tempfile.TemporaryDirectory(prefix="edits-kept-") as kept:
         while waiting:
             made = next_round(waiting, crate)
             changed = made.stubbed(crate, names)
-            said, seconds = checks.check(crate, crates, where, changed, sorted(made.asked()), kept)
+            is_alone = not waiting and outcome.rounds == 0
+            said, seconds = checks.check(crate, crates, where, changed, sorted(made.asked()), None if is_alone else kept)
             answer = verdicts.read(crate.name, said)
             outcome.rounds += 1
             outcome.seconds += seconds
@@ -211,7 +259,6 @@ def open_without_edits(crate, crates, where, from_folder, names):
     """The functions of the folder's edits that are not proved among stubs as they stand: what is refused in one of these would say nothing."""
     waiting, _ = read_all(crate, from_folder, names)
     functions = {name for it in waiting for name in it.functions}
-    with tempfile.TemporaryDirectory(prefix="edits-kept-") as kept:
-        said, _ = checks.check(crate, crates, where, stubs.stubbed({}, crate, names, functions), sorted(functions), kept)
+    said, _ = checks.check(crate, crates, where, stubs.stubbed({}, crate, names, functions), sorted(functions))
     answer = verdicts.read(crate.name, said)
     return [name for name in sorted(functions) if verdicts.verdict_of(answer, name)[0] is not Verdict.PROVED]

@@ -8,6 +8,7 @@ import unittest
 from pathlib import Path
 
 import checks
+import copies
 import edits
 import gate
 import rounds
@@ -19,6 +20,7 @@ LIBRARY = """\
 #![tactic(auto)]
 
 ghost use Rattle.std.specs.Prelude.{◌≡◌, ◌+◌, ◌<◌, IsTrue};
+ghost use Rattle.sample.specs.Largest.{LargestIsNine};
 
 /// The largest count.
 const LARGEST: u8 = 9;
@@ -54,6 +56,11 @@ pub fn can_be_raised(count: u8) -> bool
 {
     count < LARGEST
 }
+
+/// The largest count is nine.
+pub fn largest_is_nine()
+    ensures { LargestIsNine }
+{}
 """
 
 ANSWERS = """\
@@ -62,6 +69,43 @@ use Rattle.sample.proofs.raised_again.Goals as goal
 pub returns : goal.returns
 returns c = c.raised-once.ensures
 """
+
+# The definition of the law's clause, and its proof.
+DEFINED = {
+    "specs/Lib.antt": "pub mod Counts\npub mod Largest\n",
+    "specs/Counts.antt": """\
+-- How far counts go.
+use Rattle.std.specs.Prelude.{ℕ}
+
+-- the largest count
+abbrev pub largest : ℕ
+largest = 9
+""",
+    "specs/Largest.antt": """\
+-- What is said of the largest count.
+use Rattle.std.specs.Prelude.{◌≡◌}
+use Rattle.sample.specs.Counts.{largest}
+
+abbrev pub LargestIsNine : Type 0
+LargestIsNine = largest ≡ 9
+""",
+    "proofs/Lib.antt": "mod Largest\n",
+    "proofs/Largest.antt": """\
+-- The largest count is what it is.
+use Rattle.std.proofs.Common.{refl}
+use Rattle.sample.specs.Largest.{LargestIsNine}
+
+pub largest-is-nine : LargestIsNine
+largest-is-nine = refl
+""",
+    "proofs/largest_is_nine/Answers.antt": """\
+use Rattle.sample.proofs.Largest.{largest-is-nine}
+use Rattle.sample.proofs.largest_is_nine.Goals as goal
+
+pub returns : goal.returns
+returns c = largest-is-nine
+""",
+}
 
 # Each edit, and the beginning of what has to be said of it.
 EDITS = {
@@ -98,6 +142,17 @@ KEPT = {
     "same_meaning_in_a_twin_for_its_callers": (["old:     count + 1", "new:     1 + count"], "NOT REFUSED"),
 }
 
+# The same of edits of definitions.
+DEFINITIONS = {
+    "larger_by_definition": (["file: specs/Counts.antt", "fn: largest_is_nine", "old: largest = 9", "new: largest = 10"], "refused by largest_is_nine: "),
+    "larger_in_what_is_said": (
+        ["file: specs/Largest.antt", "fn: largest_is_nine", "old: largest ≡ 9", "new: largest ≡ 10"],
+        "refused by largest_is_nine: ",
+    ),
+    "same_by_definition": (["file: specs/Largest.antt", "fn: largest_is_nine", "old: largest ≡ 9", "new: 9 ≡ largest"], "NOT REFUSED"),
+    "no_name_of_that_kind": (["file: specs/Counts.antt", "fn: largest_is_nine", "old: largest = 9", "new: largest = nine"], "NOT COUNTED: "),
+}
+
 
 def make_repository(root, wanted):
     """Writes the small repository with these edits."""
@@ -106,7 +161,9 @@ def make_repository(root, wanted):
     for folder in ("src", "specs", "proofs/raised_again", "must-fail"):
         (crate / folder).mkdir(parents=True)
     (crate / "src/lib.rt").write_text(LIBRARY)
-    (crate / "proofs/raised_again/Answers.antt").write_text(ANSWERS)
+    for file, text in {"proofs/raised_again/Answers.antt": ANSWERS, **DEFINED}.items():
+        (crate / file).parent.mkdir(parents=True, exist_ok=True)
+        (crate / file).write_text(text)
     for name, (lines, _) in wanted.items():
         (crate / f"must-fail/{name}.edit").write_text("\n".join(["file: src/lib.rt", *lines]) + "\n")
 
@@ -138,6 +195,10 @@ class Rounds(unittest.TestCase):
         # The second round has the one that no twin refused, in its place.
         self.assertEqual(self.outcome_of(KEPT).rounds, 2)
 
+    def test_edits_of_definitions_stand_in_copies(self):
+        # The second and third rounds have those that no copy refused, each in its place.
+        self.assertEqual(self.outcome_of(DEFINITIONS).rounds, 3)
+
 
 class Controls(unittest.TestCase):
     """A refusal in a twin counts only beside a control that is in order."""
@@ -160,6 +221,54 @@ class Controls(unittest.TestCase):
             tried = rounds.judged(answer, checks.Crate("sample", Path(), [], []), it, made)
             self.assertEqual(tried is not None and tried.refused, counts, said)
             self.assertEqual(it.in_place, not counts, said)
+
+
+class Copies(unittest.TestCase):
+    """An edit of a definition changes copies of what stands on it, and counts by these alone."""
+
+    EDIT = edits.Edit("wrong", [edits.Pair("specs/Counts.antt", "largest = 9", "largest = 10")], ["largest_is_nine"])
+
+    def test_what_stands_on_a_definition_is_copied_with_its_law(self):
+        with tempfile.TemporaryDirectory() as folder:
+            make_repository(Path(folder), {})
+            crate = checks.crates_of(folder)["sample"]
+            made = copies.copied(self.EDIT, self.EDIT.pairs, "largest_is_nine", "copy_0", {}, crate)
+            self.assertEqual(made.name, "largest_is_nine_copy_0")
+            self.assertEqual(
+                made.own,
+                {"specs/CountsCopy0.antt", "specs/LargestCopy0.antt", "proofs/LargestCopy0.antt", "proofs/largest_is_nine_copy_0/Answers.antt"},
+            )
+            self.assertIn("largest = 10", made.texts["specs/CountsCopy0.antt"])
+            self.assertIn("use Rattle.sample.specs.CountsCopy0.{largest}", made.texts["specs/LargestCopy0.antt"])
+            self.assertIn("pub mod Counts\npub mod CountsCopy0\n", made.texts["specs/Lib.antt"])
+            self.assertIn("ghost use Rattle.sample.specs.LargestCopy0.{LargestIsNine as LargestIsNine_copy_0};\n", made.texts["src/lib.rt"])
+            self.assertIn(
+                "{ LargestIsNine }\n{}\n\npub fn largest_is_nine_copy_0()\n    ensures { LargestIsNine_copy_0 }\n{}\n", made.texts["src/lib.rt"]
+            )
+
+    def test_no_law_no_copy(self):
+        with tempfile.TemporaryDirectory() as folder:
+            make_repository(Path(folder), {})
+            crate = checks.crates_of(folder)["sample"]
+            self.assertIsNone(copies.copied(self.EDIT, self.EDIT.pairs, "raised", "copy_0", {}, crate))
+
+    def test_errors_of_other_copies_do_not_count(self):
+        own = "proofs/f_copy_0/Answers.antt:1:1: error: 1 declaration that depends on `a`, which was rejected, was not checked: returns"
+        cause = "proofs/A{}.antt:1:1: error: `a`: the two types differ"
+        missing = "proofs/ACopy0.antt:1:1: error: `a`: `once` is not in scope"
+        for said, in_order, counts in {
+            (cause.format("Copy0"), "no holes", True),
+            (cause.format("Copy0"), "not proved", False),
+            (f"{cause.format('Copy1')}\n{missing}", "no holes", False),
+        }:
+            functions = f"fn sample::f_copy_0: not proved\nfn sample::f_control_0: {in_order}\n"
+            answer = verdicts.read("sample", f"{said}\n{own}\n{functions}only=2 proved=1\n")
+            it = rounds.Waiting(self.EDIT, ["f"], alone=True, in_copies=True, stands_in=["f_copy_0"])
+            made = rounds.Round(set(), taken=[it], controls={rounds.control_key(it): "f_control_0"})
+            made.copies["wrong"] = copies.Copy("f_copy_0", {}, {"proofs/ACopy0.antt", "proofs/f_copy_0/Answers.antt"})
+            tried = rounds.judged(answer, checks.Crate("sample", Path(), [], []), it, made)
+            self.assertEqual(tried is not None and tried.refused, counts, said)
+            self.assertEqual(it.in_copies, counts, said)
 
 
 class Stubs(unittest.TestCase):

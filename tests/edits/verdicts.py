@@ -62,6 +62,11 @@ def read(crate, text):
     return answer
 
 
+def within(answer, files):
+    """The answer with the errors of these files alone."""
+    return Answer(answer.functions, [it for it in answer.faults if it.file in files], answer.ended, answer.text)
+
+
 def folders_of(function):
     """Where the proof of a function may stand, also one of a cycle of calls."""
     *above, last = function.split("::")

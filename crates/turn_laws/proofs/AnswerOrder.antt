@@ -17,7 +17,7 @@ use Rattle.world_laws.proofs.Runs.{Sound, does-sound, start-sound, headline}
 use Rattle.turn_laws.specs.Walks.{Walk, IsWalked, ticked}
 use Rattle.turn_laws.specs.LogHeadline.{At, IsIn}
 use Rattle.turn_laws.proofs.Walks.{walked-sound}
-use Rattle.turn_laws.proofs.AtLanes.{nothing-there}
+use Rattle.turn_laws.proofs.Elements.{nothing-there}
 
 pub record InTurn (commands : List Arrival) (answers : List Answer) (moment : ℕ) : Type 0 where
   pub past : (a : Answer) → IsIn answers a → a.answered ≤ moment

@@ -15,8 +15,10 @@ use Rattle.proxy_turns.specs.CarrierModel.{CarrierModel, AtBackend}
 use Rattle.world_laws.specs.State.{WorldModel, Link}
 use Rattle.turn_laws.specs.Wire.{Wire, Exchanges}
 use Rattle.turn_laws.specs.System.{System}
-use Rattle.turn_laws.specs.Shadow.{IsShadow, IsWorking, LinksShadow, LaneShadow, BackendShadow, OpenShadow, IsIdle, IsUnnumbered, Numbers, coming, coming_of, requests_in, dues_in, SeenIn}
-use Rattle.turn_laws.specs.Steps.{CarrierStep, any_failures, any_garbled}
+use Rattle.turn_laws.specs.Shadow.{IsShadow, LinksShadow, LaneShadow, BackendShadow, OpenShadow, IsIdle, IsUnnumbered, Numbers, requests_in, dues_in, SeenIn}
+use Rattle.turn_laws.specs.Underway.{IsWorking, coming, coming_of}
+use Rattle.turn_laws.specs.Steps.{CarrierStep}
+use Rattle.turn_laws.specs.PortsMay.{any_failures, any_garbled}
 use Rattle.turn_laws.proofs.Frames.{same-seats, down-fits, carrier-frame}
 use Rattle.turn_laws.proofs.Fetching.{fetched-shadow, comes-first, waits-first}
 use Rattle.turn_laws.proofs.Waiting.{now, same-closed, same-opened, same-bag}

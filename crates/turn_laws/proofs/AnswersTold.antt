@@ -25,11 +25,14 @@ use Rattle.proxy_turns.specs.ClientTurn.{Pulled, Fed, Read, HandedOut, Followed,
 use Rattle.proxy_turns.specs.WorkerModel.{WorkerModel, WorkerEvent, Did, Finished, Took, FoundNone, Came, TurnedAway, FoundNobody, Left}
 use Rattle.turn_laws.specs.Wire.{Execution}
 use Rattle.turn_laws.specs.System.{System, Mark, Answered}
-use Rattle.turn_laws.specs.Steps.{SystemEvent, AtWorker, AtCarrier, AtNode, AtBroken, Thrown, Moved, SystemStep, WorkerStep, any_moves, answers, arrivals, log_of, ticket_at}
+use Rattle.turn_laws.specs.Steps.{SystemEvent, AtWorker, AtCarrier, AtNode, AtBroken, Thrown, Moved, SystemStep, WorkerStep, answers, arrivals, log_of, ticket_at}
+use Rattle.turn_laws.specs.PortsMay.{any_moves}
 use Rattle.turn_laws.specs.Refines.{IsStart}
-use Rattle.turn_laws.specs.ClientOutput.{AnswersWereTold, bytes_from, bytes_to, ends_for, events_at}
-use Rattle.turn_laws.proofs.AtLanes.{nothing-there}
-use Rattle.turn_laws.proofs.Clients.{put-same}
+use Rattle.turn_laws.specs.LogOutput.{AnswersWereTold}
+use Rattle.turn_laws.specs.ClientSees.{bytes_from, bytes_to, ends_for}
+use Rattle.turn_laws.specs.ClientOutput.{events_at}
+use Rattle.turn_laws.proofs.Elements.{nothing-there}
+use Rattle.turn_laws.proofs.Tables.{put-same}
 use Rattle.turn_laws.proofs.Ending.{one-of}
 use Rattle.turn_laws.proofs.Refines.{refines}
 use Rattle.turn_laws.proofs.SessionLives.{Lived, flat-push, folds-push}

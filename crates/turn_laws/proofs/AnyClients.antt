@@ -7,7 +7,7 @@ use Rattle.proxy_turns.specs.Port.{Moves}
 use Rattle.proxy_turns.specs.ClientModel.{ClientModel}
 use Rattle.proxy_turns.specs.ClientTurn.{ClientContext, ClientEvent, Pulled, Fed, Read, HandedOut, Followed, Looked, CameBack, Posted, Drained, Pushed, Tried, Parted, Dropped, ClientDoes, Finishes}
 use Rattle.proxy_turns.specs.WorkerModel.{WorkerModel, WorkerEvent, Did, Finished, Took, FoundNone, Came, TurnedAway, FoundNobody, Left, WorkerDoes}
-use Rattle.turn_laws.specs.Steps.{any_moves}
+use Rattle.turn_laws.specs.PortsMay.{any_moves}
 use Rattle.turn_laws.specs.AnyPort.{AnyClients, AnyClientTurns}
 
 any-client : {C : Type 0} (moves : Moves C) (event : ClientEvent) (old new : ClientContext C) → ClientDoes moves old event new → ClientDoes any_moves old event new

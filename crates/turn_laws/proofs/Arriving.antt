@@ -34,12 +34,13 @@ use Rattle.proxy_turns.specs.WorkerModel.{WorkerModel, Did}
 use Rattle.world_laws.specs.State.{WorldModel}
 use Rattle.world_laws.proofs.Recorded.{set-same}
 use Rattle.turn_laws.specs.Walks.{IsWalked}
-use Rattle.turn_laws.specs.System.{System, Mark, Arrived}
-use Rattle.turn_laws.specs.Shadow.{IsShadow, ClientShadow, downs_of, ticket_at, seat_of}
+use Rattle.turn_laws.specs.System.{System, Mark, Arrived, seat_of}
+use Rattle.turn_laws.specs.Shadow.{IsShadow, ClientShadow, ticket_at}
+use Rattle.turn_laws.specs.Underway.{downs_of}
 use Rattle.turn_laws.specs.Steps.{AtWorker, arrivals}
 use Rattle.turn_laws.specs.Refines.{Simulates}
 use Rattle.turn_laws.proofs.AtWorkers.{Alike}
-use Rattle.turn_laws.proofs.Clients.{put-same}
+use Rattle.turn_laws.proofs.Tables.{put-same}
 use Rattle.turn_laws.proofs.Ending.{one-of}
 use Rattle.turn_laws.proofs.Leading.{Leads, Sits, along, stays, then-leads, sits-put, sits-then, ends-quietly}
 use Rattle.turn_laws.proofs.Pushed.{one-arrived}

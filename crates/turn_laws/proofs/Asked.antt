@@ -22,8 +22,10 @@ use Rattle.world_laws.specs.declared.event.Event.{Event}
 use Rattle.turn_laws.specs.Walks.{Walk, IsWalked}
 use Rattle.turn_laws.specs.Wire.{Wire, Exchanges, Lists}
 use Rattle.turn_laws.specs.System.{System}
-use Rattle.turn_laws.specs.Shadow.{IsShadow, IsWorking, LinksShadow, LaneShadow, OpenShadow, IsKnown, requests_in}
-use Rattle.turn_laws.specs.Steps.{AtCarrier, CarrierStep, any_failures, any_garbled}
+use Rattle.turn_laws.specs.Shadow.{IsShadow, LinksShadow, LaneShadow, OpenShadow, IsKnown, requests_in}
+use Rattle.turn_laws.specs.Underway.{IsWorking}
+use Rattle.turn_laws.specs.Steps.{AtCarrier, CarrierStep}
+use Rattle.turn_laws.specs.PortsMay.{any_failures, any_garbled}
 use Rattle.turn_laws.specs.Refines.{Simulates}
 use Rattle.turn_laws.proofs.Frames.{same-seats, down-fits, carrier-frame}
 use Rattle.turn_laws.proofs.Waiting.{now, same-closed, same-opened, same-bag}

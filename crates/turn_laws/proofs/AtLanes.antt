@@ -1,6 +1,6 @@
 -- The carrier's steps at a worker's lanes and at what is pending that the machine does not see.
 use Rattle.std.proofs.Common.{◌≡◌, ◌≢◌, ◌⊎◌, inl, inr, ⊎_elim, ℕ, zero, suc, ◌+◌, ◌<◌, ◌≤◌, List, [], ◌∷◌, ◌++◌, Some, None, Result, Ok, Err, refl, sym, ap, ◌∙◌, subst, arith, length}
-use Rattle.std.specs.Prelude.{slice_get, slice_set, Option, IsSome, map, All}
+use Rattle.std.specs.Prelude.{slice_get, slice_set, Option, IsSome, All}
 use Rattle.std.specs.List.{flat_map}
 use Rattle.std.proofs.lemmas.Grind.{flat_map-append}
 use Rattle.key_split.specs.Runs.{RunModel}
@@ -26,13 +26,15 @@ use Rattle.world_laws.proofs.Tally.{total-append}
 use Rattle.world_laws.proofs.Recorded.{at-set, at-last, before-last, set-same}
 use Rattle.turn_laws.specs.Wire.{Wire}
 use Rattle.turn_laws.specs.System.{System, between, IsInStep}
-use Rattle.turn_laws.specs.Shadow.{IsShadow, UpsShadow, RunShadow, lane_of, lying, AreSeated, downs_of, downs_in, down_in, refused_in, told_in, lost_in, ups_in, run_in}
+use Rattle.turn_laws.specs.Shadow.{IsShadow, UpsShadow, ListShadow, AreSeated}
+use Rattle.turn_laws.specs.Underway.{downs_of, downs_in, down_in, refused_in, told_in, lost_in, ups_in, run_in}
 use Rattle.turn_laws.specs.Steps.{CarrierStep, opened_by}
 use Rattle.std.proofs.lemmas.List.Elements.{All-append, All-cons, All-nil}
+use Rattle.turn_laws.proofs.Elements.{nothing-there, in-right}
 use Rattle.turn_laws.proofs.Downs.{Pair, SameBag, total-set-flat}
 use Rattle.turn_laws.proofs.Lanes.{between-post, post-steps, between-back, back-steps, between-take}
 use Rattle.turn_laws.proofs.Frames.{SameLinks, works-still, no-failure, carrier-stutter, beside, same-seats, set-seats, DownFits, down-fits, StillSeen, seen-same}
-use Rattle.turn_laws.proofs.Carriers.{refusals, debts, bag-parts}
+use Rattle.turn_laws.proofs.Bags.{refusals, debts, bag-parts}
 use Rattle.turn_laws.proofs.Seen.{seen-works, seen-stays}
 
 -- a list's other items
@@ -50,22 +52,12 @@ add_workers-pending_run [] e (suc j) = inl refl
 add_workers-pending_run (h ∷ pending_runs) e zero = inl refl
 add_workers-pending_run (h ∷ pending_runs) e (suc j) = add_workers-pending_run pending_runs e j
 
-abbrev pub ListShadow : WorldModel → ℕ → List RunModel → Type 0
-ListShadow w k runs = (lane_of k w ≡ map lying runs) × All (RunShadow w.commands k) runs
-
-pub nothing-there : {X : Type 0} (k : ℕ) (x : X) → slice_get [] k ≡ Some x → ⊥
-nothing-there k x e = absurd (cc)
-
 pub short : {X : Type 0} (xs : List X) (k : ℕ) (x : X) → slice_get xs k ≡ Some x → k < length xs
 short [] k x e = absurd (nothing-there k x e)
 short (y ∷ xs) zero x e = omega arith
 short (y ∷ xs) (suc k) x e = omega (arith, short xs k x e)
 
 -- an item of a list of lists
-pub in-right : {X : Type 0} (xs ys : List X) (i : ℕ) (p : X) → slice_get ys i ≡ Some p → (j : ℕ) × (slice_get (xs ++ ys) j ≡ Some p)
-in-right [] ys i p e = (i, e)
-in-right (x ∷ xs) ys i p e = let r = in-right xs ys i p e in (suc r.0, r.1)
-
 pub in-flat : {X : Type 0} (g : X → List Pair) (xs : List X) (k : ℕ) (x : X) (p : Pair) → slice_get xs k ≡ Some x → slice_get (g x) 0 ≡ Some p → (i : ℕ) × (slice_get (flat_map g xs) i ≡ Some p)
 in-flat g [] k x p at e = absurd (nothing-there k x at)
 in-flat g (z ∷ xs) zero x p at e = let same : z ≡ x = cc in (0, before-last (g z) (flat_map g xs) 0 p (ap (λ u. slice_get (g u) 0) same ∙ e))

@@ -18,10 +18,13 @@ use Rattle.world_laws.specs.State.{WorldModel}
 use Rattle.world_laws.specs.Places.{total}
 use Rattle.turn_laws.specs.Wire.{Wire, Exchanges}
 use Rattle.turn_laws.specs.System.{System}
-use Rattle.turn_laws.specs.Shadow.{IsShadow, told_in, lost_in, lost_by}
-use Rattle.turn_laws.specs.Steps.{CarrierStep, any_failures, any_garbled, any_none}
+use Rattle.turn_laws.specs.Shadow.{IsShadow}
+use Rattle.turn_laws.specs.Underway.{told_in, lost_in, lost_by}
+use Rattle.turn_laws.specs.Steps.{CarrierStep}
+use Rattle.turn_laws.specs.PortsMay.{any_failures, any_garbled, any_none}
 use Rattle.turn_laws.proofs.Downs.{Pair, SameBag}
-use Rattle.turn_laws.proofs.Carriers.{line_downs, IsDown, StaysDown, backend-stutter}
+use Rattle.turn_laws.proofs.Bags.{line_downs}
+use Rattle.turn_laws.proofs.Carriers.{IsDown, StaysDown, backend-stutter}
 
 -- of a backend that owes what it pending_told
 pub same-owing : (backend backend' : Backend Wire) → backend'.link ≡ backend.link → told_in backend'.pending_told ≡ told_in backend.pending_told → SameBag (line_downs backend) (line_downs backend')

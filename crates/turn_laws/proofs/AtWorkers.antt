@@ -6,9 +6,6 @@ use Rattle.std.specs.FinMap.{FinMap, get, insert, remove, get-insert, get-remove
 use Rattle.std.proofs.lemmas.Bool.Decides.{eqb_tells}
 use Rattle.std.specs.Ordering.{nat_cmp, eq_by_cmp}
 use Rattle.std.specs.Cmp.{nat_cmp_total}
-use Rattle.std.proofs.Common.{eqb→eq}
-use Rattle.std.specs.Prelude.{T}
-use Rattle.std.specs.Cmp.{unsigned_ties}
 use Rattle.key_split.specs.Runs.{RunModel}
 use Rattle.key_split.specs.declared.travel.Ticket.{Ticket}
 use Rattle.key_split.specs.declared.travel.Ended.{Ended}
@@ -40,12 +37,14 @@ use Rattle.world_laws.specs.declared.state.Arrival.{Arrival}
 use Rattle.world_laws.specs.Places.{total, is}
 use Rattle.world_laws.proofs.Nodes.{set-size}
 use Rattle.world_laws.proofs.Recorded.{at-set, set-same, set-other}
-use Rattle.turn_laws.specs.System.{System, IsInStep}
-use Rattle.turn_laws.specs.Shadow.{IsShadow, ClientShadow, KeptShadow, IsLetGo, StageShadow, HasCommand, HasPosted, Holds, ToldFrom, DownInStep, downs_of, downs_in, down_in, ups_in, run_in, seat_of}
+use Rattle.turn_laws.specs.System.{System, IsInStep, seat_of}
+use Rattle.turn_laws.specs.Shadow.{IsShadow, ClientShadow, KeptShadow, IsLetGo, StageShadow, HasCommand, ToldFrom, ListShadow}
+use Rattle.turn_laws.specs.Underway.{HasPosted, Holds, DownInStep, downs_of, downs_in, down_in, ups_in, run_in}
 use Rattle.turn_laws.specs.Steps.{WorkerStep}
+use Rattle.turn_laws.proofs.Tables.{nat_eq_by}
 use Rattle.turn_laws.proofs.Downs.{Pair}
-use Rattle.turn_laws.proofs.Carriers.{refusals, debts}
-use Rattle.turn_laws.proofs.AtLanes.{ListShadow, nothing-there}
+use Rattle.turn_laws.proofs.Bags.{refusals, debts}
+use Rattle.turn_laws.proofs.Elements.{nothing-there}
 use Rattle.turn_laws.proofs.Standing.{order-on}
 
 -- the same parts, as far and with the same commands
@@ -141,9 +140,6 @@ client-alike {C} downs worker number old new arrivals a h = record {
   ends = ap length a.ends ∙ h.ends ∙ (λ i. length (sym a.stages i));
   quit = λ gone. a.quit (h.quit (sym a.gone ∙ gone));
 }
-
-pub nat_eq_by : (q k : ℕ) → eq_by_cmp nat_cmp q k ≡ true → q ≡ k
-nat_eq_by q k same = eqb→eq q k (subst T (sym (unsigned_ties q k ∙ same)) tt)
 
 pub still-there : {C : Type 0} (m : FinMap nat_cmp (ClientModel C)) (k q : ℕ) (t : ClientModel C) → get (remove m k) q ≡ Some t → get m q ≡ Some t
 still-there {C} m k q t e = go (eq_by_cmp nat_cmp q k) (sym (get-remove nat_cmp_total m k q) ∙ e)

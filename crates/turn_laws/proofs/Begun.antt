@@ -26,9 +26,10 @@ use Rattle.world_laws.specs.declared.state.Arrival.{Arrival}
 use Rattle.world_laws.proofs.Nodes.{set-size}
 use Rattle.world_laws.specs.declared.event.Event.{Event}
 use Rattle.world_laws.proofs.Recorded.{at-last, at-set, before-last, last, set-same, set-other}
-use Rattle.turn_laws.specs.Shadow.{IsShadow, ClientShadow, PartShadow, KeptShadow, IsLetGo, StandsAt, IsInOrder, StageShadow, HasCommand, IsAtFirst, ToldFrom, ticket_at, downs_of, seat_of}
+use Rattle.turn_laws.specs.Shadow.{IsShadow, ClientShadow, PartShadow, KeptShadow, IsLetGo, StandsAt, IsInOrder, StageShadow, HasCommand, IsAtFirst, ToldFrom, ticket_at}
+use Rattle.turn_laws.specs.System.{seat_of, System}
+use Rattle.turn_laws.specs.Underway.{downs_of}
 use Rattle.turn_laws.specs.Walks.{Walk, IsWalked}
-use Rattle.turn_laws.specs.System.{System}
 use Rattle.turn_laws.specs.Steps.{AtWorker, WorkerStep}
 use Rattle.turn_laws.specs.Refines.{Simulates}
 use Rattle.turn_laws.proofs.Downs.{Pair}
@@ -36,8 +37,8 @@ use Rattle.turn_laws.proofs.Walks.{walked-sound}
 use Rattle.turn_laws.proofs.Standing.{order-on}
 use Rattle.turn_laws.proofs.Told.{Fitting, fitting}
 use Rattle.turn_laws.proofs.Rising.{Rising, walked-rising}
-use Rattle.turn_laws.proofs.AtLanes.{nothing-there}
-use Rattle.turn_laws.proofs.Settling.{same_number}
+use Rattle.turn_laws.proofs.Elements.{nothing-there}
+use Rattle.turn_laws.proofs.Tables.{same_number}
 use Rattle.turn_laws.proofs.Clients.{unseen-step, one-client}
 use Rattle.turn_laws.proofs.Ending.{one-item, one-of, told-awaits, told-nobody, waits-out}
 

@@ -20,8 +20,10 @@ use Rattle.world_laws.specs.declared.event.Event.{Event}
 use Rattle.turn_laws.specs.Walks.{Walk, IsWalked}
 use Rattle.turn_laws.specs.Wire.{Wire, Exchanges}
 use Rattle.turn_laws.specs.System.{System}
-use Rattle.turn_laws.specs.Shadow.{IsShadow, OpenShadow, IsIdle, IsUnnumbered, Numbers, told_in, requests_in, IsKnown}
-use Rattle.turn_laws.specs.Steps.{AtCarrier, CarrierStep, any_failures, any_garbled}
+use Rattle.turn_laws.specs.Shadow.{IsShadow, OpenShadow, IsIdle, IsUnnumbered, Numbers, requests_in, IsKnown}
+use Rattle.turn_laws.specs.Underway.{told_in}
+use Rattle.turn_laws.specs.Steps.{AtCarrier, CarrierStep}
+use Rattle.turn_laws.specs.PortsMay.{any_failures, any_garbled}
 use Rattle.turn_laws.specs.Refines.{Simulates}
 use Rattle.turn_laws.proofs.Carriers.{backend-stutter}
 use Rattle.turn_laws.proofs.AtLines.{same-owing}

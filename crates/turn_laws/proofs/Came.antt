@@ -18,16 +18,17 @@ use Rattle.proxy_turns.specs.WorkerModel.{WorkerModel, IsAbove, Came}
 use Rattle.world_laws.specs.declared.state.Arrival.{Arrival}
 use Rattle.world_laws.proofs.Nodes.{set-size}
 use Rattle.world_laws.proofs.Recorded.{at-set}
-use Rattle.turn_laws.specs.System.{IsInStep}
-use Rattle.turn_laws.specs.Shadow.{ClientShadow, Holds, downs_of, downs_in, down_in, seat_of}
+use Rattle.turn_laws.specs.System.{IsInStep, seat_of}
+use Rattle.turn_laws.specs.Shadow.{ClientShadow}
+use Rattle.turn_laws.specs.Underway.{Holds, downs_of, downs_in, down_in}
 use Rattle.turn_laws.specs.Steps.{AtWorker}
 use Rattle.turn_laws.specs.Refines.{Simulates}
 use Rattle.turn_laws.proofs.Downs.{Pair}
-use Rattle.turn_laws.proofs.AtLanes.{nothing-there}
+use Rattle.turn_laws.proofs.Elements.{nothing-there}
 use Rattle.turn_laws.proofs.Frames.{down-fits}
-use Rattle.turn_laws.proofs.Carriers.{refusals, debts}
-use Rattle.turn_laws.proofs.AtWorkers.{nat_eq_by, put-cases, rings-same}
-use Rattle.turn_laws.proofs.Settling.{same_number}
+use Rattle.turn_laws.proofs.Bags.{refusals, debts}
+use Rattle.turn_laws.proofs.Tables.{nat_eq_by, same_number}
+use Rattle.turn_laws.proofs.AtWorkers.{put-cases, rings-same}
 use Rattle.turn_laws.proofs.Walks.{walked-sound}
 use Rattle.turn_laws.proofs.Told.{Fitting, fitting}
 use Rattle.turn_laws.proofs.Clients.{worker-frame, unseen-step, held-in}

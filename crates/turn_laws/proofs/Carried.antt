@@ -22,16 +22,17 @@ use Rattle.world_laws.proofs.Recorded.{at-set, at-last, before-last}
 use Rattle.turn_laws.specs.Walks.{ticked, Walk, IsWalked}
 use Rattle.turn_laws.specs.Wire.{Wire, Item, Asks, Runs, Lists, items_of}
 use Rattle.turn_laws.specs.System.{System}
-use Rattle.turn_laws.specs.Shadow.{IsShadow, IsWorking, LinksShadow, BackendShadow, OpenShadow, ClosedShadow, IsKnown, IsIdle, IsUnnumbered, Numbers, lying, coming, backs_in, requests_in, dues_in, downs_of, downs_in, refused_in, told_in, lost_in, lost_by, SeenIn}
+use Rattle.turn_laws.specs.Shadow.{IsShadow, LinksShadow, BackendShadow, OpenShadow, ClosedShadow, IsKnown, IsIdle, IsUnnumbered, Numbers, lying, backs_in, requests_in, dues_in, SeenIn}
+use Rattle.turn_laws.specs.Underway.{IsWorking, coming, downs_of, downs_in, refused_in, told_in, lost_in, lost_by}
 use Rattle.turn_laws.proofs.Downs.{SameBag, total-set-flat}
 use Rattle.turn_laws.proofs.Frames.{set-seats, down-fits}
-use Rattle.turn_laws.proofs.Carriers.{refusals, debts, bag-parts}
+use Rattle.turn_laws.proofs.Bags.{refusals, debts, bag-parts}
 use Rattle.turn_laws.proofs.Openings.{one-connection}
 use Rattle.turn_laws.proofs.Lines.{backend-changes}
 use Rattle.turn_laws.proofs.Settled.{Goes, settles-so}
 use Rattle.turn_laws.proofs.Items.{same-requests, known-run}
 use Rattle.turn_laws.proofs.Refused.{Leaving, leaving, left-lanes, first-of-front}
-use Rattle.turn_laws.proofs.Drops.{all-front}
+use Rattle.turn_laws.proofs.Elements.{all-front}
 use Rattle.turn_laws.proofs.Written.{Writes, open-written}
 use Rattle.turn_laws.proofs.Seen.{seen-set}
 

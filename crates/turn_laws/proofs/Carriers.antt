@@ -1,32 +1,22 @@
 -- What the carrier does that the machine does not see.
-use Rattle.std.proofs.Common.{◌≡◌, ◌≢◌, ◌⊎◌, ⊎_elim, ℕ, ◌+◌, List, ◌++◌, Some, None, refl, sym, ap, ◌∙◌, subst, arith, length}
+use Rattle.std.proofs.Common.{◌≡◌, ◌≢◌, ◌⊎◌, ⊎_elim, ℕ, ◌++◌, Some, None, refl, sym, ap, ◌∙◌, subst, arith, length}
 use Rattle.std.specs.Prelude.{slice_get, slice_set, IsSome, Option}
-use Rattle.std.specs.List.{flat_map}
 use Rattle.std.proofs.lemmas.Bool.{false≢true}
 use Rattle.node_link.specs.LinkModel.{LinkModel}
-use Rattle.proxy_turns.specs.declared.pending_run.PendingRun.{PendingRun}
 use Rattle.proxy_turns.specs.declared.backend.Backend.{Backend}
 use Rattle.proxy_turns.specs.CarrierModel.{CarrierEvent}
 use Rattle.world_laws.specs.State.{WorldModel}
 use Rattle.world_laws.specs.Places.{total}
-use Rattle.world_laws.proofs.Tally.{total-append}
 use Rattle.world_laws.proofs.Recorded.{at-set}
 use Rattle.turn_laws.specs.Wire.{Wire}
 use Rattle.turn_laws.specs.System.{System}
-use Rattle.turn_laws.specs.Shadow.{IsShadow, IsWorking, UpsShadow, LaneShadow, downs_of, downs_in, refused_in, told_in, lost_in}
+use Rattle.turn_laws.specs.Shadow.{IsShadow, UpsShadow, LaneShadow}
+use Rattle.turn_laws.specs.Underway.{IsWorking, downs_of, downs_in, told_in, lost_in}
 use Rattle.turn_laws.specs.Steps.{CarrierStep, FailsAt, opened_by}
-use Rattle.turn_laws.proofs.Downs.{Pair, SameBag, total-set-flat}
+use Rattle.turn_laws.proofs.Downs.{SameBag, total-set-flat}
+use Rattle.turn_laws.proofs.Bags.{refusals, debts, line_downs, bag-parts}
 use Rattle.turn_laws.proofs.Frames.{same-seats, carrier-stutter, down-fits, StillSeen}
 use Rattle.turn_laws.proofs.Seen.{seen-stays}
-
-abbrev pub refusals : List PendingRun → List Pair
-refusals pending_runs = flat_map (λ (pending_run : PendingRun). refused_in pending_run.refused) pending_runs
-
-abbrev pub line_downs : Backend Wire → List Pair
-line_downs backend = told_in backend.pending_told ++ lost_in backend.link
-
-abbrev pub debts : List (Backend Wire) → List Pair
-debts backends = flat_map (λ (backend : Backend Wire). told_in backend.pending_told ++ lost_in backend.link) backends
 
 abbrev pub IsDown : Option (LinkModel Wire) → Type 0
 IsDown None = Unit {0}
@@ -43,11 +33,6 @@ pub not-up : (o : Option (LinkModel Wire)) (link : LinkModel Wire) → o ≡ Som
 not-up o link e f d = absurd (false≢true (subst IsSome f d))
 
 module _ {C J : Type 0} where
-  pub bag-parts : (f : Pair → ℕ) (s : System C J) → total f (downs_of s) ≡ total f (downs_in s.workers s.carrier.lanes) + total f (refusals s.carrier.pending_runs) + total f (debts s.carrier.backends)
-  bag-parts f s =
-      let e : total f (downs_of s) ≡ total f ((downs_in s.workers s.carrier.lanes ++ refusals s.carrier.pending_runs) ++ debts s.carrier.backends) = refl in
-      omega (arith, e, total-append f (downs_in s.workers s.carrier.lanes ++ refusals s.carrier.pending_runs) (debts s.carrier.backends), total-append f (downs_in s.workers s.carrier.lanes) (refusals s.carrier.pending_runs))
-
   -- of a step of the carrier: the workers stay
   workers-stay : (event : CarrierEvent) (s s' : System C J) → CarrierStep s event s' → s'.workers ≡ s.workers
   workers-stay event s s' step = ap (λ (x : System C J). x.workers) step.leaves

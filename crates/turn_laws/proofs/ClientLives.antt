@@ -27,7 +27,7 @@ use Rattle.proxy_turns.specs.Port.{Moves}
 use Rattle.proxy_turns.specs.Commands.{HasEnd, Hears, with_fresh}
 use Rattle.proxy_turns.specs.ClientModel.{ClientModel, IsClientServed, new_client}
 use Rattle.proxy_turns.specs.ClientTurn.{ClientContext, ClientEvent, Pulled, Fed, Read, HandedOut, Followed, Looked, CameBack, Posted, Drained, Pushed, Tried, Parted, Dropped, ClientDoes, Finishes, left_of, most_drained}
-use Rattle.turn_laws.specs.ClientOutput.{pulled_by, pushed_by}
+use Rattle.turn_laws.specs.ClientSees.{pulled_by, pushed_by}
 use Rattle.turn_laws.proofs.OutputFronts.{IsFront, IsWhole, written-on}
 use Rattle.turn_laws.proofs.RequestsRead.{AreCounted, HasRead, fed, kept, open-faulted, pulled, reads}
 use Rattle.turn_laws.proofs.SessionLives.{Lived, one-call, front-written, whole-written}

@@ -1,5 +1,5 @@
 -- One client of a worker goes on, and the machine does nothing.
-use Rattle.std.proofs.Common.{◌≡◌, ◌≢◌, ◌⊎◌, inl, inr, ⊎_elim, ℕ, ◌%◌, ◌==◌, Bool, true, false, List, [], ◌++◌, Some, None, refl, sym, ap, ◌∙◌, subst, length}
+use Rattle.std.proofs.Common.{◌≡◌, ◌≢◌, ⊎_elim, ℕ, ◌%◌, ◌==◌, Bool, true, false, List, [], ◌++◌, Some, None, refl, sym, ap, ◌∙◌, subst, length}
 use Rattle.std.specs.Prelude.{slice_get, slice_set, IsSome, All, cond}
 use Rattle.std.proofs.lemmas.List.{append-nil}
 use Rattle.std.proofs.lemmas.Bool.Decides.{eqb_tells}
@@ -20,19 +20,19 @@ use Rattle.world_laws.specs.declared.event.Event.{Event}
 use Rattle.world_laws.proofs.Nodes.{set-size}
 use Rattle.world_laws.proofs.Recorded.{at-set, set-same, set-other}
 use Rattle.turn_laws.specs.Walks.{Walk}
-use Rattle.turn_laws.specs.System.{System, IsInStep}
-use Rattle.turn_laws.specs.Shadow.{IsShadow, ClientShadow, HasPosted, Holds, downs_of, downs_in, down_in, ups_in, seat_of}
+use Rattle.turn_laws.specs.System.{System, IsInStep, seat_of}
+use Rattle.turn_laws.specs.Shadow.{IsShadow, ClientShadow, ListShadow}
+use Rattle.turn_laws.specs.Underway.{HasPosted, Holds, downs_of, downs_in, down_in, ups_in}
 use Rattle.turn_laws.specs.Steps.{WorkerStep}
 use Rattle.turn_laws.proofs.Downs.{Pair}
 use Rattle.turn_laws.proofs.Frames.{DownFits, down-fits}
-use Rattle.turn_laws.proofs.AtLanes.{ListShadow}
-use Rattle.turn_laws.proofs.AtWorkers.{nat_eq_by, put-cases, ups-out, rings-same}
-use Rattle.turn_laws.proofs.Carriers.{refusals, debts}
+use Rattle.turn_laws.proofs.Tables.{nat_eq_by}
+use Rattle.turn_laws.proofs.AtWorkers.{put-cases, ups-out, rings-same}
+use Rattle.turn_laws.proofs.Bags.{refusals, debts}
 use Rattle.proxy_lanes.specs.declared.ring.Inlet.{Inlet}
 use Rattle.proxy_lanes.specs.declared.ring.Outlet.{Outlet}
 use Rattle.turn_laws.proofs.Told.{Fitting}
 use Rattle.turn_laws.proofs.Holding.{StaysPosted, asks-still}
-pub use Rattle.turn_laws.proofs.Holding.{put-same, put-other}
 
 -- a client in its place: what was posted and awaits still does
 pub put-holds : {C : Type 0} (m : FinMap nat_cmp (ClientModel C)) (number : ℕ) (client client' : ClientModel C) (t : Ticket) (c : CommandModel) → get m number ≡ Some client
@@ -51,12 +51,6 @@ put-holds {C} m number client client' t c at keeps x = go (eq_by_cmp nat_cmp t.c
         let it : x.0 ≡ client = cc in
         (client', there ∙ ap (λ b. cond b (Some client') (get m t.client)) e, keeps (ap (λ (y : ClientModel C). get y.commands.posted t.part) (sym it) ∙ x.2) same, x.3)
     go false e = (x.0, there ∙ ap (λ b. cond b (Some client') (get m t.client)) e ∙ x.1, x.2, x.3)
-
-pub put-apart : {X : Type 0} (m : FinMap nat_cmp X) (k : ℕ) (x : X) (q : ℕ) (t : X) → get (insert m k x) q ≡ Some t → ((q ≡ k) × (t ≡ x)) ⊎ ((q ≢ k) × (get m q ≡ Some t))
-put-apart {X} m k x q t e = ⊎_elim
-    (λ (z : ((q == k) ≡ true) × (q ≡ k)). inl (z.1, (let one : Some t ≡ Some x = sym e ∙ ap (get (insert m k x)) z.1 ∙ put-same m k x in cc)))
-    (λ (z : ((q == k) ≡ false) × (q ≢ k)). inr (z.1, sym (put-other m k q x z.1) ∙ e))
-    (eqb_tells q k)
 
 -- a number without a client still has none
 pub put-none : {C : Type 0} (m : FinMap nat_cmp (ClientModel C)) (number : ℕ) (client client' : ClientModel C) → get m number ≡ Some client → (n : ℕ) → get m n ≡ None → get (insert m number client') n ≡ None

@@ -16,7 +16,7 @@ use Rattle.session_order.specs.declared.queue.PartStage.TheVariants.{Waiting, Ou
 use Rattle.session_order.specs.Steps.{EndOutcome, IsHandedOut, IsOutInOrder}
 use Rattle.session_order.proofs.Keeping.{KeepsBy, ended_keeps, waits_eases}
 use Rattle.proxy_turns.specs.Commands.{CommandsModel, HasEnd, TakesRun, awaiting, with_command, with_fresh, with_posted, with_run}
-use Rattle.turn_laws.proofs.Clients.{put-apart, put-other}
+use Rattle.turn_laws.proofs.Tables.{put-apart, put-other}
 use Rattle.turn_laws.proofs.Ending.{none-some, removed-none}
 
 -- Each command is of a part that is out in order, and those that were not posted are of no posted part.

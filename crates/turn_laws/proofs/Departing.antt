@@ -14,12 +14,14 @@ use Rattle.session_order.specs.Replies.{parts_of}
 use Rattle.proxy_turns.specs.WorkerModel.{WorkerModel, Left}
 use Rattle.world_laws.specs.State.{WorldModel}
 use Rattle.world_laws.specs.declared.state.Arrival.{Arrival}
-use Rattle.turn_laws.specs.System.{System}
-use Rattle.turn_laws.specs.Shadow.{IsShadow, ClientShadow, downs_of, seat_of}
+use Rattle.turn_laws.specs.System.{System, seat_of}
+use Rattle.turn_laws.specs.Shadow.{IsShadow, ClientShadow}
+use Rattle.turn_laws.specs.Underway.{downs_of}
 use Rattle.turn_laws.specs.Steps.{WorkerStep}
 use Rattle.turn_laws.proofs.Downs.{Pair}
-use Rattle.turn_laws.proofs.AtLanes.{nothing-there}
-use Rattle.turn_laws.proofs.AtWorkers.{alike-itself, nat_eq_by, still-there, worker-stutter}
+use Rattle.turn_laws.proofs.Elements.{nothing-there}
+use Rattle.turn_laws.proofs.AtWorkers.{alike-itself, still-there, worker-stutter}
+use Rattle.turn_laws.proofs.Tables.{nat_eq_by}
 
 -- a client that is done has no command that was posted
 done-none : {C : Type 0} (downs : List Pair) (worker number : ℕ) (client : ClientModel C) (arrivals : List Arrival) → ClientShadow downs worker number client arrivals → IsDone client

@@ -12,13 +12,14 @@ use Rattle.proxy_turns.specs.WorkerModel.{WorkerModel, Did}
 use Rattle.world_laws.specs.State.{WorldModel}
 use Rattle.world_laws.proofs.Recorded.{set-same}
 use Rattle.turn_laws.specs.Walks.{IsWalked}
-use Rattle.turn_laws.specs.System.{System, Mark, Answered}
-use Rattle.turn_laws.specs.Shadow.{IsShadow, ClientShadow, downs_of, ticket_at, seat_of}
+use Rattle.turn_laws.specs.System.{System, Mark, Answered, seat_of}
+use Rattle.turn_laws.specs.Shadow.{IsShadow, ClientShadow, ticket_at}
+use Rattle.turn_laws.specs.Underway.{downs_of}
 use Rattle.turn_laws.specs.Steps.{AtWorker, answers}
 use Rattle.turn_laws.specs.Refines.{Simulates}
 use Rattle.turn_laws.proofs.Frames.{beside}
-use Rattle.turn_laws.proofs.AtLanes.{nothing-there}
-use Rattle.turn_laws.proofs.Clients.{put-same}
+use Rattle.turn_laws.proofs.Elements.{nothing-there}
+use Rattle.turn_laws.proofs.Tables.{put-same}
 use Rattle.turn_laws.proofs.Leading.{Leads, Sits, along, stays, then-leads, sits-put, sits-then, ends-quietly}
 use Rattle.turn_laws.proofs.Ending.{one-of}
 use Rattle.turn_laws.proofs.Popping.{popped, drop-one, on}

@@ -1,5 +1,5 @@
 -- A connection breaks: the machine drops its link, and tells at once those who wait that they are lost.
-use Rattle.std.proofs.Common.{◌≡◌, ◌≢◌, inl, inr, ⊎_elim, ℕ, zero, suc, ◌+◌, ◌<◌, false, List, [], ◌∷◌, ◌++◌, Some, None, refl, sym, ap, ◌∙◌, subst, arith, length}
+use Rattle.std.proofs.Common.{◌≡◌, ◌≢◌, inl, inr, ⊎_elim, ℕ, suc, ◌+◌, ◌<◌, false, List, [], ◌∷◌, ◌++◌, Some, None, refl, sym, ap, ◌∙◌, subst, arith, length}
 use Rattle.std.specs.Prelude.{slice_get, slice_set, All, map, IsSome}
 use mathlib.Core.List.{IsPrefix}
 use Rattle.resp_wire.specs.declared.value.Value.{Value}
@@ -24,12 +24,14 @@ use Rattle.world_laws.proofs.Recorded.{at-set, set-same, at-last}
 use Rattle.turn_laws.specs.Walks.{Walk, IsWalked}
 use Rattle.turn_laws.specs.Wire.{Wire}
 use Rattle.turn_laws.specs.System.{System}
-use Rattle.turn_laws.specs.Shadow.{IsShadow, IsWorking, LinksShadow, WireShadow, OpenShadow, ClosedShadow, LaneShadow, IsKnown, IsIdle, IsUnnumbered, Numbers, coming, backs_in, requests_in, dues_in, downs_of, downs_in, told_in, lost_in, lost_by, SeenIn}
+use Rattle.turn_laws.specs.Shadow.{IsShadow, LinksShadow, WireShadow, OpenShadow, ClosedShadow, LaneShadow, IsKnown, IsIdle, IsUnnumbered, Numbers, backs_in, requests_in, dues_in, SeenIn}
+use Rattle.turn_laws.specs.Underway.{IsWorking, coming, downs_of, downs_in, told_in, lost_in, lost_by}
 use Rattle.turn_laws.specs.Steps.{FailsAt, Breaks}
 use Rattle.turn_laws.proofs.Downs.{Pair, SameBag, total-set-flat}
 use Rattle.turn_laws.proofs.Items.{tickets-append, sent-tickets}
 use Rattle.turn_laws.proofs.Frames.{same-seats, down-fits}
-use Rattle.turn_laws.proofs.Carriers.{refusals, debts, bag-parts, not-up}
+use Rattle.turn_laws.proofs.Bags.{refusals, debts, bag-parts}
+use Rattle.turn_laws.proofs.Carriers.{not-up}
 use Rattle.turn_laws.proofs.Openings.{one-backend, one-connection}
 use Rattle.turn_laws.proofs.Throwing.{not-mine}
 use Rattle.turn_laws.proofs.Walks.{walked-sound}
@@ -59,11 +61,6 @@ no-tickets (d ∷ ds) all =
 front-empty : {X : Type 0} (a b : List X) → a ++ b ≡ [] → a ≡ []
 front-empty [] b e = refl
 front-empty (x ∷ a) b e = absurd (cc)
-
-pub all-front : {X : Type 0} (P : X → Type 0) (a b : List X) → All P (a ++ b) → All P a
-all-front P [] b h i d lt = absurd (omega (arith, lt))
-all-front P (x ∷ a) b h zero d lt = h 0 d (omega arith)
-all-front P (x ∷ a) b h (suc i) d lt = all-front P a b (λ j e l. h (suc j) e (omega (arith, l))) i d (omega (arith, lt))
 
 -- One connection is among the broken ones.
 module _ {H : Type 0} (nodes : List Endpoint) (a b : CarrierModel H Wire) (closed : List Wire) (opened : ℕ) (w : WorldModel) (h : LinksShadow nodes a closed opened w) (links : List Link)

@@ -5,7 +5,7 @@ use Rattle.std.specs.FinMap.{FinMap, get, remove, get-remove}
 use Rattle.std.specs.Ordering.{nat_cmp, eq_by_cmp}
 use Rattle.std.specs.Cmp.{nat_cmp_total, unsigned_ties}
 use Rattle.std.proofs.lemmas.Bool.Decides.{eqb_tells}
-use Rattle.turn_laws.proofs.Settling.{same_number}
+use Rattle.turn_laws.proofs.Tables.{same_number, nat_eq_by}
 use Rattle.key_split.specs.Same.{same_ticket, same_ticket-Decides}
 use Rattle.key_split.specs.PartModel.{PartModel}
 use Rattle.key_split.specs.declared.travel.Ticket.{Ticket}
@@ -28,12 +28,13 @@ use Rattle.world_laws.specs.Places.{total, is}
 use Rattle.world_laws.proofs.Nodes.{set-size}
 use Rattle.world_laws.proofs.Tally.{total-found}
 use Rattle.world_laws.proofs.Recorded.{at-set, set-same, set-other}
-use Rattle.turn_laws.specs.Shadow.{ClientShadow, KeptShadow, IsLetGo, StageShadow, HasCommand, IsAtFirst, Holds, ToldFrom, downs_of, seat_of}
+use Rattle.turn_laws.specs.Shadow.{ClientShadow, KeptShadow, IsLetGo, StageShadow, HasCommand, IsAtFirst, ToldFrom}
+use Rattle.turn_laws.specs.System.{seat_of}
+use Rattle.turn_laws.specs.Underway.{Holds, downs_of}
 use Rattle.turn_laws.specs.Steps.{AtWorker}
 use Rattle.turn_laws.specs.Refines.{Simulates}
 use Rattle.turn_laws.proofs.Downs.{Pair}
-use Rattle.turn_laws.proofs.AtLanes.{nothing-there}
-use Rattle.turn_laws.proofs.AtWorkers.{nat_eq_by}
+use Rattle.turn_laws.proofs.Elements.{nothing-there}
 use Rattle.turn_laws.proofs.Standing.{order-on}
 use Rattle.turn_laws.proofs.Walks.{walked-sound}
 use Rattle.turn_laws.proofs.Told.{Fitting, fitting}

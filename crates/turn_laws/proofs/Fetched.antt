@@ -22,12 +22,14 @@ use Rattle.world_laws.proofs.Tally.{total-append}
 use Rattle.turn_laws.specs.Walks.{Walk, IsWalked}
 use Rattle.turn_laws.specs.Wire.{Wire, Exchanges, plain_told}
 use Rattle.turn_laws.specs.System.{System}
-use Rattle.turn_laws.specs.Shadow.{IsShadow, IsWorking, LinksShadow, LaneShadow, OpenShadow, IsIdle, IsUnnumbered, Numbers, downs_of, downs_in, told_in, lost_in, lost_by}
-use Rattle.turn_laws.specs.Steps.{AtCarrier, CarrierStep, any_failures, any_garbled}
+use Rattle.turn_laws.specs.Shadow.{IsShadow, LinksShadow, LaneShadow, OpenShadow, IsIdle, IsUnnumbered, Numbers}
+use Rattle.turn_laws.specs.Underway.{IsWorking, downs_of, downs_in, told_in, lost_in, lost_by}
+use Rattle.turn_laws.specs.Steps.{AtCarrier, CarrierStep}
+use Rattle.turn_laws.specs.PortsMay.{any_failures, any_garbled}
 use Rattle.turn_laws.specs.Refines.{Simulates}
 use Rattle.turn_laws.proofs.Downs.{SameBag, total-set-flat}
 use Rattle.turn_laws.proofs.Frames.{same-seats, down-fits}
-use Rattle.turn_laws.proofs.Carriers.{refusals, debts, bag-parts}
+use Rattle.turn_laws.proofs.Bags.{refusals, debts, bag-parts}
 use Rattle.turn_laws.proofs.Lines.{backend-changes}
 use Rattle.turn_laws.proofs.Fetching.{fetched-shadow, comes-first}
 use Rattle.turn_laws.proofs.Waiting.{now, same-closed, same-opened, not-idle}

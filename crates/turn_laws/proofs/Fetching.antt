@@ -12,8 +12,9 @@ use Rattle.world_laws.specs.declared.state.Arrival.{Arrival}
 use Rattle.world_laws.specs.declared.state.LinkReply.{LinkReply}
 use Rattle.world_laws.specs.Places.{is}
 use Rattle.turn_laws.specs.Wire.{Wire, Exchanges}
-use Rattle.turn_laws.specs.Shadow.{OpenShadow, coming, coming_of, backs_in, back_of, requests_in, dues_in, IsKnown}
-use Rattle.turn_laws.specs.Steps.{any_failures, any_garbled}
+use Rattle.turn_laws.specs.Shadow.{OpenShadow, backs_in, back_of, requests_in, dues_in, IsKnown}
+use Rattle.turn_laws.specs.Underway.{coming, coming_of}
+use Rattle.turn_laws.specs.PortsMay.{any_failures, any_garbled}
 
 -- the value that is next stands first among those that come
 pub comes-first : (link : LinkModel Wire) (port : Wire) (value : Value) → Comes any_failures any_garbled Exchanges link (Some value) port

@@ -26,7 +26,9 @@ use Rattle.world_laws.specs.declared.state.Arrival.{Arrival}
 use Rattle.world_laws.specs.Places.{is}
 use Rattle.turn_laws.specs.Wire.{Wire}
 use Rattle.turn_laws.specs.System.{System, Mark}
-use Rattle.turn_laws.specs.Shadow.{IsShadow, IsWorking, LinksShadow, LogShadow, UpsShadow, ClientShadow, KeptShadow, IsLetGo, StageShadow, HasCommand, ToldFrom, DownInStep, AreApart, AreSeated, most_nodes, Holds, downs_of, down_in, SeenIn}
+use Rattle.turn_laws.specs.Shadow.{IsShadow, LinksShadow, LogShadow, UpsShadow, ClientShadow, KeptShadow, IsLetGo, StageShadow, HasCommand, ToldFrom, AreSeated, SeenIn}
+use Rattle.turn_laws.specs.Underway.{IsWorking, DownInStep, Holds, downs_of, down_in}
+use Rattle.turn_laws.specs.Endpoints.{AreApart, most_nodes}
 use Rattle.turn_laws.specs.Steps.{CarrierStep, Breaks, FailsAt, opened_by}
 use Rattle.turn_laws.proofs.Downs.{Pair, SameBag, bag-has, told-same}
 use Rattle.turn_laws.proofs.Listed.{still-listed}

@@ -14,7 +14,7 @@ use Rattle.proxy_lanes.specs.Lane.{numbered, Posts}
 use Rattle.proxy_turns.specs.declared.newcomer.Newcomer.{Newcomer}
 use Rattle.proxy_turns.specs.WorkerModel.{WorkerModel}
 use Rattle.turn_laws.specs.System.{System, IsInStep, between}
-use Rattle.turn_laws.specs.Shadow.{DownInStep, down_in}
+use Rattle.turn_laws.specs.Underway.{DownInStep, down_in}
 use Rattle.turn_laws.specs.Refines.{IsStart}
 use Rattle.turn_laws.specs.Scripts as script
 use Rattle.turn_laws.specs.Scripts.{set, plain, Happens}

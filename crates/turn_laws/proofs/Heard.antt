@@ -19,7 +19,7 @@ use Rattle.world_laws.specs.declared.state.Arrival.{Arrival}
 use Rattle.turn_laws.specs.Wire.{Part, AreTold, ServesNext, executed, executions, parts_in, plain_told}
 use Rattle.turn_laws.specs.Unclear.{HeardAlike, UnclearIsRefusal}
 use Rattle.turn_laws.specs.Settling.{TellsAll}
-use Rattle.turn_laws.proofs.AtLanes.{nothing-there}
+use Rattle.turn_laws.proofs.Elements.{nothing-there}
 
 pub heard-alike : HeardAlike
 heard-alike c (Reply value) = refl

@@ -1,10 +1,8 @@
 -- What the machine's command is to the one that a worker holds, and that one that wants to ask is still held.
-use Rattle.std.proofs.Common.{◌≡◌, ◌≢◌, ◌⊎◌, inl, inr, ⊎_elim, ℕ, ◌-◌, ◌<◌, ◌≤◌, ◌==◌, Bool, true, false, List, Some, None, refl, sym, ap, ◌∙◌, subst, arith}
-use Rattle.std.specs.Prelude.{slice_get, slice_set, Option, cond}
+use Rattle.std.proofs.Common.{◌≡◌, ◌≢◌, ◌⊎◌, inl, inr, ⊎_elim, ℕ, ◌-◌, ◌<◌, ◌≤◌, ◌==◌, true, false, List, Some, None, refl, sym, ap, ◌∙◌, subst, arith}
+use Rattle.std.specs.Prelude.{slice_get, slice_set, Option}
 use Rattle.std.proofs.lemmas.Bool.Decides.{eqb_tells}
-use Rattle.std.specs.FinMap.{FinMap, get, insert, get-insert}
-use Rattle.std.specs.Ordering.{nat_cmp, eq_by_cmp}
-use Rattle.std.specs.Cmp.{nat_cmp_total, unsigned_ties}
+use Rattle.std.specs.FinMap.{get, insert}
 use Rattle.key_split.specs.declared.travel.Ticket.{Ticket}
 use Rattle.key_split.specs.declared.travel.Told.{Told}
 use Rattle.key_split.specs.declared.travel.Ended.{Ended}
@@ -18,10 +16,10 @@ use Rattle.proxy_turns.specs.ClientModel.{ClientModel}
 use Rattle.proxy_turns.specs.WorkerModel.{WorkerModel}
 use Rattle.world_laws.specs.declared.state.Arrival.{Arrival}
 use Rattle.world_laws.proofs.Recorded.{set-same, set-other}
-use Rattle.turn_laws.specs.Shadow.{ClientShadow, KeptShadow, IsLetGo, StageShadow, HasCommand, IsAtFirst, HasPosted, Holds, ToldFrom}
+use Rattle.turn_laws.specs.Shadow.{ClientShadow, KeptShadow, IsLetGo, StageShadow, HasCommand, IsAtFirst, ToldFrom}
+use Rattle.turn_laws.specs.Underway.{HasPosted, Holds}
 use Rattle.turn_laws.proofs.Downs.{Pair}
-use Rattle.turn_laws.proofs.AtWorkers.{nat_eq_by}
-use Rattle.turn_laws.proofs.Settling.{same_number}
+use Rattle.turn_laws.proofs.Tables.{put-same, put-other}
 use Rattle.turn_laws.proofs.Told.{Fitting}
 
 item-once : {X : Type 0} (xs : List X) (k : ℕ) (x y : X) → slice_get xs k ≡ Some x → slice_get xs k ≡ Some y → x ≡ y
@@ -45,17 +43,6 @@ over-asks s ended node p q = cc
 
 over-awaits : (s : Stage) (ended : Ended) → s ≡ Over ended → s ≡ Awaits → ⊥
 over-awaits s ended p q = cc
-
--- the table with one in its place
-pub put-same : {X : Type 0} (m : FinMap nat_cmp X) (k : ℕ) (x : X) → get (insert m k x) k ≡ Some x
-put-same m k x = get-insert nat_cmp_total m k x k ∙ ap (λ b. cond b (Some x) (get m k)) (sym (unsigned_ties k k) ∙ same_number k)
-
-pub put-other : {X : Type 0} (m : FinMap nat_cmp X) (k q : ℕ) (x : X) → q ≢ k → get (insert m k x) q ≡ get m q
-put-other m k q x ne = go (eq_by_cmp nat_cmp q k) refl
-  where
-    go : (b : Bool) → eq_by_cmp nat_cmp q k ≡ b → get (insert m k x) q ≡ get m q
-    go true e = absurd (ne (nat_eq_by q k e))
-    go false e = get-insert nat_cmp_total m k x q ∙ ap (λ b. cond b (Some x) (get m q)) e
 
 -- what was posted still is, or has ended
 abbrev pub StaysPosted : {C : Type 0} → ClientModel C → ClientModel C → Type 0

@@ -1,11 +1,10 @@
 -- What is written together, as the machine has it and as it is awaited.
-use Rattle.std.proofs.Common.{◌≡◌, ℕ, zero, suc, Bool, true, false, if◌then◌else◌, List, [], ◌∷◌, ◌++◌, refl, sym, ap, ◌∙◌, subst, arith}
+use Rattle.std.proofs.Common.{◌≡◌, ℕ, suc, Bool, true, false, List, [], ◌∷◌, ◌++◌, refl, sym, ap, ◌∙◌, subst, arith}
 use Rattle.std.specs.Prelude.{All, map}
-use Rattle.std.specs.List.{flat_map}
 use Rattle.std.proofs.lemmas.Grind.{flat_map-append}
 use Rattle.std.proofs.lemmas.List.Elements.{All-cons, All-nil}
-use Rattle.key_split.specs.Requests.{Request, Asking, Command, Slots, requests_of}
-use Rattle.key_split.specs.Runs.{RunModel, GoTogether, IsTogether, batches_in, requests_of_run}
+use Rattle.key_split.specs.Requests.{Request, Asking, Command, Slots}
+use Rattle.key_split.specs.Runs.{RunModel, IsTogether, batches_in, requests_of_run}
 use Rattle.key_split.specs.declared.travel.Batch.{Batch}
 use Rattle.node_link.specs.LinkCalls.{due_of, tickets_of}
 use Rattle.node_link.specs.declared.link.Due.{Due}
@@ -15,6 +14,8 @@ use Rattle.world_laws.specs.declared.state.Arrival.{Arrival}
 use Rattle.world_laws.specs.declared.state.LinkRequest.{LinkRequest}
 use Rattle.world_laws.specs.declared.state.LinkRequest.TheVariants as asked
 use Rattle.turn_laws.specs.Wire.{Item, Part, Asks, Runs, Lists, joined, items_of, tickets_for}
+use Rattle.turn_laws.specs.WrittenRuns.{part_of, pieces_of, items_for}
+use Rattle.turn_laws.proofs.WrittenRuns.{items-of-run}
 use Rattle.turn_laws.specs.Shadow.{requests_in, dues_of, dues_in, IsKnown, IsUnderWay, HasPart, RunShadow, lying, tickets_in}
 
 -- ---- who waits
@@ -60,59 +61,6 @@ requests-append (Runs parts ∷ a) b = ap (λ (rs : List LinkRequest). asked.Run
 requests-append (Lists ∷ a) b = requests-append a b
 
 -- ---- a run
-
-abbrev pub part_of : Batch → Part
-part_of batch = (batch.ticket, batch.part)
-
-abbrev pub pieces_of : RunModel → List Part
-pieces_of run = map part_of (batches_in run)
-
--- one item for a run, behind ASKING where its command asks
-abbrev pub items_for : Bool → List Part → List Item
-items_for asks parts = if asks then Asks ∷ Runs parts ∷ [] else Runs parts ∷ []
-
-one-item : (b : Batch) (asks : Bool) → items_of ((if asks then Asking ∷ [] else []) ++ Command b.ticket b.part ∷ []) ≡ items_for asks (part_of b ∷ [])
-one-item b true = refl
-one-item b false = refl
-
--- commands of which none asks
-plain-items : (b : Batch) (bs : List Batch) → All (λ (c : Batch). c.asking ≡ false) (b ∷ bs) → items_of (flat_map requests_of (b ∷ bs)) ≡ Runs (map part_of (b ∷ bs)) ∷ []
-plain-items b [] all =
-    let first : b.asking ≡ false = all 0 b (omega arith) in
-    (λ i. items_of (((if first i then Asking ∷ [] else []) ++ Command b.ticket b.part ∷ []) ++ []))
-plain-items b (c ∷ bs) all =
-    let first : b.asking ≡ false = all 0 b (omega arith) in
-    (λ i. items_of (((if first i then Asking ∷ [] else []) ++ Command b.ticket b.part ∷ []) ++ flat_map requests_of (c ∷ bs)))
-    ∙ ap (joined (part_of b)) (plain-items c bs (λ n d lt. all (suc n) d (omega (arith, lt))))
-
-none-asks : (run : RunModel) (c : Batch) (later : List Batch) → run.later ≡ c ∷ later → IsTogether run → (run.first.asking ≡ false) × All (λ (b : Batch). b.asking ≡ false) (run.first ∷ c ∷ later)
-none-asks run c later e together = (first, each)
-  where
-    all : All (GoTogether run.first) (c ∷ later)
-    all = subst (All (GoTogether run.first)) e together
-
-    first : run.first.asking ≡ false
-    first = (all 0 c (omega arith)).first_goes_plain
-
-    each : All (λ (b : Batch). b.asking ≡ false) (run.first ∷ c ∷ later)
-    each zero b lt = first
-    each (suc n) b lt = (all n b (omega (arith, lt))).next_goes_plain
-
--- what is written of a run
-pub items-of-run : (run : RunModel) → IsTogether run → items_of (requests_of_run run) ≡ items_for run.first.asking (pieces_of run)
-items-of-run run together = go run.later refl
-  where
-    go : (later : List Batch) → run.later ≡ later → items_of (flat_map requests_of (run.first ∷ run.later)) ≡ items_for run.first.asking (map part_of (run.first ∷ run.later))
-    go [] e = subst (λ (later : List Batch). items_of (flat_map requests_of (run.first ∷ later)) ≡ items_for run.first.asking (map part_of (run.first ∷ later))) (sym e)
-        (ap items_of (no-more (requests_of run.first)) ∙ one-item run.first run.first.asking)
-      where
-        no-more : (rs : List Request) → rs ++ [] ≡ rs
-        no-more [] = refl
-        no-more (r ∷ rs) = ap (λ qs. r ∷ qs) (no-more rs)
-    go (c ∷ later) e =
-        let plain = none-asks run c later e together in
-        subst (λ (later : List Batch). items_of (flat_map requests_of (run.first ∷ later)) ≡ items_for run.first.asking (map part_of (run.first ∷ later))) (sym e)
-        (plain-items run.first (c ∷ later) plain.1 ∙ (λ i. items_for (sym plain.0 i) (map part_of (run.first ∷ c ∷ later))))
 
 pieces-tickets : (bs : List Batch) → tickets_for (map part_of bs) ≡ map (λ (batch : Batch). batch.ticket) bs
 pieces-tickets [] = refl

@@ -13,11 +13,12 @@ use Rattle.world_laws.specs.State.{WorldModel, start}
 use Rattle.world_laws.specs.declared.event.Event.{Event}
 use Rattle.world_laws.proofs.Recorded.{set-same}
 use Rattle.turn_laws.specs.Walks.{Walk, IsWalked}
-use Rattle.turn_laws.specs.System.{System, Mark}
-use Rattle.turn_laws.specs.Shadow.{IsShadow, HasPosted, seat_of}
+use Rattle.turn_laws.specs.System.{System, Mark, seat_of}
+use Rattle.turn_laws.specs.Shadow.{IsShadow}
+use Rattle.turn_laws.specs.Underway.{HasPosted}
 use Rattle.turn_laws.proofs.AtWorkers.{Alike, IsQuiet, alike-itself, quiet-shadow}
 use Rattle.turn_laws.proofs.Carried.{set-twice}
-use Rattle.turn_laws.proofs.Clients.{put-same, put-other, put-apart}
+use Rattle.turn_laws.proofs.Tables.{put-same, put-other, put-apart}
 use Rattle.turn_laws.proofs.Ending.{one-of}
 use Rattle.turn_laws.proofs.Walks.{walks_join}
 

@@ -9,7 +9,8 @@ use Rattle.world_laws.proofs.Nodes.{set-size}
 use Rattle.world_laws.proofs.Recorded.{set-same, set-other}
 use Rattle.proxy_turns.specs.CarrierModel.{CarrierModel}
 use Rattle.turn_laws.specs.Wire.{Wire}
-use Rattle.turn_laws.specs.Shadow.{IsWorking, LinksShadow, BackendShadow, OpenShadow, ClosedShadow, Numbers, SeenIn}
+use Rattle.turn_laws.specs.Underway.{IsWorking}
+use Rattle.turn_laws.specs.Shadow.{LinksShadow, BackendShadow, OpenShadow, ClosedShadow, Numbers, SeenIn}
 
 module _ {H : Type 0} (nodes : List Endpoint) (a b : CarrierModel H Wire) (closed : List Wire) (opened : ℕ) (w w' : WorldModel) (h : LinksShadow nodes a closed opened w) where
   -- The connection of backend k goes from `link` to `link'`, and its link, number n, from l to l'.

@@ -22,7 +22,8 @@ use Rattle.proxy_turns.specs.CarrierModel.{CarrierModel, CarrierEvent, CarrierDo
 use Rattle.world_laws.proofs.Recorded.{at-set, at-last}
 use Rattle.turn_laws.specs.System.{System}
 use Rattle.turn_laws.specs.Shadow.{AreListed}
-use Rattle.turn_laws.specs.Steps.{CarrierStep, Opens, any_failures, any_garbled, any_none}
+use Rattle.turn_laws.specs.Steps.{CarrierStep, Opens}
+use Rattle.turn_laws.specs.PortsMay.{any_failures, any_garbled, any_none}
 use Rattle.turn_laws.specs.Wire.{Exchanges}
 
 -- ---- the table only grows

@@ -1,11 +1,10 @@
--- The headline of the log, by that of the world that the system stands for.
+-- The headline of a log, by that of a world of which it tells.
 use Rattle.std.proofs.Common.{◌≡◌, ◌≢◌, ◌⊎◌, ⊎_elim, ℕ, ◌+◌, ◌<◌, List, Some, refl, sym, ap, ◌∙◌, subst, arith, length}
 use Rattle.std.specs.FinMap.{empty, get}
 use Rattle.std.proofs.lemmas.Option.{slice_get_within}
 use Rattle.resp_wire.specs.Seen.{data_of}
 use Rattle.resp_wire.specs.declared.value.Value.{Value}
 use Rattle.slot_hash.specs.Slot.{slot_of}
-use Rattle.key_split.specs.Laws.{PlansArePlain}
 use Rattle.key_split.specs.PartModel.{PartModel}
 use Rattle.key_split.specs.declared.travel.Ticket.{Ticket}
 use Rattle.key_split.specs.declared.travel.Ended.{Ended}
@@ -21,12 +20,11 @@ use Rattle.world_laws.proofs.Recorded.{one_at}
 use Rattle.turn_laws.specs.Wire.{Execution}
 use Rattle.turn_laws.specs.System.{Mark, Arrived, Executed, Answered}
 use Rattle.turn_laws.specs.Shadow.{LogShadow, entry_at}
-use Rattle.turn_laws.specs.LogHeadline.{LogHeadline, IsHeld, HeadlineOfLogs, LogsAreHeld, At, IsIn, IsExecutedAt, HasOne, SameTurn, history, left_by}
+use Rattle.turn_laws.specs.LogHeadline.{LogHeadline, IsHeld, At, IsIn, IsExecutedAt, HasOne, SameTurn, history, left_by}
 use Rattle.turn_laws.proofs.Logs.{arrivals_of, answers_of}
 use Rattle.turn_laws.specs.Walks.{IsWalked}
 use Rattle.turn_laws.proofs.AnswerOrder.{answered-behind, answered-late}
 use Rattle.turn_laws.proofs.LogPlaces.{at-map, map-at, arrival-in, arrival-of, answer-in, answer-of, entry-in, execution-of, entry-at-mark, legal-of, left-of}
-use Rattle.turn_laws.proofs.Refines.{refines}
 
 order : (i j : ℕ) → (i < j) ⊎ ((i ≡ j) ⊎ (j < i))
 order i j = grind arith
@@ -224,7 +222,7 @@ module _ (log : List Mark) (w : WorldModel) (h : LogShadow log w) (walked : IsWa
       let y = entry-there i f (run, there, in-f) in
       g.together x.0 y.0 (entry_at (h.clock i) e) (entry_at (h.clock i) f) x.1 y.1 refl
 
-  log-headline : LogHeadline log
+  pub log-headline : LogHeadline log
   log-headline = record {
     legal = legal-of h.clock 0 log empty (subst (λ xs. IsLegalInWorld empty xs) (sym h.executed) g.legal);
     together = run-together;
@@ -243,21 +241,10 @@ module _ (log : List Mark) (w : WorldModel) (h : LogShadow log w) (walked : IsWa
   left : store_of w ≡ left_by empty (history log)
   left = ap (λ xs. left_in_world empty xs) (sym h.executed) ∙ left-of h.clock 0 log empty
 
-  log-held : IsHeld log w.cluster
+  pub log-held : IsHeld log w.cluster
   log-held = record {
     one_node = g.one_node;
     union = λ key value.
         let u = g.union key value in
         ((λ p. u.0 (ap (λ (store : StoreModel). get store key) left ∙ p)), (λ p. sym (ap (λ (store : StoreModel). get store key) left) ∙ u.1 p));
   }
-
-module _ (C J : Type 0) (plain : PlansArePlain) where
-  pub headline-of-logs : HeadlineOfLogs C J
-  headline-of-logs s s' events start steps =
-      let r = refines C J plain s s' events start steps in
-      log-headline s'.log r.0 (r.2).log r.1 r.3
-
-  pub logs-are-held : LogsAreHeld C J
-  logs-are-held s s' events start steps =
-      let r = refines C J plain s s' events start steps in
-      subst (IsHeld s'.log) (r.2).cluster (log-held s'.log r.0 (r.2).log r.1 r.3)

@@ -11,7 +11,7 @@ use Rattle.turn_laws.specs.Wire.{Execution}
 use Rattle.turn_laws.specs.System.{Mark, Arrived, Executed, Answered}
 use Rattle.turn_laws.specs.Shadow.{entry_at, arrived_in, executed_in, answered_in}
 use Rattle.turn_laws.specs.LogHeadline.{At, IsIn, IsExecutedAt, IsLegal, history, left_by}
-use Rattle.turn_laws.proofs.AtLanes.{in-right, nothing-there}
+use Rattle.turn_laws.proofs.Elements.{in-right, nothing-there}
 
 pub at-map : {X Y : Type 0} (f : X → Y) (xs : List X) (k : ℕ) (y : Y) → At (map f xs) k y → (x : X) × At xs k x × (f x ≡ y)
 at-map f [] k y at = absurd (nothing-there k y at)

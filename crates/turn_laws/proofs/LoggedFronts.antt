@@ -33,18 +33,22 @@ use Rattle.proxy_turns.specs.ClientModel.{ClientModel, new_client}
 use Rattle.proxy_turns.specs.ClientTurn.{ClientContext, ClientEvent, Pulled, Fed, Read, HandedOut, Followed, Looked, CameBack, Posted, Drained, Pushed, Tried, Parted, Dropped, ClientDoes}
 use Rattle.proxy_turns.specs.WorkerModel.{WorkerModel, WorkerEvent, Did, Finished, Took, FoundNone, Came, TurnedAway, FoundNobody, Left, WorkerDoes, Tells}
 use Rattle.turn_laws.specs.Refines.{IsStart}
-use Rattle.turn_laws.specs.Steps.{SystemEvent, AtWorker, AtCarrier, AtNode, AtBroken, Thrown, Moved, SystemStep, WorkerStep, answers, any_moves, log_of, ticket_at}
-use Rattle.turn_laws.proofs.Clients.{put-apart, put-same}
+use Rattle.turn_laws.specs.Steps.{SystemEvent, AtWorker, AtCarrier, AtNode, AtBroken, Thrown, Moved, SystemStep, WorkerStep, answers, log_of, ticket_at}
+use Rattle.turn_laws.specs.PortsMay.{any_moves}
+use Rattle.turn_laws.proofs.Tables.{put-apart, put-same}
 use Rattle.world_laws.proofs.Recorded.{set-same}
 use Rattle.turn_laws.proofs.AnswersTold.{answers-were-told, lived-at, lives-at, marks-drained, whose}
 use Rattle.turn_laws.proofs.CommandsOut.{still-there}
-use Rattle.turn_laws.specs.ClientOutput.{LogIsWritten, answers_to, bytes_from, bytes_to, ends_for, events_at, if_own}
+use Rattle.turn_laws.specs.LogOutput.{LogIsWritten, answers_to}
+use Rattle.turn_laws.specs.ClientSees.{bytes_from, bytes_to, ends_for, if_own}
+use Rattle.turn_laws.specs.ClientOutput.{events_at}
 use Rattle.turn_laws.proofs.OutputFronts.{IsFront, written-on}
 use Rattle.turn_laws.proofs.SessionLives.{flat-push, folds-push, other-front}
 use Rattle.turn_laws.proofs.ClientLives.{LivesOn, front-none}
-use Rattle.turn_laws.proofs.AtLanes.{nothing-there}
+use Rattle.turn_laws.proofs.Elements.{nothing-there}
 use Rattle.turn_laws.proofs.Ending.{none-some, one-of}
-use Rattle.turn_laws.proofs.WrittenClients.{own, not-own, other-place, workers-stay}
+use Rattle.turn_laws.proofs.ClientSees.{own, not-own}
+use Rattle.turn_laws.proofs.WrittenClients.{other-place, workers-stay}
 
 -- ---- a session's first part
 

@@ -17,12 +17,13 @@ use Rattle.world_laws.specs.Places.{total}
 use Rattle.world_laws.proofs.Nodes.{set-size}
 use Rattle.turn_laws.specs.Wire.{Wire}
 use Rattle.turn_laws.specs.System.{System, between}
-use Rattle.turn_laws.specs.Shadow.{IsShadow, down_in, ups_in, run_in}
+use Rattle.turn_laws.specs.Shadow.{IsShadow}
+use Rattle.turn_laws.specs.Underway.{down_in, ups_in, run_in}
 use Rattle.turn_laws.specs.Steps.{CarrierStep}
 use Rattle.turn_laws.proofs.Downs.{Pair}
 use Rattle.turn_laws.proofs.Lanes.{between-none}
 use Rattle.turn_laws.proofs.Frames.{same-seats, seen-same}
-use Rattle.turn_laws.proofs.Carriers.{refusals, debts}
+use Rattle.turn_laws.proofs.Bags.{refusals, debts}
 use Rattle.turn_laws.proofs.AtLanes.{back-fits, came-back, lane-stutter, pending_runs-stutter, same-backends, ups-up}
 
 module _ {C J : Type 0} where

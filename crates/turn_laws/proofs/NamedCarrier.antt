@@ -25,7 +25,7 @@ use Rattle.proxy_turns.specs.WorkerModel.{WorkerModel}
 use Rattle.proxy_turns.specs.CarrierModel.{CarrierModel, CarrierEvent, CarrierDoes, ChangesBackend, context_of, AtBackend, Starved, WorkerAdded, BackendAdded, Looked, Took, Opened, Refused, Missed, SeedReached, Sought, Reached, NotFound, Sent, Gave, GaveUnsent}
 use Rattle.world_laws.proofs.Recorded.{at-set, at-last}
 use Rattle.turn_laws.specs.Wire.{Wire}
-use Rattle.turn_laws.specs.Shadow.{DownInStep, down_in}
+use Rattle.turn_laws.specs.Underway.{DownInStep, down_in}
 use Rattle.turn_laws.specs.Naming.{SaysOneOf, SetsOneOf, PendsOneOf}
 use Rattle.turn_laws.proofs.Downs.{Pair}
 use Rattle.turn_laws.proofs.AtLanes.{given, came-back}

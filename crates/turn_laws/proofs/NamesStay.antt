@@ -19,12 +19,15 @@ use Rattle.world_laws.proofs.Nodes.{set-size, runs-size}
 use Rattle.world_laws.proofs.Recorded.{at-set}
 use Rattle.turn_laws.specs.Wire.{Wire, Exchanges, Execution, ServesNext, parts_in}
 use Rattle.turn_laws.specs.System.{System}
-use Rattle.turn_laws.specs.Shadow.{IsShadow, down_in}
+use Rattle.turn_laws.specs.Shadow.{IsShadow}
+use Rattle.turn_laws.specs.Underway.{down_in}
 use Rattle.turn_laws.specs.Naming.{NamesNodes, PendsOneOf}
-use Rattle.turn_laws.specs.Steps.{WorkerStep, CarrierStep, Opens, Serves, ServesLate, Discards, MovesOn, AtWorker, AtCarrier, AtNode, AtBroken, Thrown, Moved, any_moves, any_failures, any_garbled, any_none}
+use Rattle.turn_laws.specs.Steps.{WorkerStep, CarrierStep, Opens, Serves, ServesLate, Discards, MovesOn, AtWorker, AtCarrier, AtNode, AtBroken, Thrown, Moved}
+use Rattle.turn_laws.specs.PortsMay.{any_moves, any_failures, any_garbled, any_none}
 use Rattle.turn_laws.specs.Refines.{NamesStay}
 use Rattle.turn_laws.proofs.NamedCarrier.{CarrierNames, AllSay, pends-still, does-names}
-use Rattle.turn_laws.proofs.NamedWorker.{ClientsWant, worker-wants}
+use Rattle.turn_laws.proofs.RunsLead.{ClientsWant}
+use Rattle.turn_laws.proofs.NamedWorker.{worker-wants}
 
 -- a node that serves, serves as many nodes
 served-size : (table : List Endpoint) (k k' : ClusterModel) (old new : Wire) (verdict : Verdict) (values : List Value) (done : List Execution) → ServesNext table k old verdict k' new values done → length k'.stores ≡ length k.stores

@@ -39,10 +39,11 @@ use Rattle.world_laws.proofs.Allowed.{awaited}
 use Rattle.turn_laws.specs.Wire.{Wire, Item, Part, Asks, Runs, Lists, heard_in, tickets_for}
 use Rattle.turn_laws.specs.System.{System}
 use Rattle.turn_laws.specs.Asking.{NoneBehindAsking, NoneAsksIn}
-use Rattle.turn_laws.specs.Shadow.{IsShadow, IsWorking, HasPart, IsKnown, IsUnderWay, RunShadow, LaneShadow, OpenShadow, ClosedShadow, IsIdle, Numbers, IsUnnumbered, Holds, downs_of, ups_in, coming, lying, requests_in, backs_in}
+use Rattle.turn_laws.specs.Shadow.{IsShadow, HasPart, IsKnown, IsUnderWay, RunShadow, LaneShadow, OpenShadow, ClosedShadow, IsIdle, Numbers, IsUnnumbered, lying, requests_in, backs_in}
+use Rattle.turn_laws.specs.Underway.{IsWorking, Holds, downs_of, ups_in, coming}
 use Rattle.turn_laws.proofs.Downs.{Pair, is-other}
 use Rattle.turn_laws.proofs.Frames.{beside}
-use Rattle.turn_laws.proofs.AtLanes.{nothing-there}
+use Rattle.turn_laws.proofs.Elements.{nothing-there}
 use Rattle.turn_laws.proofs.Told.{Fitting, fitting}
 use Rattle.turn_laws.proofs.Holding.{told-from}
 

@@ -17,14 +17,15 @@ use Rattle.world_laws.specs.declared.state.Arrival.{Arrival}
 use Rattle.world_laws.specs.declared.state.Posted.{Posted}
 use Rattle.world_laws.proofs.Nodes.{set-size}
 use Rattle.world_laws.proofs.Recorded.{at-set}
-use Rattle.turn_laws.specs.System.{System, Mark, IsInStep}
-use Rattle.turn_laws.specs.Shadow.{IsShadow, ClientShadow, LogShadow, Holds, downs_of, down_in, ups_in, ticket_at, seat_of}
+use Rattle.turn_laws.specs.System.{System, Mark, IsInStep, seat_of}
+use Rattle.turn_laws.specs.Shadow.{IsShadow, ClientShadow, LogShadow, ticket_at, ListShadow}
+use Rattle.turn_laws.specs.Underway.{Holds, downs_of, down_in, ups_in}
 use Rattle.turn_laws.proofs.Downs.{Pair}
 use Rattle.turn_laws.proofs.Frames.{DownFits, down-fits}
-use Rattle.turn_laws.proofs.AtLanes.{ListShadow}
 use Rattle.turn_laws.proofs.AtWorkers.{rings-same}
-use Rattle.turn_laws.proofs.Carriers.{refusals, debts}
-use Rattle.turn_laws.proofs.Clients.{held-in, put-holds, put-none, put-apart}
+use Rattle.turn_laws.proofs.Bags.{refusals, debts}
+use Rattle.turn_laws.proofs.Clients.{held-in, put-holds, put-none}
+use Rattle.turn_laws.proofs.Tables.{put-apart}
 use Rattle.turn_laws.proofs.Standing.{GoesOn, still-stands, order-set}
 use Rattle.turn_laws.proofs.Telling.{count-set}
 use Rattle.turn_laws.proofs.Told.{Fitting, AreOwn, PartsStay, links-told}

@@ -12,11 +12,13 @@ use Rattle.world_laws.specs.Places.{total}
 use Rattle.world_laws.proofs.Recorded.{at-set, set-same, set-other}
 use Rattle.turn_laws.specs.Wire.{Wire, new_wire}
 use Rattle.turn_laws.specs.System.{System}
-use Rattle.turn_laws.specs.Shadow.{IsShadow, IsWorking, LinksShadow, BackendShadow, LaneShadow, IsIdle, IsUnnumbered, downs_of, downs_in, told_in, lost_in}
+use Rattle.turn_laws.specs.Shadow.{IsShadow, LinksShadow, BackendShadow, LaneShadow, IsIdle, IsUnnumbered}
+use Rattle.turn_laws.specs.Underway.{IsWorking, downs_of, downs_in, told_in, lost_in}
 use Rattle.turn_laws.specs.Steps.{CarrierStep, Opens, FailsAt}
 use Rattle.turn_laws.proofs.Downs.{SameBag, total-set-flat}
 use Rattle.turn_laws.proofs.Frames.{same-seats, down-fits, carrier-frame, still-closed}
-use Rattle.turn_laws.proofs.Carriers.{refusals, debts, bag-parts, not-up}
+use Rattle.turn_laws.proofs.Bags.{refusals, debts, bag-parts}
+use Rattle.turn_laws.proofs.Carriers.{not-up}
 use Rattle.turn_laws.proofs.SameTold.{front-get}
 use Rattle.turn_laws.proofs.Seen.{seen-works}
 

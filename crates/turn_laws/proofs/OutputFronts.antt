@@ -14,7 +14,7 @@ use Rattle.session_order.specs.PendingReply.{owed_for}
 use Rattle.session_order.specs.Replies.{bytes_of, spelling, joined, lines_owed}
 use Rattle.session_order.specs.Output.{ends_from, replies_told, output_of, until_quit}
 use Rattle.session_order.proofs.Told.{after, ends_more}
-use Rattle.turn_laws.specs.ClientOutput.{BeginsWithFault, IsClosed, Pipeline, requests_of, whole_output}
+use Rattle.turn_laws.specs.Pipelines.{BeginsWithFault, IsClosed, Pipeline, requests_of, whole_output}
 
 -- more stands behind
 pub front-then : {A : Type 0} (xs ys more : List A) → IsPrefix xs ys → IsPrefix xs (ys ++ more)

@@ -18,7 +18,7 @@ use Rattle.proxy_turns.specs.declared.backend_step.BackendStep.TheVariants.{Idle
 use Rattle.proxy_turns.specs.Backend.{BackendContext, BackendDoes, Fetches, GoesOut, IsUnreadable, Starves, has_failed, is_open}
 use Rattle.proxy_turns.specs.Sending.{IsRefused, IsTooLong, IsUnreached, SendOutcome}
 use Rattle.turn_laws.specs.Wire.{Wire, Exchanges}
-use Rattle.turn_laws.specs.Steps.{any_failures, any_garbled, any_none}
+use Rattle.turn_laws.specs.PortsMay.{any_failures, any_garbled, any_none}
 use Rattle.turn_laws.specs.AnyPort.{StandsFor, IsWired, over_link, link_over, over_backend}
 use Rattle.turn_laws.proofs.OverLinks.{sends-over, goes-out, receives-over}
 

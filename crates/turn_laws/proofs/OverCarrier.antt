@@ -14,7 +14,7 @@ use Rattle.proxy_turns.specs.Resting.{HasFailedLink}
 use Rattle.proxy_turns.specs.Sending.{IsUnreached}
 use Rattle.proxy_turns.specs.CarrierModel.{CarrierModel, CarrierEvent, AtBackend, Starved, WorkerAdded, BackendAdded, Looked, Took, Opened, Refused, Missed, SeedReached, Sought, Reached, NotFound, Sent, Gave, GaveUnsent, CarrierDoes, ChangesBackend, context_of}
 use Rattle.turn_laws.specs.Wire.{Wire, Exchanges, Dials, new_wire}
-use Rattle.turn_laws.specs.Steps.{any_failures, any_garbled, any_none}
+use Rattle.turn_laws.specs.PortsMay.{any_failures, any_garbled, any_none}
 use Rattle.turn_laws.specs.AnyPort.{StandsFor, OpensWires, IsWired, AreWired, AnyPorts, link_over, over_backend, over_backends, over_wires}
 use Rattle.turn_laws.proofs.OverBackends.{over_context, open-over, failed-over, does-over, starves-over, sent-over, starved-over, refused-over}
 

@@ -16,7 +16,7 @@ use Rattle.node_link.specs.declared.link.LinkFault.{LinkFault}
 use Rattle.node_link.specs.declared.link.LinkFault.TheVariants.{NoMemory, PortFailed, Stray, BadWire}
 use Rattle.proxy_turns.specs.Backend.{GoesOut}
 use Rattle.turn_laws.specs.Wire.{Wire, Exchanges}
-use Rattle.turn_laws.specs.Steps.{any_failures, any_garbled}
+use Rattle.turn_laws.specs.PortsMay.{any_failures, any_garbled}
 use Rattle.turn_laws.specs.AnyPort.{StandsFor, over_link}
 
 module _ {P : Type 0} (wired : P → Wire → Type 0) (failures : P → ℕ) (is_garbled : P → Type 0) (exchange : P → List Request → List Value → P → Type 0)

@@ -17,7 +17,9 @@ use Rattle.proxy_turns.specs.ClientModel.{ClientModel}
 use Rattle.proxy_turns.specs.ClientTurn.{ClientContext, Parted}
 use Rattle.proxy_turns.specs.WorkerModel.{WorkerModel, Did}
 use Rattle.world_laws.specs.declared.state.Arrival.{Arrival}
-use Rattle.turn_laws.specs.Shadow.{ClientShadow, PartShadow, KeptShadow, IsLetGo, StageShadow, downs_of, seat_of}
+use Rattle.turn_laws.specs.Shadow.{ClientShadow, PartShadow, KeptShadow, IsLetGo, StageShadow}
+use Rattle.turn_laws.specs.System.{seat_of}
+use Rattle.turn_laws.specs.Underway.{downs_of}
 use Rattle.turn_laws.specs.Steps.{AtWorker}
 use Rattle.turn_laws.specs.Refines.{Simulates}
 use Rattle.turn_laws.proofs.Clients.{unseen-step, one-client}

@@ -31,12 +31,13 @@ use Rattle.world_laws.specs.declared.event.Event.TheVariants.{Post}
 use Rattle.world_laws.proofs.Recorded.{set-same}
 use Rattle.world_laws.proofs.Runs.{Sound}
 use Rattle.turn_laws.specs.Walks.{ticked, Walk}
-use Rattle.turn_laws.specs.System.{System, between, IsInStep}
-use Rattle.turn_laws.specs.Shadow.{IsShadow, ClientShadow, HasPart, IsUnderWay, RunShadow, downs_of, lying, ups_in, run_in, seat_of}
-use Rattle.turn_laws.specs.Steps.{AtWorker, WorkerStep, any_moves}
+use Rattle.turn_laws.specs.System.{System, between, IsInStep, seat_of}
+use Rattle.turn_laws.specs.Shadow.{IsShadow, ClientShadow, HasPart, IsUnderWay, RunShadow, lying, ListShadow}
+use Rattle.turn_laws.specs.Underway.{downs_of, ups_in, run_in}
+use Rattle.turn_laws.specs.Steps.{AtWorker, WorkerStep}
+use Rattle.turn_laws.specs.PortsMay.{any_moves}
 use Rattle.turn_laws.specs.Refines.{SimulatesNaming}
-use Rattle.turn_laws.proofs.AtLanes.{ListShadow}
-use Rattle.turn_laws.proofs.Clients.{put-same}
+use Rattle.turn_laws.proofs.Tables.{put-same, same_number}
 use Rattle.turn_laws.proofs.Downs.{Pair}
 use Rattle.turn_laws.proofs.Ending.{none-some, told-awaits}
 use Rattle.turn_laws.proofs.Lanes.{between-post, post-steps}
@@ -45,9 +46,8 @@ use Rattle.turn_laws.proofs.Posting.{Takes, takes-has, may-post, same, its-slot,
 use Rattle.turn_laws.proofs.PostsEach.{PostsAll, tickets_of, out-first, wants-post, posts-fresh, posts-none, next, arrivals2, then-posts, shadow-next, own-next}
 use Rattle.turn_laws.proofs.Rising.{Rising, walked-rising}
 use Rattle.turn_laws.proofs.Settled.{log-on}
-use Rattle.turn_laws.proofs.Settling.{same_number}
 use Rattle.turn_laws.proofs.Told.{Fitting, fitting, lists-still}
-use Rattle.turn_laws.proofs.NamedWorker.{posts-there}
+use Rattle.turn_laws.proofs.RunsLead.{posts-there}
 use Rattle.turn_laws.proofs.Walks.{walked-sound}
 
 not-empty : (t : Ticket) (ts : List Ticket) → t ∷ ts ≢ []

@@ -21,7 +21,7 @@ use Rattle.world_laws.specs.declared.state.Arrival.{Arrival}
 use Rattle.world_laws.specs.Places.{total, is}
 use Rattle.world_laws.proofs.Recorded.{at-set}
 use Rattle.turn_laws.specs.Shadow.{ClientShadow, PartShadow, KeptShadow, IsLetGo, StageShadow, HasCommand, IsAtFirst, StandsAt, ToldFrom, ticket_at}
-use Rattle.turn_laws.proofs.Clients.{put-same, put-other}
+use Rattle.turn_laws.proofs.Tables.{put-same, put-other}
 use Rattle.turn_laws.proofs.Downs.{Pair}
 use Rattle.turn_laws.proofs.Ending.{none-some, one-item, one-of, told-nobody}
 use Rattle.turn_laws.proofs.Standing.{GoesOn, still-stands, order-set}

@@ -36,7 +36,7 @@ use Rattle.turn_laws.proofs.Holding.{AsksBefore, awaits-asks}
 use Rattle.turn_laws.proofs.Onward.{others-set}
 use Rattle.turn_laws.proofs.Posting.{Takes, takes-has, goes-no-await, all-before, same-itself, only, stood, same, client2, at-own, at-other, goes-on, posted-shadow}
 use Rattle.turn_laws.proofs.Rising.{Rising}
-use Rattle.turn_laws.proofs.Settling.{same_number}
+use Rattle.turn_laws.proofs.Tables.{same_number}
 use Rattle.turn_laws.proofs.Standing.{GoesOn, was-there}
 use Rattle.turn_laws.proofs.Telling.{count-set}
 use Rattle.turn_laws.proofs.Told.{AreOwn, SameParts, own-set, parts-set}

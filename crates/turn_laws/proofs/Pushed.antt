@@ -17,8 +17,8 @@ use Rattle.world_laws.specs.declared.event.Event.TheVariants.{Arrive}
 use Rattle.world_laws.proofs.Recorded.{at-last, before-last}
 use Rattle.turn_laws.specs.Walks.{ticked, IsWalked}
 use Rattle.turn_laws.specs.System.{System, Mark, Arrived, IsInStep}
-use Rattle.turn_laws.specs.Shadow.{IsShadow, ClientShadow, LogShadow, downs_of, ups_in, ticket_at}
-use Rattle.turn_laws.proofs.AtLanes.{ListShadow}
+use Rattle.turn_laws.specs.Shadow.{IsShadow, ClientShadow, LogShadow, ticket_at, ListShadow}
+use Rattle.turn_laws.specs.Underway.{downs_of, ups_in}
 use Rattle.turn_laws.proofs.Downs.{Pair}
 use Rattle.turn_laws.proofs.Leading.{Leads, walked-on}
 use Rattle.turn_laws.proofs.Logs.{log-one, arrivals_of}

@@ -23,7 +23,7 @@ use Rattle.world_laws.proofs.Recorded.{at-last, before-last, last}
 use Rattle.turn_laws.specs.Shadow.{ClientShadow, PartShadow, KeptShadow, IsLetGo, StageShadow, ticket_at}
 use Rattle.turn_laws.proofs.Downs.{Pair}
 use Rattle.turn_laws.proofs.Parting.{out-waits}
-use Rattle.turn_laws.proofs.Settling.{same_number}
+use Rattle.turn_laws.proofs.Tables.{same_number}
 use Rattle.turn_laws.proofs.Standing.{stands-more, order-more, order-on}
 
 -- the session with one part more: of the requests no more is known than how many parts they have

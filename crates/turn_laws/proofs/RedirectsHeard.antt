@@ -15,7 +15,7 @@ use Rattle.key_split.specs.declared.travel.Told.TheVariants.{Moved, Ask}
 use Rattle.slot_map.specs.Table.{Endpoint, numbered_at, same_endpoint, endpoint_of}
 use Rattle.node_link.specs.Line.{Target, target_in}
 use Rattle.node_link.specs.Telling.{endpoint_meant, sent_on, redirected, refusal_in}
-use Rattle.turn_laws.specs.Shadow.{AreApart}
+use Rattle.turn_laws.specs.Endpoints.{AreApart}
 use Rattle.turn_laws.specs.Writing.{CanBeNamed}
 use Rattle.turn_laws.proofs.WordsRead.{both, target-read}
 

@@ -21,13 +21,14 @@ use Rattle.world_laws.proofs.Recorded.{set-same}
 use Rattle.turn_laws.specs.Walks.{Walk, IsWalked}
 use Rattle.turn_laws.specs.Wire.{Wire}
 use Rattle.turn_laws.specs.System.{System, between}
-use Rattle.turn_laws.specs.Shadow.{IsShadow, UpsShadow, RunShadow, lane_of, lying, ups_in, run_in, tickets_in, downs_of, downs_in, refused_in}
+use Rattle.turn_laws.specs.Shadow.{IsShadow, UpsShadow, RunShadow, lane_of, lying, tickets_in, ListShadow}
+use Rattle.turn_laws.specs.Underway.{ups_in, run_in, downs_of, downs_in, refused_in}
 use Rattle.turn_laws.specs.Steps.{AtCarrier, CarrierStep}
 use Rattle.turn_laws.specs.Refines.{Simulates}
 use Rattle.turn_laws.proofs.Downs.{Pair, SameBag, total-set-flat}
 use Rattle.turn_laws.proofs.Frames.{beside, set-seats, down-fits, links-still, still-closed, still-opened, works-still, no-failure, seen-same}
-use Rattle.turn_laws.proofs.Carriers.{refusals, debts, bag-parts}
-use Rattle.turn_laws.proofs.AtLanes.{ListShadow, same-backends, get-other}
+use Rattle.turn_laws.proofs.Bags.{refusals, debts, bag-parts}
+use Rattle.turn_laws.proofs.AtLanes.{same-backends, get-other}
 use Rattle.turn_laws.proofs.Settled.{goes-of, settles-so}
 
 -- the first that passes, and the list without it

@@ -30,7 +30,7 @@ use Rattle.session_order.specs.Life.{Read, Reads, read_by}
 use Rattle.session_order.proofs.Added.{parts_of_push}
 use Rattle.session_order.proofs.Told.{is_above, split_ok}
 use Rattle.proxy_turns.specs.ClientTurn.{left_of}
-use Rattle.turn_laws.specs.ClientOutput.{BeginsWithFault, IsRefused, request_of, requests_of}
+use Rattle.turn_laws.specs.Pipelines.{BeginsWithFault, IsRefused, request_of, requests_of}
 use Rattle.turn_laws.proofs.OutputFronts.{fault-then}
 
 -- the bytes of a request that was taken off and not read yet, if there is one

@@ -20,7 +20,7 @@ use Rattle.world_laws.proofs.Tally.{total-one}
 use Rattle.world_laws.proofs.Runs.{Sound, does-sound, start-sound}
 use Rattle.world_laws.specs.State.{sent_of, answered_of}
 use Rattle.turn_laws.specs.Walks.{ticked, Walk, IsWalked}
-use Rattle.turn_laws.proofs.AtLanes.{nothing-there}
+use Rattle.turn_laws.proofs.Elements.{nothing-there}
 use Rattle.turn_laws.proofs.Told.{map-set}
 
 abbrev tickets : List Arrival → List Ticket

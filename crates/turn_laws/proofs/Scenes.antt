@@ -23,9 +23,10 @@ use Rattle.proxy_turns.specs.WorkerModel.{WorkerModel, WorkerEvent, Did, WorkerD
 use Rattle.proxy_turns.specs.CarrierModel.{CarrierModel, CarrierEvent, CarrierDoes}
 use Rattle.turn_laws.specs.Wire.{Wire, Exchanges, Dials}
 use Rattle.turn_laws.specs.System.{System, Mark, IsInStep}
-use Rattle.turn_laws.specs.Shadow.{DownInStep}
-use Rattle.turn_laws.specs.Steps.{WorkerStep, CarrierStep, IsSeen, UpsInStep, opened_by, seen_at, any_moves, any_failures, any_garbled, any_none}
-use Rattle.turn_laws.proofs.AtLanes.{nothing-there}
+use Rattle.turn_laws.specs.Underway.{DownInStep}
+use Rattle.turn_laws.specs.Steps.{WorkerStep, CarrierStep, IsSeen, UpsInStep, opened_by, seen_at}
+use Rattle.turn_laws.specs.PortsMay.{any_moves, any_failures, any_garbled, any_none}
+use Rattle.turn_laws.proofs.Elements.{nothing-there}
 use Rattle.turn_laws.proofs.ScriptFacts.{table}
 
 -- what is put in at a number stands there

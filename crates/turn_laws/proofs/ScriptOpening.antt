@@ -23,12 +23,13 @@ use Rattle.proxy_turns.specs.WorkerModel.{WorkerModel}
 use Rattle.proxy_turns.specs.CarrierModel.{CarrierModel}
 use Rattle.turn_laws.specs.Wire.{Wire, Lists, new_wire}
 use Rattle.turn_laws.specs.System.{System, IsInStep, between}
-use Rattle.turn_laws.specs.Shadow.{AreApart, DownInStep, Holds, down_in, ups_in}
+use Rattle.turn_laws.specs.Endpoints.{AreApart}
+use Rattle.turn_laws.specs.Underway.{DownInStep, Holds, down_in, ups_in}
 use Rattle.turn_laws.specs.Asking.{NoneAsksIn, NoneBehindAsking}
 use Rattle.turn_laws.specs.Steps.{SystemStep}
 use Rattle.turn_laws.specs.Refines.{IsStart}
 use Rattle.turn_laws.specs.Scripts as script
-use Rattle.turn_laws.proofs.AtLanes.{nothing-there}
+use Rattle.turn_laws.proofs.Elements.{nothing-there}
 use Rattle.turn_laws.proofs.Rings.{takes-none}
 use Rattle.turn_laws.proofs.Scenes.{scene, at-worker, at-carrier, down-in}
 use Rattle.turn_laws.proofs.ScriptFacts.{table, seed_alone, new, k0, k1, k2, k3, k4, k5}

@@ -7,7 +7,8 @@ use Rattle.proxy_turns.specs.CarrierModel.{CarrierModel}
 use Rattle.proxy_turns.specs.declared.backend.Backend.{Backend}
 use Rattle.world_laws.proofs.Recorded.{before-last, set-same, set-other}
 use Rattle.turn_laws.specs.Wire.{Wire}
-use Rattle.turn_laws.specs.Shadow.{IsWorking, SeenIn}
+use Rattle.turn_laws.specs.Underway.{IsWorking}
+use Rattle.turn_laws.specs.Shadow.{SeenIn}
 
 one-there : {X : Type 0} (o : Option X) (x y : X) → o ≡ Some x → o ≡ Some y → x ≡ y
 one-there o x y p q = let one : Some x ≡ Some y = sym p ∙ q in cc

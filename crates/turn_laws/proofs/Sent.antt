@@ -22,14 +22,16 @@ use Rattle.turn_laws.specs.Walks.{Walk, IsWalked}
 use Rattle.turn_laws.specs.Wire.{Wire, Exchanges, items_of}
 use Rattle.turn_laws.specs.System.{System}
 use Rattle.turn_laws.specs.Shadow.{IsShadow, IsKnown, requests_in}
-use Rattle.turn_laws.specs.Steps.{AtCarrier, CarrierStep, any_failures, any_garbled}
+use Rattle.turn_laws.specs.Steps.{AtCarrier, CarrierStep}
+use Rattle.turn_laws.specs.PortsMay.{any_failures, any_garbled}
 use Rattle.turn_laws.specs.Refines.{Simulates}
 use Rattle.turn_laws.proofs.Waiting.{same-closed}
 use Rattle.turn_laws.proofs.Walks.{walks_join}
 use Rattle.turn_laws.proofs.Listed.{set-listed, still-listed}
 use Rattle.turn_laws.proofs.Settled.{Goes, goes-of}
 use Rattle.turn_laws.proofs.Items.{requests-append}
-use Rattle.turn_laws.proofs.Drops.{drops, broken-wire, all-front}
+use Rattle.turn_laws.proofs.Drops.{drops, broken-wire}
+use Rattle.turn_laws.proofs.Elements.{all-front}
 use Rattle.turn_laws.proofs.Broke.{some-failure}
 use Rattle.turn_laws.proofs.Written.{Writes}
 use Rattle.turn_laws.proofs.Carried.{sends, set-twice}

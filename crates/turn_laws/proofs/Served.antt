@@ -27,17 +27,19 @@ use Rattle.world_laws.proofs.Recorded.{at-set}
 use Rattle.turn_laws.specs.Walks.{Walk, IsWalked, ticked}
 use Rattle.turn_laws.specs.Wire.{Wire, Item, Part, Asks, Runs, Lists, AreTold, ServesNext, executions, parts_in, tickets_for}
 use Rattle.turn_laws.specs.System.{System}
-use Rattle.turn_laws.specs.Shadow.{IsShadow, IsWorking, LinksShadow, LogShadow, AreListed, OpenShadow, IsIdle, IsKnown, IsUnnumbered, Numbers, coming, coming_of, requests_in, dues_of, dues_in, back_of, backs_in, downs_of, told_in, lost_in, SeenIn}
+use Rattle.turn_laws.specs.Shadow.{IsShadow, LinksShadow, LogShadow, AreListed, OpenShadow, IsIdle, IsKnown, IsUnnumbered, Numbers, requests_in, dues_of, dues_in, back_of, backs_in, SeenIn}
+use Rattle.turn_laws.specs.Underway.{IsWorking, coming, coming_of, downs_of, told_in, lost_in}
 use Rattle.turn_laws.specs.Steps.{AtNode, Serves, log_of}
 use Rattle.turn_laws.specs.Refines.{Simulates}
 use Rattle.turn_laws.proofs.Downs.{SameBag, total-set-flat}
-use Rattle.turn_laws.proofs.Carriers.{bag-parts}
+use Rattle.turn_laws.proofs.Bags.{bag-parts}
 use Rattle.turn_laws.proofs.Listed.{set-listed}
 use Rattle.turn_laws.proofs.Lines.{backend-changes}
 use Rattle.turn_laws.proofs.Answering.{quiet-backend}
 use Rattle.turn_laws.proofs.Openings.{one-connection}
 use Rattle.turn_laws.proofs.Walks.{walked-sound}
-use Rattle.turn_laws.proofs.Serving.{all-first, all-later, some-request, log-nothing, log-served, each-told, entries_at, serves-run, node-frame}
+use Rattle.turn_laws.proofs.Serving.{all-first, all-later, some-request, log-nothing, log-served, entries_at, serves-run, node-frame}
+use Rattle.turn_laws.proofs.ServedRuns.{as-many-values, each-told}
 use Rattle.turn_laws.proofs.Seen.{seen-set}
 
 coming-more : (o : Option Value) (values more : List Value) → coming_of o (values ++ more) ≡ coming_of o values ++ more
@@ -116,13 +118,6 @@ run-backs table node (p ∷ run) (part ∷ parts) (v ∷ values) (t ∷ tolds) a
 
     tails : {X : Type 0} (x y : X) (xs ys : List X) → x ∷ xs ≡ y ∷ ys → xs ≡ ys
     tails x y xs ys e = cc
-
--- as many values as commands
-pub as-many-values : (table : List Endpoint) (node : ℕ) (values : List Value) (tolds : List Told) → AreTold table node values tolds → length values ≡ length tolds
-as-many-values table node [] [] h = refl
-as-many-values table node [] (t ∷ tolds) h = absurd h
-as-many-values table node (v ∷ values) [] h = absurd h
-as-many-values table node (v ∷ values) (t ∷ tolds) h = ap suc (as-many-values table node values tolds h.1)
 
 as-many-dues : (parts : List Part) → length (dues_of (Runs parts)) ≡ length (parts_in parts)
 as-many-dues [] = refl

@@ -8,10 +8,7 @@ use Rattle.key_split.specs.declared.travel.Ticket.{Ticket}
 use Rattle.key_split.specs.declared.travel.Told.{Told}
 use Rattle.key_split.specs.declared.travel.Told.TheVariants.{Reply, Moved, Ask, TryAgain, ClusterDown, Unclear, Lost, Unsent}
 use Rattle.node_model.specs.Nodes.{ClusterModel}
-use Rattle.node_model.specs.Runs.{deed_for, AllTold, AreReplies, DoesRun}
-use Rattle.node_model.specs.Store.{StoreModel, store_after}
-use Rattle.node_model.specs.declared.role.Deed.{Deed as NodeDeed}
-use Rattle.node_model.specs.declared.role.Deed.TheVariants.{Executes, Says}
+use Rattle.node_model.specs.Runs.{deed_for, DoesRun}
 use Rattle.node_model.specs.History.{EntryModel}
 use Rattle.node_model.specs.declared.role.Verdict.{Verdict}
 use Rattle.proxy_turns.specs.declared.backend.Backend.{Backend}
@@ -27,9 +24,11 @@ use Rattle.world_laws.proofs.Allowed.{found}
 use Rattle.turn_laws.specs.Walks.{ticked}
 use Rattle.turn_laws.specs.Wire.{Wire, Part, Execution, executed, executions, parts_in, tickets_for}
 use Rattle.turn_laws.specs.System.{System, Mark}
-use Rattle.turn_laws.specs.Shadow.{IsShadow, AreListed, LinksShadow, LogShadow, HasPart, downs_of, entry_at}
+use Rattle.turn_laws.specs.Shadow.{IsShadow, AreListed, LinksShadow, LogShadow, HasPart, entry_at}
+use Rattle.turn_laws.specs.Underway.{downs_of}
 use Rattle.turn_laws.specs.Steps.{log_of}
 use Rattle.turn_laws.proofs.Downs.{Pair, SameBag, bag-has}
+use Rattle.turn_laws.proofs.ServedRuns.{each-told}
 use Rattle.turn_laws.proofs.Frames.{client-same, log-later}
 use Rattle.turn_laws.proofs.Logs.{log-one}
 
@@ -90,23 +89,6 @@ pub record MachineRun (commands : List Arrival) (parts : List Part) (tolds : Lis
   pub tolds_are : tolds_of run ≡ tolds
   pub are_of : AreOf run commands
   pub entries : (moment : ℕ) → entries_of moment run ≡ entries_at moment (executions parts tolds)
-
-one-replies : (p : List PartModel) (store : StoreModel) (ts : List Told) → AreReplies store p ts → length p ≡ length ts
-one-replies [] store [] h = refl
-one-replies [] store (t ∷ ts) h = absurd h
-one-replies (c ∷ p) store [] h = absurd h
-one-replies (c ∷ p) store (t ∷ ts) h = ap suc (one-replies p (store_after store c) ts h.1)
-
-one-said : (said : Told) (p : List PartModel) (ts : List Told) → AllTold said p ts → length p ≡ length ts
-one-said said [] [] h = refl
-one-said said [] (t ∷ ts) h = absurd h
-one-said said (c ∷ p) [] h = absurd h
-one-said said (c ∷ p) (t ∷ ts) h = ap suc (one-said said p ts h.1)
-
--- each command of a run is told something
-pub each-told : (deed : NodeDeed) (k : ClusterModel) (node : ℕ) (p : List PartModel) (ts : List Told) (k' : ClusterModel) → DoesRun deed k node p ts k' → length p ≡ length ts
-each-told Executes k node p ts k' h = one-replies p _ ts h.0
-each-told (Says said) k node p ts k' h = one-said said p ts h.0
 
 machine-run : (w : WorldModel) → Placed w → (parts : List Part) (tolds : List Told) → length (parts_in parts) ≡ length tolds → All (λ (part : Part). HasPart w.commands part.0 part.1) parts → MachineRun w.commands parts tolds
 machine-run w placed [] [] e known = record { run = []; tickets = refl; parts_are = refl; tolds_are = refl; are_of = tt; entries = λ moment. refl }

@@ -24,7 +24,7 @@ use Rattle.session_order.specs.Life.{SessionCall, Fed, Read, Handed, Followed, T
 use Rattle.session_order.proofs.Added.{parts_of_push}
 use Rattle.session_order.proofs.Fewer.{parts_split}
 use Rattle.session_order.proofs.Told.{split_ok}
-use Rattle.turn_laws.specs.ClientOutput.{ends_it}
+use Rattle.turn_laws.specs.Pipelines.{ends_it}
 use Rattle.turn_laws.proofs.RequestsRead.{AreCounted, open-faulted, parts-more}
 
 -- a fault was met

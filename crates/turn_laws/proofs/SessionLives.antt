@@ -20,7 +20,7 @@ use Rattle.session_order.specs.Replies.{bytes_of, last_line, lines_owed, output,
 use Rattle.session_order.specs.Steps.{IsFinished}
 use Rattle.session_order.specs.Output.{end_of, output_of, replies_told}
 use Rattle.session_order.specs.Life.{SessionCall, SessionDoes, fresh, read_by, told_by, drained_by, met_fault, DrainsOutput}
-use Rattle.turn_laws.specs.ClientOutput.{BeginsWithFault, Pipeline, ends_it, requests_of}
+use Rattle.turn_laws.specs.Pipelines.{BeginsWithFault, Pipeline, ends_it, requests_of}
 use Rattle.turn_laws.proofs.OutputFronts.{IsFront, IsWhole, front-of}
 use Rattle.turn_laws.proofs.RequestsRead.{AreCounted, HasRead}
 use Rattle.turn_laws.proofs.SessionKeeps.{ClosedBy, IsFaulted, keeps}

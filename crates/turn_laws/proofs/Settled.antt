@@ -18,7 +18,9 @@ use Rattle.world_laws.proofs.Lives.{does-moment}
 use Rattle.turn_laws.specs.Walks.{ticked, Walk, IsWalked}
 use Rattle.turn_laws.specs.Settling.{TellsAll}
 use Rattle.turn_laws.specs.System.{System, Mark}
-use Rattle.turn_laws.specs.Shadow.{IsShadow, LinksShadow, UpsShadow, LogShadow, AreApart, AreListed, Holds, most_nodes, downs_of}
+use Rattle.turn_laws.specs.Shadow.{IsShadow, LinksShadow, UpsShadow, LogShadow, AreListed}
+use Rattle.turn_laws.specs.Endpoints.{AreApart, most_nodes}
+use Rattle.turn_laws.specs.Underway.{Holds, downs_of}
 use Rattle.turn_laws.specs.Steps.{CarrierStep, UpsInStep}
 use Rattle.turn_laws.proofs.Downs.{Pair, SameBag}
 use Rattle.turn_laws.proofs.Frames.{DownFits, Seats, beside}

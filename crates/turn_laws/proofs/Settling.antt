@@ -3,7 +3,6 @@ use Rattle.std.proofs.Common.{◌≡◌, ℕ, ◌==◌, Bool, true, false, List,
 use Rattle.std.specs.Prelude.{slice_get, slice_set, remove, if◌then◌else◌}
 use Rattle.std.specs.List.{position_from}
 use Rattle.std.proofs.lemmas.Iterator.Adapters.{position_from-zero}
-use Rattle.std.proofs.lemmas.Bool.Decides.{nat_tests}
 use Rattle.key_split.specs.declared.travel.Ticket.{Ticket}
 use Rattle.key_split.specs.declared.travel.Told.{Told}
 use Rattle.world_laws.specs.State.{WorldModel, after_told, start}
@@ -17,6 +16,7 @@ use Rattle.world_laws.proofs.Allowed.{awaited, found, down-here, ticked as place
 use Rattle.world_laws.proofs.Runs.{Sound, does-sound}
 use Rattle.turn_laws.specs.Walks.{ticked, Walk}
 use Rattle.turn_laws.specs.Settling.{Tells, TellsAll, Settles, Settling, SettlingAfter}
+use Rattle.turn_laws.proofs.Tables.{same_number}
 use Rattle.turn_laws.proofs.Walks.{walked-sound, walks_join}
 
 -- the first passes
@@ -26,9 +26,6 @@ at-front {X} p x xs e = (position_from-zero p (x ∷ xs) ∙ go (p x) e, refl)
     go : (b : Bool) → b ≡ true → (if b then Some 0 else position_from p 1 xs) ≡ Some 0
     go true e = refl
     go false e = absurd (cc)
-
-pub same_number : (n : ℕ) → (n == n) ≡ true
-same_number n = grind (arith, nat_tests)
 
 -- the first of what came down is taken
 taken : (w : WorldModel) → Sound w → (p : Ticket × Told) (ps : List (Ticket × Told)) → w.downs ≡ p ∷ ps

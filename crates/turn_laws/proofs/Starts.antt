@@ -14,12 +14,13 @@ use Rattle.world_laws.specs.Places.{total, is}
 use Rattle.world_laws.proofs.Tally.{total-append, total-one}
 use Rattle.turn_laws.specs.Walks.{IsWalked}
 use Rattle.turn_laws.specs.System.{System}
-use Rattle.turn_laws.specs.Shadow.{IsShadow, LinksShadow, LogShadow, downs_of, downs_in, down_in, ups_in}
+use Rattle.turn_laws.specs.Shadow.{IsShadow, LinksShadow, LogShadow, ListShadow}
+use Rattle.turn_laws.specs.Underway.{downs_of, downs_in, down_in, ups_in}
 use Rattle.turn_laws.specs.Naming.{NamesNodes, SaysOneOf, SetsOneOf}
 use Rattle.turn_laws.specs.Refines.{IsStart}
 use Rattle.turn_laws.proofs.Downs.{Pair}
-use Rattle.turn_laws.proofs.Carriers.{refusals, debts, bag-parts}
-use Rattle.turn_laws.proofs.AtLanes.{nothing-there, ListShadow}
+use Rattle.turn_laws.proofs.Bags.{refusals, debts, bag-parts}
+use Rattle.turn_laws.proofs.Elements.{nothing-there}
 
 no-client : {C : Type 0} (clients : _) (number : ℕ) (client : ClientModel C) → clients ≡ empty {R = nat_cmp} → get clients number ≡ Some client → ⊥
 no-client clients number client e at = let none : get clients number ≡ None = ap (λ m. get m number) e ∙ get-empty nat_cmp number in absurd (cc)

@@ -15,8 +15,10 @@ use Rattle.world_laws.specs.State.{WorldModel, Link}
 use Rattle.world_laws.specs.declared.state.Arrival.{Arrival}
 use Rattle.turn_laws.specs.Wire.{Wire, Exchanges}
 use Rattle.turn_laws.specs.System.{System}
-use Rattle.turn_laws.specs.Shadow.{IsShadow, IsWorking, LinksShadow, LaneShadow, OpenShadow, IsIdle, IsKnown, coming, coming_of, requests_in, dues_in, backs_in, told_in}
-use Rattle.turn_laws.specs.Steps.{CarrierStep, any_failures, any_garbled}
+use Rattle.turn_laws.specs.Shadow.{IsShadow, LinksShadow, LaneShadow, OpenShadow, IsIdle, IsKnown, requests_in, dues_in, backs_in}
+use Rattle.turn_laws.specs.Underway.{IsWorking, coming, coming_of, told_in}
+use Rattle.turn_laws.specs.Steps.{CarrierStep}
+use Rattle.turn_laws.specs.PortsMay.{any_failures, any_garbled}
 use Rattle.turn_laws.proofs.Frames.{same-seats, down-fits, carrier-frame}
 use Rattle.turn_laws.proofs.Carriers.{backend-stutter}
 use Rattle.turn_laws.proofs.AtLines.{same-owing}

@@ -25,7 +25,8 @@ use Rattle.world_laws.proofs.Recorded.{at-set, set-same, set-other}
 use Rattle.turn_laws.specs.Wire.{Wire, Item, Asks, Runs, Lists}
 use Rattle.turn_laws.specs.System.{System}
 use Rattle.turn_laws.specs.Settling.{Tells, TellsAll}
-use Rattle.turn_laws.specs.Shadow.{IsShadow, LinksShadow, OpenShadow, ClosedShadow, IsKnown, HasPart, RunShadow, IsUnnumbered, Numbers, IsIdle, ClientShadow, Holds, downs_of}
+use Rattle.turn_laws.specs.Shadow.{IsShadow, LinksShadow, OpenShadow, ClosedShadow, IsKnown, HasPart, RunShadow, IsUnnumbered, Numbers, IsIdle, ClientShadow}
+use Rattle.turn_laws.specs.Underway.{Holds, downs_of}
 use Rattle.turn_laws.proofs.Downs.{Pair, SameBag, OneMore, one_for, pair-is, pair-itself, bag-has, is-other}
 use Rattle.turn_laws.proofs.Frames.{client-same}
 use Rattle.turn_laws.proofs.AtLanes.{short}

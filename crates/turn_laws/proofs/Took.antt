@@ -28,18 +28,20 @@ use Rattle.world_laws.proofs.Nodes.{set-size}
 use Rattle.world_laws.proofs.Tally.{total-append, total-one}
 use Rattle.world_laws.proofs.Kept.{is-refl}
 use Rattle.world_laws.proofs.Recorded.{at-set}
-use Rattle.turn_laws.specs.System.{System}
-use Rattle.turn_laws.specs.Shadow.{IsShadow, ClientShadow, KeptShadow, IsLetGo, StageShadow, HasCommand, IsAtFirst, HasPosted, Holds, ToldFrom, downs_of, downs_in, down_in, seat_of}
+use Rattle.turn_laws.specs.System.{System, seat_of}
+use Rattle.turn_laws.specs.Shadow.{IsShadow, ClientShadow, KeptShadow, IsLetGo, StageShadow, HasCommand, IsAtFirst, ToldFrom}
+use Rattle.turn_laws.specs.Underway.{HasPosted, Holds, downs_of, downs_in, down_in}
 use Rattle.turn_laws.specs.Steps.{AtWorker, WorkerStep}
 use Rattle.turn_laws.specs.Refines.{Simulates}
 use Rattle.turn_laws.proofs.Downs.{Pair, OneMore, more-has, more-keeps}
 use Rattle.turn_laws.proofs.Frames.{DownFits}
-use Rattle.turn_laws.proofs.Carriers.{refusals, debts}
+use Rattle.turn_laws.proofs.Bags.{refusals, debts}
 use Rattle.turn_laws.proofs.Lanes.{between-take}
-use Rattle.turn_laws.proofs.AtLanes.{nothing-there}
+use Rattle.turn_laws.proofs.Elements.{nothing-there}
 use Rattle.turn_laws.proofs.Walks.{walked-sound}
 use Rattle.turn_laws.proofs.Told.{Fitting, fitting, more-cases, none-down}
-use Rattle.turn_laws.proofs.Clients.{worker-frame, unseen-step, held-in, put-holds, put-none, put-same, put-other, put-apart}
+use Rattle.turn_laws.proofs.Clients.{worker-frame, unseen-step, held-in, put-holds, put-none}
+use Rattle.turn_laws.proofs.Tables.{put-same, put-other, put-apart}
 use Rattle.turn_laws.proofs.Ending.{none-some, one-of, one-item}
 
 told-ticket : (f : CommandModel) (told : Told) → (progress_told f told).ticket ≡ f.ticket

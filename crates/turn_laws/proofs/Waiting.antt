@@ -21,12 +21,15 @@ use Rattle.world_laws.proofs.Recorded.{at-set}
 use Rattle.turn_laws.specs.Walks.{ticked, Walk}
 use Rattle.turn_laws.specs.Wire.{Wire, Exchanges}
 use Rattle.turn_laws.specs.System.{System}
-use Rattle.turn_laws.specs.Shadow.{IsShadow, IsWorking, LinksShadow, LaneShadow, OpenShadow, IsIdle, IsUnnumbered, Numbers, downs_of, downs_in, told_in, lost_in, lost_by}
-use Rattle.turn_laws.specs.Steps.{AtCarrier, CarrierStep, FailsAt, opened_by, any_failures, any_garbled}
+use Rattle.turn_laws.specs.Shadow.{IsShadow, LinksShadow, LaneShadow, OpenShadow, IsIdle, IsUnnumbered, Numbers}
+use Rattle.turn_laws.specs.Underway.{IsWorking, downs_of, downs_in, told_in, lost_in, lost_by}
+use Rattle.turn_laws.specs.Steps.{AtCarrier, CarrierStep, FailsAt, opened_by}
+use Rattle.turn_laws.specs.PortsMay.{any_failures, any_garbled}
 use Rattle.turn_laws.specs.Refines.{Simulates}
 use Rattle.turn_laws.proofs.Downs.{SameBag, total-set-flat}
 use Rattle.turn_laws.proofs.Frames.{same-seats, still-closed, still-opened, link-frame, down-fits}
-use Rattle.turn_laws.proofs.Carriers.{refusals, debts, bag-parts, not-up, backend-stutter}
+use Rattle.turn_laws.proofs.Bags.{refusals, debts, bag-parts}
+use Rattle.turn_laws.proofs.Carriers.{not-up, backend-stutter}
 use Rattle.turn_laws.proofs.AtLines.{same-owing}
 use Rattle.turn_laws.proofs.Openings.{one-backend, one-connection}
 use Rattle.turn_laws.proofs.Lines.{backend-changes}

@@ -12,7 +12,8 @@ use Rattle.node_link.specs.declared.link.Due.TheVariants as due
 use Rattle.world_laws.specs.State.{Link}
 use Rattle.world_laws.specs.declared.state.Arrival.{Arrival}
 use Rattle.turn_laws.specs.Wire.{Wire, Exchanges, items_of}
-use Rattle.turn_laws.specs.Shadow.{OpenShadow, IsIdle, IsKnown, coming, coming_of, requests_in, dues_in, backs_in}
+use Rattle.turn_laws.specs.Shadow.{OpenShadow, IsIdle, IsKnown, requests_in, dues_in, backs_in}
+use Rattle.turn_laws.specs.Underway.{coming, coming_of}
 use Rattle.turn_laws.proofs.Items.{dues-append, dues-of-items, requests-append}
 
 -- the requests went over the link

@@ -1,7 +1,7 @@
 -- Each client of a worker is written a front of its output.
 -- A number is used once: it is still to come, or its client is there, or its client has left.
 use Rattle.std.proofs.Common.{◌≡◌, ◌≢◌, ◌⊎◌, inl, inr, ⊎_elim, ◌++◌, ◌∷◌, [], ◌<◌, List, ℕ, refl, ap, sym, subst, ◌∙◌, Option, Some, None, Bool, true, false, append_assoc, arith}
-use Rattle.std.specs.Prelude.{nat_eq, slice_get, slice_set, if◌then◌else◌}
+use Rattle.std.specs.Prelude.{nat_eq, slice_get, slice_set}
 use Rattle.std.specs.List.{FoldsTo, flat_map}
 use Rattle.std.specs.FinMap.{FinMap, get, insert, remove, get-empty}
 use Rattle.std.specs.Ordering.{nat_cmp}
@@ -20,19 +20,16 @@ use Rattle.proxy_turns.specs.ClientTurn.{ClientEvent}
 use Rattle.proxy_turns.specs.WorkerModel.{WorkerModel, WorkerEvent, Did, Finished, Took, FoundNone, Came, TurnedAway, FoundNobody, Left, WorkerDoes, IsAbove, Tells}
 use Rattle.world_laws.proofs.Recorded.{at-set, set-other, set-same}
 use Rattle.turn_laws.specs.System.{System}
-use Rattle.turn_laws.specs.Steps.{SystemEvent, AtWorker, AtCarrier, AtNode, AtBroken, Thrown, Moved, SystemStep, WorkerStep, any_moves}
-use Rattle.turn_laws.specs.ClientOutput.{bytes_from, bytes_to, ends_for, events_at, if_own, pulled_by, pushed_by, ClientsAreWritten, AllClientsAreWritten}
-use Rattle.turn_laws.proofs.Clients.{put-other, put-same}
+use Rattle.turn_laws.specs.Steps.{SystemEvent, AtWorker, AtCarrier, AtNode, AtBroken, Thrown, Moved, SystemStep, WorkerStep}
+use Rattle.turn_laws.specs.PortsMay.{any_moves}
+use Rattle.turn_laws.specs.ClientSees.{bytes_from, bytes_to, ends_for, if_own, pulled_by, pushed_by}
+use Rattle.turn_laws.specs.ClientOutput.{events_at, ClientsAreWritten, AllClientsAreWritten}
+use Rattle.turn_laws.proofs.ClientSees.{own, not-own}
+use Rattle.turn_laws.proofs.Tables.{put-other, put-same}
 use Rattle.turn_laws.proofs.Ending.{none-some, one-of, removed-other}
 use Rattle.turn_laws.proofs.OutputFronts.{IsFront}
 use Rattle.turn_laws.proofs.CommandsOut.{none-of, still-there}
 use Rattle.turn_laws.proofs.ClientLives.{LivesOn, served-written, born, finishes, hears, lives-on, lives-written}
-
-pub own : {X : Type 0} (number other : ℕ) (seen : List X) → nat_eq other number ≡ true → if_own number other seen ≡ seen
-own number other seen same = ap (λ b. if b then seen else []) same
-
-pub not-own : {X : Type 0} (number other : ℕ) (seen : List X) → nat_eq other number ≡ false → if_own number other seen ≡ []
-not-own number other seen apart = ap (λ b. if b then seen else []) apart
 
 -- numbers rise: one that was not above the newest is not above the next
 rises : (newest : Option ℕ) (next number : ℕ) → IsAbove newest next → (IsAbove newest number → ⊥) → next < number → ⊥

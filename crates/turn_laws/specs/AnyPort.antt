@@ -13,8 +13,8 @@ use Rattle.proxy_turns.specs.Port.{Moves}
 use Rattle.proxy_turns.specs.WorkerModel.{WorkerModel, WorkerEvent, WorkerDoes, WorkerTurns}
 use Rattle.proxy_turns.specs.CarrierModel.{CarrierModel, CarrierEvent, CarrierDoes}
 use Rattle.turn_laws.specs.Wire.{Wire, Exchanges, Dials, new_wire}
-use Rattle.turn_laws.specs.Shadow.{AreApart}
-use Rattle.turn_laws.specs.Steps.{any_moves, any_failures, any_garbled, any_none}
+use Rattle.turn_laws.specs.Endpoints.{AreApart}
+use Rattle.turn_laws.specs.PortsMay.{any_moves, any_failures, any_garbled, any_none}
 
 -- ---- a worker
 

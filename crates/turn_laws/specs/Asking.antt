@@ -15,7 +15,7 @@ use Rattle.proxy_turns.specs.declared.newcomer.Newcomer.{Newcomer}
 use Rattle.proxy_turns.specs.WorkerModel.{WorkerModel}
 use Rattle.turn_laws.specs.Wire.{Wire, Item, Part, Asks, Runs, Lists, heard_in}
 use Rattle.turn_laws.specs.System.{System}
-use Rattle.turn_laws.specs.Shadow.{IsWorking, Holds, downs_of, ups_in, coming}
+use Rattle.turn_laws.specs.Underway.{IsWorking, Holds, downs_of, ups_in, coming}
 
 -- Of these items, none is a run that has a command for the slot and goes behind ASKING: the flag is that of the connection.
 abbrev pub NoneBehindAsking : ℕ → Bool → List Item → Type 0

@@ -18,7 +18,7 @@ use Rattle.proxy_turns.specs.ClientModel.{ClientModel}
 use Rattle.proxy_turns.specs.WorkerModel.{WorkerModel}
 use Rattle.turn_laws.specs.Wire.{Wire}
 use Rattle.turn_laws.specs.System.{System}
-use Rattle.turn_laws.specs.Shadow.{down_in}
+use Rattle.turn_laws.specs.Underway.{down_in}
 
 -- what a command is told names one of the first n nodes, or none
 abbrev pub SaysOneOf : ℕ → Told → Type 0

@@ -11,9 +11,11 @@ use Rattle.world_laws.specs.State.{WorldModel}
 use Rattle.world_laws.specs.Headline.{Headline, IsNew}
 use Rattle.world_laws.specs.declared.event.Event.{Event}
 use Rattle.turn_laws.specs.Walks.{Walk, IsWalked}
-use Rattle.turn_laws.specs.System.{System, between, IsInStep}
+use Rattle.turn_laws.specs.System.{System, between, IsInStep, seat_of}
 use Rattle.turn_laws.specs.Naming.{NamesNodes}
-use Rattle.turn_laws.specs.Shadow.{IsShadow, AreApart, most_nodes, down_in, DownInStep, seat_of}
+use Rattle.turn_laws.specs.Shadow.{IsShadow}
+use Rattle.turn_laws.specs.Endpoints.{AreApart, most_nodes}
+use Rattle.turn_laws.specs.Underway.{down_in, DownInStep}
 use Rattle.proxy_turns.specs.CarrierModel.{CarrierEvent}
 use Rattle.turn_laws.specs.Steps.{SystemEvent, AtWorker, AtCarrier, AtNode, AtBroken, Thrown, Moved, SystemStep}
 

@@ -9,29 +9,23 @@ use Rattle.key_split.specs.Runs.{RunModel, IsTogether, batches_in}
 use Rattle.key_split.specs.declared.travel.Batch.{Batch}
 use Rattle.key_split.specs.declared.travel.Ticket.{Ticket}
 use Rattle.key_split.specs.declared.travel.Told.{Told}
-use Rattle.key_split.specs.declared.travel.Told.TheVariants.{Lost, Unsent}
 use Rattle.key_split.specs.declared.travel.Ended.{Ended}
 use Rattle.command_future.specs.CommandModel.{CommandModel, fresh as new_command, progress_told}
 use Rattle.command_future.specs.declared.stage.Stage.TheVariants.{WantsAsking, Awaits, Over}
 use Rattle.slot_map.specs.Table.{Endpoint}
 use Rattle.node_link.specs.LinkModel.{LinkModel}
-use Rattle.node_link.specs.LinkCalls.{tickets_of}
 use Rattle.node_link.specs.declared.link.Due.{Due}
 use Rattle.node_link.specs.declared.link.Due.TheVariants as due
-use Rattle.node_link.specs.declared.link.Failure.{Failure}
 use Rattle.session_order.specs.SessionModel.{SessionModel}
 use Rattle.session_order.specs.Replies.{parts_of}
 use Rattle.session_order.specs.Steps.{IsHandedOut}
 use Rattle.session_order.specs.declared.closing.Closing.TheVariants.{Quit}
 use Rattle.session_order.specs.declared.queue.PartStage.{PartStage}
 use Rattle.session_order.specs.declared.queue.PartStage.TheVariants.{Waiting, Out, Done}
-use Rattle.proxy_lanes.specs.declared.ring.Outlet.{Outlet}
-use Rattle.proxy_lanes.specs.declared.ring.Inlet.{Inlet}
 use Rattle.proxy_lanes.specs.declared.ends.lane_ends.LaneEnds.{LaneEnds}
 use Rattle.proxy_turns.specs.declared.newcomer.Newcomer.{Newcomer}
 use Rattle.proxy_turns.specs.declared.pending_run.PendingRun.{PendingRun}
 use Rattle.proxy_turns.specs.declared.backend.Backend.{Backend}
-use Rattle.proxy_turns.specs.declared.backend.PendingTold.{PendingTold}
 use Rattle.proxy_turns.specs.Commands.{CommandsModel, most_together}
 use Rattle.proxy_turns.specs.ClientModel.{ClientModel}
 use Rattle.proxy_turns.specs.WorkerModel.{WorkerModel, IsAbove}
@@ -49,7 +43,9 @@ use Rattle.resp_wire.specs.Seen.{data_of}
 use Rattle.world_laws.specs.World.{SameTurn, lies_in}
 use Rattle.world_laws.specs.Places.{total, is}
 use Rattle.turn_laws.specs.Wire.{Wire, Item, Part, Asks, Runs, Lists, tickets_for, heard_in, Execution}
-use Rattle.turn_laws.specs.System.{System, Mark, Arrived, Executed, Answered, between, IsInStep}
+use Rattle.turn_laws.specs.System.{System, Mark, Arrived, Executed, Answered, IsInStep, seat_of}
+use Rattle.turn_laws.specs.Endpoints.{AreApart, most_nodes}
+use Rattle.turn_laws.specs.Underway.{IsWorking, coming, ups_in, down_in, downs_of, DownInStep, Holds}
 
 -- ---- links
 
@@ -79,14 +75,6 @@ abbrev pub backs_in : List Endpoint → ℕ → List Due → List Value → List
 backs_in table node [] values = []
 backs_in table node (d ∷ ds) [] = []
 backs_in table node (d ∷ ds) (value ∷ values) = back_of table node d value ++ backs_in table node ds values
-
--- the values that were not given yet: one that was kept stands first
-abbrev pub coming_of : Option Value → List Value → List Value
-coming_of None values = values
-coming_of (Some value) values = value ∷ values
-
-abbrev pub coming : LinkModel Wire → List Value
-coming link = coming_of link.kept link.port.values
 
 -- the part of a ticket is that of its command
 abbrev pub HasPart : List Arrival → Ticket → PartModel → Type 0
@@ -150,10 +138,6 @@ WireShadow w ids wire =
     ((i : ℕ) × (l : Link) × Numbers ids wire.id i × (slice_get w.links i ≡ Some l) × ClosedShadow w.commands wire l)
     ⊎ (IsUnnumbered ids wire.id × (requests_in wire.items ≡ []))
 
--- this backend's connection works
-abbrev pub IsWorking : {H : Type 0} → CarrierModel H Wire → ℕ → LinkModel Wire → Type 0
-IsWorking carrier k link = (backend : Backend Wire) × (slice_get carrier.backends k ≡ Some backend) × (backend.link ≡ Some link) × (link.failure ≡ None)
-
 -- the connection of this number works, or is one of the broken
 abbrev pub SeenIn : {H : Type 0} → CarrierModel H Wire → List Wire → ℕ → Type 0
 SeenIn carrier closed id =
@@ -176,15 +160,6 @@ pub record LinksShadow {H : Type 0} (nodes : List Endpoint) (carrier : CarrierMo
 
 -- ---- lanes
 
-abbrev pub run_in : Option RunModel → List RunModel
-run_in None = []
-run_in (Some run) = run ∷ []
-
--- what a worker posted and the carrier did not send or refuse: first what it holds
-abbrev pub ups_in : {C J : Type 0} → WorkerModel C J → LaneEnds (Newcomer C J) → Option PendingRun → List RunModel
-ups_in model lane None = between model.outlet lane.up
-ups_in model lane (Some pending_run) = run_in pending_run.run ++ between model.outlet lane.up
-
 -- the tickets of a run
 abbrev pub tickets_in : RunModel → List Ticket
 tickets_in run = map (λ (batch : Batch). batch.ticket) (batches_in run)
@@ -204,51 +179,17 @@ RunShadow commands k run = IsTogether run × All (IsUnderWay commands k) (batche
 abbrev pub lane_of : ℕ → WorldModel → List Posted
 lane_of k w = filter (lies_in k) w.ups
 
+-- these runs lie in the machine's lane of this worker
+abbrev pub ListShadow : WorldModel → ℕ → List RunModel → Type 0
+ListShadow w k runs = (lane_of k w ≡ map lying runs) × All (RunShadow w.commands k) runs
+
 abbrev pub LaneShadow : {C J : Type 0} → WorldModel → ℕ → WorkerModel C J → LaneEnds (Newcomer C J) → Option PendingRun → Type 0
-LaneShadow w k model lane pending_run =
-    (lane_of k w ≡ map lying (ups_in model lane pending_run))
-    × All (RunShadow w.commands k) (ups_in model lane pending_run)
+LaneShadow w k model lane pending_run = ListShadow w k (ups_in model lane pending_run)
 
 abbrev pub UpsShadow : {C J : Type 0} → List (WorkerModel C J) → CarrierModel (Newcomer C J) Wire → WorldModel → Type 0
 UpsShadow {C} {J} workers carrier w =
     (k : ℕ) (model : WorkerModel C J) (lane : LaneEnds (Newcomer C J)) → slice_get workers k ≡ Some model → slice_get carrier.lanes k ≡ Some lane
     → LaneShadow w k model lane (slice_get carrier.pending_runs k)
-
--- ---- what is on its way down
-
-abbrev pub down_in : Option (Outlet (Ticket × Told)) → Inlet (Ticket × Told) → List (Ticket × Told)
-down_in None inlet = []
-down_in (Some outlet) inlet = between outlet inlet
-
-abbrev pub downs_in : {C J : Type 0} → List (WorkerModel C J) → List (LaneEnds (Newcomer C J)) → List (Ticket × Told)
-downs_in [] lanes = []
-downs_in (model ∷ workers) [] = []
-downs_in (model ∷ workers) (lane ∷ lanes) = down_in lane.down model.inlet ++ downs_in workers lanes
-
-abbrev pub refused_in : List Ticket → List (Ticket × Told)
-refused_in tickets = map (λ t. (t, Unsent)) tickets
-
-abbrev pub told_in : Option PendingTold → List (Ticket × Told)
-told_in None = []
-told_in (Some pending_told) = (pending_told.ticket, pending_told.told) ∷ []
-
--- who still waits at a connection that failed is told Lost
-abbrev pub lost_by : Option Failure → List Due → List (Ticket × Told)
-lost_by None dues = []
-lost_by (Some why) dues = map (λ t. (t, Lost)) (tickets_of dues)
-
-abbrev pub lost_in : Option (LinkModel Wire) → List (Ticket × Told)
-lost_in None = []
-lost_in (Some link) = lost_by link.failure link.due
-
-abbrev pub downs_of : {C J : Type 0} → System C J → List (Ticket × Told)
-downs_of s =
-    downs_in s.workers s.carrier.lanes ++ flat_map (λ (pending_run : PendingRun). refused_in pending_run.refused) s.carrier.pending_runs
-    ++ flat_map (λ (backend : Backend Wire). told_in backend.pending_told ++ lost_in backend.link) s.carrier.backends
-
--- what a worker took was put into its lane
-abbrev pub DownInStep : {C J : Type 0} → LaneEnds (Newcomer C J) → WorkerModel C J → Type 0
-DownInStep lane model = (outlet : Outlet (Ticket × Told)) → lane.down ≡ Some outlet → IsInStep outlet model.inlet
 
 -- ---- commands
 
@@ -372,22 +313,6 @@ pub record LogShadow (log : List Mark) (w : WorldModel) : Type 0 where
 
 -- ---- the whole
 
--- the command of the ticket that a worker posted and that has not ended
-abbrev pub HasPosted : {C J : Type 0} → WorkerModel C J → Ticket → CommandModel → Type 0
-HasPosted {C} {J} model ticket c =
-    (client : ClientModel C) × (get model.clients ticket.client ≡ Some client) × (get client.commands.posted ticket.part ≡ Some c) × (c.ticket ≡ ticket)
-
-abbrev pub Holds : {C J : Type 0} → List (WorkerModel C J) → Ticket → CommandModel → Type 0
-Holds {C} {J} workers ticket c = (k : ℕ) × (model : WorkerModel C J) × (slice_get workers k ≡ Some model) × HasPosted model ticket c
-
--- no endpoint stands twice
-abbrev pub AreApart : List Endpoint → Type 0
-AreApart nodes = (i j : ℕ) (at : Endpoint) → slice_get nodes i ≡ Some at → slice_get nodes j ≡ Some at → i ≡ j
-
--- how many nodes a table has room for
-abbrev pub most_nodes : ℕ
-most_nodes = 64
-
 -- the table lists the node of each link
 abbrev pub AreListed : {H P : Type 0} → CarrierModel H P → Type 0
 AreListed {H} {P} carrier = (k : ℕ) (backend : Backend P) (link : LinkModel P) → slice_get carrier.backends k ≡ Some backend → backend.link ≡ Some link → k < length carrier.nodes
@@ -395,10 +320,6 @@ AreListed {H} {P} carrier = (k : ℕ) (backend : Backend P) (link : LinkModel P)
 -- a run that is pending came from a lane that there is
 abbrev pub AreSeated : {H P : Type 0} → CarrierModel H P → Type 0
 AreSeated carrier = (k : ℕ) (pending_run : PendingRun) (run : RunModel) → slice_get carrier.pending_runs k ≡ Some pending_run → pending_run.run ≡ Some run → k < length carrier.lanes
-
--- which worker it is, and of how many
-abbrev pub seat_of : {C J : Type 0} → WorkerModel C J → ℕ × ℕ
-seat_of model = (model.worker, model.workers)
 
 pub record IsShadow {C J : Type 0} (s : System C J) (w : WorldModel) : Type 0 where
   pub workers : length s.workers ≡ w.workers

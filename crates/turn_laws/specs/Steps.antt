@@ -1,6 +1,6 @@
 -- What may happen in a system: an event of a worker's turn, an event of the carrier's turn, a node serves what is next of a
 -- connection, what a broken one still has is thrown away, a slot moves one step.
-use Rattle.std.specs.Prelude.{◌≡◌, ◌⊎◌, ◌+◌, ◌-◌, ◌^◌, ℕ, suc, List, [], ◌∷◌, ◌++◌, Some, None, IsSome, length, take, drop, slice_get, slice_set}
+use Rattle.std.specs.Prelude.{◌≡◌, ◌⊎◌, ◌+◌, ◌-◌, ℕ, suc, List, [], ◌∷◌, ◌++◌, Some, None, IsSome, length, take, drop, slice_get, slice_set}
 use Rattle.std.specs.FinMap.{get}
 use mathlib.Core.List.{IsPrefix}
 use Rattle.resp_wire.specs.declared.value.Value.{Value}
@@ -17,7 +17,6 @@ use Rattle.session_order.specs.declared.queue.PartStage.TheVariants.{Waiting, Ou
 use Rattle.proxy_lanes.specs.declared.ends.lane_ends.LaneEnds.{LaneEnds}
 use Rattle.proxy_turns.specs.declared.newcomer.Newcomer.{Newcomer}
 use Rattle.proxy_turns.specs.declared.backend.Backend.{Backend}
-use Rattle.proxy_turns.specs.Port.{Moves}
 use Rattle.proxy_turns.specs.ClientModel.{ClientModel}
 use Rattle.proxy_turns.specs.ClientTurn.{ClientEvent, Pulled, Fed, Read, HandedOut, Followed, Looked, CameBack, Posted, Drained, Pushed, Tried, Parted, Dropped}
 use Rattle.proxy_turns.specs.WorkerModel.{WorkerModel, WorkerEvent, Did, Finished, Took, FoundNone, Came, TurnedAway, FoundNobody, Left, WorkerDoes}
@@ -26,7 +25,8 @@ use Rattle.world_laws.specs.declared.event.Event.{Event}
 use Rattle.world_laws.specs.declared.event.Event.TheVariants as core
 use Rattle.turn_laws.specs.Wire.{Wire, Exchanges, Dials, ServesNext, Execution}
 use Rattle.turn_laws.specs.System.{System, Mark, Arrived, Executed, Answered, IsInStep}
-use Rattle.turn_laws.specs.Shadow.{IsWorking, DownInStep}
+use Rattle.turn_laws.specs.PortsMay.{any_moves, any_failures, any_garbled, any_none}
+use Rattle.turn_laws.specs.Underway.{IsWorking, DownInStep}
 use Rattle.turn_laws.specs.Asking.{NoneAsksIn}
 
 -- ---- what is seen of a step
@@ -65,19 +65,6 @@ seen_at (Dropped tickets) old new = []
 abbrev pub log_of : List Execution → List Mark
 log_of [] = []
 log_of (one ∷ later) = Executed (one ∷ later) ∷ []
-
--- Ports may move, fail, be garbled, give no value and take runs of any length: this allows what each port does.
-abbrev pub any_moves : {C : Type 0} → Moves C
-any_moves {C} old pulled pushed noted new = Unit {0}
-
-abbrev pub any_failures : Wire → ℕ
-any_failures wire = 2 ^ 64 - 1
-
-abbrev pub any_garbled : Wire → Type 0
-any_garbled wire = Unit {0}
-
-abbrev pub any_none : Wire → Type 0
-any_none wire = Unit {0}
 
 -- how many connections were opened, after an event of the carrier
 abbrev pub opened_by : CarrierEvent → ℕ → ℕ

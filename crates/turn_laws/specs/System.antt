@@ -41,3 +41,7 @@ between {T} outlet inlet = map (λ (x : Numbered T). x.item) (drop (length (take
 -- what was taken was posted, in that order
 abbrev pub IsInStep : {T : Type 0} → Outlet T → Inlet T → Type 0
 IsInStep outlet inlet = IsPrefix (taken inlet) (posted outlet)
+
+-- which worker it is, and of how many
+abbrev pub seat_of : {C J : Type 0} → WorkerModel C J → ℕ × ℕ
+seat_of model = (model.worker, model.workers)

@@ -17,7 +17,7 @@ use Rattle.node_model.specs.Runs.{deed_for, DoesRun}
 use Rattle.node_model.specs.Standings.{SlotStandingModel}
 use Rattle.node_model.specs.declared.role.Verdict.{Verdict}
 use Rattle.world_laws.specs.World.{NamesNode}
-use Rattle.turn_laws.specs.Shadow.{AreApart}
+use Rattle.turn_laws.specs.Endpoints.{AreApart}
 use Rattle.turn_laws.specs.Wire.{AreTold}
 use Rattle.turn_laws.specs.System.{System}
 use Rattle.turn_laws.specs.Steps.{SystemEvent, SystemStep}

@@ -2,7 +2,8 @@
 
 ghost use Rattle.turn_laws.specs.Walks.{EveryWalk};
 ghost use Rattle.turn_laws.specs.Settling.{Settling, SettlingAfter};
-ghost use Rattle.turn_laws.specs.ClientOutput.{AllClientsAreWritten, AnswersWereTold, ClientsAreWritten, LogIsWritten};
+ghost use Rattle.turn_laws.specs.ClientOutput.{AllClientsAreWritten, ClientsAreWritten};
+ghost use Rattle.turn_laws.specs.LogOutput.{AnswersWereTold, LogIsWritten};
 ghost use Rattle.turn_laws.specs.AnyPort.{AnyClients, AnyClientTurns, AnyPorts, WiresStand};
 ghost use Rattle.turn_laws.specs.Scripts.{GivesBack, LosesCommands, MisreadsLines, MovesUnderUse, PairsCommands};
 ghost use Rattle.turn_laws.specs.Refines.{CarrierRefines, MovesRefine, NamesStay, NodesRefine, Refines, StartsRefine, ThrownRefine, WorkersRefine};

@@ -6,10 +6,12 @@
 //!
 //! A system is the workers, the carrier, the lanes between them, the connections and the nodes (`specs/System.antt`); its events
 //! are those of the turns (`specs/Steps.antt`). Which world of the machine it stands for is said in `specs/Shadow.antt`. Steps that
-//! a system can make stand in `specs/Scripts.antt`. What is promised of its log stands in `specs/LogHeadline.antt`.
+//! a system can make stand in `specs/Scripts.antt`. What is promised of its log stands in `specs/LogHeadline.antt`. What these laws are
+//! made of is said in `parts`, of one step or one word each.
 #![tactic(auto)]
 
 pub mod laws;
+pub mod parts;
 mod wired_port;
 
 pub use wired_port::WiredPort;

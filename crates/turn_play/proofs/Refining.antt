@@ -18,7 +18,8 @@ use Rattle.node_model.specs.Runs.{deed_for, DoesRun}
 use Rattle.resp_wire.specs.declared.value.Value.{Value}
 use Rattle.turn_laws.specs.Wire.{Wire, Execution, AreTold, ServesNext, parts_in}
 use Rattle.turn_laws.specs.System.{System}
-use Rattle.turn_laws.specs.Shadow.{IsShadow, IsWorking}
+use Rattle.turn_laws.specs.Shadow.{IsShadow}
+use Rattle.turn_laws.specs.Underway.{IsWorking}
 use Rattle.turn_laws.specs.Steps.{SystemEvent, AtWorker, AtCarrier, AtNode, AtBroken, Thrown, Moved, SystemStep, WorkerStep, Serves, MovesOn}
 use Rattle.turn_laws.specs.Naming.{NamesNodes}
 use Rattle.turn_laws.specs.Refines.{NamesStay, Refines, StartsRefine, IsStart}

@@ -12,8 +12,8 @@ use Rattle.proxy_lanes.specs.Lane.{IsNewLane}
 use Rattle.proxy_turns.specs.declared.newcomer.Newcomer.{Newcomer}
 use Rattle.proxy_turns.specs.WorkerModel.{WorkerModel}
 use Rattle.proxy_turns.specs.Worker.{new_worker}
-use Rattle.turn_laws.specs.System.{between, IsInStep}
-use Rattle.turn_laws.specs.Shadow.{down_in, DownInStep, seat_of}
+use Rattle.turn_laws.specs.System.{between, IsInStep, seat_of}
+use Rattle.turn_laws.specs.Underway.{down_in, DownInStep}
 use Rattle.proxy_lanes.specs.Carrier.{AreLanesFrom}
 use Rattle.turn_play.specs.Starting.{AreOpenAt, AreOpenFrom, workers_on, PlaysStart, LanesAreOpen, HandingKeeps, ShowsStart}
 use Rattle.turn_play.specs.Playing.{PlayModel}

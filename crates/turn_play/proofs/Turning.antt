@@ -16,7 +16,8 @@ use Rattle.proxy_turns.specs.CarrierModel.{CarrierModel, CarrierEvent, CarrierDo
 use Rattle.world_laws.proofs.Recorded.{set-same}
 use Rattle.turn_laws.specs.Wire.{Wire, Exchanges, Dials}
 use Rattle.turn_laws.specs.System.{System, Mark}
-use Rattle.turn_laws.specs.Steps.{AtWorker, AtCarrier, IsSeen, any_moves, any_failures, any_garbled, any_none, opened_by, seen_at}
+use Rattle.turn_laws.specs.Steps.{AtWorker, AtCarrier, IsSeen, opened_by, seen_at}
+use Rattle.turn_laws.specs.PortsMay.{any_moves, any_failures, any_garbled, any_none}
 use Rattle.turn_laws.specs.AnyPort.{AnyClientTurns, AnyPorts, AreWired, OpensWires, over_wires}
 use Rattle.turn_play.specs.May.{WorkerMay, CarrierMay}
 use Rattle.turn_play.specs.Turns.{PlaysWorker, WorkersPlay, ShowsCarrier, PlaysCarrier}

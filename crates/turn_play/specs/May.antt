@@ -21,9 +21,10 @@ use Rattle.world_laws.specs.declared.event.Event.{Event}
 use Rattle.world_laws.specs.declared.event.Event.TheVariants as core
 use Rattle.turn_laws.specs.Wire.{Wire, Item, Part, Asks, Runs, Lists, Exchanges, Execution, executions, parts_in}
 use Rattle.turn_laws.specs.System.{System, Mark}
-use Rattle.turn_laws.specs.Shadow.{DownInStep}
+use Rattle.turn_laws.specs.Underway.{DownInStep}
 use Rattle.turn_laws.specs.Asking.{NoneAsksIn}
-use Rattle.turn_laws.specs.Steps.{SystemEvent, AtWorker, AtCarrier, AtNode, AtBroken, Thrown, Moved, IsSeen, Opens, Breaks, UpsInStep, ServesLate, Discards, any_moves, any_failures, any_garbled, any_none, opened_by, log_of}
+use Rattle.turn_laws.specs.Steps.{SystemEvent, AtWorker, AtCarrier, AtNode, AtBroken, Thrown, Moved, IsSeen, Opens, Breaks, UpsInStep, ServesLate, Discards, opened_by, log_of}
+use Rattle.turn_laws.specs.PortsMay.{any_moves, any_failures, any_garbled, any_none}
 use Rattle.turn_laws.specs.Writing.{AreWritten, CanBeNamed, StandsAtItsNodes}
 
 -- A node serves the first item of a wire, as in `ServesNext`, and writes what it says.

@@ -15,7 +15,7 @@ use Rattle.proxy_turns.specs.Worker.{new_worker}
 use Rattle.proxy_turns.specs.CarrierModel.{new_carrier}
 use Rattle.world_laws.specs.Headline.{IsNew}
 use Rattle.turn_laws.specs.System.{System}
-use Rattle.turn_laws.specs.Shadow.{AreApart, most_nodes}
+use Rattle.turn_laws.specs.Endpoints.{AreApart, most_nodes}
 use Rattle.turn_laws.specs.AnyPort.{over_wires}
 use Rattle.turn_laws.specs.Refines.{IsStart}
 use Rattle.turn_laws.specs.Writing.{CanBeNamed, StandsAtItsNodes}

@@ -1,4 +1,4 @@
-use Rattle.turn_laws.proofs.LogHeadline.{headline-of-logs, logs-are-held}
+use Rattle.turn_laws.proofs.LogsOfSystems.{headline-of-logs, logs-are-held}
 use Rattle.turn_laws.proofs.laws.headline_of_logs.Goals as goal
 
 pub returns-clause-headline : goal.returns-clause-headline

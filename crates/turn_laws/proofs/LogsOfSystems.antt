@@ -1,0 +1,17 @@
+-- The headline of a system's log, by that of the world that the system stands for.
+use Rattle.std.proofs.Common.{subst}
+use Rattle.key_split.specs.Laws.{PlansArePlain}
+use Rattle.turn_laws.specs.LogHeadline.{IsHeld, HeadlineOfLogs, LogsAreHeld}
+use Rattle.turn_laws.proofs.LogHeadline.{log-headline, log-held}
+use Rattle.turn_laws.proofs.Refines.{refines}
+
+module _ (C J : Type 0) (plain : PlansArePlain) where
+  pub headline-of-logs : HeadlineOfLogs C J
+  headline-of-logs s s' events start steps =
+      let r = refines C J plain s s' events start steps in
+      log-headline s'.log r.0 (r.2).log r.1 r.3
+
+  pub logs-are-held : LogsAreHeld C J
+  logs-are-held s s' events start steps =
+      let r = refines C J plain s s' events start steps in
+      subst (IsHeld s'.log) (r.2).cluster (log-held s'.log r.0 (r.2).log r.1 r.3)

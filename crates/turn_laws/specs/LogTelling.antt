@@ -1,0 +1,12 @@
+-- A log that tells of a world has the world's headline.
+use Rattle.std.specs.Prelude.{List}
+use Rattle.world_laws.specs.State.{WorldModel}
+use Rattle.world_laws.specs.Headline.{Headline}
+use Rattle.turn_laws.specs.Walks.{IsWalked}
+use Rattle.turn_laws.specs.System.{Mark}
+use Rattle.turn_laws.specs.Shadow.{LogShadow}
+use Rattle.turn_laws.specs.LogHeadline.{LogHeadline}
+
+-- what events reached tells it, moment by moment
+abbrev pub LogsTellHeadlines : Type 0
+LogsTellHeadlines = (log : List Mark) (w : WorldModel) → LogShadow log w → IsWalked w → Headline w → LogHeadline log
