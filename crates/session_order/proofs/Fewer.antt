@@ -14,7 +14,7 @@ use Rattle.session_order.specs.declared.replies.PendingReply.TheVariants.{Reply,
 use Rattle.session_order.specs.declared.closing.Closing.{Closing}
 use Rattle.session_order.specs.SessionModel.{SessionModel}
 use Rattle.session_order.specs.Turn.{is_done}
-use Rattle.session_order.specs.Replies.{joined, reply_of, replies, replied, parts_of, bytes_of, spelling, first_replies, AreWritten, Drains, last_line, output, without, drained}
+use Rattle.session_order.specs.Replies.{joined, reply_of, AreJoinable, HasParts, replies, replied, parts_of, bytes_of, spelling, first_replies, AreWritten, Drains, last_line, output, without, drained}
 use Rattle.session_order.proofs.Drained.{counts, outcome, replies_all, replies_part, replied_bounds, replied_done}
 use Rattle.session_order.proofs.Told.{is_below, is_above}
 
@@ -247,6 +247,61 @@ still_few most i requests stages ends before out others so_far less few fewer be
         let same : i ≡ fewer = grind (arith, nat_tests, is, below) in
         subst (λ (k : ℕ). length (bytes_of (first_replies k requests stages ends [])) < most) same
         (subst (λ (vs : List Value). length (bytes_of vs) < most) (sym (none_last i requests stages ends [] less)) now)
+
+-- how many have their reply from a request on that has its reply, or has none
+abbrev counts_at : Option (Value × ℕ) → (ℕ → ℕ × ℕ) → ℕ × ℕ
+counts_at found rest = elim found [ Some reply ↦ (suc (rest reply.1).0, reply.1 + (rest reply.1).1) | None ↦ (0, 0) ]
+
+-- a request that has no reply ends them
+pub none_replied : (i : ℕ) (owed : PendingReply) (requests : List PendingReply) (stages : List PartStage) (ends : List Ended) → slice_get requests i ≡ Some owed
+    → reply_of owed stages ends ≡ None → (replied (drop i requests) stages ends).0 ≡ 0
+none_replied i owed [] stages ends at is = absurd (cc)
+none_replied zero owed (first ∷ rs) stages ends at is =
+    let same : first ≡ owed = cc in
+    let own : reply_of first stages ends ≡ None = subst (λ o. reply_of o stages ends ≡ None) (sym same) is in
+    ap (λ (found : Option (Value × ℕ)). (counts_at found (λ n. replied rs (drop n stages) (drop n ends))).0) own
+none_replied (suc i) owed (first ∷ rs) stages ends at is = none_replied i owed rs stages ends at is
+
+-- and so does the end of the requests
+pub none_left : (i : ℕ) (requests : List PendingReply) (stages : List PartStage) (ends : List Ended) → length requests ≤ i → (replied (drop i requests) stages ends).0 ≡ 0
+none_left i [] stages ends all = ap (λ (rs : List PendingReply). (replied rs stages ends).0) (drop_none i)
+none_left zero (first ∷ rs) stages ends all = absurd (omega (arith, all))
+none_left (suc i) (first ∷ rs) stages ends all = none_left i rs stages ends (omega (arith, all))
+
+-- what was written so far, of the requests of which so many more have their reply
+pub written_so_far : (most i count left : ℕ) (requests : List PendingReply) (stages : List PartStage) (ends : List Ended) (before out : List ℕ)
+    → i + left ≡ (replied requests stages ends).0
+    → out ≡ before ++ bytes_of (replies (take i requests) stages ends [])
+    → ((fewer : ℕ) → fewer < i → length (bytes_of (first_replies fewer requests stages ends [])) < most)
+    → (length out - length before < most → left ≡ 0) → i ≡ count
+    → (bytes : List ℕ) × (out ≡ before ++ bytes) × AreWritten most requests stages ends [] count bytes
+written_so_far most i count left requests stages ends before out total so_far no_more rest is =
+    let bytes = bytes_of (replies (take i requests) stages ends []) in
+    let len : length out ≡ length before + length bytes = ap length so_far ∙ length-append before bytes in
+    subst (λ (n : ℕ). (bs : List ℕ) × (out ≡ before ++ bs) × AreWritten most requests stages ends [] n bs) is (
+      bytes,
+      so_far,
+      record {
+        in_order = omega (arith, total);
+        spelled = ap (λ last. bytes_of (replies (take i requests) stages ends last)) (sym (nothing_last (nat_le (length requests) i)));
+        no_more = no_more;
+        all = λ few. (let none : left ≡ 0 = rest (omega (arith, len, few)) in omega (arith, none, total));
+      },
+    )
+  where
+    nothing_last : (b : Bool) → cond {A = List Value} b [] [] ≡ []
+    nothing_last true = refl
+    nothing_last false = refl
+
+-- the parts of the first of those that are left are among theirs
+pub has_parts : (i n : ℕ) (owed : PendingReply) (requests : List PendingReply) → slice_get requests i ≡ Some owed → AreJoinable (drop i requests) → parts_of (drop i requests) ≡ n → HasParts owed n
+has_parts i n owed [] at joinable counted = absurd (cc)
+has_parts zero n owed (first ∷ rs) at joinable counted = (let same : first ≡ owed = cc in subst (λ o. HasParts o n) same (of_first first joinable counted))
+  where
+    of_first : (own : PendingReply) → AreJoinable (own ∷ rs) → parts_of (own ∷ rs) ≡ n → HasParts own n
+    of_first (Reply value) joinable counted = tt
+    of_first (Parts how m) joinable counted = (omega (arith, counted), joinable.0)
+has_parts (suc i) n owed (first ∷ rs) at joinable counted = has_parts i n owed rs at joinable counted
 
 -- the last lines stand behind the replies of all
 pub line_written : (most : ℕ) (requests : List PendingReply) (stages : List PartStage) (ends : List Ended) (last : List Value) (count : ℕ) (bytes line : List ℕ)

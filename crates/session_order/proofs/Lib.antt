@@ -3,6 +3,7 @@ pub mod Taking
 pub mod Lists
 pub mod Drained
 pub mod Added
+pub mod Roomier
 pub mod Keeping
 pub mod Told
 pub mod Fewer

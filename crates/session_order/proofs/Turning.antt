@@ -184,3 +184,15 @@ top_place first stages later earlier last items x t counts bound =
 pub none_at : (n : ℕ) → (0 < n → false ≡ true) → n ≡ 0
 none_at zero none = refl
 none_at (suc n) none = (let no : false ≡ true = none (omega arith) in search rules)
+
+-- ---- a part that waits
+
+pub waits_within : (stages : List PartStage) (i : ℕ) → IsWaiting (slice_get stages i) → i < length stages
+waits_within [] i waits = absurd waits
+waits_within (s ∷ ss) zero waits = omega arith
+waits_within (s ∷ ss) (suc i) waits = omega (arith, waits_within ss i waits)
+
+pub waits : (stages : List PartStage) (i : ℕ) (s : PartStage) → IsWaiting (slice_get stages i) → slice_get stages i ≡ Some s → ((part : PartModel) → s ≡ Waiting part → ⊥) → ⊥
+waits stages i (Waiting part) is at others = others part refl
+waits stages i (Out slot) is at others = subst IsWaiting at is
+waits stages i Done is at others = subst IsWaiting at is

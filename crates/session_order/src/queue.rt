@@ -129,13 +129,12 @@ impl Queue {
     pub fn is_out(&self, number: u64) -> bool
         ensures { IsTrue result ↔ IsOutAt self.now number }
     {
-        let first = self.tables.first;
-        if number < first || self.tables.stages.len() as u64 <= number - first {
+        let Some(place) = number.checked_sub(self.tables.first) else {
             return false;
-        }
+        };
         matches!(
-            &self.tables.stages[(number - first) as usize],
-            PartStage::Out(_)
+            self.tables.stages.get(place as usize),
+            Some(PartStage::Out(_))
         )
     }
 
@@ -494,14 +493,11 @@ fn take_part(stages: &mut VecDeque<PartStage>, i: usize) -> Part
     ensures part { slice_get stages.old.items i ≡ Some (PartStage.Waiting result) }
     ensures stages { stages.new.items ≡ slice_set stages.old.items i (PartStage.Out (slot_of result.key)) }
 {
-    let PartStage::Waiting(part) = &stages[i] else {
+    let PartStage::Waiting(part) = mem::replace(&mut stages[i], PartStage::Done) else {
         unreachable!()
     };
-    let slot = part.slot();
-    match mem::replace(&mut stages[i], PartStage::Out(slot)) {
-        PartStage::Waiting(part) => part,
-        _ => unreachable!(),
-    }
+    stages[i] = PartStage::Out(part.slot());
+    part
 }
 
 // Lets go of the parts that were not handed out, and of all behind the last that is out.

@@ -40,7 +40,6 @@ pub fn ops_of(value: &Value, asked: NodeId, table: &mut NodeTable) -> Result<Map
 }
 
 /// Finds the first fault of the entries. It takes no memory.
-#[tactic(auto, using(crate::proofs::Checking::fault_of_before, crate::proofs::Checking::host_of_more))]
 fn check(entries: &[Value], asked: NodeId, table: &NodeTable) -> Result<(), MapFault>
     requires { asked < length table.now }
     ensures { Checks (read_entries asked (map data_of entries.now) table.now) result }

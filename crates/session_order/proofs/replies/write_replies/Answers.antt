@@ -1,9 +1,10 @@
-use Rattle.std.proofs.Common.{◌≡◌, ◌<◌, ◌≤◌, ◌+◌, ◌-◌, [], suc, arith, length, refl, take}
+use Rattle.std.proofs.Common.{◌≡◌, ◌<◌, ◌≤◌, ◌+◌, ◌-◌, ◌∙◌, [], None, ℕ, suc, ap, arith, drop, length, length-drop, refl, subst, sym, take}
+use Rattle.std.proofs.lemmas.List.{append-nil}
 use Rattle.std.proofs.lemmas.Grind.{common_steps}
 use Rattle.session_order.specs.Turn.{is_done}
 use Rattle.session_order.proofs.Lists.{all_take}
-use Rattle.session_order.proofs.Fewer.{at_place, one_more_replied, still_few, written_more}
-use Rattle.session_order.specs.Replies.{replied, replies}
+use Rattle.session_order.proofs.Fewer.{at_place, has_parts, none_left, none_replied, one_more_replied, still_few, written_more, written_so_far}
+use Rattle.session_order.specs.Replies.{parts_of, replied, replies, reply_of}
 use Rattle.session_order.proofs.replies.write_replies.Goals as goal
 
 pub loop-i-preserved : goal.loop-i-preserved
@@ -33,3 +34,69 @@ loop-i-preserved c =
       request_count = grind (arith, common_steps);
       no_more = still_few c.args.most c.loop-i.i requests stages ends c.args.out.now.items c.loop-i.out.items so_far.no_more so_far.written below few;
     }
+
+pub returns-then-len-start-clause-written : goal.returns-then-len-start-clause-written
+returns-then-len-start-clause-written c =
+    let so_far = c.loop-i.invariant in
+    let enough : c.args.most ≤ length c.loop-i.out.items - length c.args.out.now.items = grind (arith, common_steps, c.if-len-start.true) in
+    written_so_far _ _ _ _ _ c.args.queue.now.stages _ _ _ so_far.request_count so_far.written so_far.no_more (λ few. absurd (omega (arith, few, enough))) refl
+
+pub returns-in-None-clause-written : goal.returns-in-None-clause-written
+returns-in-None-clause-written c =
+    let does = rw c.in-None.is at c.in_ok-count.ensures.does in
+    let so_far = c.loop-i.invariant in
+    let requests = c.args.requests.now.items in
+    let stages = drop c.loop-i.parts c.args.queue.now.stages in
+    let below : c.loop-i.i < length requests = grind (arith, common_steps) in
+    let at = at_place requests c.loop-i.i c.index.result.now below c.index.ensures in
+    let none = subst (λ ends. reply_of c.index.result.now stages (drop c.loop-i.parts ends) ≡ None) so_far.same does.0 in
+    written_so_far _ _ _ _ _ c.args.queue.now.stages _ _ _ so_far.request_count (does.1 ∙ so_far.written) so_far.no_more (λ few. none_replied c.loop-i.i _ requests stages _ at none) refl
+
+pub returns-clause-written : goal.returns-clause-written
+returns-clause-written c =
+    let so_far = c.loop-i.invariant in
+    let requests = c.args.requests.now.items in
+    let all : length requests ≤ c.loop-i.i = grind (arith, common_steps) in
+    let end : c.loop-i.i ≡ c.len-2.result = grind (arith, common_steps) in
+    written_so_far _ _ _ _ _ c.args.queue.now.stages _ _ _ so_far.request_count so_far.written so_far.no_more (λ few. none_left c.loop-i.i requests _ _ all) end
+
+pub loop-i-init : goal.loop-i-init
+loop-i-init c =
+    record {
+      same = refl;
+      bound = omega arith;
+      known = refl;
+      counted = c.requires.counted;
+      joinable = c.requires.joinable;
+      written = sym (append-nil c.args.out.now.items);
+      parts = refl;
+      request_count = omega arith;
+      no_more = λ fewer none. absurd (omega (arith, none));
+    }
+
+pub write_reply-requires-clause-parts : goal.write_reply-requires-clause-parts
+write_reply-requires-clause-parts c =
+    let so_far = c.loop-i.invariant in
+    let requests = c.args.requests.now.items in
+    let below : c.loop-i.i < length requests = grind (arith, common_steps) in
+    let places : length c.loop-i.ends.items ≡ length c.args.queue.now.stages = ap length so_far.same ∙ c.requires.places in
+    has_parts c.loop-i.i _ _ requests (at_place requests c.loop-i.i _ below c.index.ensures) so_far.joinable
+    (omega (arith, so_far.counted, length-drop c.loop-i.parts c.args.queue.now.stages, places))
+
+pub returns-clause-parts : goal.returns-clause-parts
+returns-clause-parts c =
+    let requests = c.args.requests.now.items in
+    let end : c.loop-i.i ≡ c.len-2.result = grind (arith, common_steps) in
+    c.loop-i.invariant.parts ∙ ap (λ (n : ℕ). parts_of (take n requests)) end
+
+pub returns-then-len-start-clause-grown : goal.returns-then-len-start-clause-grown
+returns-then-len-start-clause-grown c = (_, c.loop-i.invariant.written)
+
+pub returns-in_err-count-clause-grown : goal.returns-in_err-count-clause-grown
+returns-in_err-count-clause-grown c = (_, c.in_err-count.ensures.does ∙ c.loop-i.invariant.written)
+
+pub returns-in-None-clause-grown : goal.returns-in-None-clause-grown
+returns-in-None-clause-grown c = (_, (rw c.in-None.is at c.in_ok-count.ensures.does).1 ∙ c.loop-i.invariant.written)
+
+pub returns-clause-grown : goal.returns-clause-grown
+returns-clause-grown c = (_, c.loop-i.invariant.written)
