@@ -249,7 +249,7 @@ def large_words_in_parts():
 
 def large_word_in_one_write():
     """What stands before a large value goes out with it by one write, and the rest of the request with the next call."""
-    row = Row("a_value_of_300000_bytes_goes_out_in_two_writes")
+    row = Row("a_value_of_300000_bytes_goes_out_in_two_writes", note="a value of 300,000 bytes")
     begin(row, [], "port")
     value = "x" * 300_000
     row.call(f"port send 0.0.0 0 plain SET a {value}")
