@@ -77,8 +77,9 @@ impl ByteQueue {
         ensures { MatchOption result (self.new ≡ self.old) (λ part. (part ≡ self.old) × (self.new ≡ [])) }
     {
         let alloc = self.allocator();
-        let bytes = mem::replace(&mut self.bytes, Vec::new(alloc));
+        let mut bytes = mem::replace(&mut self.bytes, Vec::new(alloc));
         let expected = expected_after(self.expected, bytes.len());
+        give_back_room(&mut bytes);
         match Part::new(alloc, bytes, self.start) {
             Ok(part) => {
                 self.expected = expected;
@@ -118,8 +119,10 @@ impl ByteQueue {
     fn compact(&mut self)
         ensures { self.new ≡ self.old }
     {
-        if self.start > self.bytes.len() / 2 {
-            let _ = self.bytes.drain(..self.start);
+        let len = self.bytes.len();
+        if self.start > len / 2 {
+            self.bytes.copy_within(self.start..len, 0);
+            self.bytes.truncate(len - self.start);
             self.start = 0;
         }
     }
@@ -162,6 +165,16 @@ impl ByteQueue {
         } else {
             self.bytes.clear();
         }
+    }
+}
+
+/// Gives back the room behind the bytes where it is more than an eighth of them: a buffer that grew by doubling may have as
+/// much as they take, and its owners may keep it for long.
+fn give_back_room(bytes: &mut Vec<u8>)
+    ensures { bytes.new.items ≡ bytes.old.items }
+{
+    if bytes.capacity() / 9 > bytes.len() / 8 {
+        bytes.shrink_to_fit();
     }
 }
 
