@@ -23,8 +23,8 @@ import rounds
 FREE = 5_000_000_000
 # Rounds that run at once while `rt ci` still runs.
 BESIDE = 2
-# A program of tests that tests/program runs once more.
-TESTS = "thread_tests_tests"
+# Programs of tests that tests/rows and tests/program run once more.
+TESTS = ("row_driver_tests", "thread_tests_tests")
 # What the last run of the gate took.
 TOOK = Path(__file__).resolve().parent / "out/took.txt"
 
@@ -167,7 +167,7 @@ class Gate:
     def bring_programs(self):
         """Puts the programs that `rt ci` built, and the tests that are run once more, where those look for them that run them."""
         for name in self.crates:
-            for program in (name, TESTS):
+            for program in (name, *TESTS):
                 built = self.proved / "crates" / name / "out" / program
                 if built.is_file():
                     to = self.tree / "crates" / name / "out"

@@ -1,4 +1,4 @@
-"""The program that makes the calls of rows."""
+"""The test that makes the calls of rows."""
 
 import os
 import re
@@ -8,15 +8,23 @@ import tempfile
 import time
 from pathlib import Path
 
-# $ROW_DRIVER, or the program that the repository builds.
-BUILT = Path(__file__).resolve().parents[2] / "crates/row_driver/out/row_driver"
+# $ROW_DRIVER, or the tests that the repository builds: a program that runs one of them by its name.
+BUILT = Path(__file__).resolve().parents[2] / "crates/row_driver/out/row_driver_tests"
+# What it writes behind what the test wrote.
+PASSED = "\ntest result: ok\n"
 
 
 def driver():
+    """The words that run the test of rows."""
     program = os.environ.get("ROW_DRIVER", BUILT)
     if not os.access(program, os.X_OK):
-        sys.exit(f"{program} is not there: rt run in crates/row_driver builds it")
-    return program
+        sys.exit(f"{program} is not there: rt ci builds it")
+    return [program, "rows::of_standard_input"]
+
+
+def answers_in(written):
+    """The lines of answers in what the test's program wrote."""
+    return written.decode().removesuffix(PASSED).splitlines()
 
 
 def answers_to(lines):
@@ -25,10 +33,10 @@ def answers_to(lines):
         given.write("".join(line + "\n" for line in lines).encode())
         given.seek(0)
         start = time.monotonic()
-        subprocess.run([driver()], stdin=given, stdout=found, check=True)
+        subprocess.run(driver(), stdin=given, stdout=found, check=True)
         seconds = time.monotonic() - start
         found.seek(0)
-        return found.read().decode().splitlines(), seconds
+        return answers_in(found.read()), seconds
 
 
 # How often a row is made before what it took counts as a fault: a machine that had a pause of its own may be the reason.

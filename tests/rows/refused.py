@@ -8,7 +8,7 @@ import tempfile
 import time
 from collections import Counter
 
-from driver import driver
+from driver import answers_in, driver
 from growths import Growths, compiler
 
 # The rows of a table that are made, but for generated ones and these.
@@ -97,10 +97,10 @@ class Sweep:
             given.seek(0)
             self.growths.refuse(number)
             try:
-                ran = subprocess.run([driver()], stdin=given, stdout=subprocess.PIPE, env=environment, timeout=LIMIT, check=True)
+                ran = subprocess.run(driver(), stdin=given, stdout=subprocess.PIPE, env=environment, timeout=LIMIT, check=True)
             except subprocess.SubprocessError:
                 return None
-        return ran.stdout.decode().splitlines()[1:]
+        return answers_in(ran.stdout)[1:]
 
     def failures(self, row):
         """A line for each growth of the row whose refusal leads to something else."""

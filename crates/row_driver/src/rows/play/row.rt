@@ -1,0 +1,58 @@
+//! Rows, each over a new play.
+
+ghost use Rattle.std.specs.Prelude.{◌≡◌};
+ghost use Rattle.proxy_lanes.specs.Opened.{book_of};
+
+use crate::rows::play::objects::PlayObjects;
+use crate::rows::play::stage::Stage;
+use crate::rows::proxy;
+use crate::rows::proxy::client::SharedClient;
+use crate::rows::proxy::gate::Open;
+use proxy_lanes::{Naming, Opened, lanes};
+use proxy_turns::Newcomer;
+use row_words::{Objects, Rows};
+use std::alloc::AllocGlobal;
+use std::io::{self, BufRead, Write};
+use std::marker::Brand;
+use std::random::RandomSource;
+use std::sync::Wait;
+use std::time::Clock;
+
+/// How many workers there are in a play.
+const WORKERS: u16 = 2;
+
+/// Answers the lines of one row, over a new play, a new proxy and these objects. It is false where that was the last one.
+pub fn answer_row<R, B, W, O>(rt: R, others: O, rows: &mut Rows<B, W>) -> io::Result<bool>
+where
+    R: Wait + RandomSource + Clock + AllocGlobal + Copy + Drop,
+    B: BufRead,
+    W: Write,
+    O: Objects + Drop,
+{
+    row_named::<Brand, R, B, W, O>(rt, Opened::new(), others, rows)
+}
+
+fn row_named<J, R, B, W, O>(
+    rt: R,
+    opened: Opened,
+    others: O,
+    rows: &mut Rows<B, W>,
+) -> io::Result<bool>
+where
+    J: Naming,
+    R: Wait + RandomSource + Clock + AllocGlobal + Copy + Drop,
+    B: BufRead,
+    W: Write,
+    O: Objects + Drop,
+    requires { book_of opened ≡ J.book }
+{
+    let gate = Open;
+    match lanes::<Newcomer<SharedClient, J>, J, R>(rt.alloc(), rt, opened, WORKERS) {
+        Ok((workers, carrier)) => {
+            let stage = Stage::new(rt.alloc(), &gate, workers, carrier);
+            let objects = PlayObjects::new(rt.alloc(), stage, others);
+            proxy::answer_row(rt, objects, rows)
+        }
+        Err(_) => Ok(false),
+    }
+}

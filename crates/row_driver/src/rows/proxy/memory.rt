@@ -1,0 +1,75 @@
+//! Workers and a carrier of the proxy, between clients and nodes in memory.
+
+use crate::rows::proxy::client::SharedClient;
+use crate::rows::proxy::dial::MemoryDial;
+use crate::rows::proxy::gate::Open;
+use crate::rows::proxy::port::MemoryPort;
+use crate::rows::proxy::turned::{Hands, Turned};
+use node_link::Fuse;
+use proxy_lanes::{CarrierEnds, Naming, Publisher, WorkerEnds};
+use proxy_turns::{Carrier, Newcomer, Worker};
+use resp_wire::NoMemory;
+use row_words::CallFault;
+use std::alloc::Global;
+use std::sync::Wait;
+
+pub type MemoryCarrier<J, R> = Carrier<
+    Newcomer<SharedClient, J>,
+    Publisher<J, R>,
+    MemoryDial,
+    Fuse<MemoryPort>,
+>;
+
+pub type MemoryWorker<'g, J> = Worker<'g, SharedClient, J, Open>;
+
+pub type MemoryEnds<J> = WorkerEnds<Newcomer<SharedClient, J>, J>;
+
+pub type MemoryCarrierEnds<J, R> = CarrierEnds<Newcomer<SharedClient, J>, Publisher<J, R>>;
+
+impl<'g, J: Naming> Turned for MemoryWorker<'g, J> {
+    fn turn(&mut self) -> Result<bool, NoMemory> {
+        self.turn()
+    }
+}
+
+impl<J: Naming, R: Wait + Drop> Turned for MemoryCarrier<J, R> {
+    fn turn(&mut self) -> Result<bool, NoMemory> {
+        self.turn()
+    }
+}
+
+impl<J: Naming, R: Wait + Drop> Hands for MemoryCarrier<J, R> {
+    fn hand(&mut self, worker: u16, number: u32, port: SharedClient) -> Result<bool, CallFault> {
+        newcomer_to(self.ends(), worker, number, port)
+    }
+}
+
+/// Hands a new client to its worker. False where the worker's lane is full.
+pub fn newcomer_to<J: Naming, R: Wait + Drop>(
+    ends: &mut MemoryCarrierEnds<J, R>,
+    worker: u16,
+    number: u32,
+    port: SharedClient,
+) -> Result<bool, CallFault> {
+    if usize::from(worker) >= ends.workers() {
+        return Err(CallFault::BadNumber);
+    }
+    let newcomer = Newcomer {
+        number,
+        port,
+        front: None,
+    };
+    Ok(ends.hand(worker, newcomer).is_ok())
+}
+
+pub fn workers_for<'g, J: Naming>(
+    alloc: Global,
+    ends: Vec<MemoryEnds<J>>,
+    gate: &'g Open,
+) -> Result<Vec<MemoryWorker<'g, J>>, CallFault> {
+    let mut workers = Vec::new(alloc);
+    for own in ends {
+        workers.push(Worker::new(alloc, own, gate, None))?;
+    }
+    Ok(workers)
+}

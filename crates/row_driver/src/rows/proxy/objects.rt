@@ -1,0 +1,77 @@
+//! The objects of a row, by name.
+
+use crate::rows::proxy::clients::Clients;
+use crate::rows::proxy::lane::Lane;
+use crate::rows::proxy::nodes::SharedNodes;
+use crate::rows::proxy::turned::{Hands, Turned, Turns};
+use crate::rows::proxy::{future, steps, timing, turns};
+use proxy_lanes::Naming;
+use row_words::{Answer, Args, CallFault, Objects};
+use std::alloc::AllocGlobal;
+use std::random::RandomSource;
+use std::sync::Wait;
+use std::time::Clock;
+
+/// Workers and a carrier, with their clients and nodes, the lane of the last worker, and objects that are asked for no turn.
+#[derive(Drop)]
+pub struct TurnObjects<J: Naming, R, W, C, O> {
+    pub rt: R,
+    pub clients: Clients,
+    pub nodes: SharedNodes,
+    pub turned: Turns<W, C>,
+    pub lane: Lane<J>,
+    pub others: O,
+}
+
+impl<J, R, W, C, O> Objects for TurnObjects<J, R, W, C, O>
+where
+    J: Naming,
+    R: Wait + RandomSource + Clock + AllocGlobal,
+    W: Turned,
+    C: Hands,
+    O: Objects,
+{
+    fn call(
+        &mut self,
+        object: &str,
+        args: &mut Args<'_>,
+        answer: &mut Answer,
+    ) -> Result<(), CallFault> {
+        match object {
+            "turns" => turns::call(&mut self.turned, &mut self.clients, args, answer),
+            "lane" => self.lane.call(args, answer),
+            "nodes" => steps::call(&self.nodes, args, answer),
+            _ => self.call_of_runtime(object, args, answer),
+        }
+    }
+}
+
+impl<J, R, W, C, O> TurnObjects<J, R, W, C, O>
+where
+    J: Naming,
+    R: Wait + RandomSource + Clock + AllocGlobal,
+    W: Turned,
+    C: Hands,
+    O: Objects,
+{
+    /// A call that needs the runtime, or of another object.
+    fn call_of_runtime(
+        &mut self,
+        object: &str,
+        args: &mut Args<'_>,
+        answer: &mut Answer,
+    ) -> Result<(), CallFault> {
+        match object {
+            "time" => timing::call(&self.rt, &mut self.turned, args, answer),
+            "future" => future::call(
+                &self.rt,
+                &mut self.lane,
+                &self.turned.carrier,
+                &self.clients,
+                args,
+                answer,
+            ),
+            _ => self.others.call(object, args, answer),
+        }
+    }
+}

@@ -1,0 +1,115 @@
+//! Rows, each over a new proxy.
+
+ghost use Rattle.std.specs.Prelude.{◌≡◌};
+ghost use Rattle.proxy_lanes.specs.Opened.{book_of};
+
+use crate::rows::proxy::client::SharedClient;
+use crate::rows::proxy::clients::Clients;
+use crate::rows::proxy::gate::Open;
+use crate::rows::proxy::lane::Lane;
+use crate::rows::proxy::memory::{MemoryCarrierEnds, MemoryEnds, workers_for};
+use crate::rows::proxy::nodes::SharedNodes;
+use crate::rows::proxy::objects::TurnObjects;
+use crate::rows::proxy::outside::Outside;
+use crate::rows::proxy::turned::{Hands, Turned, Turns};
+use proxy_lanes::{Naming, Opened, lanes};
+use proxy_turns::{Carrier, Newcomer};
+use row_words::{CallFault, Objects, Rows};
+use std::alloc::{AllocGlobal, Global};
+use std::io::{self, BufRead, Write};
+use std::marker::Brand;
+use std::random::RandomSource;
+use std::sync::Wait;
+use std::time::Clock;
+
+/// How many workers have lanes.
+const LANES: u16 = 4;
+
+/// Answers the lines of one row, over a new proxy and these objects. It is false where that was the last one.
+pub fn answer_row<R, B, W, O>(rt: R, others: O, rows: &mut Rows<B, W>) -> io::Result<bool>
+where
+    R: Wait + RandomSource + Clock + AllocGlobal + Copy + Drop,
+    B: BufRead,
+    W: Write,
+    O: Objects + Drop,
+{
+    row_named::<Brand, R, B, W, O>(rt, Opened::new(), others, rows)
+}
+
+fn row_named<J, R, B, W, O>(
+    rt: R,
+    opened: Opened,
+    others: O,
+    rows: &mut Rows<B, W>,
+) -> io::Result<bool>
+where
+    J: Naming,
+    R: Wait + RandomSource + Clock + AllocGlobal + Copy + Drop,
+    B: BufRead,
+    W: Write,
+    O: Objects + Drop,
+    requires { book_of opened ≡ J.book }
+{
+    let Ok(outside) = Outside::new(rt.alloc()) else {
+        return Ok(false);
+    };
+    match lanes::<Newcomer<SharedClient, J>, J, R>(rt.alloc(), rt, opened, LANES) {
+        Ok((ends, carrier)) => row_over(rt, outside, ends, carrier, others, rows),
+        Err(_) => Ok(false),
+    }
+}
+
+/// A row with a worker for each of these ends but the last, and a carrier that knows the seed alone.
+fn row_over<J, R, B, W, O>(
+    rt: R,
+    outside: Outside,
+    mut ends: Vec<MemoryEnds<J>>,
+    carrier: MemoryCarrierEnds<J, R>,
+    others: O,
+    rows: &mut Rows<B, W>,
+) -> io::Result<bool>
+where
+    J: Naming,
+    R: Wait + RandomSource + Clock + AllocGlobal + Copy + Drop,
+    B: BufRead,
+    W: Write,
+    O: Objects + Drop,
+{
+    let carrier = Carrier::new(rt.alloc(), carrier, outside.dial, outside.known);
+    let lane = Lane::new(rt.alloc(), ends.pop());
+    let gate = Open;
+    let workers = workers_for(rt.alloc(), ends, &gate);
+    row_with(rt, outside.nodes, workers, carrier, lane, others, rows)
+}
+
+// The types of workers and carriers are parameters here, since a value of such a type is dropped by one call.
+fn row_with<J, R, B, W, T, C, O>(
+    rt: R,
+    nodes: SharedNodes,
+    workers: Result<Vec<T>, CallFault>,
+    carrier: C,
+    lane: Lane<J>,
+    others: O,
+    rows: &mut Rows<B, W>,
+) -> io::Result<bool>
+where
+    J: Naming,
+    R: Wait + RandomSource + Clock + AllocGlobal + Copy + Drop,
+    B: BufRead,
+    W: Write,
+    T: Turned + Drop,
+    C: Hands + Drop,
+    O: Objects + Drop,
+{
+    let Ok(workers) = workers else {
+        return Ok(false);
+    };
+    rows.answer_row(TurnObjects {
+        rt,
+        clients: Clients::new(rt.alloc()),
+        nodes,
+        turned: Turns::new(workers, carrier),
+        lane,
+        others,
+    })
+}
