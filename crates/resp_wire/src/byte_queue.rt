@@ -6,6 +6,7 @@ ghost use Rattle.resp_wire.specs.Seen.{data_of};
 
 use crate::fault::NoMemory;
 use crate::part::Part;
+use crate::room::make_room;
 use crate::value::Value;
 use crate::write::write_value;
 use std::alloc::{AllocFailed, Global};
@@ -99,7 +100,8 @@ impl ByteQueue {
         ensures err { OnErr result (self.new ≡ self.old) }
     {
         self.compact();
-        self.make_room(piece.len());
+        self.expect(piece.len());
+        make_room(&mut self.bytes, piece.len());
         match self.bytes.extend_from_slice(piece) {
             Ok(()) => Ok(()),
             Err(_) => Err(NoMemory),
@@ -129,7 +131,7 @@ impl ByteQueue {
 
     /// Makes the room that was needed lately, where the next bytes do not fit in the buffer and are more than a few. Where
     /// it is refused, the buffer grows by what it must.
-    fn make_room(&mut self, count: usize)
+    fn expect(&mut self, count: usize)
         ensures { self.new ≡ self.old }
     {
         let len = self.bytes.len();

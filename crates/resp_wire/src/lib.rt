@@ -24,6 +24,7 @@ mod number;
 mod part;
 mod place;
 mod reader;
+mod room;
 mod scan;
 mod short;
 mod text;

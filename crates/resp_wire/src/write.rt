@@ -2,13 +2,14 @@
 
 ghost use Rattle.std.specs.Prelude.{◌≡◌, ◌++◌, [], OnOk, OnErr, decimal, map};
 ghost use Rattle.std.specs.Fmt.{signed_decimal};
-ghost use Rattle.resp_wire.specs.Data.{items_of};
+ghost use Rattle.resp_wire.specs.Data.{bulk, items_of};
 ghost use Rattle.resp_wire.specs.Seen.{data_of};
 ghost use Rattle.resp_wire.specs.Gives.{Grows};
 ghost use Rattle.resp_wire.specs.Canonical as spec;
 ghost use Rattle.resp_wire.specs.Canonical.{canonical, canonical_all};
 
 use crate::fault::NoMemory;
+use crate::room::make_room;
 use crate::value::{Value, Values};
 use itoa::Buffer;
 use std::alloc::AllocError;
@@ -47,6 +48,17 @@ fn push_length(out: &mut Vec<u8>, kind: u8, len: usize) -> Result<(), AllocError
     push_line(out, kind, buffer.format(len).as_bytes())
 }
 
+/// A bulk string, at the end.
+fn push_bulk(out: &mut Vec<u8>, body: &[u8]) -> Result<(), AllocError>
+    ensures ok { OnOk result (out.new.items ≡ out.old.items ++ canonical (bulk body.now)) }
+    ensures grows { Grows out.old.items out.new.items }
+{
+    make_room(out, body.len());
+    push_length(out, b'$', body.len())?;
+    out.extend_from_slice(body)?;
+    out.extend_from_slice(b"\r\n")
+}
+
 /// The canonical spelling of a value, at the end. An `Err` may leave a part of it.
 #[cycle(write)]
 fn push_value(out: &mut Vec<u8>, value: &Value) -> Result<(), AllocError>
@@ -60,11 +72,7 @@ fn push_value(out: &mut Vec<u8>, value: &Value) -> Result<(), AllocError>
             let mut buffer = Buffer::new();
             push_line(out, b':', buffer.format(*number).as_bytes())
         }
-        Value::Bulk(bytes) => {
-            push_length(out, b'$', bytes.as_slice().len())?;
-            out.extend_from_slice(bytes.as_slice())?;
-            out.extend_from_slice(b"\r\n")
-        }
+        Value::Bulk(bytes) => push_bulk(out, bytes.as_slice()),
         Value::NullBulk => push_line(out, b'$', b"-1"),
         Value::Array(items) => {
             push_length(out, b'*', items.as_slice().len())?;

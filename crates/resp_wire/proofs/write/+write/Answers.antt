@@ -13,7 +13,7 @@ push_items-push_value-requires t c =
 
 pub push_value-returns-in_ok-push_length-in-Array-clause-ok : goal.push_value-returns-in_ok-push_length-in-Array-clause-ok
 push_value-returns-in_ok-push_length-in-Array-clause-ok t c =
-    rw c.in-Array.is (written c.push_items.result c.args.out.now.items c.push_length-in-Array.new.out.items c.push_items.new.out.items _ c.in-Array.items (mapped_length c.as_slice-in-Array.result.now c.in-Array.items c.as_slice-in-Array.ensures) c.in_ok-push_length-in-Array.ensures.ok c.push_items.ensures.ok)
+    rw c.in-Array.is (written c.push_items.result c.args.out.now.items c.push_length.new.out.items c.push_items.new.out.items _ c.in-Array.items (mapped_length c.as_slice-in-Array.result.now c.in-Array.items c.as_slice-in-Array.ensures) c.in_ok-push_length-in-Array.ensures.ok c.push_items.ensures.ok)
 
 pub push_items-returns-in_err-push_value-clause-grows : goal.push_items-returns-in_err-push_value-clause-grows
 push_items-returns-in_err-push_value-clause-grows t c = grows_then c.args.out.now.items c.loop-item.out.items c.push_value.new.out.items c.loop-item.invariant.1 c.push_value.ensures.grows
