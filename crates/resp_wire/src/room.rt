@@ -2,7 +2,7 @@
 
 ghost use Rattle.std.specs.Prelude.{◌≡◌};
 
-/// How many bytes a buffer may have and double as any list does.
+/// Up to so many bytes a buffer doubles, as any list does.
 const MOST_DOUBLED_BYTES: usize = 262_144;
 
 /// Makes room for so many bytes more in a large buffer that lacks it: a quarter more than it needs then, since one that has
