@@ -41,6 +41,14 @@ def copy_tree(tree, to):
     shutil.copytree(tree, to, symlinks=True, ignore=away, dirs_exist_ok=True)
 
 
+def words_of_ci():
+    """The words of an `rt ci` from nothing. A kit whose `rt ci` takes what an earlier run passed has the word `--anew` for it; others
+    always begin from nothing, and answer the word with how they are used."""
+    with tempfile.TemporaryDirectory(prefix="edits-") as room:
+        tried = subprocess.run(["rt", "ci", "--anew"], cwd=room, stdin=subprocess.DEVNULL, capture_output=True, text=True, errors="replace", check=False)
+    return ["rt", "ci"] if (tried.stdout + tried.stderr).startswith("usage:") else ["rt", "ci", "--anew"]
+
+
 def free_memory():
     """The memory that is free, in bytes."""
     with open("/proc/meminfo", encoding="ascii") as lines:
@@ -114,7 +122,7 @@ class Gate:
     def run_ci(self, lanes):
         """Runs `rt ci` over the copy, with nothing that an earlier run on this machine proved, and gives its status."""
         how = {"cwd": self.proved, "stdin": subprocess.DEVNULL, "stdout": subprocess.PIPE, "stderr": subprocess.STDOUT}
-        with subprocess.Popen(["rt", "ci", "--anew"], env={**os.environ, "RT_JOBS": str(lanes)}, text=True, errors="replace", **how) as started:
+        with subprocess.Popen(words_of_ci(), env={**os.environ, "RT_JOBS": str(lanes)}, text=True, errors="replace", **how) as started:
             for line in started.stdout:
                 print(line, end="", flush=True)
                 self.heard(line.rstrip("\n"))
