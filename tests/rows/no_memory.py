@@ -58,6 +58,7 @@ BY_TESTS = {
     "run_faulty": ("crates/thread_tests/src/local_runs.rt", "fn connections_that_pass_no_call_on("),
     "run_wire": ("tests/program/test_serve.py", "def test_set_then_get_with_two_workers("),
     "run_nodes": ("tests/program/test_nodes.py", "def test_a_node_sends_to_the_owner_and_takes_one_key("),
+    "write_bulk_head": ("tests/real/cases_commands.py", "def big_values(world"),
     "run_one": ("tests/program/test_one.py", "def test_answers_of_an_empty_store("),
 }
 

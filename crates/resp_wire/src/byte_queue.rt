@@ -6,7 +6,6 @@ ghost use Rattle.resp_wire.specs.Seen.{data_of};
 
 use crate::fault::NoMemory;
 use crate::part::Part;
-use crate::room::make_room;
 use crate::value::Value;
 use crate::write::write_value;
 use std::alloc::{AllocFailed, Global};
@@ -101,7 +100,6 @@ impl ByteQueue {
     {
         self.compact();
         self.expect(piece.len());
-        make_room(&mut self.bytes, piece.len());
         match self.bytes.extend_from_slice(piece) {
             Ok(()) => Ok(()),
             Err(_) => Err(NoMemory),
@@ -129,16 +127,17 @@ impl ByteQueue {
         }
     }
 
-    /// Makes the room that was needed lately, where the next bytes do not fit in the buffer and are more than a few. Where
-    /// it is refused, the buffer grows by what it must.
+    /// Makes the room that was needed lately, where the next bytes do not fit in the buffer and are more than a few, or a quarter
+    /// more than they need: in a buffer that doubled a value may not fill the half. Where it is refused, the buffer grows by what
+    /// it must.
     fn expect(&mut self, count: usize)
         ensures { self.new ≡ self.old }
     {
         let len = self.bytes.len();
         let needed = len.saturating_add(count);
-        let is_large = needed > MOST_SMALL_BYTES && needed > self.bytes.capacity();
-        if is_large && needed < self.expected {
-            let _ = self.bytes.reserve_exact(self.expected - len);
+        if needed > MOST_SMALL_BYTES && needed > self.bytes.capacity() {
+            let room = self.expected.max(needed.saturating_add(needed / 4));
+            let _ = self.bytes.reserve_exact(room.saturating_sub(len));
         }
     }
 

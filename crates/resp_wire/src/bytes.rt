@@ -1,6 +1,7 @@
 //! Bytes that travel as one value.
 
-ghost use Rattle.std.specs.Prelude.{◌≡◌, IfOk, nat_eq, pos, length, ◌++◌};
+ghost use Rattle.std.specs.Prelude.{◌≡◌, IfOk, IfSome, nat_eq, pos, length, ◌++◌, ◌∷◌, []};
+ghost use Rattle.resp_wire.specs.Spelling.{cr, lf};
 ghost use Rattle.std.proofs.Common.{rules};
 ghost use Rattle.std.specs.Cmp.{partial_order_from_own_ties};
 ghost use Rattle.std.specs.Cmp.Rules.{comparing, hashing};
@@ -86,6 +87,17 @@ impl Bytes {
             Held::Shared(part) => Held::Shared(part.copy()?),
         };
         Ok(Bytes { held })
+    }
+
+    /// The same bytes and a line end behind them, where they lie so in the buffer that they came in.
+    pub fn with_line_end(&self) -> Option<Bytes>
+        ensures { IfSome result (λ line. line ≡ self.now ++ cr ∷ lf ∷ []) }
+    {
+        match &self.held {
+            Held::Shared(part) => Some(Bytes::from_part(part.with_line_end()?)),
+            Held::Short(_) => None,
+            Held::Owned(_) => None,
+        }
     }
 
     pub fn as_slice(&self) -> &[u8]

@@ -41,4 +41,4 @@ pub use reader::Reader;
 pub use text::{Line, is_one_line};
 pub use value::{Value, Values};
 pub use words::Words;
-pub use write::write_value;
+pub use write::{write_bulk_head, write_value};

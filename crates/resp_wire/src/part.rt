@@ -1,6 +1,7 @@
 //! A part of a buffer that has several owners.
 
-ghost use Rattle.std.specs.Prelude.{◌≡◌, ◌≤◌, ◌+◌, length, take, drop, IfOk, IfErr};
+ghost use Rattle.std.specs.Prelude.{◌≡◌, ◌≤◌, ◌+◌, ◌++◌, ◌∷◌, [], length, take, drop, IfOk, IfErr, IfSome};
+ghost use Rattle.resp_wire.specs.Spelling.{cr, lf};
 
 use crate::fault::NoMemory;
 use std::alloc::{AllocFailed, Global};
@@ -70,6 +71,21 @@ impl Part {
             whole: Arc::try_clone(&self.whole)?,
             start,
             end: start + count,
+        })
+    }
+
+    /// The same bytes and the line end behind them, where the buffer has one there.
+    pub(crate) fn with_line_end(&self) -> Option<Part>
+        ensures { IfSome result (λ line. line ≡ self.now ++ cr ∷ lf ∷ []) }
+    {
+        let [b'\r', b'\n', ..] = &self.whole[self.end..] else {
+            return None;
+        };
+        let whole = Arc::try_clone(&self.whole).ok()?;
+        Some(Part {
+            whole,
+            start: self.start,
+            end: self.end + 2,
         })
     }
 

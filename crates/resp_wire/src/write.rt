@@ -6,6 +6,7 @@ ghost use Rattle.resp_wire.specs.Data.{bulk, items_of};
 ghost use Rattle.resp_wire.specs.Seen.{data_of};
 ghost use Rattle.resp_wire.specs.Gives.{Grows};
 ghost use Rattle.resp_wire.specs.Canonical as spec;
+ghost use Rattle.resp_wire.specs.Spelling.{dollar};
 ghost use Rattle.resp_wire.specs.Canonical.{canonical, canonical_all};
 
 use crate::fault::NoMemory;
@@ -24,6 +25,21 @@ pub fn write_value(out: &mut Vec<u8>, value: &Value) -> Result<(), NoMemory>
         Ok(()) => Ok(()),
         Err(_) => {
             out.truncate(before);
+            Err(NoMemory)
+        }
+    }
+}
+
+/// Appends what stands before the bytes of a bulk string that has so many. An `Err` leaves what was there.
+pub fn write_bulk_head(out: &mut Vec<u8>, len: usize) -> Result<(), NoMemory>
+    ensures ok { OnOk result (out.new.items ≡ out.old.items ++ spec.line dollar (decimal len) []) }
+    ensures err { OnErr result (out.new.items ≡ out.old.items) }
+{
+    let start = out.len();
+    match push_length(out, b'$', len) {
+        Ok(()) => Ok(()),
+        Err(_) => {
+            out.truncate(start);
             Err(NoMemory)
         }
     }
