@@ -1,7 +1,7 @@
 -- A connection in bytes: the canonical spellings of the requests go out, and the spellings of the values come in.
 -- Redis serialization protocol (RESP2) specification, "Sending commands to a Redis server".
 -- Commands of any size may be cut at any byte. What a node sends is read within the largest limits of resp_wire.
-use Rattle.std.specs.Prelude.{◌≡◌, ◌⊎◌, ◌++◌, ◌∷◌, List, [], ℕ, ◌<◌, ◌≤◌, ◌-◌, Option, Some, None, Result, Ok, Err, codes, length, map, take}
+use Rattle.std.specs.Prelude.{◌≡◌, ◌⊎◌, ◌++◌, ◌∷◌, List, [], ℕ, ◌<◌, ◌≤◌, ◌-◌, Bool, true, Option, Some, None, Result, Ok, Err, codes, length, map, take}
 use Rattle.std.specs.List.{flat_map}
 use Rattle.resp_wire.specs.LimitsModel.{LimitsModel}
 use Rattle.resp_wire.specs.Canonical.{canonical}
@@ -124,6 +124,10 @@ IsFaultFirst input unfed = elim input.fault as (λ x. Type 0) [
   | Some fault ↦ (front input.bounds input.unread ≡ Faulty fault) × (unfed ≡ [])
   | None ↦ Unit {0}
 ]
+
+-- where this is said, the reader was fed less than a value, and found no fault in it
+abbrev pub IsShortWhere : Bool → ReaderModel → Type 0
+IsShortWhere said input = said ≡ true → (front input.bounds input.unread ≡ Partial) × (input.fault ≡ None)
 
 -- some bytes were read
 abbrev pub FillOutcome : {S : Type 0} → (S → ℕ) → (S → List ℕ → List ℕ → S → Type 0) → S → InboxModel → Result (Unit {0}) Gone → S → InboxModel → Type 0

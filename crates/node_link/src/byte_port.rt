@@ -121,6 +121,6 @@ impl<S: Stream> NodePort for BytePort<S> {
         if let Err(Gone) = self.inbox.fill(&mut self.stream) {
             return Err(PortFault::Failed);
         }
-        self.inbox.take_more()
+        self.inbox.take()
     }
 }

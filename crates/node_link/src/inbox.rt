@@ -3,7 +3,7 @@
 ghost use Rattle.std.specs.Prelude.{◌≡◌, ◌≤◌, [], None, OnOk, length, take};
 ghost use Rattle.node_link.specs.declared.stream.Flow.{Flow};
 ghost use Rattle.node_link.specs.Bytes.{input_of, FillOutcome, ReadChunkOutcome, TakeOutcome};
-ghost use Rattle.node_link.specs.Waiting.{IsWaiting, WasRead};
+ghost use Rattle.node_link.specs.Waiting.{WasRead};
 
 use crate::port::PortFault;
 use crate::stream::{Flow, Gone, Stream};
@@ -21,17 +21,19 @@ pub struct Inbox {
     chunk: Vec<u8>,
     /// How many bytes of the chunk the reader was not fed yet.
     filled: usize,
+    /// The reader has no whole value in what it was fed.
+    is_short: bool,
 }
 
 impl Model for Inbox {
     ghost use Rattle.std.specs.Prelude.{◌≤◌, length, take};
-    ghost use Rattle.node_link.specs.Bytes.{InboxModel, IsFaultFirst};
+    ghost use Rattle.node_link.specs.Bytes.{InboxModel, IsFaultFirst, IsShortWhere};
 
     ghost Value = { InboxModel };
 
     ghost view = { λ a. record { fed = a.reader; unfed = take a.filled a.chunk.items } };
 
-    ghost invariant = { λ a. (a.filled ≤ length a.chunk.items) × IsFaultFirst a.reader (take a.filled a.chunk.items) };
+    ghost invariant = { λ a. (a.filled ≤ length a.chunk.items) × IsFaultFirst a.reader (take a.filled a.chunk.items) × IsShortWhere a.is_short a.reader };
 }
 
 impl Inbox {
@@ -42,6 +44,7 @@ impl Inbox {
             reader: Reader::new(alloc, limits),
             chunk: Vec::new(alloc),
             filled: 0,
+            is_short: false,
         }
     }
 
@@ -52,27 +55,26 @@ impl Inbox {
     {
         if self.filled > 0 {
             match self.reader.feed(&self.chunk[..self.filled]) {
-                Ok(()) => self.filled = 0,
+                Ok(()) => {
+                    self.filled = 0;
+                    self.is_short = false;
+                }
                 Err(WireFault::NoMemory) => return Err(PortFault::NoMemory),
                 Err(_) => return Err(PortFault::BadWire),
             }
         }
+        if self.is_short {
+            return Ok(None);
+        }
         match self.reader.next() {
-            Ok(value) => Ok(value),
+            Ok(Some(value)) => Ok(Some(value)),
+            Ok(None) => {
+                self.is_short = true;
+                Ok(None)
+            }
             Err(WireFault::NoMemory) => Err(PortFault::NoMemory),
             Err(_) => Err(PortFault::BadWire),
         }
-    }
-
-    /// The same, where bytes were read since.
-    pub fn take_more(&mut self) -> Result<Option<Value>, PortFault>
-        requires { IsWaiting self.old.fed }
-        ensures { TakeOutcome (input_of self.old) result (input_of self.new) }
-    {
-        if self.filled == 0 {
-            return Ok(None);
-        }
-        self.take()
     }
 
     /// Makes room for what will be read.

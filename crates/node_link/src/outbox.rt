@@ -1,7 +1,8 @@
 //! The bytes that wait to be written, and when they are.
 
-ghost use Rattle.std.specs.Prelude.{◌≡◌, ◌≤◌, ◌++◌, [], OnOk, OnErr};
-ghost use Rattle.node_link.specs.Bytes.{FlushOutcome, Offers};
+ghost use Rattle.std.specs.Prelude.{◌≡◌, ◌≤◌, ◌++◌, ◌∷◌, [], OnOk, OnErr, length};
+ghost use Rattle.resp_wire.specs.Spelling.{cr, lf};
+ghost use Rattle.node_link.specs.Bytes.{FlushOutcome, Offers, least_offer};
 
 use crate::pieces::Pieces;
 use crate::stream::{Gone, Stream};
@@ -14,8 +15,10 @@ const FLUSH_SIZE: usize = 16 * 1024;
 /// Writes are held back until this many reads came with nothing sent between them.
 pub const FLUSH_AFTER_READS: u32 = 4;
 
-/// A word of so many bytes is not copied, in bytes: it is written from where it stands. A shorter one costs less to copy than
-/// a write of its own for what follows it.
+/// A word of so many bytes is not copied where its line end stands behind it, in bytes: both are written from where they stand.
+/// A piece that ended with a shorter one could be less than one write has to be offered.
+const LARGE_LINE: usize = 64 * 1024;
+/// No word of so many bytes is copied, in bytes. A shorter one costs less to copy than a write of its own for its line end.
 const LARGE_WORD: usize = 256 * 1024;
 
 /// Whether a request may wait for others to go out with it.
@@ -66,8 +69,36 @@ impl Outbox {
         self.pieces.push(piece)
     }
 
-    /// Spells a word of a request. A large one is not copied.
-    pub fn push_word(&mut self, word: &Bytes) -> Result<(), NoMemory>
+    /// Spells a word of a request and its line end. A large one is not copied.
+    pub fn push_line(&mut self, word: &Bytes) -> Result<(), NoMemory>
+        ensures ok { OnOk result (self.new.draft ≡ self.old.draft ++ (word.now ++ cr ∷ lf ∷ [])) }
+        ensures kept { self.new.unsent ≡ self.old.unsent }
+    {
+        let bytes = word.as_slice();
+        if bytes.len() >= LARGE_LINE {
+            return self.push_large_line(word);
+        }
+        self.push(bytes)?;
+        self.push(b"\r\n")
+    }
+
+    // The same for a word that is large enough where its line end stands behind it.
+    fn push_large_line(&mut self, word: &Bytes) -> Result<(), NoMemory>
+        requires { least_offer ≤ length word.now }
+        ensures ok { OnOk result (self.new.draft ≡ self.old.draft ++ (word.now ++ cr ∷ lf ∷ [])) }
+        ensures kept { self.new.unsent ≡ self.old.unsent }
+    {
+        match word.with_line_end() {
+            Some(line) => self.pieces.push_large(self.alloc, &line),
+            None => {
+                self.push_word(word)?;
+                self.push(b"\r\n")
+            }
+        }
+    }
+
+    // Spells a word without its line end.
+    fn push_word(&mut self, word: &Bytes) -> Result<(), NoMemory>
         ensures ok { OnOk result (self.new ≡ record self.old { draft = self.old.draft ++ word.now }) }
         ensures err { OnErr result (self.new ≡ self.old) }
     {

@@ -5,7 +5,8 @@ ghost use Rattle.node_link.specs.Piece.{bytes_in, word_in};
 
 use resp_wire::Bytes;
 
-/// Bytes that are spelled one after another, and perhaps a large word behind them, which is written from where it stands.
+/// Bytes that are spelled one after another, and perhaps a large word behind them, alone or with its line end, which is written
+/// from where it stands.
 #[derive(Drop)]
 pub struct Piece {
     pub spelled: Vec<u8>,

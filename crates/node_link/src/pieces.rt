@@ -34,7 +34,7 @@ pub struct Pieces {
     finished: usize,
     /// How many bytes the stream left of those that it was offered last.
     refused: usize,
-    /// The first piece begins with the rest of a request, whose large word was written.
+    /// The first piece may begin with the rest of a request, whose large word was written.
     is_cut: bool,
 }
 
@@ -67,7 +67,7 @@ impl Pieces {
         }
     }
 
-    /// Adds a large word to a request, and begins a new piece.
+    /// Adds a large word to a request, alone or with its line end, and begins a new piece.
     pub fn push_large(&mut self, alloc: Global, word: &Bytes) -> Result<(), NoMemory>
         requires sound { IsSound self.old }
         requires large { least_offer ≤ length word.now }
@@ -199,8 +199,9 @@ impl Pieces {
             return;
         }
         self.written = 0;
-        self.is_cut = drop_first(&mut self.full, &mut self.last);
+        let had_word = drop_first(&mut self.full, &mut self.last);
         self.finished = self.last.len();
+        self.is_cut = had_word && self.finished > 0;
     }
 
     fn first_len(&self) -> usize

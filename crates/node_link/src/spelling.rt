@@ -193,8 +193,7 @@ fn push_word_bulk(out: &mut Outbox, word: &Bytes) -> Result<(), NoMemory>
     ensures kept { out.new.unsent ≡ out.old.unsent }
 {
     push_head(out, b'$', word.as_slice().len() as u128)?;
-    out.push_word(word)?;
-    out.push(b"\r\n")
+    out.push_line(word)
 }
 
 // A line of a kind and a number.

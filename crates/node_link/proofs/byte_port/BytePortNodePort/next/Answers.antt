@@ -55,11 +55,11 @@ returns-clause-does g c =
     let fed = c.in-Ok-None.ensures.fed in
     let filled = c.in_default-fill.ensures.read in
     rw (← c.self.view_is, c.count_read.ensures) (next_read g.S.Stream.failures g.S.Stream.moved g.met.S.Stream.joined (record { stream = c.self.inside.stream; unsent = c.self.inside.outbox.unsent.bytes; refused = c.self.inside.outbox.unsent.refused; input = input_of c.self.inside.inbox })
-    (record { stream = c.fill.new.stream; unsent = c.flush_before_read-flushed.new.self.unsent.bytes; refused = c.flush_before_read-flushed.new.self.unsent.refused; input = input_of c.take_more.new.self }) c.flush_before_read-flushed.new.stream c.flush_before_read-flushed.result c.fill.new.self.unfed (input_of c.fill.new.self) c.take_more.result
+    (record { stream = c.fill.new.stream; unsent = c.flush_before_read-flushed.new.self.unsent.bytes; refused = c.flush_before_read-flushed.new.self.unsent.refused; input = input_of c.take-2.new.self }) c.flush_before_read-flushed.new.stream c.flush_before_read-flushed.result c.fill.new.self.unfed (input_of c.fill.new.self) c.take-2.result
     c.flush_before_read-flushed.ensures.written filled.0
     (filled_unread c.self.inside.inbox c.take.new.self c.make_room.new.self c.fill.new.self taken.0 fed.0 filled.1 c.make_room.ensures)
     (filled_bounds c.self.inside.inbox c.take.new.self c.make_room.new.self c.fill.new.self taken.1 filled.1 c.make_room.ensures)
-    c.take_more.ensures)
+    c.take-2.ensures.taken)
 
 pub returns-in-Ok-Some-clause-offers : goal.returns-in-Ok-Some-clause-offers
 returns-in-Ok-Some-clause-offers g c = rw (← c.self.view_is) (c.flush_before_read-flushed.new.stream, c.flush_before_read-flushed.ensures.offers, inl refl)
