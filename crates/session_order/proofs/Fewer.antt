@@ -15,7 +15,7 @@ use Rattle.session_order.specs.declared.closing.Closing.{Closing}
 use Rattle.session_order.specs.SessionModel.{SessionModel}
 use Rattle.session_order.specs.Turn.{is_done}
 use Rattle.session_order.specs.Replies.{joined, reply_of, AreJoinable, HasParts, replies, replied, parts_of, bytes_of, spelling, first_replies, AreWritten, Drains, last_line, output, without, drained}
-use Rattle.session_order.proofs.Drained.{counts, outcome, replies_all, replies_part, replied_bounds, replied_done}
+use Rattle.session_order.proofs.Draining.{counts, outcome, replies_all, replies_part, replied_bounds, replied_done}
 use Rattle.session_order.proofs.Told.{is_below, is_above}
 
 first_counts : (b : Bool) (value : Value) (n c parts : ℕ) (rest rest' : ℕ → ℕ × ℕ) → (c ≤ (rest n).0 → rest' n ≡ (c, parts)) → suc c ≤ (counts b value n rest).0

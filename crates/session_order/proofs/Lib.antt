@@ -1,7 +1,8 @@
 pub mod Asking
+pub mod Tail
 pub mod Taking
 pub mod Lists
-pub mod Drained
+pub mod Draining
 pub mod Added
 pub mod Roomier
 pub mod Keeping

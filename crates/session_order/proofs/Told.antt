@@ -19,7 +19,7 @@ use Rattle.session_order.specs.SessionModel.{SessionModel}
 use Rattle.session_order.specs.Replies.{joined, replies, replied, parts_of}
 use Rattle.session_order.specs.Output.{end_of, ends_from, replies_told}
 use Rattle.session_order.proofs.Lists.{eqb-no, eqb-yes}
-use Rattle.session_order.proofs.Drained.{counts, outcome}
+use Rattle.session_order.proofs.Draining.{counts, outcome}
 
 pub is_below : (a b : ℕ) → nat_le a b ≡ true → a ≤ b
 is_below a b is = search rules

@@ -12,6 +12,9 @@ use Rattle.session_order.specs.PendingReply.{protocol_error}
 use Rattle.session_order.specs.declared.queue.PartStage.{PartStage}
 use Rattle.session_order.specs.declared.replies.PendingReply.{PendingReply}
 use Rattle.session_order.specs.declared.replies.PendingReply.TheVariants.{Reply, Parts}
+use Rattle.session_order.specs.declared.replies.WrittenReply.{WrittenReply}
+use Rattle.session_order.specs.declared.replies.WrittenReply.TheVariants.{Whole, Head, Nothing}
+use Rattle.session_order.specs.declared.drained.Drained.{Drained}
 use Rattle.session_order.specs.declared.closing.Closing.{Closing}
 use Rattle.session_order.specs.declared.closing.Closing.TheVariants.{Open, Quit, Faulted}
 use Rattle.resp_wire.specs.declared.fault.NoMemory.{NoMemory}
@@ -103,12 +106,42 @@ abbrev pub HasParts : PendingReply → ℕ → Type 0
 HasParts (Reply value) n = Unit {0}
 HasParts (Parts how count) n = (count ≤ n) × CanJoin how count
 
+-- the bytes that stand behind the output and are not in it
+abbrev pub bytes_behind : Option (List ℕ) → List ℕ
+bytes_behind (Some tail) = tail
+bytes_behind None = []
+
+-- a tail has so many bytes, where there may be one
+abbrev pub MayBeTail : Option ℕ → Option (List ℕ) → Type 0
+MayBeTail least None = Unit {0}
+MayBeTail None (Some tail) = ⊥
+MayBeTail (Some least) (Some tail) = least ≤ length tail
+
+-- a reply was written, but for its tail
+abbrev pub WritesBut : Option (List ℕ) → Value → List ℕ → List ℕ → Type 0
+WritesBut None value old new = new ≡ old ++ spelling value
+WritesBut (Some tail) value old new = (head : List ℕ) × (new ≡ old ++ head) × (head ++ tail ≡ spelling value)
+
 -- what writing one request's reply does
-abbrev pub ReplyOutcome : PendingReply → List PartStage → List Ended → List ℕ → Result (Option ℕ) NoMemory → List ℕ → Type 0
-ReplyOutcome owed stages ends old (Ok (Some n)) new =
+abbrev pub ReplyOutcome : PendingReply → List PartStage → List Ended → List ℕ → Result WrittenReply NoMemory → List ℕ → Type 0
+ReplyOutcome owed stages ends old (Ok (Whole n)) new =
     (value : Value) × (reply_of owed stages ends ≡ Some (value, n)) × (new ≡ old ++ spelling value)
-ReplyOutcome owed stages ends old (Ok None) new = (reply_of owed stages ends ≡ None) × (new ≡ old)
+ReplyOutcome owed stages ends old (Ok (Head n tail)) new =
+    (value : Value) × (reply_of owed stages ends ≡ Some (value, n)) × WritesBut (Some tail) value old new
+ReplyOutcome owed stages ends old (Ok Nothing) new = (reply_of owed stages ends ≡ None) × (new ≡ old)
 ReplyOutcome owed stages ends old (Err refused) new = new ≡ old
+
+-- the parts of a reply that was written are done
+abbrev pub ArePartsDone : List PartStage → WrittenReply → Type 0
+ArePartsDone stages (Whole n) = list_all is_done (take n stages) ≡ true
+ArePartsDone stages (Head n tail) = list_all is_done (take n stages) ≡ true
+ArePartsDone stages Nothing = Unit {0}
+
+-- the tail of a reply, which was not written
+abbrev pub tail_in : WrittenReply → Option (List ℕ)
+tail_in (Whole n) = None
+tail_in (Head n tail) = Some tail
+tail_in Nothing = None
 
 -- the replies to the first so many requests; where these are all, the last lines follow
 abbrev pub first_replies : ℕ → List PendingReply → List PartStage → List Ended → List Value → List Value
@@ -133,3 +166,13 @@ pub record Drains (most : ℕ) (old : SessionModel) (bytes : List ℕ) (new : Se
 abbrev pub DrainOutcome : ℕ → SessionModel → List ℕ → Result ℕ NoMemory → SessionModel → List ℕ → Type 0
 DrainOutcome most old before (Ok n) new after = (bytes : List ℕ) × (after ≡ before ++ bytes) × (n ≡ length bytes) × Drains most old bytes new
 DrainOutcome most old before (Err refused) new after = (after ≡ before) × (new ≡ old)
+
+-- how many bytes a drain gave
+abbrev pub count_of : Result Drained NoMemory → Result ℕ NoMemory
+count_of (Ok given) = Ok given.count
+count_of (Err refused) = Err refused
+
+-- those of them that stand behind the output and are not in it
+abbrev pub tail_of : Result Drained NoMemory → List ℕ
+tail_of (Ok given) = bytes_behind given.tail
+tail_of (Err refused) = []

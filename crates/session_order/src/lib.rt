@@ -3,8 +3,11 @@
 //! ```text
 //! session.feed(bytes)?; while session.read()? {}
 //! while let Some((ticket, part)) = session.ready() { .. }   // post it, and session.follower(ticket) behind it
-//! session.ended(ticket, end); session.drain(&mut out, 65_536)?;
+//! session.ended(ticket, end);
+//! let drained = session.drain(&mut out, 65_536)?;      // drained.tail stands behind out
 //! ```
+//!
+//! A large body that ends a drain is given back as it lies in memory, and is not copied.
 //!
 //! Whatever the calls, what was drained is a front of the output that `specs/Output.antt` gives for the requests read and
 //! the ends told, and all of it after a drain of fewer bytes than it was asked for: `drains_output`. A part is handed out once: when all
@@ -12,6 +15,7 @@
 #![tactic(auto)]
 
 mod closing;
+mod drained;
 mod fault;
 mod laws;
 mod queue;
@@ -21,6 +25,7 @@ mod request_plan;
 mod request_reader;
 mod session;
 
+pub use drained::Drained;
 pub use fault::SessionFault;
 pub use laws::drains_output;
 pub use request_kind::{RequestKind, kind_of};

@@ -1,17 +1,23 @@
 //! The replies that are next in order.
 
-ghost use Rattle.std.specs.Prelude.{◌≡◌, ◌≤◌, ◌+◌, ◌-◌, ◌++◌, ℕ, List, [], length, drop, take, true, IfOk, OnOk, OnErr, IfSome};
+ghost use Rattle.std.specs.Prelude.{◌≡◌, ◌≤◌, ◌+◌, ◌-◌, ◌++◌, ℕ, List, [], None, Some, length, drop, take, true, IfOk, OnOk, OnErr, IfSome};
+ghost use Rattle.std.specs.Fmt.{decimal};
 ghost use Rattle.std.specs.List.{list_all};
+ghost use Rattle.resp_wire.specs.Canonical.{line};
+ghost use Rattle.resp_wire.specs.Spelling.{dollar};
 ghost use Rattle.session_order.specs.Turn.{is_done};
 ghost use Rattle.key_split.specs.Join.{CanJoin};
-ghost use Rattle.session_order.specs.Replies.{HasParts, joined, ReplyOutcome, parts_of, AreJoinable, AreWritten, bytes_of, lines_owed, spelling};
+ghost use Rattle.session_order.specs.Replies.{HasParts, joined, ReplyOutcome, parts_of, AreJoinable, AreWritten, bytes_of, bytes_behind, lines_owed, MayBeTail, spelling, tail_in, ArePartsDone, WritesBut};
 
 use crate::queue::Queue;
 use crate::request_plan::protocol_error;
 use key_split::{Ended, Joining, join};
-use resp_wire::{NoMemory, Value, write_value};
+use resp_wire::{Bytes, NoMemory, Value, write_bulk_head, write_value};
 use std::alloc::Global;
 use std::collections::VecDeque;
+
+/// A body of fewer bytes is always copied.
+const LEAST_TAIL: usize = 16 * 1024;
 
 /// What a request is owed: its reply, or one that is joined from the ends of its parts.
 #[derive(Drop)]
@@ -20,8 +26,30 @@ pub enum PendingReply {
     Parts(Joining, usize),
 }
 
+/// What was written of the replies that are next in order.
+#[derive(Drop)]
+pub struct WrittenReplies {
+    /// How many requests they answer.
+    pub requests: usize,
+    /// How many parts these have.
+    pub parts: usize,
+    /// The last bytes of the last reply, where they are to stand behind the output and are not in it.
+    pub tail: Option<Bytes>,
+}
+
+/// What was written of one request's reply.
+#[derive(Drop)]
+pub enum WrittenReply {
+    /// All, and it has so many parts.
+    Whole(usize),
+    /// All but its tail, and it has so many parts.
+    Head(usize, Bytes),
+    /// Nothing: a part has not ended.
+    Nothing,
+}
+
 /// Writes replies that are next in order until these are so many bytes, and behind the last of all the error line, where it is
-/// owed. Answers how many requests and parts they are of.
+/// owed. A large body that would be the end of them is not copied: it is their tail.
 pub fn write_output(
     alloc: Global,
     requests: &VecDeque<PendingReply>,
@@ -30,40 +58,57 @@ pub fn write_output(
     line_owed: bool,
     most: usize,
     out: &mut Vec<u8>,
-) -> Result<(usize, usize), NoMemory>
+) -> Result<WrittenReplies, NoMemory>
     requires counted { parts_of requests.now.items ≡ length queue.now.stages }
     requires places { length ends.old.items ≡ length queue.now.stages }
     requires joinable { AreJoinable requests.now.items }
-    ensures written { IfOk result (λ n. (bytes : List ℕ) × (out.new.items ≡ out.old.items ++ bytes) × AreWritten most requests.now.items queue.now.stages ends.old.items (lines_owed line_owed) n.0 bytes) }
-    ensures parts { IfOk result (λ n. n.1 ≡ parts_of (take n.0 requests.now.items)) }
-    ensures bound { IfOk result (λ n. (n.0 ≤ length requests.now.items) × (n.1 ≤ length queue.now.stages)) }
-    ensures left { IfOk result (λ n. parts_of (drop n.0 requests.now.items) + n.1 ≡ length queue.now.stages) }
-    ensures still_joinable { IfOk result (λ n. AreJoinable (drop n.0 requests.now.items)) }
-    ensures done { IfOk result (λ n. list_all is_done (take n.1 queue.now.stages) ≡ true) }
+    ensures written { IfOk result (λ n. (bytes : List ℕ) × (out.new.items ++ bytes_behind n.tail ≡ out.old.items ++ bytes) × AreWritten most requests.now.items queue.now.stages ends.old.items (lines_owed line_owed) n.requests bytes) }
+    ensures parts { IfOk result (λ n. n.parts ≡ parts_of (take n.requests requests.now.items)) }
+    ensures bound { IfOk result (λ n. (n.requests ≤ length requests.now.items) × (n.parts ≤ length queue.now.stages)) }
+    ensures left { IfOk result (λ n. parts_of (drop n.requests requests.now.items) + n.parts ≡ length queue.now.stages) }
+    ensures still_joinable { IfOk result (λ n. AreJoinable (drop n.requests requests.now.items)) }
+    ensures done { IfOk result (λ n. list_all is_done (take n.parts queue.now.stages) ≡ true) }
     ensures ends { ends.new.items ≡ ends.old.items }
     ensures grown { (more : List ℕ) × (out.new.items ≡ out.old.items ++ more) }
 {
-    let (count, parts) = write_replies(alloc, requests, queue, ends, most, out)?;
-    if line_owed && requests.len() <= count {
+    let least = least_tail(line_owed, most);
+    let written = write_replies(alloc, requests, queue, ends, most, least, out)?;
+    if line_owed && requests.len() <= written.requests {
         write_line(alloc, out)?;
+        return Ok(written);
     }
-    Ok((count, parts))
+    Ok(written)
 }
 
-// Writes replies that are next in order until these are so many bytes, and answers how many requests and parts they are of.
+// The fewest bytes of a body that is not copied where it ends a drain. None where the error line is owed, which may stand
+// behind it.
+fn least_tail(line_owed: bool, most: usize) -> Option<usize>
+    ensures line { line_owed ≡ true → result ≡ None }
+    ensures enough { IfSome result (λ least. most ≤ least) }
+{
+    if line_owed {
+        return None;
+    }
+    Some(most.max(LEAST_TAIL))
+}
+
+// Writes replies that are next in order until these are so many bytes. What ends them may be a tail of so many bytes.
 fn write_replies(
     alloc: Global,
     requests: &VecDeque<PendingReply>,
     queue: &Queue,
     ends: &mut VecDeque<Ended>,
     most: usize,
+    least: Option<usize>,
     out: &mut Vec<u8>,
-) -> Result<(usize, usize), NoMemory>
+) -> Result<WrittenReplies, NoMemory>
     requires counted { parts_of requests.now.items ≡ length queue.now.stages }
     requires places { length ends.old.items ≡ length queue.now.stages }
     requires joinable { AreJoinable requests.now.items }
-    ensures written { IfOk result (λ n. (bytes : List ℕ) × (out.new.items ≡ out.old.items ++ bytes) × AreWritten most requests.now.items queue.now.stages ends.old.items [] n.0 bytes) }
-    ensures parts { IfOk result (λ n. n.1 ≡ parts_of (take n.0 requests.now.items)) }
+    requires enough { IfSome least (λ n. most ≤ n) }
+    ensures written { IfOk result (λ n. (bytes : List ℕ) × (out.new.items ++ bytes_behind n.tail ≡ out.old.items ++ bytes) × AreWritten most requests.now.items queue.now.stages ends.old.items [] n.requests bytes) }
+    ensures parts { IfOk result (λ n. n.parts ≡ parts_of (take n.requests requests.now.items)) }
+    ensures tail { IfOk result (λ n. MayBeTail least n.tail) }
     ensures ends { ends.new.items ≡ ends.old.items }
     ensures grown { (more : List ℕ) × (out.new.items ≡ out.old.items ++ more) }
 {
@@ -71,72 +116,133 @@ fn write_replies(
     let mut parts = 0;
     for i in 0..requests.len() {
         if out.len() - start >= most {
-            return Ok((i, parts));
+            return Ok(copied(i, parts));
         }
-        match write_reply(alloc, &requests[i], queue, ends, parts, out)? {
-            Some(count) => parts += count,
-            None => return Ok((i, parts)),
+        match write_reply(alloc, &requests[i], queue, ends, parts, least, out)? {
+            WrittenReply::Whole(count) => parts += count,
+            WrittenReply::Head(count, tail) => {
+                return Ok(WrittenReplies {
+                    requests: i + 1,
+                    parts: parts + count,
+                    tail: Some(tail),
+                });
+            }
+            WrittenReply::Nothing => return Ok(copied(i, parts)),
         }
     }
-    Ok((requests.len(), parts))
+    Ok(copied(requests.len(), parts))
+}
+
+// All bytes of the replies to so many requests, with so many parts, are in the output.
+fn copied(requests: usize, parts: usize) -> WrittenReplies
+    ensures requests { result.requests ≡ requests }
+    ensures parts { result.parts ≡ parts }
+    ensures tail { result.tail ≡ None }
+{
+    WrittenReplies {
+        requests,
+        parts,
+        tail: None,
+    }
 }
 
 #[tactic(auto, unfolding(crate::specs::Replies::spelling))]
-// Writes one request's reply, if its parts have all ended, and answers how many these are. They begin behind these many
-// parts, which are done.
+// Writes one request's reply, if its parts have all ended. They begin behind these many parts, which are done.
 fn write_reply(
     alloc: Global,
     owed: &PendingReply,
     queue: &Queue,
     ends: &mut VecDeque<Ended>,
     from: usize,
+    least: Option<usize>,
     out: &mut Vec<u8>,
-) -> Result<Option<usize>, NoMemory>
+) -> Result<WrittenReply, NoMemory>
     requires known { list_all is_done (take from queue.now.stages) ≡ true }
     requires places { length ends.old.items ≡ length queue.now.stages }
     requires fits { from ≤ length ends.old.items }
     requires parts { HasParts owed.now (length ends.old.items - from) }
     ensures ends { ends.new.items ≡ ends.old.items }
     ensures does { ReplyOutcome owed.now (drop from queue.now.stages) (drop from ends.old.items) out.old.items result out.new.items }
-    ensures done { IfOk result (λ r. IfSome r (λ count. list_all is_done (take count (drop from queue.now.stages)) ≡ true)) }
+    ensures done { IfOk result (λ written. ArePartsDone (drop from queue.now.stages) written) }
+    ensures tail { IfOk result (λ written. MayBeTail least (tail_in written)) }
 {
     match owed {
         PendingReply::Reply(value) => {
             write_value(out, value)?;
-            Ok(Some(0))
+            Ok(WrittenReply::Whole(0))
         }
         PendingReply::Parts(how, count) => {
             if !queue.are_done(from, *count) {
-                return Ok(None);
+                return Ok(WrittenReply::Nothing);
             }
-            write_joined(alloc, how, ends, from, *count, out)?;
-            Ok(Some(*count))
+            match write_joined(alloc, how, ends, from, *count, least, out)? {
+                Some(tail) => Ok(WrittenReply::Head(*count, tail)),
+                None => Ok(WrittenReply::Whole(*count)),
+            }
         }
     }
 }
 
 #[tactic(auto, unfolding(crate::specs::Replies::joined, crate::specs::Replies::spelling))]
-// Writes the reply that the ends of a request's parts make. These begin behind so many others. The value that the one part
-// of a request was answered with is written as it stands.
+// Writes the reply that the ends of a request's parts make, and gives back its tail, if it is large. The ends begin behind so many
+// others. The value that the one part of a request was answered with is written as it stands.
 fn write_joined(
     alloc: Global,
     how: &Joining,
     ends: &mut VecDeque<Ended>,
     from: usize,
     count: usize,
+    least: Option<usize>,
     out: &mut Vec<u8>,
-) -> Result<(), NoMemory>
+) -> Result<Option<Bytes>, NoMemory>
     requires fits { from + count ≤ length ends.old.items }
     requires joinable { CanJoin how.now count }
     ensures ends { ends.new.items ≡ ends.old.items }
-    ensures ok { OnOk result (out.new.items ≡ out.old.items ++ spelling (joined how.now (take count (drop from ends.old.items)))) }
+    ensures ok { IfOk result (λ tail. WritesBut tail (joined how.now (take count (drop from ends.old.items))) out.old.items out.new.items) }
     ensures err { OnErr result (out.new.items ≡ out.old.items) }
+    ensures tail { IfOk result (λ tail. MayBeTail least tail) }
 {
     if let (Joining::One, Some(Ended::Answered(value))) = (how, ends.get(from)) {
-        return write_value(out, value);
+        return write_answer(value, least, out);
     }
     let value = join_ends(alloc, how, ends, from, count)?;
-    write_value(out, &value)
+    write_value(out, &value)?;
+    Ok(None)
+}
+
+#[tactic(auto, unfolding(crate::specs::Replies::spelling))]
+// Writes a value, but for the tail of a large one, which it gives back.
+fn write_answer(
+    value: &Value,
+    least: Option<usize>,
+    out: &mut Vec<u8>,
+) -> Result<Option<Bytes>, NoMemory>
+    ensures ok { IfOk result (λ tail. WritesBut tail value.now out.old.items out.new.items) }
+    ensures err { OnErr result (out.new.items ≡ out.old.items) }
+    ensures tail { IfOk result (λ tail. MayBeTail least tail) }
+{
+    let Some((len, tail)) = large_body(value, least) else {
+        write_value(out, value)?;
+        return Ok(None);
+    };
+    write_bulk_head(out, len)?;
+    Ok(Some(tail))
+}
+
+#[tactic(auto, unfolding(crate::specs::Replies::spelling))]
+// How many bytes a large body has, and these with the line end behind them.
+fn large_body(value: &Value, least: Option<usize>) -> Option<(usize, Bytes)>
+    ensures spelled { IfSome result (λ body. spelling value.now ≡ line dollar (decimal body.0) body.1) }
+    ensures large { IfSome result (λ body. MayBeTail least (Some body.1)) }
+{
+    let (Some(least), Value::Bulk(body)) = (least, value) else {
+        return None;
+    };
+    let len = body.as_slice().len();
+    if len < least {
+        return None;
+    }
+    Some((len, body.with_line_end()?))
 }
 
 #[tactic(auto, unfolding(crate::specs::Replies::joined))]

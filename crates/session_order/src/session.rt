@@ -5,6 +5,7 @@ ghost use Rattle.std.specs.VecDeque.{deque_len, deque_capacity};
 ghost use Rattle.session_order.specs.LettingGo.{one_for};
 
 use crate::closing::{Broken, Closing};
+use crate::drained::{Drained, tail_len};
 use crate::fault::SessionFault;
 use crate::queue::Queue;
 use crate::replies::{PendingReply, write_output};
@@ -61,7 +62,7 @@ impl Model for Session {
 impl Session {
     ghost use Rattle.key_split.specs.declared.travel.Ticket.{Ticket};
     ghost use Rattle.session_order.specs.Life.{fresh};
-    ghost use Rattle.session_order.specs.Replies.{DrainOutcome, parts_of};
+    ghost use Rattle.session_order.specs.Replies.{DrainOutcome, count_of, parts_of, tail_of};
     ghost use Rattle.session_order.specs.Turn.{NextPlace};
     ghost use Rattle.session_order.specs.Steps.{FeedOutcome, ReadOutcome, ReadyOutcome, FollowerOutcome, IsHandedOut, EndOutcome, IsFinished, IsOut, KeepsOut, IsOutInOrder, KeepsOrder};
     ghost use Rattle.session_order.specs.Behind.{FollowerPlace, IsOutBehind, KeepsParts, NextInTurn};
@@ -201,9 +202,10 @@ impl Session {
     }
 
     /// Appends replies that are next in order until these are so many bytes, and answers how many. Where they are fewer,
-    /// none is left.
-    pub fn drain(&mut self, out: &mut Vec<u8>, most: usize) -> Result<usize, NoMemory>
-        ensures does { DrainOutcome most self.old out.old.items result self.new out.new.items }
+    /// none is left. A large body that ends them is not copied: it is the tail, which stands behind the output.
+    pub fn drain(&mut self, out: &mut Vec<u8>, most: usize) -> Result<Drained, NoMemory>
+        ensures does { DrainOutcome most self.old out.old.items (count_of result) self.new (out.new.items ++ tail_of result) }
+        ensures grown { (more : List ℕ) × (out.new.items ≡ out.old.items ++ more) }
         ensures kept { KeepsOut self.old self.new }
         ensures order { KeepsOrder self.old self.new }
         ensures parts { KeepsParts self.old self.new }
@@ -234,7 +236,7 @@ impl Session {
 }
 
 impl Session {
-    ghost use Rattle.session_order.specs.Replies.{DrainOutcome};
+    ghost use Rattle.session_order.specs.Replies.{DrainOutcome, count_of, tail_of};
     ghost use Rattle.session_order.specs.Steps.{FeedOutcome, ReadOutcome, ReadyOutcome, FollowerOutcome, EndOutcome, IsHandedOut, MayRead, AddOutcome};
     ghost use Rattle.session_order.specs.LettingGo.{LetsGoOf};
 
@@ -318,8 +320,9 @@ impl Session {
         self.ends[i] = end;
     }
 
-    fn write_next(&mut self, out: &mut Vec<u8>, most: usize) -> Result<usize, NoMemory>
-        ensures { DrainOutcome most self.old out.old.items result self.new out.new.items }
+    fn write_next(&mut self, out: &mut Vec<u8>, most: usize) -> Result<Drained, NoMemory>
+        ensures does { DrainOutcome most self.old out.old.items (count_of result) self.new (out.new.items ++ tail_of result) }
+        ensures grown { (more : List ℕ) × (out.new.items ≡ out.old.items ++ more) }
     {
         let start = out.len();
         let line_owed = self.closing.owes_line();
@@ -332,12 +335,15 @@ impl Session {
             most,
             out,
         ) {
-            Ok((requests, parts)) => {
-                self.closing = self.closing.after(self.requests.len() <= requests);
-                drop_front(&mut self.requests, requests);
-                drop_front(&mut self.ends, parts);
-                self.queue.drop_front(parts);
-                Ok(out.len() - start)
+            Ok(written) => {
+                self.closing = self.closing.after(self.requests.len() <= written.requests);
+                drop_front(&mut self.requests, written.requests);
+                drop_front(&mut self.ends, written.parts);
+                self.queue.drop_front(written.parts);
+                Ok(Drained {
+                    count: out.len() - start + tail_len(&written.tail),
+                    tail: written.tail,
+                })
             }
             Err(refused) => {
                 out.truncate(start);

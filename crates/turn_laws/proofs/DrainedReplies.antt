@@ -31,7 +31,7 @@ use Rattle.turn_laws.proofs.RequestsRead.{AreCounted, open-faulted}
 use Rattle.turn_laws.proofs.SessionTells.{HasTold}
 use Rattle.session_order.specs.Output.{end_of, ends_from, replies_told}
 use Rattle.session_order.proofs.Told.{Tables, after, ends_table, is_below, split_ok, tables_drop}
-use Rattle.session_order.proofs.Drained.{outcome}
+use Rattle.session_order.proofs.Draining.{outcome}
 
 -- an end was told of each of these parts
 abbrev pub AreKnown : List (Ticket × Ended) → ℕ → ℕ → Type 0

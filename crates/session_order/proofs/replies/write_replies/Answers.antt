@@ -4,13 +4,14 @@ use Rattle.std.proofs.lemmas.Grind.{common_steps}
 use Rattle.session_order.specs.Turn.{is_done}
 use Rattle.session_order.proofs.Lists.{all_take}
 use Rattle.session_order.proofs.Fewer.{at_place, has_parts, none_left, none_replied, one_more_replied, still_few, written_more, written_so_far}
-use Rattle.session_order.specs.Replies.{parts_of, replied, replies, reply_of}
+use Rattle.session_order.proofs.Tail.{copied_so_far, ended_by_tail, still_grown, tail_enough}
+use Rattle.session_order.specs.Replies.{bytes_of, parts_of, replied, replies, reply_of}
 use Rattle.session_order.proofs.replies.write_replies.Goals as goal
 
 pub loop-i-preserved : goal.loop-i-preserved
 loop-i-preserved c =
-    let does = rw c.in-Some.is at c.in_ok-count.ensures.does in
-    let done = rw c.in-Some.is at c.in_ok-count.ensures.done in
+    let does = rw c.in-Whole.is at c.in_ok-count.ensures.does in
+    let done = rw c.in-Whole.is at c.in_ok-count.ensures.done in
     let so_far = c.loop-i.invariant in
     let requests = c.args.requests.now.items in
     let stages = c.args.queue.now.stages in
@@ -19,13 +20,13 @@ loop-i-preserved c =
     let le : c.loop-i.i ≤ (replied requests stages ends).0 = omega (arith, so_far.request_count) in
     let next = c.loop-i.i + 1 in
     let step : next ≡ suc c.loop-i.i = omega arith in
-    let more = one_more_replied c.loop-i.i next c.index.result.now requests stages ends c.loop-i.ends.items c.loop-i.parts does.0 c.in-Some.count step
+    let more = one_more_replied c.loop-i.i next c.index.result.now requests stages ends c.loop-i.ends.items c.loop-i.parts does.0 c.in-Whole.count step
     (at_place requests c.loop-i.i c.index.result.now below c.index.ensures) le so_far.parts so_far.same c.requires.counted does.1 in
     let few : length c.loop-i.out.items - length c.args.out.now.items < c.args.most = grind (arith, common_steps, c.if-len-start.false) in
     record {
       same = grind (arith, common_steps);
       bound = more.bound;
-      known = all_take is_done c.args.queue.now.stages c.loop-i.parts c.in-Some.count _ refl so_far.known done;
+      known = all_take is_done c.args.queue.now.stages c.loop-i.parts c.in-Whole.count _ refl so_far.known done;
       counted = more.counted;
       joinable = grind (arith, common_steps);
       written = written_more c.args.out.now.items c.loop-i.out.items c.write_reply.new.out.items (replies (take c.loop-i.i requests) stages ends [])
@@ -39,18 +40,22 @@ pub returns-then-len-start-clause-written : goal.returns-then-len-start-clause-w
 returns-then-len-start-clause-written c =
     let so_far = c.loop-i.invariant in
     let enough : c.args.most ≤ length c.loop-i.out.items - length c.args.out.now.items = grind (arith, common_steps, c.if-len-start.true) in
-    written_so_far _ _ _ _ _ c.args.queue.now.stages _ _ _ so_far.request_count so_far.written so_far.no_more (λ few. absurd (omega (arith, few, enough))) refl
+    copied_so_far c.args.most c.loop-i.i c.args.requests.now.items c.args.queue.now.stages c.args.ends.now.items c.args.out.now.items _ c.copied.result
+    (written_so_far _ _ _ _ _ c.args.queue.now.stages _ _ _ so_far.request_count so_far.written so_far.no_more (λ few. absurd (omega (arith, few, enough))) refl)
+    c.copied.ensures.requests c.copied.ensures.tail
 
-pub returns-in-None-clause-written : goal.returns-in-None-clause-written
-returns-in-None-clause-written c =
-    let does = rw c.in-None.is at c.in_ok-count.ensures.does in
+pub returns-in-Nothing-clause-written : goal.returns-in-Nothing-clause-written
+returns-in-Nothing-clause-written c =
+    let does = rw c.in-Nothing.is at c.in_ok-count.ensures.does in
     let so_far = c.loop-i.invariant in
     let requests = c.args.requests.now.items in
     let stages = drop c.loop-i.parts c.args.queue.now.stages in
     let below : c.loop-i.i < length requests = grind (arith, common_steps) in
     let at = at_place requests c.loop-i.i c.index.result.now below c.index.ensures in
     let none = subst (λ ends. reply_of c.index.result.now stages (drop c.loop-i.parts ends) ≡ None) so_far.same does.0 in
-    written_so_far _ _ _ _ _ c.args.queue.now.stages _ _ _ so_far.request_count (does.1 ∙ so_far.written) so_far.no_more (λ few. none_replied c.loop-i.i _ requests stages _ at none) refl
+    copied_so_far c.args.most c.loop-i.i requests c.args.queue.now.stages c.args.ends.now.items c.args.out.now.items _ c.copied-in-Nothing.result
+    (written_so_far _ _ _ _ _ c.args.queue.now.stages _ _ _ so_far.request_count (does.1 ∙ so_far.written) so_far.no_more (λ few. none_replied c.loop-i.i _ requests stages _ at none) refl)
+    c.copied-in-Nothing.ensures.requests c.copied-in-Nothing.ensures.tail
 
 pub returns-clause-written : goal.returns-clause-written
 returns-clause-written c =
@@ -58,7 +63,51 @@ returns-clause-written c =
     let requests = c.args.requests.now.items in
     let all : length requests ≤ c.loop-i.i = grind (arith, common_steps) in
     let end : c.loop-i.i ≡ c.len-2.result = grind (arith, common_steps) in
-    written_so_far _ _ _ _ _ c.args.queue.now.stages _ _ _ so_far.request_count so_far.written so_far.no_more (λ few. none_left c.loop-i.i requests _ _ all) end
+    copied_so_far c.args.most c.len-2.result requests c.args.queue.now.stages c.args.ends.now.items c.args.out.now.items _ c.copied-2.result
+    (written_so_far _ _ _ _ _ c.args.queue.now.stages _ _ _ so_far.request_count so_far.written so_far.no_more (λ few. none_left c.loop-i.i requests _ _ all) end)
+    c.copied-2.ensures.requests c.copied-2.ensures.tail
+
+pub returns-in-Head-clause-written : goal.returns-in-Head-clause-written
+returns-in-Head-clause-written c =
+    let does = rw c.in-Head.is at c.in_ok-count.ensures.does in
+    let large = rw c.in-Head.is at c.in_ok-count.ensures.tail in
+    let so_far = c.loop-i.invariant in
+    let requests = c.args.requests.now.items in
+    let stages = c.args.queue.now.stages in
+    let ends = c.args.ends.now.items in
+    let below : c.loop-i.i < length requests = grind (arith, common_steps) in
+    let le : c.loop-i.i ≤ (replied requests stages ends).0 = omega (arith, so_far.request_count) in
+    let next = c.loop-i.i + 1 in
+    let step : next ≡ suc c.loop-i.i = omega arith in
+    let parts = c.loop-i.parts + c.in-Head.count in
+    let more = one_more_replied c.loop-i.i next c.index.result.now requests stages ends c.loop-i.ends.items c.loop-i.parts does.0 c.in-Head.count step
+    (at_place requests c.loop-i.i c.index.result.now below c.index.ensures) le so_far.parts so_far.same c.requires.counted does.1 in
+    let few : length c.loop-i.out.items - length c.args.out.now.items < c.args.most = grind (arith, common_steps, c.if-len-start.false) in
+    let left : next + (replied (drop next requests) (drop parts stages) (drop parts ends)).0 ≡ (replied requests stages ends).0 = grind (arith, common_steps) in
+    ended_by_tail c.args.most next _ requests stages ends c.args.out.now.items c.loop-i.out.items _ does.2.0 c.in-Head.tail
+    (replies (take c.loop-i.i requests) stages ends []) does.0 left so_far.written does.2.1 does.2.2 more.spelled
+    (tail_enough c.args.most c.args.least c.in-Head.tail c.requires.enough large)
+    (still_few c.args.most c.loop-i.i requests stages ends c.args.out.now.items c.loop-i.out.items so_far.no_more so_far.written below few)
+
+pub returns-in-Head-clause-parts : goal.returns-in-Head-clause-parts
+returns-in-Head-clause-parts c =
+    let does = rw c.in-Head.is at c.in_ok-count.ensures.does in
+    let so_far = c.loop-i.invariant in
+    let requests = c.args.requests.now.items in
+    let stages = c.args.queue.now.stages in
+    let ends = c.args.ends.now.items in
+    let below : c.loop-i.i < length requests = grind (arith, common_steps) in
+    let le : c.loop-i.i ≤ (replied requests stages ends).0 = omega (arith, so_far.request_count) in
+    let next = c.loop-i.i + 1 in
+    let step : next ≡ suc c.loop-i.i = omega arith in
+    (one_more_replied c.loop-i.i next c.index.result.now requests stages ends c.loop-i.ends.items c.loop-i.parts does.0 c.in-Head.count step
+    (at_place requests c.loop-i.i c.index.result.now below c.index.ensures) le so_far.parts so_far.same c.requires.counted does.1).parts
+
+pub returns-in-Head-clause-grown : goal.returns-in-Head-clause-grown
+returns-in-Head-clause-grown c =
+    let does = rw c.in-Head.is at c.in_ok-count.ensures.does in
+    let so_far = bytes_of (replies (take c.loop-i.i c.args.requests.now.items) c.args.queue.now.stages c.args.ends.now.items []) in
+    still_grown c.args.out.now.items c.loop-i.out.items _ so_far does.2.0 c.loop-i.invariant.written does.2.1
 
 pub loop-i-init : goal.loop-i-init
 loop-i-init c =
@@ -87,7 +136,7 @@ pub returns-clause-parts : goal.returns-clause-parts
 returns-clause-parts c =
     let requests = c.args.requests.now.items in
     let end : c.loop-i.i ≡ c.len-2.result = grind (arith, common_steps) in
-    c.loop-i.invariant.parts ∙ ap (λ (n : ℕ). parts_of (take n requests)) end
+    c.copied-2.ensures.parts ∙ c.loop-i.invariant.parts ∙ ap (λ (n : ℕ). parts_of (take n requests)) (end ∙ sym c.copied-2.ensures.requests)
 
 pub returns-then-len-start-clause-grown : goal.returns-then-len-start-clause-grown
 returns-then-len-start-clause-grown c = (_, c.loop-i.invariant.written)
@@ -95,8 +144,8 @@ returns-then-len-start-clause-grown c = (_, c.loop-i.invariant.written)
 pub returns-in_err-count-clause-grown : goal.returns-in_err-count-clause-grown
 returns-in_err-count-clause-grown c = (_, c.in_err-count.ensures.does ∙ c.loop-i.invariant.written)
 
-pub returns-in-None-clause-grown : goal.returns-in-None-clause-grown
-returns-in-None-clause-grown c = (_, (rw c.in-None.is at c.in_ok-count.ensures.does).1 ∙ c.loop-i.invariant.written)
+pub returns-in-Nothing-clause-grown : goal.returns-in-Nothing-clause-grown
+returns-in-Nothing-clause-grown c = (_, (rw c.in-Nothing.is at c.in_ok-count.ensures.does).1 ∙ c.loop-i.invariant.written)
 
 pub returns-clause-grown : goal.returns-clause-grown
 returns-clause-grown c = (_, c.loop-i.invariant.written)
