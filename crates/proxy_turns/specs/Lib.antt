@@ -22,3 +22,4 @@ pub mod Owing
 pub mod Received
 pub mod Script
 pub mod Swapping
+pub mod Unpushed

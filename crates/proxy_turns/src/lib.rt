@@ -46,6 +46,7 @@ mod refused_run;
 mod round;
 mod script;
 mod shared_room;
+mod tail;
 mod turned;
 mod unpushed;
 mod worker;

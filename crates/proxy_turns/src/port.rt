@@ -1,6 +1,6 @@
 //! A client, as a worker sees it.
 
-ghost use Rattle.std.specs.Prelude.{List, [], ℕ, ⊤};
+ghost use Rattle.std.specs.Prelude.{List, [], ◌++◌, ℕ, ⊤};
 ghost use Rattle.key_split.specs.declared.travel.Ticket.{Ticket};
 ghost use Rattle.key_split.specs.declared.travel.Ended.{Ended};
 ghost use Rattle.proxy_turns.specs.Port.{MovesNone, PullOutcome, PushOutcome, NoteOutcome};
@@ -35,9 +35,9 @@ pub trait ClientPort {
         ensures pulled { PullOutcome moves self.old buffer.new result self.new }
         ensures none { MovesNone result → gives_none self.new };
 
-    /// Pushes some bytes off the front.
-    fn push(&mut self, bytes: &[u8]) -> Result<Flow, NoMemory>
-        ensures pushed { PushOutcome moves self.old bytes.now result self.new }
+    /// Pushes some bytes off the front of two slices, which stand one behind the other.
+    fn push(&mut self, first: &[u8], second: &[u8]) -> Result<Flow, NoMemory>
+        ensures pushed { PushOutcome moves self.old (first.now ++ second.now) result self.new }
         ensures none { MovesNone result → takes_none self.new };
 
     /// Notes how a part of the client ended.

@@ -119,12 +119,14 @@ impl ClientPort for Script {
         Ok(Flow::Bytes(count))
     }
 
-    fn push(&mut self, bytes: &[u8]) -> Result<Flow, NoMemory>
-        ensures pushed { PushOutcome Plays self.old bytes.now result self.new }
+    fn push(&mut self, first: &[u8], second: &[u8]) -> Result<Flow, NoMemory>
+        ensures pushed { PushOutcome Plays self.old (first.now ++ second.now) result self.new }
         ensures none { MovesNone result → ⊤ }
-        ensures answer { PushAnswer bytes.now result }
+        ensures answer { PushAnswer (first.now ++ second.now) result }
     {
-        self.replies.push(bytes)?;
+        let mut bytes = Vec::from_slice(self.alloc, first)?;
+        bytes.extend_from_slice(second)?;
+        self.replies.push(&bytes)?;
         Ok(Flow::Bytes(bytes.len()))
     }
 

@@ -1,12 +1,12 @@
 //! The bytes that wait to be pushed to a client.
 
-ghost use Rattle.std.specs.Prelude.{◌≡◌, ◌≤◌, ◌↔◌, [], IsTrue, drop, length};
-ghost use Rattle.session_order.specs.Replies.{DrainOutcome};
+ghost use Rattle.std.specs.Prelude.{◌≡◌, ◌≤◌, ◌↔◌, ◌++◌, [], IsTrue, drop, length};
 ghost use Rattle.session_order.specs.Steps.{KeepsOrder};
 ghost use Rattle.session_order.specs.Behind.{KeepsParts};
 
 use crate::client_bytes::let_go;
 use crate::client_limits::KEPT;
+use crate::tail::Tail;
 use node_link::{drop_front, free_large};
 use resp_wire::NoMemory;
 use session_order::Session;
@@ -19,53 +19,69 @@ pub(crate) struct Unpushed {
     bytes: Vec<u8>,
     // How many of the bytes were pushed.
     pushed: usize,
+    // What stands behind the bytes.
+    tail: Tail,
 }
 
 impl Model for Unpushed {
-    ghost use Rattle.std.specs.Prelude.{◌≤◌, List, ℕ, drop, length};
+    ghost use Rattle.std.specs.Prelude.{◌≤◌, ◌++◌, List, ℕ, drop, length};
 
     ghost Value = { List ℕ };
 
-    ghost view = { λ a. drop a.pushed a.bytes.items };
+    ghost view = { λ a. drop a.pushed a.bytes.items ++ a.tail };
 
     ghost invariant = { λ a. a.pushed ≤ length a.bytes.items };
 }
 
 impl Unpushed {
+    ghost use Rattle.proxy_turns.specs.Unpushed.{DrainsBehind};
+
     pub(crate) fn new(alloc: Global) -> Unpushed
         ensures { result ≡ [] }
     {
         Unpushed {
             bytes: Vec::new(alloc),
             pushed: 0,
+            tail: Tail::new(None),
         }
     }
 
-    pub(crate) fn as_slice(&self) -> &[u8]
-        ensures value { result.now ≡ self.now }
+    /// They lie in two slices, one behind the other.
+    pub(crate) fn as_slices(&self) -> (&[u8], &[u8])
+        ensures value { result.0.now ++ result.1.now ≡ self.now }
     {
-        &self.bytes[self.pushed..]
+        (&self.bytes[self.pushed..], self.tail.as_slice())
     }
 
     pub(crate) fn len(&self) -> usize
         ensures { result ≡ length self.now }
     {
-        self.as_slice().len()
+        let (first, second) = self.as_slices();
+        first.len() + second.len()
     }
 
     pub(crate) fn is_empty(&self) -> bool
         ensures { IsTrue result ↔ (self.now ≡ []) }
     {
-        self.as_slice().is_empty()
+        self.len() == 0
     }
 
-    /// Puts behind them what the session has to drain, until it is so many bytes.
-    pub(crate) fn drain(&mut self, session: &mut Session, most: usize) -> Result<usize, NoMemory>
-        ensures does { DrainOutcome most session.old self.old result session.new self.new }
+    /// Puts behind them what the session has to drain, until it is so many bytes. None where a tail is left, which stands last.
+    pub(crate) fn drain(
+        &mut self,
+        session: &mut Session,
+        most: usize,
+    ) -> Result<Option<usize>, NoMemory>
+        ensures does { DrainsBehind most session.old self.old result session.new self.new }
         ensures order { KeepsOrder session.old session.new }
         ensures parts { KeepsParts session.old session.new }
     {
-        session.drain(&mut self.bytes, most)
+        if !self.tail.is_empty() {
+            return Ok(None);
+        }
+        let drained = session.drain(&mut self.bytes, most)?;
+        self.tail = Tail::new(drained.tail);
+        Ok(Some(drained.count))
     }
 
     /// So many bytes were pushed.
@@ -73,8 +89,10 @@ impl Unpushed {
         requires { count ≤ length self.old }
         ensures { self.new ≡ drop count self.old }
     {
-        self.pushed += count;
+        let first = count.min(self.bytes.len() - self.pushed);
+        self.pushed += first;
         forget_pushed(&mut self.bytes, &mut self.pushed);
+        self.tail.count_pushed(count - first);
     }
 
     /// Drops them all, and gives the buffer back.
@@ -83,6 +101,7 @@ impl Unpushed {
     {
         let_go(&mut self.bytes);
         self.pushed = 0;
+        self.tail.let_go();
     }
 }
 

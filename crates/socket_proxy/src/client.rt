@@ -117,11 +117,11 @@ impl ClientPort for SocketClient {
         Ok(Flow::Gone)
     }
 
-    fn push(&mut self, bytes: &[u8]) -> Result<Flow, NoMemory> {
+    fn push(&mut self, first: &[u8], second: &[u8]) -> Result<Flow, NoMemory> {
         let Some(socket) = &mut self.socket else {
             return Ok(Flow::Gone);
         };
-        let flow = socket.write(bytes, &[]);
+        let flow = socket.write(first, second);
         if flow == Flow::Gone {
             self.leave();
         }

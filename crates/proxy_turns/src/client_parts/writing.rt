@@ -37,7 +37,9 @@ impl<C: ClientPort + Drop> ClientParts<C> {
         if !self.may_drain() {
             return Ok(false);
         }
-        let count = self.unpushed.drain(&mut self.session, MAX_DRAINED)?;
+        let Some(count) = self.unpushed.drain(&mut self.session, MAX_DRAINED)? else {
+            return Ok(false);
+        };
         self.replies.drain(count);
         Ok(count > 0)
     }
@@ -56,7 +58,8 @@ impl<C: ClientPort + Drop> ClientParts<C> {
         if !self.may_push() {
             return Ok(false);
         }
-        match self.port.push(self.unpushed.as_slice())? {
+        let (first, second) = self.unpushed.as_slices();
+        match self.port.push(first, second)? {
             Flow::Bytes(count) => {
                 self.unpushed.count_pushed(count);
                 Ok(count > 0)

@@ -128,7 +128,10 @@ fn show_given(given: Option<(Ticket, Part)>, answer: &mut Answer) -> Result<(), 
 
 fn drain(alloc: Global, session: &mut Session, answer: &mut Answer) -> Result<(), CallFault> {
     let mut out = Vec::new(alloc);
-    session.drain(&mut out, usize::MAX)?;
+    let drained = session.drain(&mut out, usize::MAX)?;
+    if let Some(tail) = drained.tail {
+        out.extend_from_slice(tail.as_slice())?;
+    }
     answer.bytes(&out);
     Ok(())
 }

@@ -32,7 +32,7 @@ impl SharedClient {
     /// The client holds these bytes, as if they had been replied.
     pub fn hears(&self, bytes: &[u8]) -> bool {
         match self.script.try_borrow_mut() {
-            Ok(mut script) => script.push(bytes).is_ok(),
+            Ok(mut script) => script.push(bytes, &[]).is_ok(),
             Err(_) => false,
         }
     }
@@ -61,11 +61,11 @@ impl ClientPort for SharedClient {
         }
     }
 
-    fn push(&mut self, bytes: &[u8]) -> Result<Flow, NoMemory> {
+    fn push(&mut self, first: &[u8], second: &[u8]) -> Result<Flow, NoMemory> {
         let Ok(mut script) = self.script.try_borrow_mut() else {
             return Err(NoMemory);
         };
-        match script.push(bytes)? {
+        match script.push(first, second)? {
             Flow::Bytes(count) => Ok(Flow::Bytes(count)),
             Flow::Nothing => Ok(Flow::Nothing),
             Flow::Gone => Ok(Flow::Gone),

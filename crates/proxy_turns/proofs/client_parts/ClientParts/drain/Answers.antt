@@ -11,10 +11,13 @@ invariant_of-self-2 g c = sound_kept c.self.inside.session c.drain.new.session c
 pub returns-clause-drains : goal.returns-clause-drains
 returns-clause-drains g c = λ outlet view.
     let there = rw (← c.self.view_is) at (c.may_drain.ensures.there c.if-not-may_drain.false) in
-    rw (← c.self.view_is) (drained g.C.ClientPort.moves is_drain _ outlet view (λ n. refl) _ c.in_ok-count.count _ _ there c.in_ok-count.ensures.does refl)
+    let does = rw c.in-Some.is at c.in_ok-count.ensures.does in
+    rw (← c.self.view_is) (drained g.C.ClientPort.moves is_drain _ outlet view (λ n. refl) _ c.in-Some.count _ _ there does refl)
 
 pub returns-clause-none : goal.returns-clause-none
-returns-clause-none g c = rw (← c.self.view_is) (drain_none _ _ _ c.in_ok-count.count c.in_ok-count.ensures.does)
+returns-clause-none g c =
+    let does = rw c.in-Some.is at c.in_ok-count.ensures.does in
+    rw (← c.self.view_is) (drain_none _ _ _ c.in-Some.count does)
 
 pub returns-then-not-may_drain-clause-none : goal.returns-then-not-may_drain-clause-none
 returns-then-not-may_drain-clause-none g c = undrained _ c.may_drain.result c.may_drain.ensures.may c.if-not-may_drain.true

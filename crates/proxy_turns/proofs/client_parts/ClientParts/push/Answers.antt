@@ -11,7 +11,7 @@ returns-in_err-count-clause-pushes g c = λ outlet view.
 
 pub returns-in-Bytes-clause-pushes : goal.returns-in-Bytes-clause-pushes
 returns-in-Bytes-clause-pushes g c = λ outlet view.
-    let done = rw (c.in-Bytes.is, c.as_slice.ensures.value) at c.in_ok-count.ensures.pushed in
+    let done = rw (c.in-Bytes.is, c.as_slices.ensures.value) at c.in_ok-count.ensures.pushed in
     rw (← c.self.view_is) (pushed g.C.ClientPort.moves is_push _ outlet view (λ bytes. refl) _ _ _ _ done.1 (front_left c.in-Bytes.count _ _ c.count_pushed.ensures) (front_moves c.in-Bytes.count _ done.0))
 
 pub returns-in-Nothing-clause-pushes : goal.returns-in-Nothing-clause-pushes

@@ -1,11 +1,15 @@
-use Rattle.proxy_turns.proofs.Draining.{drained_behind, still_within}
+use Rattle.std.proofs.Common.{refl}
+use Rattle.session_order.specs.Replies.{bytes_behind}
+use Rattle.proxy_turns.proofs.Draining.{drained_behind, tail_waits}
 use Rattle.proxy_turns.proofs.unpushed.Unpushed.drain.Goals as goal
 
-pub invariant_of-self : goal.invariant_of-self
-invariant_of-self c =
-    still_within c.args.most c.self.inside.pushed c.args.session.now c.drain.new.self c.self.inside.bytes.items c.drain.new.out.items c.drain.result c.self.invariant c.drain.ensures.does
+pub returns-then-not-is_empty-clause-does : goal.returns-then-not-is_empty-clause-does
+returns-then-not-is_empty-clause-does c =
+    rw (← c.self.view_is) (tail_waits c.is_empty.result _ c.self.inside.tail c.is_empty.ensures c.if-not-is_empty.true, refl, refl)
 
 pub returns-clause-does : goal.returns-clause-does
 returns-clause-does c =
-    rw (← c.self.view_is)
-    (drained_behind c.args.most c.self.inside.pushed c.args.session.now c.drain.new.self c.self.inside.bytes.items c.drain.new.out.items c.drain.result c.self.invariant c.drain.ensures.does)
+    let given = c.in_ok-drained.drained in
+    let none = c.is_empty.ensures.0 c.if-not-is_empty.false in
+    rw (← c.self.view_is, c.new.ensures)
+    (drained_behind c.args.most c.self.inside.pushed given.count _ _ c.self.inside.bytes.items _ c.self.inside.tail (bytes_behind given.tail) c.self.invariant none c.in_ok-drained.ensures.grown c.in_ok-drained.ensures.does)
