@@ -56,6 +56,20 @@ def idle_costs_nothing(world):
 
 
 @case
+def a_client_alone_that_falls_silent_costs_nothing(world):
+    """Threads that looked on for its next request sleep as others do."""
+    with world.client() as client:
+        for _ in range(1000):
+            client.ask("GET", "a")
+        percent = percent_of_core(world.proxy.process)
+        check_same(client.ask("PING"), b"+PONG\r\n", "PING after the pause")
+    most = max(MOST_PERCENT, percent_of_commands(world.proxy, MOST_COMMANDS))
+    note = f"{percent:.3f} % of a core once one client fell silent, of {most:.1f}"
+    check_time(percent < most, note)
+    return note
+
+
+@case
 def it_wakes_at_once(world):
     """A request after a pause is answered as fast as one server answers it, within a few milliseconds."""
 

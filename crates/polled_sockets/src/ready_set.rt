@@ -67,6 +67,12 @@ pub struct ReadySet {
     time: AtomicU64,
     /// A socket gave or took bytes since the thread last asked.
     traffic: AtomicBool,
+    /// The entry of the socket that gave bytes last.
+    reader: AtomicU64,
+    /// How many reads in a row were of that socket.
+    reads: AtomicU64,
+    /// When it gave bytes, in milliseconds.
+    read_time: AtomicU64,
     sockets: Vec<Readiness>,
     /// Where the search for a free entry goes on.
     next: AtomicU64,
@@ -83,6 +89,9 @@ impl ReadySet {
         Ok(ReadySet {
             time: AtomicU64::new(0),
             traffic: AtomicBool::new(false),
+            reader: AtomicU64::new(0),
+            reads: AtomicU64::new(0),
+            read_time: AtomicU64::new(0),
             sockets,
             next: AtomicU64::new(0),
             report,
@@ -125,6 +134,29 @@ impl ReadySet {
             self.traffic.store(false, Ordering::Relaxed);
         }
         traffic
+    }
+
+    /// How many reads in a row gave bytes of one socket, the last ones that gave any.
+    pub fn reads_of_one(&self) -> u64 {
+        self.reads.load(Ordering::Relaxed)
+    }
+
+    /// When a socket gave bytes last, in milliseconds.
+    pub fn read_time(&self) -> u64 {
+        self.read_time.load(Ordering::Relaxed)
+    }
+
+    /// Notes that the socket of this entry gave bytes.
+    fn note_reader(&self, at: u64) {
+        let before = self.reader.load(Ordering::Relaxed);
+        let reads = if before == at {
+            self.reads.load(Ordering::Relaxed).saturating_add(1)
+        } else {
+            1
+        };
+        self.reader.store(at, Ordering::Relaxed);
+        self.reads.store(reads, Ordering::Relaxed);
+        self.read_time.store(self.time(), Ordering::Relaxed);
     }
 
     /// Notes what a poll reported.
@@ -191,6 +223,7 @@ impl Registration {
     /// The socket gave so many bytes.
     pub(crate) fn note_read(&self, count: usize) {
         self.ready.traffic.store(true, Ordering::Relaxed);
+        self.ready.note_reader(self.token().0 as u64);
         self.count(Figure::BytesIn, count as u64);
     }
 

@@ -2,6 +2,7 @@
 
 use crate::acceptor::Acceptor;
 use crate::client::SocketClient;
+use crate::lookout::Lookout;
 use crate::shared::Shared;
 use crate::unfinished::UnfinishedRequest;
 use mio::Registry;
@@ -12,6 +13,7 @@ use std::io;
 use std::io::ErrorKind;
 use std::net::SocketAddr;
 use std::sync::Arc;
+use std::time::Clock;
 
 /// After so many milliseconds accepting is tried again, where a connection may wait for a descriptor or for room.
 const RETRY_MILLIS: u64 = 20;
@@ -47,10 +49,13 @@ pub(crate) enum Activity {
 pub(crate) struct AcceptLoop {
     pub(crate) acceptor: Acceptor,
     pub(crate) poller: Poller,
+    pub(crate) lookout: Lookout,
     /// What each worker's poll watches.
     pub(crate) registries: Vec<Registry>,
     /// The thread is marked asleep, and sleeps after one more turn that moves nothing.
     pub(crate) marked_asleep: bool,
+    /// The thread slept before the turns that are over.
+    pub(crate) has_slept: bool,
     /// When accepting is tried again, in milliseconds.
     pub(crate) retried: u64,
 }
@@ -112,19 +117,24 @@ impl AcceptLoop {
     }
 
     /// After some turns: polls and wakes the workers where something moved, and sleeps where nothing did.
-    pub(crate) fn after_turns<H: Drop, M: Drop>(
+    pub(crate) fn after_turns<H: Drop, M: Drop, R: Clock>(
         &mut self,
+        rt: &R,
         shared: &Shared,
         ends: &CarrierEnds<H, M>,
         activity: Activity,
     ) {
         match activity {
-            Activity::Idle => self.sleep_if_marked(shared),
-            Activity::Active => self.poll_and_wake(shared, ends),
+            Activity::Idle => self.sleep_if_marked(rt, shared),
+            Activity::Active => {
+                self.wake_given(shared, ends);
+                self.after_moving_turns(rt, shared);
+            }
             Activity::Busy => {
                 // a way up that was full has room again
                 shared.wake_workers();
-                self.poll_and_wake(shared, ends);
+                self.wake_given(shared, ends);
+                self.poller.poll_now(&shared.carrier.ready);
             }
         }
     }
@@ -137,7 +147,9 @@ impl AcceptLoop {
         }
     }
 
-    fn poll_and_wake<H: Drop, M: Drop>(&mut self, shared: &Shared, ends: &CarrierEnds<H, M>) {
+    /// Wakes the workers that were given something.
+    fn wake_given<H: Drop, M: Drop>(&mut self, shared: &Shared, ends: &CarrierEnds<H, M>) {
+        self.lookout.end();
         if self.marked_asleep {
             self.mark_awake(shared);
         }
@@ -146,13 +158,35 @@ impl AcceptLoop {
                 handle.wake_given(ends.given(worker));
             }
         }
-        self.poller.poll_now(&shared.carrier.ready);
     }
 
-    /// Marks the thread asleep, and sleeps where nothing moved since that was done.
-    fn sleep_if_marked(&mut self, shared: &Shared) {
+    /// Polls, but behind the first turns after a sleep: most often these do all that the thread was woken for, and it sleeps again.
+    fn after_moving_turns<R: Clock>(&mut self, rt: &R, shared: &Shared) {
+        if self.has_slept {
+            self.has_slept = false;
+            self.look_on_or_mark(rt, shared);
+        } else {
+            self.poller.poll_now(&shared.carrier.ready);
+        }
+    }
+
+    /// Sleeps where the thread was marked asleep, and nothing moved since that was done.
+    fn sleep_if_marked<R: Clock>(&mut self, rt: &R, shared: &Shared) {
         if self.marked_asleep {
             self.sleep(shared);
+            self.lookout.slept(rt);
+        } else {
+            self.look_on_or_mark(rt, shared);
+        }
+    }
+
+    /// Looks on for a moment where that may pay. Otherwise the thread is marked asleep, and takes one more turn.
+    fn look_on_or_mark<R: Clock>(&mut self, rt: &R, shared: &Shared) {
+        if self
+            .lookout
+            .looks_on(rt, shared, shared.carrier.ready.time())
+        {
+            self.poller.poll_now(&shared.carrier.ready);
         } else {
             self.marked_asleep = true;
             shared.carrier.parker.mark_asleep();
@@ -167,6 +201,7 @@ impl AcceptLoop {
         };
         self.poller.sleep_for(&shared.carrier.ready, longest);
         self.mark_awake(shared);
+        self.has_slept = true;
     }
 
     fn mark_awake(&mut self, shared: &Shared) {

@@ -123,6 +123,7 @@ where
     let dial = SocketDial::new(alloc, connector)?;
     let mut carrier = Carrier::new(alloc, ends, dial, nodes);
     let mut waiting: Option<PendingClient<J>> = None;
+    let mut quiet = 0u32;
     for _ in rt.forever() {
         shared.carrier.ready.update_time(rt);
         reporter.report(rt, shared.carrier.ready.time());
@@ -130,35 +131,36 @@ where
             return Ok(());
         }
         let accepted = accept_clients(carrier.ends(), &mut accept_loop, shared, &mut waiting);
-        let mut activity = take_turns(&mut carrier, &shared.carrier.ready)?;
+        let mut activity = take_turns(&mut carrier, &shared.carrier.ready, &mut quiet)?;
         let looked_up = advance_look_ups(rt, &look_ups);
         if (accepted | looked_up) && activity == Activity::Idle {
             activity = Activity::Active;
         }
-        accept_loop.after_turns(shared, carrier.ends(), activity);
+        accept_loop.after_turns(rt, shared, carrier.ends(), activity);
     }
     unreachable!()
 }
 
-/// Some turns, as long as they move something now and then. Bytes that no whole reply is made of yet count too.
+/// Some turns, as long as they move something now and then. Bytes that no whole reply is made of yet count too. `quiet` is how
+/// many in a row moved nothing, those of earlier calls among them.
 fn take_turns<'b, J, R>(
     carrier: &mut SocketCarrier<'b, J, R>,
     ready: &ReadySet,
+    quiet: &mut u32,
 ) -> Result<Activity, NoMemory>
 where
     J: Naming,
     R: Wait + Clock + Net<Listener = TcpListener, Stream = TcpStream>,
 {
     let mut activity = Activity::Idle;
-    let mut quiet = 0u32;
     for _ in 0..TURNS_PER_POLL {
         if carrier.turn()? | ready.had_traffic() {
             activity = Activity::Active;
-            quiet = 0;
+            *quiet = 0;
         } else {
-            quiet = quiet.saturating_add(1);
+            *quiet = quiet.saturating_add(1);
         }
-        if quiet >= QUIET_TURNS {
+        if *quiet >= QUIET_TURNS {
             return Ok(activity);
         }
     }

@@ -1,5 +1,6 @@
 //! A worker's gate over sockets: it wakes the carrier, and has the worker sleep where nothing moves.
 
+use crate::lookout::Lookout;
 use crate::shared::{Shared, ThreadHandle};
 use polled_sockets::Poller;
 use proxy_turns::Gate;
@@ -32,6 +33,7 @@ pub(crate) struct SocketGate<'b, R> {
     poller: RefCell<Poller>,
     handle: &'b ThreadHandle,
     shared: &'b Shared,
+    lookout: Lookout,
     /// The last turn moved something, as far as it is known.
     moved: Cell<bool>,
     /// The thread is marked asleep, and sleeps after one more turn that moves nothing.
@@ -61,6 +63,7 @@ impl<'b, R: Clock> SocketGate<'b, R> {
             poller: RefCell::new(poller),
             handle,
             shared,
+            lookout: Lookout::new(),
             moved: Cell::new(false),
             marked_asleep: Cell::new(false),
             turns: Cell::new(0),
@@ -71,6 +74,7 @@ impl<'b, R: Clock> SocketGate<'b, R> {
     }
 
     fn poll_now(&self) {
+        self.handle.ready.update_time(self.rt);
         if let Ok(mut poller) = self.poller.try_borrow_mut() {
             poller.poll_now(&self.handle.ready);
         }
@@ -105,8 +109,15 @@ impl<'b, R: Clock> SocketGate<'b, R> {
         }
     }
 
+    /// Whether the thread looks on for a moment.
+    fn looks_on(&self) -> bool {
+        self.lookout
+            .looks_on(self.rt, self.shared, self.handle.ready.time())
+    }
+
     /// After a turn that moved something.
     fn after_moving_turn(&self) {
+        self.lookout.end();
         if self.marked_asleep.get() {
             self.mark_awake();
         }
@@ -167,10 +178,15 @@ impl<R: Clock> Gate for SocketGate<'_, R> {
     fn idle(&self) {
         self.moved.set(false);
         if !self.marked_asleep.get() {
-            self.mark_asleep();
+            if self.looks_on() {
+                self.poll_now();
+            } else {
+                self.mark_asleep();
+            }
             return;
         }
         self.sleep();
+        self.lookout.slept(self.rt);
         self.mark_awake();
         self.turns.set(0);
     }

@@ -20,6 +20,7 @@ mod carrier_thread;
 mod client;
 mod client_room;
 mod gate;
+mod lookout;
 mod run;
 mod setup;
 mod shared;

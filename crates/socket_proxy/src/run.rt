@@ -9,6 +9,7 @@ use crate::acceptor::Acceptor;
 use crate::carrier_thread::{CarrierSetup, run_carrier};
 use crate::client::SocketClient;
 use crate::client_room::ClientRoom;
+use crate::lookout::Lookout;
 use crate::setup::{
     client_share, clone_registries, clone_registry, push, setup_thread, setup_workers,
 };
@@ -156,8 +157,10 @@ where
     let accept_loop = AcceptLoop {
         acceptor,
         poller,
+        lookout: Lookout::new(),
         registries,
         marked_asleep: false,
+        has_slept: false,
         retried: 0,
     };
     let registry = clone_registry(&accept_loop.poller)?;

@@ -8,6 +8,11 @@ use std::alloc::Global;
 use std::sync::Arc;
 use std::sync::atomic::{AtomicU64, Ordering};
 
+/// A client counts as alone once so many reads in a row gave bytes of it.
+const LONE_READS: u64 = 16;
+/// A client counts as being served for so many milliseconds after it sent something.
+const SERVED_MILLIS: u64 = 2;
+
 /// What the others see of a thread: the ready set of its sockets, its parker, and the unfinished requests of its clients.
 #[derive(Drop)]
 pub(crate) struct ThreadHandle {
@@ -30,6 +35,16 @@ impl ThreadHandle {
             unfinished,
             given: AtomicU64::new(0),
         }
+    }
+
+    /// Whether a client of the thread sent something lately.
+    fn serves(&self, millis: u64) -> bool {
+        millis.saturating_sub(self.ready.read_time()) <= SERVED_MILLIS
+    }
+
+    /// Whether the last requests came of one client alone.
+    fn serves_one(&self) -> bool {
+        self.ready.reads_of_one() >= LONE_READS
     }
 
     /// Wakes the thread, where it has been given more than when it was woken last.
@@ -78,6 +93,15 @@ impl Shared {
         self.workers.iter().fold(accepted, |clients, worker| {
             clients.saturating_sub(worker.ready.report().counted(Figure::ClientsGone))
         })
+    }
+
+    /// Whether one client alone is served at this time, in milliseconds.
+    pub(crate) fn serves_one(&self, millis: u64) -> bool {
+        let mut serving = self.workers.iter().filter(|worker| worker.serves(millis));
+        match (serving.next(), serving.next()) {
+            (Some(worker), None) => worker.serves_one(),
+            _ => false,
+        }
     }
 
     /// Whether all threads are to stop.
