@@ -86,6 +86,7 @@ impl<'b, R: Clock> SocketGate<'b, R> {
         if let Ok(mut poller) = self.poller.try_borrow_mut() {
             poller.sleep_for(&self.handle.ready, millis);
         }
+        self.handle.ready.update_time(self.rt);
     }
 
     fn millis_to_sleep(&self) -> u64 {
