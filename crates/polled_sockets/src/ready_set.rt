@@ -136,7 +136,7 @@ impl ReadySet {
         traffic
     }
 
-    /// How many reads in a row gave bytes of one socket, the last ones that gave any.
+    /// How many reads in a row, up to the last that gave bytes, were of one socket.
     pub fn reads_of_one(&self) -> u64 {
         self.reads.load(Ordering::Relaxed)
     }

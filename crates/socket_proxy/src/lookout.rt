@@ -6,7 +6,7 @@ use std::time::Clock;
 
 /// So long a thread looks on before it sleeps, in microseconds.
 const MOMENT: u64 = 50;
-/// A sleep that took no longer, in microseconds, would better not have begun: waking costs about half of it.
+/// After a sleep that took no longer, in microseconds, looking on is tried again: some of that time was the waking.
 const SHORT_SLEEP: u64 = 100;
 
 /// Whether a thread whose turn moved nothing looks on for a moment before it sleeps. That serves a client who is alone faster, since
