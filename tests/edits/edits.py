@@ -24,13 +24,15 @@ class Edit:
 
     A file `*.edit` has lines `file: PATH`, `old: TEXT` and `new: TEXT`, and `fn: NAME` where the function that has to be
     refused can't be told from the place of the text, as for a constant. A line `callees: kept` says that the function's goals
-    wait until all that it calls is proved.
+    wait until all that it calls is proved. A line `open: NAME` names a goal of the function that the edit leaves open: it counts by
+    that one.
     """
 
     name: str
     pairs: list = field(default_factory=list)
     named: list = field(default_factory=list)
     keeps_callees: bool = False
+    open: str = ""
 
     def applied(self, texts, folder):
         """The texts of the files that it changes, made of these or of those in the crate's folder."""
@@ -56,6 +58,8 @@ def read(path):
             file = line.removeprefix("file: ").strip()
         elif line.startswith("fn: "):
             edit.named.append(line.removeprefix("fn: ").strip())
+        elif line.startswith("open: "):
+            edit.open = line.removeprefix("open: ").strip()
         elif line.strip() == "callees: kept":
             edit.keeps_callees = True
         elif line.startswith("old: "):

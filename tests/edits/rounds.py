@@ -10,6 +10,7 @@ of the files of their laws (copies.py), in one round.
 import tempfile
 from dataclasses import dataclass, field
 
+import answers
 import calls
 import checks
 import copies
@@ -44,6 +45,12 @@ class Waiting:
     # What the prover calls the function in which the edit stands in this round, and whether a twin will not do.
     stands_in: list = field(default_factory=list)
     in_place: bool = False
+    # Whether it may count by the goal that it names, how it stands in this round for that, and whether it was tried so in vain.
+    may_name: bool = False
+    answered: answers.Answered | None = None
+    is_misnamed: bool = False
+    # The function beside its twin that has to be in order, if one has.
+    control: str | None = None
 
 
 @dataclass
@@ -66,7 +73,8 @@ def read_all(crate, from_folder, names):
             touched = edits.touched_by(edit, crate.folder, names)
             alone = edits.is_apart(edit, crate.folder)
             in_copies = alone and len(functions) == 1 and all(pair.file.startswith("specs/") for pair in edit.pairs)
-            waiting.append(Waiting(edit, functions, touched, alone, in_copies))
+            may_name = bool(edit.open) and not alone and functions == [*touched]
+            waiting.append(Waiting(edit, functions, touched, alone, in_copies, may_name=may_name))
         except edits.Misfit as why:
             bad.append(Tried(path.stem, False, f"BAD EDIT: {why}"))
     keep_callees(waiting, crate.folder)
@@ -94,7 +102,7 @@ class Round:
     texts: dict = field(default_factory=dict)
     # The functions that are changed in their places.
     changed: set = field(default_factory=set)
-    # The control of each function that has twins, and of each that has copies of some files.
+    # The controls beside twins, by function and goal, and those beside copies, by function and files.
     controls: dict = field(default_factory=dict)
     # The copies of each edit that stands in such.
     copies: dict = field(default_factory=dict)
@@ -123,6 +131,7 @@ class Round:
         except edits.Misfit:
             return self.place_in_twin(it, crate)
         self.changed |= functions
+        self.answer(it, crate)
         return True
 
     def place_in_twin(self, it, crate):
@@ -134,9 +143,15 @@ class Round:
         if twin is None:
             return False
         self.texts, it.stands_in = self.texts | twin.texts, [twin.name]
-        if function not in self.controls:
-            self.controls[function] = self.control(it, function, crate)
+        self.answer(it, crate)
+        it.control = self.control(it, function, crate)
         return True
+
+    def answer(self, it, crate):
+        """Has the edit count by the goal that it names, where that can be done."""
+        it.answered = answers.answered(it.edit, it.stands_in[0], self.texts, crate) if it.may_name else None
+        if it.answered:
+            self.texts |= it.answered.texts
 
     def place_in_copies(self, it, crate):
         """Puts an edit into copies of the files that stand on what it changes, with copies without an edit beside the first of these
@@ -156,16 +171,21 @@ class Round:
         return True
 
     def control(self, it, function, crate):
-        """The control of a function, or None where its proof has no files that could be copied wrongly: `rt ci` proved it so."""
-        if not twins.proofs_of(crate.folder, crate.name, function, function):
+        """The control beside a twin: the function as it stands, or what it has to show of the goal by which the twin counts. None where
+        no file was copied that could be copied wrongly, or none that answers that goal: `rt ci` proved it so."""
+        if it.answered and it.answered.by_tactics or not twins.proofs_of(crate.folder, crate.name, function, function):
             return None
-        made = twins.control_of(it.edit, function, self.texts, crate)
-        self.texts |= made.texts
-        return made.name
+        key = function, it.answered and it.edit.open
+        if key not in self.controls:
+            made = twins.control_of(it.edit, function, self.texts, crate, len(self.controls))
+            self.controls[key], self.texts = made.name, self.texts | made.texts
+            if it.answered:
+                self.texts |= answers.answered(it.edit, made.name, self.texts, crate).texts
+        return self.controls[key]
 
     def asked(self):
         """The functions that are checked."""
-        return {name for it in self.taken for name in it.stands_in} | {*self.controls.values()} - {None}
+        return {name for it in self.taken for name in it.stands_in} | {*self.controls.values()}
 
     def stubbed(self, crate, names):
         """The round's texts, with stubs for the functions that no edit touches. An edit of a definition stands among whole ones: past
@@ -191,10 +211,12 @@ def next_round(waiting, crate):
     return made
 
 
-def is_in_order(answer, crate, control):
-    """Whether a control's own goals are all closed."""
+def is_in_order(answer, crate, control, by_goal=False):
+    """Whether a control's own goals are all closed, or the one that is answered in it."""
     if control is None:
         return True
+    if by_goal:
+        return control in answer.functions and not answers.faults_of(answer, control)
     verdict = verdicts.verdict_of(answer, control)[0]
     return verdict is Verdict.PROVED or (verdict is Verdict.CALLEE and not verdicts.waits(answer, crate.name, control))
 
@@ -209,15 +231,28 @@ def judged_in_copies(answer, crate, it, made):
     return None
 
 
+def judged_by_goal(answer, crate, it):
+    """What came of an edit that counts by the goal that it names, or None where it is to be tried again without that."""
+    (function,), (stands,) = it.functions, it.stands_in
+    is_refused = answers.are_refused(answer, it.edit.open, stands, it.answered.by_tactics)
+    if is_refused and (stands == function or is_in_order(answer, crate, it.control, by_goal=True)):
+        return Tried(it.edit.name, True, f"refused by {function}: `{it.edit.open}`")
+    it.may_name, it.is_misnamed = False, True
+    return None
+
+
 def judged(answer, crate, it, made):
     """What came of one edit of a round, or None where it is to be tried again."""
     if it.in_copies:
         return judged_in_copies(answer, crate, it, made)
+    if it.answered:
+        return judged_by_goal(answer, crate, it)
     found = [(name, stands, *verdicts.verdict_of(answer, stands)) for name, stands in zip(it.functions, it.stands_in)]
     name, stands, verdict, text = next((one for one in found if one[2] is not Verdict.REFUSED), found[0])
     is_twin = it.stands_in != it.functions
-    if verdict is Verdict.REFUSED and (not is_twin or is_in_order(answer, crate, made.controls[name])):
-        return Tried(it.edit.name, True, f"refused by {name}: {text}")
+    if verdict is Verdict.REFUSED and (not is_twin or is_in_order(answer, crate, it.control)):
+        aside = " (its line 'open:' does not say so)" if it.is_misnamed else ""
+        return Tried(it.edit.name, True, f"refused by {name}: {text}{aside}")
     others = made.changed - {*it.functions}
     if verdict is Verdict.CALLEE and not others <= it.apart:
         it.apart |= {*verdicts.callees_of(answer, crate.name, stands)} & others or others

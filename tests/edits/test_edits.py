@@ -7,6 +7,7 @@ import tempfile
 import unittest
 from pathlib import Path
 
+import answers
 import checks
 import copies
 import edits
@@ -142,6 +143,22 @@ KEPT = {
     "same_meaning_in_a_twin_for_its_callers": (["old:     count + 1", "new:     1 + count"], "NOT REFUSED"),
 }
 
+# The same of edits that name the goals which they leave open.
+OPEN = {
+    "raised_by_none_at_its_return": (["open: returns", "old:     count + 1", "new:     count"], "refused by raised: `returns`"),
+    "raised_by_two_in_a_twin_at_its_return": (["open: returns", "old:     count + 1", "new:     count + 2"], "refused by raised: `returns`"),
+    "raised_again_by_none_at_its_answer": (["open: returns", "old:     once", "new:     count"], "refused by raised_again: `returns`"),
+    "raised_at_another_goal": (
+        ["open: returns-else", "old:     raised(raised(count))", "new:     count"],
+        "refused by raised_twice: `returns` (its line 'open:' does not say so)",
+    ),
+    "same_meaning_at_its_return": (["open: returns", "old:     count < LARGEST", "new:     LARGEST > count"], "NOT REFUSED"),
+    "only_a_name_at_its_return": (
+        ["open: returns", "old:     let once = raised(count);", "new:     let first = raised(count); let once = first;"],
+        "NOT COUNTED: it is refused only because a proof names",
+    ),
+}
+
 # The same of edits of definitions.
 DEFINITIONS = {
     "larger_by_definition": (["file: specs/Counts.antt", "fn: largest_is_nine", "old: largest = 9", "new: largest = 10"], "refused by largest_is_nine: "),
@@ -195,6 +212,10 @@ class Rounds(unittest.TestCase):
         # The second round has the one that no twin refused, in its place.
         self.assertEqual(self.outcome_of(KEPT).rounds, 2)
 
+    def test_edits_count_by_the_goal_that_they_name(self):
+        # The second round has those that do not count so.
+        self.assertEqual(self.outcome_of(OPEN).rounds, 2)
+
     def test_edits_of_definitions_stand_in_copies(self):
         # The second and third rounds have those that no copy refused, each in its place.
         self.assertEqual(self.outcome_of(DEFINITIONS).rounds, 3)
@@ -216,11 +237,52 @@ class Controls(unittest.TestCase):
             "fn sample::f_control: not proved": False,
         }.items():
             answer = verdicts.read("sample", f"{refused}\n{said}\nonly=2 holes=0\n")
-            it = rounds.Waiting(edits.Edit("wrong"), ["f"], stands_in=["f_twin"])
-            made = rounds.Round(set(), taken=[it], controls={"f": "f_control"})
+            it = rounds.Waiting(edits.Edit("wrong"), ["f"], stands_in=["f_twin"], control="f_control")
+            made = rounds.Round(set(), taken=[it])
             tried = rounds.judged(answer, checks.Crate("sample", Path(), [], []), it, made)
             self.assertEqual(tried is not None and tried.refused, counts, said)
             self.assertEqual(it.in_place, not counts, said)
+
+
+class Answers(unittest.TestCase):
+    """An edit counts by the goal that it names: the other answers of its function give way to holes."""
+
+    TEXT = """\
+use Rattle.sample.proofs.f.Goals as goal
+
+twice : (n : ℕ) → n + n ≡ n * 2
+twice n = grind arith
+
+pub returns-in-Ok : goal.returns-in-Ok
+returns-in-Ok c = record {
+  first = refl;
+}
+
+abbrev pub invariant-loop : goal.invariant-loop
+invariant-loop l = l.count ≤ 9
+
+pub returns-in-Err : goal.returns-in-Err
+returns-in-Err c = twice 4
+"""
+
+    def test_other_answers_give_way_to_holes(self):
+        left = self.TEXT.replace("c = record {\n  first = refl;\n}\n", "c = ?\n")
+        self.assertEqual(answers.with_holes(self.TEXT, "returns-in-Err"), left)
+        self.assertEqual(answers.with_holes(self.TEXT, "returns-in-Ok"), self.TEXT.replace("c = twice 4\n", "c = ?\n\n"))
+
+    def test_an_answered_goal_and_both_tactics(self):
+        at = "proofs/f/Answers.antt:1:1: error: `returns"
+        for said, by_tactics, counts in {
+            (f"{at}`: the two types differ", False, True),
+            (f"{at}`: `once` is not in scope", False, False),
+            (f"{at}-in-Ok`: the two types differ", False, False),
+            (f"{at}`: `search`: no proof of `0 ≡ 1`\n{at}-by-grind`: `grind`: the goal does not follow", True, True),
+            (f"{at}`: `search`: no proof of `0 ≡ 1`", True, False),
+            (f"{at}-by-grind`: `grind`: the goal does not follow", True, False),
+            (f"{at}`: `once` is not in scope\n{at}-by-grind`: `once` is not in scope", True, False),
+        }:
+            answer = verdicts.read("sample", f"{said}\nfn sample::f: not proved\nonly=1 holes=0\n")
+            self.assertEqual(answers.are_refused(answer, "returns", "f", by_tactics), counts, said)
 
 
 class Copies(unittest.TestCase):

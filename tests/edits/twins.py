@@ -21,10 +21,10 @@ class Twin:
 
 
 def begin_of(text, head):
-    """Where the function of this head begins, its attributes taken with it."""
+    """Where the function of this head begins, its attributes and comments taken with it."""
     start = head.start()
-    while attribute := re.search(r"^ *#\[[^\n]*\]\n\Z", text[:start], re.M):
-        start = attribute.start()
+    while above := re.search(r"^ *(?:#\[[^\n]*\]|//[^\n]*)\n\Z", text[:start], re.M):
+        start = above.start()
     return start
 
 
@@ -109,6 +109,6 @@ def twin_of(edit, function, texts, crate, number):
     return copied(edit, edit.pairs, function, f"twin_{number}", texts, crate)
 
 
-def control_of(edit, function, texts, crate):
-    """The control beside the twins of the edit's function."""
-    return copied(edit, [], function, "control", texts, crate)
+def control_of(edit, function, texts, crate, number):
+    """A control beside the twins of the edit's function."""
+    return copied(edit, [], function, f"control_{number}", texts, crate)

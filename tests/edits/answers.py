@@ -1,0 +1,102 @@
+"""Edits that count by one goal.
+
+An edit may name, in a line `open:`, a goal that it leaves open. What else is to be shown of its function says nothing of it: in the
+edit's round no tactic is tried on the other goals, and those that have answers get holes in their place. Where the goal itself has
+no answer, a check would go on to look for values that refute it, and for what it could offer; an answer that fails is only refused.
+So it is answered twice, by each of the two tactics that the prover tries on a goal without an answer, and both have to fail. An edit
+that does not count so is tried again with its function's answers as they stand.
+"""
+
+import re
+from dataclasses import dataclass
+from pathlib import Path
+
+import edits
+import twins
+import verdicts
+
+# What the prover tries on a goal without an answer, by the endings of the answers' names.
+TACTICS = {"": "search usual_rules", "-by-grind": "grind (usual_arith, usual_steps)"}
+
+USES = """\
+use Rattle.std.proofs.Common.{rules as usual_rules, arith as usual_arith}
+use Rattle.std.proofs.lemmas.Grind.{common_steps as usual_steps}
+"""
+# The goals of the function, by the name that a file of answers has for them.
+GOALS = re.compile(r"^use Rattle\.[\w.+]+\.Goals as (\w+)\n", re.M)
+# An answer, up to what stands behind it.
+ANSWER = re.compile(r"^pub (\S+) : (\w+\.\1)\n\1\b.*?(?=^(?:pub |abbrev |unfoldable |use |mod |module |--|[^\s{}()\[\]|]+ : )|\Z)", re.M | re.S)
+ATTRIBUTE = re.compile(r"^ *#\[tactic\([^\n]*\n", re.M)
+
+
+@dataclass
+class Answered:
+    """The texts of a round for an edit that counts by one goal, and whether the tactics answer that goal."""
+
+    texts: dict
+    by_tactics: bool
+
+
+def file_of(function):
+    """Where the answers of a function stand."""
+    return str(Path("proofs", *function.split("::"), "Answers.antt"))
+
+
+def with_holes(text, kept):
+    """The text of a function's answers with holes in place of all but one."""
+    return ANSWER.sub(lambda it: it[0] if it[1] == kept else f"pub {it[1]} : {it[2]}\n{it[1]} c = ?\n\n", text)
+
+
+def with_tactics(text, goal, function, crate):
+    """The text of a function's answers with those of the tactics to a goal."""
+    known, uses = GOALS.search(text), USES
+    if known is None:
+        uses += f"use Rattle.{crate.name}.proofs.{function.replace('::', '.')}.Goals as goal\n"
+    place = f"{known[1] if known else 'goal'}.{goal}"
+    parts = [f"\npub {goal}{ending} : {place}\n{goal}{ending} c = {body}\n" for ending, body in TACTICS.items()]
+    return "".join([uses, text.rstrip("\n") + "\n", *parts])
+
+
+def head_of(edit, function, text, crate):
+    """The head of the function of this name in which an edit stands, in the text that its file has in the round."""
+    source = edit.pairs[0].file
+    first = (crate.folder / source).read_text(encoding="utf-8")
+    *above, _ = (edits.function_at(source, first, first.find(edit.pairs[0].old)) or "").split("::")
+    found = twins.head_of(source, text, "::".join([*above, function.split("::")[-1]]))
+    return found and found[0]
+
+
+def answered(edit, function, texts, crate):
+    """The texts for an edit that stands in this function, so that it counts by its goal, or None where it can't."""
+    file, source = file_of(function), edit.pairs[0].file
+    stands = crate.folder / file
+    text = texts.get(file) or (stands.read_text(encoding="utf-8") if stands.exists() else "")
+    head = head_of(edit, function, texts[source], crate)
+    if head is None or "::" in edit.open or stands.with_name("Proof.antt").exists():
+        return None
+    begin = twins.begin_of(texts[source], head)
+    attributes = texts[source][begin : head.start()]
+    by_tactics = edit.open not in {it[1] for it in ANSWER.finditer(text)}
+    if by_tactics and ATTRIBUTE.search(attributes):
+        return None  # its tactics have lemmas or definitions that the function names
+    text = with_holes(text, edit.open)
+    none = ATTRIBUTE.sub("", attributes) + f"{head[1]}#[tactic(none)]\n"
+    made = {
+        file: with_tactics(text, edit.open, function, crate) if by_tactics else text,
+        source: texts[source][:begin] + none + texts[source][head.start() :],
+    }
+    return Answered(made, by_tactics)
+
+
+def faults_of(answer, function):
+    """What a check said against the answers of a function."""
+    return [it.text for it in answer.faults if it.file == file_of(function)]
+
+
+def are_refused(answer, goal, function, by_tactics):
+    """Whether the answers to the goal were refused, by what a check said: those of the tactics, or the one that it has."""
+    own = faults_of(answer, function)
+    if by_tactics:
+        wanted = [f"`{goal}{ending}`: `{body.split()[0]}`" for ending, body in TACTICS.items()]
+        return answer.ended and all(any(it.startswith(begin) for it in own) for begin in wanted)
+    return answer.ended and any(it.startswith(f"`{goal}`: ") and not verdicts.MISSING.search(it) for it in own)
