@@ -23,7 +23,7 @@ pub enum Choice<'a> {
 }
 
 /// The program's version, and the line of the kit that it is proved with.
-pub const VERSION: &str = "0.1.0 (rattle-kit-13b logic dac8208d650f15bf)";
+pub const VERSION: &str = "0.1.0 (rattle-kit-13f logic dac8208d650f15bf)";
 
 /// What `local` takes.
 const WORKERS_WANTED: &str = "--workers takes a number from 1 to 64";
