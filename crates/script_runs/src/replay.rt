@@ -1,8 +1,9 @@
 //! One client's script, planned anew.
 
-ghost use Rattle.std.specs.Prelude.{◌≡◌, ◌≤◌, ◌<◌, ◌+◌, ◌++◌, ◌^◌, [], None, IfOk, OnOk, length, option_map};
+ghost use Rattle.std.specs.Prelude.{◌≡◌, ◌≤◌, ◌<◌, ◌+◌, ◌++◌, ◌^◌, [], None, IfOk, OnOk, false, length, option_map, true};
 ghost use Rattle.key_split.specs.Join.{CanJoin};
 ghost use Rattle.session_order.specs.Output.{ends_from};
+ghost use Rattle.session_order.specs.PendingReply.{goodbye};
 ghost use Rattle.session_order.specs.Replies.{bytes_of, joined, lines_owed, spelling};
 ghost use Rattle.script_runs.specs.Replayed.{after, goes_on, opened, outcome, outcome_of, says, state_of, takes_parts, where_whole};
 ghost use Rattle.script_runs.specs.Requests.{AsksFor, Requested};
@@ -75,32 +76,38 @@ impl Replay {
         ensures { IfOk result (λ more. (more ≡ goes_on wanted) × (state_of self.new ≡ after client_id (ends_of client_id ends.now) (state_of self.old) wanted)) }
     {
         match wanted {
-            Wanted::Nothing(faulted) => {
-                self.say_fault(alloc, faulted)?;
-                Ok(false)
-            }
+            Wanted::Nothing(faulted) => self.say_fault(alloc, faulted),
             Wanted::Skip => Ok(true),
-            Wanted::Reply(value) => {
-                self.say(&value)?;
-                Ok(true)
-            }
+            Wanted::Reply(value) => self.say_reply(value),
             Wanted::Parts(how, planned) => {
-                self.take_parts(alloc, client_id, ends, &how, planned)?;
-                Ok(true)
+                self.take_parts(alloc, client_id, ends, &how, planned)
             }
-            Wanted::Close => {
-                let reply = goodbye(alloc)?;
-                self.say(&reply)?;
-                Ok(false)
-            }
+            Wanted::Close => self.say_goodbye(alloc),
         }
     }
 
     /// Writes a reply, where nothing before it lacks its own.
-    fn say(&mut self, value: &Value) -> Result<(), NoMemory>
-        ensures { OnOk result (state_of self.new ≡ says (state_of self.old) (spelling value.now)) }
+    fn say(&mut self, value: Value) -> Result<(), NoMemory>
+        ensures { OnOk result (state_of self.new ≡ says (state_of self.old) (spelling value)) }
     {
-        say(&mut self.output, self.is_whole, value)
+        say(&mut self.output, self.is_whole, &value)
+    }
+
+    /// Writes a reply. More may follow.
+    fn say_reply(&mut self, value: Value) -> Result<bool, NoMemory>
+        ensures { IfOk result (λ more. (more ≡ true) × (state_of self.new ≡ says (state_of self.old) (spelling value))) }
+    {
+        self.say(value)?;
+        Ok(true)
+    }
+
+    /// Writes the reply to QUIT. Nothing follows.
+    fn say_goodbye(&mut self, alloc: Global) -> Result<bool, NoMemory>
+        ensures { IfOk result (λ more. (more ≡ false) × (state_of self.new ≡ says (state_of self.old) (spelling goodbye))) }
+    {
+        let reply = goodbye(alloc)?;
+        self.say(reply)?;
+        Ok(false)
     }
 
     /// Writes the reply that the ends of a request's parts make.
@@ -110,22 +117,22 @@ impl Replay {
         ensures { OnOk result (state_of self.new ≡ says (state_of self.old) (spelling (joined how.now own.now))) }
     {
         let reply = join(alloc, how, own)?;
-        self.say(&reply)?;
-        Ok(())
+        self.say(reply)
     }
 
-    /// Writes the line of a fault, where there was one.
-    fn say_fault(&mut self, alloc: Global, faulted: bool) -> Result<(), NoMemory>
-        ensures { OnOk result (state_of self.new ≡ says (state_of self.old) (bytes_of (lines_owed faulted))) }
+    /// Writes the line of a fault, where there was one. Nothing follows.
+    fn say_fault(&mut self, alloc: Global, faulted: bool) -> Result<bool, NoMemory>
+        ensures { IfOk result (λ more. (more ≡ false) × (state_of self.new ≡ says (state_of self.old) (bytes_of (lines_owed faulted)))) }
     {
         if !faulted {
-            return Ok(());
+            return Ok(false);
         }
         let line = protocol_error(alloc)?;
-        self.say(&line)
+        self.say(line)?;
+        Ok(false)
     }
 
-    /// Adds the parts of a request, and writes its reply, where all of them have ended.
+    /// Adds the parts of a request, and writes its reply, where all of them have ended. More may follow.
     fn take_parts(
         &mut self,
         alloc: Global,
@@ -133,10 +140,10 @@ impl Replay {
         ends: &EndTable,
         how: &Joining,
         planned: Parts,
-    ) -> Result<(), NoMemory>
+    ) -> Result<bool, NoMemory>
         requires joinable { CanJoin how.now (length planned) }
         requires numbered { self.old.number + length planned ≤ 2 ^ 48 }
-        ensures { OnOk result (state_of self.new ≡ takes_parts client_id (ends_of client_id ends.now) (state_of self.old) how.now planned) }
+        ensures { IfOk result (λ more. (more ≡ true) × (state_of self.new ≡ takes_parts client_id (ends_of client_id ends.now) (state_of self.old) how.now planned)) }
     {
         let count = planned.as_slice().len();
         let found = ends_of(alloc, ends, client_id, self.number, count)?;
@@ -145,11 +152,11 @@ impl Replay {
         match found {
             Some(own) => {
                 self.say_joined(alloc, how, &own)?;
-                Ok(())
+                Ok(true)
             }
             None => {
                 self.is_whole = false;
-                Ok(())
+                Ok(true)
             }
         }
     }

@@ -7,6 +7,7 @@ mod fused_dial;
 mod local;
 mod mover;
 mod stop;
+mod tasks;
 mod worker_thread;
 
 pub use local::{run_faulty, run_local};

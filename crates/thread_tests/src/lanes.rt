@@ -1,5 +1,7 @@
 //! One lane: between two threads, and when it is finished.
 
+ghost use Rattle.rtrb.specs.Ring.{SameConsumer, SameProducer};
+
 use crate::numbered::run;
 use key_split::Run;
 use proxy_lanes::{Inlet, Outlet, lane};
@@ -7,18 +9,41 @@ use std::alloc::Global;
 use std::test::Fail;
 use std::thread;
 
+// Whether a run finds a place.
+fn posts(outlet: &mut Outlet<Run>, run: Run) -> bool
+    ensures { SameProducer outlet.old.producer outlet.new.producer }
+{
+    outlet.post(run).is_ok()
+}
+
+fn posts_three(alloc: Global, outlet: &mut Outlet<Run>) -> bool
+    ensures { SameProducer outlet.old.producer outlet.new.producer }
+{
+    let first = posts(outlet, run(alloc, 0));
+    let second = posts(outlet, run(alloc, 1));
+    let third = posts(outlet, run(alloc, 2));
+    first && second && third
+}
+
+// Whether the next run has this number.
+fn takes(inlet: &mut Inlet<Run>, number: u64) -> bool
+    ensures { SameConsumer inlet.old.consumer inlet.new.consumer }
+{
+    match inlet.take() {
+        Some(run) => run.first().ticket.part == number,
+        None => false,
+    }
+}
+
 #[test]
 fn what_is_left_is_settled(rt: HostRuntime) -> Result<(), Fail> {
-    let alloc = rt.alloc();
-    let (mut outlet, mut inlet) = lane::<Run>(alloc)?;
-    assert!(rt; outlet.post(run(alloc, 0)).is_ok());
-    assert!(rt; outlet.post(run(alloc, 1)).is_ok());
-    assert!(rt; outlet.post(run(alloc, 2)).is_ok());
-    assert!(rt; inlet.take().is_some());
-    assert!(rt; inlet.take().is_some());
+    let (mut outlet, mut inlet) = lane::<Run>(rt.alloc())?;
+    assert!(rt; posts_three(rt.alloc(), &mut outlet));
+    assert!(rt; takes(&mut inlet, 0));
+    assert!(rt; takes(&mut inlet, 1));
     let note = outlet.finish().ok_or("a note")?;
     assert_eq!(rt; inlet.settle(note), 1);
-    assert_eq!(rt; inlet.take().ok_or("a run")?.first().ticket.part, 2);
+    assert!(rt; takes(&mut inlet, 2));
     Ok(())
 }
 

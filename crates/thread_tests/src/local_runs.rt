@@ -1,12 +1,12 @@
 //! Runs of scripts.
 
 use crate::gates::{Meeting, Open};
-use crate::runs::{Counts, Move, run};
-use local_cluster::{LocalCluster, three_nodes};
+use crate::runs::{Counts, Move, ran, run, scripts_of};
+use cluster_world::RunReport;
 use proxy_runtime::Host;
 use proxy_turns::Gate;
 use resp_wire::Bytes;
-use script_runs::run_faulty;
+use std::alloc::Global;
 use std::process::Abort;
 use std::test::Fail;
 
@@ -40,19 +40,17 @@ fn run_two<R: Host, G: Gate + Sync>(
     texts: [&[u8]; 2],
     moves: &[Move],
     gate: &G,
+    calls: Option<u64>,
     listing: &mut Vec<u8>,
 ) -> Result<Option<Counts>, Fail> {
-    let [first, second] = texts;
-    let mut scripts = Vec::new(rt.alloc());
-    scripts.push(Bytes::from_slice(rt.alloc(), first)?)?;
-    scripts.push(Bytes::from_slice(rt.alloc(), second)?)?;
-    run(rt, &scripts, moves, 2, gate, None, listing)
+    let scripts = scripts_of(rt.alloc(), &texts)?;
+    run(rt, &scripts, moves, 2, gate, calls, listing)
 }
 
 // Each of two workers waits for the other, and answers one command.
 fn meet<R: Host>(rt: &R) -> Result<bool, Fail> {
     let mut listing = Vec::new(rt.alloc());
-    let came = run_two(rt, [SET_A, SET_B], &[], &Meeting::new(), &mut listing)?;
+    let came = run_two(rt, [SET_A, SET_B], &[], &Meeting::new(), None, &mut listing)?;
     Ok(came == Some(Counts::all_answered(2)))
 }
 
@@ -66,7 +64,14 @@ fn two_workers_wait_for_each_other(rt: HostRuntime) -> Result<(), Fail> {
 fn move_a_slot<R: Host>(rt: &R) -> Result<bool, Fail> {
     let mut listing = Vec::new(rt.alloc());
     let moves = [Move::Moved(15495, 0)];
-    let came = run_two(rt, [SET_A_INCR_A, SET_B_MGET], &moves, &Open, &mut listing)?;
+    let came = run_two(
+        rt,
+        [SET_A_INCR_A, SET_B_MGET],
+        &moves,
+        &Open,
+        None,
+        &mut listing,
+    )?;
     Ok(came == Some(Counts::all_answered(5)) && listing.as_slice() == LISTED)
 }
 
@@ -84,17 +89,18 @@ const LOST_TWICE: &[u8] =
 
 // One client, over connections that pass no call on: nothing is executed.
 fn lose_all<R: Host>(rt: &R) -> Result<bool, Fail> {
-    let alloc = rt.alloc();
-    let mut scripts = Vec::new(alloc);
-    scripts.push(Bytes::from_slice(alloc, SET_A_GET_A)?)?;
-    let cluster = LocalCluster::new(alloc, three_nodes(alloc)?)?;
-    let Ok((report, _)) = run_faulty(rt, alloc, cluster, &scripts, &[], 1, &Open, 0) else {
-        return Ok(false);
-    };
+    let scripts = scripts_of(rt.alloc(), &[SET_A_GET_A])?;
+    match ran(rt, &scripts, &[], 1, &Open, Some(0))? {
+        Some((report, _)) => Ok(is_lost(&report)),
+        None => Ok(false),
+    }
+}
+
+fn is_lost(report: &RunReport) -> bool {
     let [replies] = report.replies.as_slice() else {
-        return Ok(false);
+        return false;
     };
-    Ok(report.history.is_empty() && replies.as_slice() == LOST_TWICE)
+    report.history.is_empty() && replies.as_slice() == LOST_TWICE
 }
 
 #[test]
@@ -105,20 +111,24 @@ fn connections_that_pass_no_call_on(rt: HostRuntime) -> Result<(), Fail> {
 
 // Two clients while a slot moves, over connections that pass so many calls on: each of the five parts ended.
 fn fail_after<R: Host>(rt: &R, calls: u64) -> Result<bool, Fail> {
-    let mut scripts = Vec::new(rt.alloc());
-    scripts.push(Bytes::from_slice(rt.alloc(), SET_A_INCR_A)?)?;
-    scripts.push(Bytes::from_slice(rt.alloc(), SET_B_MGET)?)?;
-    let moves = [Move::Moved(15495, 0)];
     let mut listing = Vec::new(rt.alloc());
-    match run(rt, &scripts, &moves, 2, &Open, Some(calls), &mut listing)? {
-        Some(counts) => {
-            Ok(
-                counts.stopped == 0
-                    && matches!(counts.answered.checked_add(counts.unanswered), Some(5)),
-            )
-        }
+    let moves = [Move::Moved(15495, 0)];
+    match run_two(
+        rt,
+        [SET_A_INCR_A, SET_B_MGET],
+        &moves,
+        &Open,
+        Some(calls),
+        &mut listing,
+    )? {
+        Some(counts) => Ok(have_ended(counts)),
         None => Ok(false),
     }
+}
+
+// Whether all five parts ended.
+fn have_ended(counts: Counts) -> bool {
+    counts.stopped == 0 && matches!(counts.answered.checked_add(counts.unanswered), Some(5))
 }
 
 #[test]
@@ -145,7 +155,7 @@ fn is_recalled(counts: Counts) -> bool {
 fn recall_a_slot<R: Host>(rt: &R) -> Result<bool, Fail> {
     let mut listing = Vec::new(rt.alloc());
     let moves = [Move::Recalled(15495, 0)];
-    match run_two(rt, [SET_A_GET_A, b""], &moves, &Open, &mut listing)? {
+    match run_two(rt, [SET_A_GET_A, b""], &moves, &Open, None, &mut listing)? {
         Some(counts) => Ok(is_recalled(counts)),
         None => Ok(false),
     }
@@ -159,14 +169,14 @@ fn one_client_while_a_move_is_called_back(rt: HostRuntime) -> Result<(), Fail> {
     Ok(())
 }
 
-fn busy_clients<R: Host>(rt: &R) -> Result<Vec<Bytes>, Fail> {
-    let mut text = Vec::new(rt.alloc());
+fn busy_clients(alloc: Global) -> Result<Vec<Bytes>, Fail> {
+    let mut text = Vec::new(alloc);
     for _ in 0..ROUNDS {
         text.extend_from_slice(BUSY)?;
     }
-    let mut scripts = Vec::new(rt.alloc());
+    let mut scripts = Vec::new(alloc);
     for _ in 0..20u8 {
-        scripts.push(Bytes::from_slice(rt.alloc(), &text)?)?;
+        scripts.push(Bytes::from_slice(alloc, &text)?)?;
     }
     Ok(scripts)
 }
@@ -174,7 +184,7 @@ fn busy_clients<R: Host>(rt: &R) -> Result<Vec<Bytes>, Fail> {
 // Twenty busy clients while three slots move and one move is called back, of a slot that is only read, so that no step need
 // be skipped.
 fn crowd<R: Host>(rt: &R) -> Result<bool, Fail> {
-    let scripts = busy_clients(rt)?;
+    let scripts = busy_clients(rt.alloc())?;
     let moves = [
         Move::Moved(15495, 0),
         Move::Moved(3300, 1),
@@ -183,11 +193,13 @@ fn crowd<R: Host>(rt: &R) -> Result<bool, Fail> {
     ];
     let mut listing = Vec::new(rt.alloc());
     match run(rt, &scripts, &moves, 3, &Open, None, &mut listing)? {
-        Some(counts) => {
-            Ok(counts.answered > 9_000 && counts.skipped == 0 && counts.stopped == 0)
-        }
+        Some(counts) => Ok(is_crowd(counts)),
         None => Ok(false),
     }
+}
+
+fn is_crowd(counts: Counts) -> bool {
+    counts.answered > 9_000 && counts.skipped == 0 && counts.stopped == 0
 }
 
 #[test]

@@ -24,7 +24,7 @@ pub enum Move {
 }
 
 /// What a lawful report counts.
-#[derive(Clone, Copy, Debug, PartialEq, Eq)]
+#[derive(Clone, Copy, PartialEq, Eq)]
 pub struct Counts {
     /// Parts that were answered.
     pub answered: usize,
@@ -84,8 +84,41 @@ fn begin(steps: &mut Vec<MoveStep>, number: u16, target: u8) -> Result<Slot, Fai
     Ok(slot)
 }
 
-/// Runs the scripts, over connections that each pass so many calls on where `calls` says so, and appends the listing of the
-/// slots afterwards. None where the run fails or its report is not lawful.
+/// These scripts.
+pub fn scripts_of(alloc: Global, texts: &[&[u8]]) -> Result<Vec<Bytes>, Fail> {
+    let mut scripts = Vec::new(alloc);
+    for text in texts {
+        scripts.push(Bytes::from_slice(alloc, *text)?)?;
+    }
+    Ok(scripts)
+}
+
+/// Runs the scripts, over connections that each pass so many calls on where `calls` says so. None where the run fails.
+pub fn ran<R: Host, G: Gate + Sync>(
+    rt: &R,
+    scripts: &[Bytes],
+    moves: &[Move],
+    workers: u16,
+    gate: &G,
+    calls: Option<u64>,
+) -> Result<Option<(RunReport, LocalState)>, Fail>
+    requires { (0 < workers) × (workers ≤ 64) }
+{
+    let alloc = rt.alloc();
+    if scripts.len() > MOST_CLIENTS {
+        return Ok(None);
+    }
+    let steps = steps_of(alloc, moves)?;
+    let cluster = LocalCluster::new(alloc, three_nodes(alloc)?)?;
+    let ran = match calls {
+        Some(calls) => run_faulty(rt, alloc, cluster, scripts, &steps, workers, gate, calls),
+        None => run_local(rt, alloc, cluster, scripts, &steps, workers, gate),
+    };
+    Ok(ran.ok())
+}
+
+/// Runs the scripts as `ran` does, and appends the listing of the slots afterwards. None where the run fails or its report is
+/// not lawful.
 pub fn run<R: Host, G: Gate + Sync>(
     rt: &R,
     scripts: &[Bytes],
@@ -97,21 +130,11 @@ pub fn run<R: Host, G: Gate + Sync>(
 ) -> Result<Option<Counts>, Fail>
     requires { (0 < workers) × (workers ≤ 64) }
 {
-    let alloc = rt.alloc();
-    let steps = steps_of(alloc, moves)?;
-    if scripts.len() > MOST_CLIENTS {
-        return Ok(None);
-    }
-    let cluster = LocalCluster::new(alloc, three_nodes(alloc)?)?;
-    let ran = match calls {
-        Some(calls) => run_faulty(rt, alloc, cluster, scripts, &steps, workers, gate, calls),
-        None => run_local(rt, alloc, cluster, scripts, &steps, workers, gate),
-    };
-    let Ok((report, state)) = ran else {
+    let Some((report, state)) = ran(rt, scripts, moves, workers, gate, calls)? else {
         return Ok(None);
     };
-    list_slots(alloc, &state, listing)?;
-    counts_of(alloc, &report, &state)
+    list_slots(rt.alloc(), &state, listing)?;
+    counts_of(rt.alloc(), &report, &state)
 }
 
 fn counts_of(

@@ -12,6 +12,7 @@ use socket_proxy::{Proxy, listen, run_wire};
 use std::alloc::Global;
 use std::io::{Read, Write};
 use std::net::{Net, SocketAddr, TcpListener, TcpStream};
+use std::sync::Wait;
 use std::test::Fail;
 
 /// SET a 1, and GET without its key.
@@ -71,9 +72,9 @@ fn a_run_for_no_client_ends_at_once(rt: HostRuntime) -> Result<(), Fail> {
 }
 
 /// A port at which nobody listens.
-fn free_port<R: Net<Listener = TcpListener, Stream = TcpStream>>(rt: &R) -> Option<u16> {
-    let listener = TcpListener::bind(rt, loopback(0)).ok()?;
-    Some(listener.local_addr().ok()?.port())
+fn free_port<R: Net>(rt: &R) -> Result<u16, Fail> {
+    let listener = listen(rt, "127.0.0.1", 0)?;
+    Ok(listener.local_addr()?.port())
 }
 
 // Two of three clients leave in the middle of a request.
@@ -81,7 +82,7 @@ fn free_port<R: Net<Listener = TcpListener, Stream = TcpStream>>(rt: &R) -> Opti
 fn clients_that_leave_early_are_counted(rt: HostRuntime) -> Result<(), Fail> {
     let listener = listen(&rt, "127.0.0.1", 0)?;
     let port = listener.local_addr()?.port();
-    let seed = free_port(&rt).ok_or("a port")?;
+    let seed = free_port(&rt)?;
     drop(client(&rt, port, CUT).ok_or("a client")?);
     let mut staying = client(&rt, port, GET).ok_or("a client")?;
     drop(client(&rt, port, CUT).ok_or("a client")?);
@@ -95,22 +96,40 @@ fn clients_that_leave_early_are_counted(rt: HostRuntime) -> Result<(), Fail> {
     Ok(())
 }
 
+/// What the first node answers.
+const MOVED: &[u8] = b"-MOVED 15495 127.0.0.1:7003\r\n+OK\r\n";
+
+/// Three nodes, the first at this port.
+fn nodes_at(alloc: Global, port: u16) -> Result<NodeTable, Fail> {
+    let mut table = NodeTable::new(alloc);
+    for port in [port, 7002, 7003] {
+        table.intern(b"127.0.0.1", port)?;
+    }
+    Ok(table)
+}
+
+/// Runs the nodes until one connection to the first has come and gone.
+fn run_for_one<R: Wait + Net>(
+    rt: &R,
+    alloc: Global,
+    listener: net::TcpListener,
+    port: u16,
+) -> Result<(), Fail> {
+    let table = nodes_at(alloc, port)?;
+    let mut listeners = Vec::new(alloc);
+    listeners.push(listener)?;
+    let state = LocalState::new(alloc, three_nodes(alloc)?);
+    run_nodes(rt, alloc, listeners, state, &table, Some(1))?;
+    Ok(())
+}
+
 // The nodes end once their one connection has come and gone.
 #[test]
 fn nodes_end_behind_their_connections(rt: HostRuntime) -> Result<(), Fail> {
-    let alloc = rt.alloc();
     let listener = net::TcpListener::bind(&rt, loopback(0))?;
     let port = listener.local_addr()?.port();
-    let mut table = NodeTable::new(alloc);
-    table.intern(b"127.0.0.1", port)?;
-    table.intern(b"127.0.0.1", 7002)?;
-    table.intern(b"127.0.0.1", 7003)?;
-    let mut listeners = Vec::new(alloc);
-    listeners.push(listener)?;
     let mut staying = client(&rt, port, GET).ok_or("a client")?;
-    let state = LocalState::new(alloc, three_nodes(alloc)?);
-    run_nodes(&rt, alloc, listeners, state, &table, Some(1))?;
-    let wanted = b"-MOVED 15495 127.0.0.1:7003\r\n+OK\r\n";
-    assert!(rt; hears(alloc, &mut staying, wanted));
+    run_for_one(&rt, rt.alloc(), listener, port)?;
+    assert!(rt; hears(rt.alloc(), &mut staying, MOVED));
     Ok(())
 }

@@ -1,6 +1,6 @@
 //! What the carrier does in a run.
 
-use super::client_queue::ClientQueue;
+use super::client_queue::{ClientQueue, hand_clients};
 use super::stop::Signals;
 use node_link::RunPort;
 use proxy_lanes::{Naming, Publisher};
@@ -9,27 +9,46 @@ use resp_wire::NoMemory;
 use std::sync::Wait;
 use std::thread;
 
-/// Runs the carrier and hands clients to their workers, until the run is over. Want of memory ends all other threads too.
-pub(crate) fn run_carrier<C, J, R, P, D>(
-    rt: &R,
-    carrier: Carrier<Newcomer<C, J>, Publisher<J, &R>, D, P>,
-    queues: Vec<ClientQueue<C, J>>,
-    signals: &Signals,
-) -> Result<(), NoMemory>
+/// What the carrier's thread turns.
+pub(crate) trait Turning {
+    /// One turn. True where something moved.
+    fn turn(&mut self) -> Result<bool, NoMemory>;
+}
+
+/// A carrier, and the clients that it hands to their workers.
+#[derive(Drop)]
+pub(crate) struct ClientCarrier<T, C: Drop, J: Naming> {
+    pub(crate) carrier: T,
+    pub(crate) queues: Vec<ClientQueue<C, J>>,
+}
+
+impl<C, J, R, P, D> Turning for ClientCarrier<Carrier<Newcomer<C, J>, Publisher<J, R>, D, P>, C, J>
 where
     C: Drop,
     J: Naming,
-    R: Wait,
+    R: Wait + Drop,
     P: RunPort + Drop,
     D: Dial<Port = P> + Drop,
 {
-    let mut carrier = carrier;
-    let mut queues = queues;
+    /// One turn of the carrier, behind the new clients that can be handed over.
+    fn turn(&mut self) -> Result<bool, NoMemory> {
+        let handed = hand_clients(&mut self.queues, self.carrier.ends());
+        let moved = self.carrier.turn()?;
+        Ok(handed || moved)
+    }
+}
+
+/// Turns the carrier until the run is over. Want of memory ends all other threads too.
+pub(crate) fn run_carrier<T: Turning + Drop, R: Wait>(
+    rt: &R,
+    mut carrier: T,
+    signals: &Signals,
+) -> Result<(), NoMemory> {
     for _ in rt.forever() {
         if signals.are_over() {
             return Ok(());
         }
-        match turn_once(&mut carrier, &mut queues) {
+        match carrier.turn() {
             Ok(true) => {}
             Ok(false) => thread::yield_now(),
             Err(NoMemory) => {
@@ -39,40 +58,4 @@ where
         }
     }
     unreachable!()
-}
-
-/// One turn of the carrier, behind the new clients that can be handed over. True where something moved.
-fn turn_once<C, J, R, P, D>(
-    carrier: &mut Carrier<Newcomer<C, J>, Publisher<J, R>, D, P>,
-    queues: &mut Vec<ClientQueue<C, J>>,
-) -> Result<bool, NoMemory>
-where
-    C: Drop,
-    J: Naming,
-    R: Wait + Drop,
-    P: RunPort + Drop,
-    D: Dial<Port = P> + Drop,
-{
-    let handed = hand_clients(carrier, queues);
-    let moved = carrier.turn()?;
-    Ok(handed || moved)
-}
-
-/// Hands each worker its next client, where its lane takes one.
-fn hand_clients<C, J, R, P, D>(
-    carrier: &mut Carrier<Newcomer<C, J>, Publisher<J, R>, D, P>,
-    queues: &mut Vec<ClientQueue<C, J>>,
-) -> bool
-where
-    C: Drop,
-    J: Naming,
-    R: Wait + Drop,
-    P: RunPort + Drop,
-    D: Dial<Port = P> + Drop,
-{
-    let mut handed = false;
-    for queue in queues.iter_mut() {
-        handed |= queue.hand_next(carrier.ends());
-    }
-    handed
 }

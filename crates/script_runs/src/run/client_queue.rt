@@ -10,6 +10,8 @@ use std::collections::VecDeque;
 #[derive(Drop)]
 pub(crate) struct ClientQueue<C: Drop, J: Naming> {
     worker: u16,
+    // How many clients were added.
+    count: u32,
     coming: VecDeque<(u32, C)>,
     // One that its worker's lane did not take.
     held: Option<Newcomer<C, J>>,
@@ -19,6 +21,7 @@ impl<C: Drop, J: Naming> ClientQueue<C, J> {
     pub(crate) fn new(alloc: Global, worker: u16) -> ClientQueue<C, J> {
         ClientQueue {
             worker,
+            count: 0,
             coming: VecDeque::new(alloc),
             held: None,
         }
@@ -26,13 +29,15 @@ impl<C: Drop, J: Naming> ClientQueue<C, J> {
 
     /// Adds a client.
     pub(crate) fn add(&mut self, number: u32, port: C) -> Result<(), NoMemory> {
+        let count = self.count.checked_add(1).ok_or(NoMemory)?;
         self.coming.push_back((number, port))?;
+        self.count = count;
         Ok(())
     }
 
-    /// How many clients are to come.
-    pub(crate) fn len(&self) -> usize {
-        self.coming.len()
+    /// How many clients were added.
+    pub(crate) fn count(&self) -> u32 {
+        self.count
     }
 
     /// Hands the next client over, with what is published by then. True where one was to come and its lane took it.
@@ -67,4 +72,16 @@ impl<C: Drop, J: Naming> ClientQueue<C, J> {
             front: map.tell(),
         })
     }
+}
+
+/// Hands each worker its next client, where its lane takes one. True where one did.
+pub(crate) fn hand_clients<C: Drop, J: Naming, T: ShowsOps + Drop>(
+    queues: &mut Vec<ClientQueue<C, J>>,
+    ends: &mut CarrierEnds<Newcomer<C, J>, MapWriter<J, T>>,
+) -> bool {
+    let mut handed = false;
+    for queue in queues.iter_mut() {
+        handed |= queue.hand_next(ends);
+    }
+    handed
 }

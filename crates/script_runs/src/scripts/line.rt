@@ -137,18 +137,26 @@ fn push_recall(moves: &mut Vec<MoveStep>, slot: Slot, node: NodeId) -> Result<()
 }
 
 /// Adds a request to those of the last client, where there is one.
-#[tactic(auto, unfolding(crate::specs::Scripts::spelled))]
 fn add_request(alloc: Global, scripts: &mut Scripts, words: Words) -> Result<bool, NoMemory>
     ensures { IfOk result (λ fits. with_kind (task_of scripts.old) Kind.Request words ≡ where_fits fits (task_of scripts.new)) }
 {
     let Some(last) = scripts.clients.pop() else {
         return Ok(false);
     };
-    let mut bytes = last.into_vec(alloc)?;
-    let request = request_of(alloc, words)?;
-    write_value(&mut bytes, &request)?;
-    scripts.clients.push(Bytes::new(bytes))?;
+    let longer = with_request(alloc, last, words)?;
+    scripts.clients.push(longer)?;
     Ok(true)
+}
+
+/// These bytes, and a request behind them.
+#[tactic(auto, unfolding(crate::specs::Scripts::spelled))]
+fn with_request(alloc: Global, bytes: Bytes, words: Words) -> Result<Bytes, NoMemory>
+    ensures { IfOk result (λ longer. longer ≡ bytes ++ spelled words) }
+{
+    let request = request_of(alloc, words)?;
+    let mut bytes = bytes.into_vec(alloc)?;
+    write_value(&mut bytes, &request)?;
+    Ok(Bytes::new(bytes))
 }
 
 /// A request of these words: an array of bulk strings.

@@ -109,8 +109,8 @@ fn verdict_of(
     ensures text { IfOk result (λ outcome. WritesVerdict made outcome.status outcome.text.items) }
 {
     match made {
-        Ok((report, _state)) => Ok(report_of(alloc, &report, b"audit ok\n", 0)?),
-        Err(LocalFault::Audit(report)) => Ok(report_of(alloc, &report, b"audit failed\n", 1)?),
+        Ok((report, _state)) => report_of(alloc, report, b"audit ok\n", 0),
+        Err(LocalFault::Audit(report)) => report_of(alloc, report, b"audit failed\n", 1),
         Err(LocalFault::NoMemory) => Err(ScriptsFault::NoMemory),
         Err(LocalFault::NoThread) => Err(ScriptsFault::NoThread),
     }
@@ -119,14 +119,21 @@ fn verdict_of(
 /// The lines of the replies, and then what the audit says.
 fn report_of(
     alloc: Global,
-    report: &RunReport,
+    report: RunReport,
     audit: &[u8],
     status: u8,
-) -> Result<Outcome, NoMemory>
-    ensures { IfOk result (λ outcome. (outcome.status ≡ status) × WritesReplies report.now audit.now outcome.text.items) }
+) -> Result<Outcome, ScriptsFault>
+    ensures { IfOk result (λ outcome. (outcome.status ≡ status) × WritesReplies report audit.now outcome.text.items) }
+{
+    let text = report_text(alloc, &report, audit)?;
+    Ok(Outcome { status, text })
+}
+
+fn report_text(alloc: Global, report: &RunReport, audit: &[u8]) -> Result<Vec<u8>, NoMemory>
+    ensures { IfOk result (λ text. WritesReplies report.now audit.now text.items) }
 {
     let mut text = Vec::new(alloc);
     push_replies(alloc, &mut text, &report.replies)?;
     text.extend_from_slice(audit)?;
-    Ok(Outcome { status, text })
+    Ok(text)
 }

@@ -34,7 +34,7 @@ fn push_client(alloc: Global, out: &mut Vec<u8>, client: u64, bytes: &Bytes) -> 
     let mut reader = reader_of(alloc, bytes)?;
     let mut number = 0;
     while let Some(value) = next_value(&mut reader)? {
-        push_reply(out, client, number, &value)?;
+        push_reply(out, client, number, value)?;
         number += 1;
     }
     Ok(())
@@ -57,8 +57,14 @@ fn next_value(reader: &mut Reader) -> Result<Option<Value>, NoMemory>
 }
 
 /// The line of a reply.
+fn push_reply(out: &mut Vec<u8>, client: u64, number: u64, value: Value) -> Result<(), NoMemory>
+    ensures { OnOk result (out.new.items ≡ out.old.items ++ reply_line client number (data_of value)) }
+{
+    push_line(out, client, number, &value)
+}
+
 #[tactic(auto, unfolding(crate::specs::ReplyText::reply_line))]
-fn push_reply(out: &mut Vec<u8>, client: u64, number: u64, value: &Value) -> Result<(), NoMemory>
+fn push_line(out: &mut Vec<u8>, client: u64, number: u64, value: &Value) -> Result<(), NoMemory>
     ensures { OnOk result (out.new.items ≡ out.old.items ++ reply_line client number (data_of value.now)) }
 {
     out.extend_from_slice(b"reply ")?;

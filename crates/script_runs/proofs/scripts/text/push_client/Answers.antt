@@ -20,50 +20,6 @@ loop-reader-preserved c =
           c.loop-reader.reader c.next_value.new.reader c.in-Some.value takes c.in_ok-push_reply.ensures i.reaches;
     }
 
-pub loop-reader-preserved-in_ok-push_reply : goal.loop-reader-preserved-in_ok-push_reply
-loop-reader-preserved-in_ok-push_reply c =
-    let i = c.loop-reader.invariant in
-    let takes = rw c.in-Some.is at c.in_ok-value.ensures in
-    record {
-      is_open = takes.0;
-      few = omega (arith, i.few, takes.2);
-      reaches = lines-next c.args.client c.loop-reader.number c.args.bytes.now c.args.out.now.items c.loop-reader.out.items c.push_reply.new.out.items
-          c.loop-reader.reader c.next_value.new.reader c.in-Some.value takes c.in_ok-push_reply.ensures i.reaches;
-    }
-
-pub loop-reader-preserved-in_ok-push_reply-2 : goal.loop-reader-preserved-in_ok-push_reply-2
-loop-reader-preserved-in_ok-push_reply-2 c =
-    let i = c.loop-reader.invariant in
-    let takes = rw c.in-Some.is at c.in_ok-value.ensures in
-    record {
-      is_open = takes.0;
-      few = omega (arith, i.few, takes.2);
-      reaches = lines-next c.args.client c.loop-reader.number c.args.bytes.now c.args.out.now.items c.loop-reader.out.items c.push_reply.new.out.items
-          c.loop-reader.reader c.next_value.new.reader c.in-Some.value takes c.in_ok-push_reply.ensures i.reaches;
-    }
-
-pub loop-reader-preserved-in_ok-push_reply-3 : goal.loop-reader-preserved-in_ok-push_reply-3
-loop-reader-preserved-in_ok-push_reply-3 c =
-    let i = c.loop-reader.invariant in
-    let takes = rw c.in-Some.is at c.in_ok-value.ensures in
-    record {
-      is_open = takes.0;
-      few = omega (arith, i.few, takes.2);
-      reaches = lines-next c.args.client c.loop-reader.number c.args.bytes.now c.args.out.now.items c.loop-reader.out.items c.push_reply.new.out.items
-          c.loop-reader.reader c.next_value.new.reader c.in-Some.value takes c.in_ok-push_reply.ensures i.reaches;
-    }
-
-pub loop-reader-preserved-in_ok-push_reply-4 : goal.loop-reader-preserved-in_ok-push_reply-4
-loop-reader-preserved-in_ok-push_reply-4 c =
-    let i = c.loop-reader.invariant in
-    let takes = rw c.in-Some.is at c.in_ok-value.ensures in
-    record {
-      is_open = takes.0;
-      few = omega (arith, i.few, takes.2);
-      reaches = lines-next c.args.client c.loop-reader.number c.args.bytes.now c.args.out.now.items c.loop-reader.out.items c.push_reply.new.out.items
-          c.loop-reader.reader c.next_value.new.reader c.in-Some.value takes c.in_ok-push_reply.ensures i.reaches;
-    }
-
 pub returns : goal.returns
 returns c =
     let takes = rw c.in_default.is at c.in_ok-value.ensures in
