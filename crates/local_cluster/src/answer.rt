@@ -75,12 +75,12 @@ pub(crate) fn answer<R: Wait>(
     match request {
         LocalRequest::Asking => {
             let okay = Line::from_text(alloc, b"OK")?;
-            *told = None;
+            drop(told.take());
             Ok(Value::Simple(okay))
         }
         LocalRequest::Slots => {
             let listing = cluster.list(rt, cluster.table())?;
-            *told = None;
+            drop(told.take());
             Ok(listing)
         }
         LocalRequest::Command(ticket, part) => answer_command(

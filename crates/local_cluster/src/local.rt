@@ -72,8 +72,10 @@ impl<H: History> LocalState<H> {
         ensures { ServesLocally self.old batch.now result self.new }
     {
         let _slot = batch.part.slot();
-        self.cluster
-            .serve(batch.node, false, &batch.part, Verdict::TryAgain)?;
+        drop(
+            self.cluster
+                .serve(batch.node, false, &batch.part, Verdict::TryAgain)?,
+        );
         make_room(&mut self.asks)?;
         let part = batch.part.copy(self.alloc)?;
         let asking = counts_as_asking(&self.asks, batch);

@@ -99,7 +99,7 @@ impl<'c, R: Wait> LocalPort<'c, R> {
             &mut self.told,
         )?;
         self.asking = request.asks_next();
-        self.waiting.pop_front();
+        drop(self.waiting.pop_front());
         Ok(Some(value))
     }
 }

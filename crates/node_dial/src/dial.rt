@@ -3,16 +3,16 @@
 ghost use Rattle.std.specs.Prelude.{◌≡◌, IfOk};
 ghost use Rattle.node_dial.specs.NewPort.{IsUnused};
 
+use crate::cluster_notes::{ClusterNotes, SharedNotes, share};
 use crate::connector::Connector;
 use crate::known_node::{DialOutcome, KnownNode};
 use crate::link_watch::LinkWatch;
-use crate::lost_nodes::{
-    LostNodes, SharedLostNodes, is_ask_due, is_lost, note_lost, note_reached, share,
-};
+use crate::lost_nodes::{is_ask_due, is_lost, note_lost, note_reached};
+use crate::node_notes::NodeNotes;
 use crate::node_port::CountedPort;
 use crate::node_stream::NodeStream;
-use crate::plain_nodes::{SharedPlainNodes, no_plain_nodes, share_plain, takes_blocks};
-use crate::slot_owners::{SharedSlotOwners, SlotOwners, SlotTeller};
+use crate::plain_nodes::takes_blocks;
+use crate::slot_owners::SlotTeller;
 use node_link::BlockPort;
 use polled_sockets::PolledSocket;
 use proxy_report::{Event, Figure, NodeName};
@@ -35,10 +35,7 @@ pub struct SocketDial<'b, R> {
     alloc: Global,
     /// What is known of each node, by its number.
     nodes: Vec<KnownNode>,
-    lost: SharedLostNodes,
-    owners: SharedSlotOwners,
-    /// The nodes to which no run goes as a block.
-    plain: SharedPlainNodes,
+    cluster: SharedNotes,
     /// How often no port was given.
     failures: u64,
 }
@@ -49,33 +46,24 @@ impl<R> Drop for SocketDial<'_, R> {
             connector,
             alloc: _,
             nodes,
-            lost,
-            owners,
-            plain,
+            cluster,
             failures: _,
         } = self;
         drop(connector);
         drop(nodes);
-        drop(lost);
-        drop(owners);
-        drop(plain);
+        drop(cluster);
     }
 }
 
 impl<'b, R: Clock + Net<Listener = TcpListener, Stream = TcpStream>> SocketDial<'b, R> {
     /// A dial that has dialled no node yet.
     pub fn new(alloc: Global, connector: Connector<'b, R>) -> Result<SocketDial<'b, R>, NoMemory> {
-        let mut nodes = Vec::with_capacity(alloc, NODE_LIMIT)?;
-        for _ in 0..NODE_LIMIT {
-            nodes.push(KnownNode::new(alloc))?;
-        }
+        let nodes = unknown_nodes(alloc)?;
         Ok(SocketDial {
             connector,
             alloc,
             nodes,
-            lost: LostNodes::new(alloc)?,
-            owners: SlotOwners::new(alloc)?,
-            plain: no_plain_nodes(alloc)?,
+            cluster: ClusterNotes::new(alloc)?,
             failures: 0,
         })
     }
@@ -90,26 +78,42 @@ impl<'b, R: Clock + Net<Listener = TcpListener, Stream = TcpStream>> SocketDial<
     ) -> Result<NodeSocket, NoMemory>
         ensures unused { IfOk result (λ counted. IsUnused counted.port) }
     {
-        let name = NodeName::new(self.alloc, node, host, port)?;
-        let report = Arc::try_clone(self.connector.report())?;
-        note_reached(&self.lost, &name);
-        let watch = Rc::new(self.alloc, LinkWatch::new(self.connector.ready()?))?;
-        let Ok(watched) = watch.clone() else {
-            return Err(NoMemory);
-        };
-        let teller = SlotTeller::new(self.alloc, &self.owners, host, port)?;
-        let stream = NodeStream::new(socket, name.again()?, share(&self.lost)?, watch);
-        let blocks = takes_blocks(&self.plain, node);
+        let notes = self.notes_of(node, host, port)?;
+        let stream = notes.stream_over(socket)?;
+        let blocks = takes_blocks(&self.cluster.plain, node);
         let port = BlockPort::new(self.alloc, stream, Limits::full(), blocks);
-        let lost = share(&self.lost)?;
-        let plain = share_plain(&self.plain)?;
-        Ok(CountedPort::new(port, name, report, lost, teller, watched, node, plain))
+        Ok(CountedPort::new(port, notes))
+    }
+
+    /// The notes of the node at this endpoint, which is reached.
+    fn notes_of(&self, node: NodeId, host: &[u8], port: u16) -> Result<NodeNotes, NoMemory> {
+        let name = NodeName::new(self.alloc, node, host, port)?;
+        note_reached(&self.cluster.lost, &name);
+        let teller = SlotTeller::new(self.alloc, host, port)?;
+        let watch = self.watch()?;
+        let cluster = share(&self.cluster)?;
+        Ok(NodeNotes {
+            node,
+            name,
+            report: Arc::try_clone(self.connector.report())?,
+            teller,
+            watch,
+            cluster,
+        })
+    }
+
+    fn watch(&self) -> Result<Rc<LinkWatch>, NoMemory> {
+        let ready = self.connector.ready()?;
+        Ok(Rc::new(self.alloc, LinkWatch::new(ready))?)
     }
 
     /// The node at this endpoint has no connection, so another is asked where its slots are.
     fn note_unreached(&self, node: NodeId, host: &[u8], port: u16) -> Result<(), NoMemory> {
-        if !is_lost(&self.lost, node) {
-            note_lost(&self.lost, &NodeName::new(self.alloc, node, host, port)?);
+        if !is_lost(&self.cluster.lost, node) {
+            note_lost(
+                &self.cluster.lost,
+                &NodeName::new(self.alloc, node, host, port)?,
+            );
         }
         Ok(())
     }
@@ -123,7 +127,7 @@ impl<'b, R: Clock + Net<Listener = TcpListener, Stream = TcpStream>> SocketDial<
         error: io::Error,
     ) -> Result<(), NoMemory> {
         let name = NodeName::new(self.alloc, node, host, port)?;
-        note_lost(&self.lost, &name);
+        note_lost(&self.cluster.lost, &name);
         let report = self.connector.report();
         report.count(Figure::DialsFailed, 1);
         report.tell(Event::DialFailed(name, error));
@@ -140,7 +144,7 @@ impl<'b, R: Clock + Net<Listener = TcpListener, Stream = TcpStream>> Dial for So
     ghost opens = { λ _ counted. IsUnused counted.port };
 
     fn seeks(&mut self) -> bool {
-        is_ask_due(&self.lost, self.connector.last_time())
+        is_ask_due(&self.cluster.lost, self.connector.last_time())
     }
 
     fn unsent(&self) {
@@ -173,4 +177,13 @@ impl<'b, R: Clock + Net<Listener = TcpListener, Stream = TcpStream>> Dial for So
         self.failures += 1;
         Err(DialFault::Failed)
     }
+}
+
+/// Nodes of which nothing is known.
+fn unknown_nodes(alloc: Global) -> Result<Vec<KnownNode>, NoMemory> {
+    let mut nodes = Vec::with_capacity(alloc, NODE_LIMIT)?;
+    for _ in 0..NODE_LIMIT {
+        nodes.push(KnownNode::new(alloc))?;
+    }
+    Ok(nodes)
 }

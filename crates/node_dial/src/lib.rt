@@ -19,6 +19,7 @@
 
 mod addresses;
 mod ask_schedule;
+mod cluster_notes;
 mod connection;
 mod connector;
 mod credentials;
@@ -30,6 +31,7 @@ mod link_watch;
 mod look_up;
 mod look_ups;
 mod lost_nodes;
+mod node_notes;
 mod node_port;
 mod node_stream;
 mod plain_nodes;

@@ -6,7 +6,6 @@ use resp_wire::{NoMemory, Value};
 use slot_map::NodeId;
 use std::alloc::Global;
 use std::cell::RefCell;
-use std::rc::Rc;
 
 /// So many nodes there are at most.
 const NODES: usize = 64;
@@ -18,17 +17,13 @@ pub(crate) struct LostNodes {
     schedule: AskSchedule,
 }
 
-/// The same, for all that belongs to the carrier.
-pub(crate) type SharedLostNodes = Rc<RefCell<LostNodes>>;
-
 impl LostNodes {
     /// No node is lost.
-    pub(crate) fn new(alloc: Global) -> Result<SharedLostNodes, NoMemory> {
-        let lost = LostNodes {
+    pub(crate) fn new(alloc: Global) -> Result<LostNodes, NoMemory> {
+        Ok(LostNodes {
             names: Vec::with_capacity(alloc, NODES)?,
             schedule: AskSchedule::new(),
-        };
-        Ok(Rc::new(alloc, RefCell::new(lost))?)
+        })
     }
 
     fn has(&self, name: &NodeName) -> bool {
@@ -50,16 +45,8 @@ impl LostNodes {
     }
 }
 
-/// The same nodes, for one more that belongs to the carrier.
-pub(crate) fn share(lost: &SharedLostNodes) -> Result<SharedLostNodes, NoMemory> {
-    match lost.clone() {
-        Ok(lost) => Ok(lost),
-        Err(_) => Err(NoMemory),
-    }
-}
-
 /// Whether the node is lost.
-pub(crate) fn is_lost(lost: &SharedLostNodes, node: NodeId) -> bool {
+pub(crate) fn is_lost(lost: &RefCell<LostNodes>, node: NodeId) -> bool {
     match lost.try_borrow() {
         Ok(lost) => lost.names.iter().any(|name| name.is_of(node)),
         Err(_) => false,
@@ -67,28 +54,28 @@ pub(crate) fn is_lost(lost: &SharedLostNodes, node: NodeId) -> bool {
 }
 
 /// The node was lost: its connection broke, or could not be made.
-pub(crate) fn note_lost(lost: &SharedLostNodes, name: &NodeName) {
+pub(crate) fn note_lost(lost: &RefCell<LostNodes>, name: &NodeName) {
     if let Ok(mut lost) = lost.try_borrow_mut() {
         lost.add(name);
     }
 }
 
 /// A connection to the node was made.
-pub(crate) fn note_reached(lost: &SharedLostNodes, name: &NodeName) {
+pub(crate) fn note_reached(lost: &RefCell<LostNodes>, name: &NodeName) {
     if let Ok(mut lost) = lost.try_borrow_mut() {
         lost.names.retain(|lost| !lost.is_same(name));
     }
 }
 
 /// An answer to CLUSTER SLOTS came.
-pub(crate) fn note_slots(lost: &SharedLostNodes, ranges: &[Value]) {
+pub(crate) fn note_slots(lost: &RefCell<LostNodes>, ranges: &[Value]) {
     if let Ok(mut lost) = lost.try_borrow_mut() {
         lost.names.retain(|name| has_slots(name, ranges));
     }
 }
 
 /// Whether a node is to be asked for CLUSTER SLOTS now.
-pub(crate) fn is_ask_due(lost: &SharedLostNodes, now: u64) -> bool {
+pub(crate) fn is_ask_due(lost: &RefCell<LostNodes>, now: u64) -> bool {
     match lost.try_borrow_mut() {
         Ok(mut lost) => lost.is_due(now),
         Err(_) => false,

@@ -2,11 +2,13 @@
 
 ghost use Rattle.std.specs.Prelude.{◌≡◌, ◌≤◌};
 
+use crate::cluster_notes::SharedNotes;
 use crate::link_watch::LinkWatch;
-use crate::lost_nodes::{SharedLostNodes, note_lost};
+use crate::lost_nodes::{LostNodes, note_lost};
 use node_link::{Flow, Stream};
 use polled_sockets::PolledSocket;
 use proxy_report::{Event, Figure, NodeName};
+use std::cell::RefCell;
 use std::io;
 use std::io::ErrorKind;
 use std::rc::Rc;
@@ -17,7 +19,7 @@ pub struct NodeStream {
     /// The node, until the connection's end is reported.
     name: Option<NodeName>,
     /// Where the node is noted as lost then.
-    lost: SharedLostNodes,
+    cluster: SharedNotes,
     watch: Rc<LinkWatch>,
     failures: u64,
 }
@@ -27,21 +29,21 @@ impl Drop for NodeStream {
         let NodeStream {
             socket,
             name,
-            lost,
+            cluster,
             watch,
             failures: _,
         } = self;
         if let Some(name) = name {
-            report_end(&socket, name, &lost, reason_of(&socket));
+            report_end(&socket, name, &cluster.lost, reason_of(&socket));
         }
         drop(socket);
-        drop(lost);
+        drop(cluster);
         drop(watch);
     }
 }
 
 /// Reports the end of a connection to a node, and counts it. The node is lost.
-fn report_end(socket: &PolledSocket, name: NodeName, lost: &SharedLostNodes, reason: io::Error) {
+fn report_end(socket: &PolledSocket, name: NodeName, lost: &RefCell<LostNodes>, reason: io::Error) {
     note_lost(lost, &name);
     socket.count(Figure::LinksGone, 1);
     socket.tell(Event::LinkLost(name, reason));
@@ -60,7 +62,7 @@ impl NodeStream {
     pub(crate) fn new(
         socket: PolledSocket,
         name: NodeName,
-        lost: SharedLostNodes,
+        cluster: SharedNotes,
         watch: Rc<LinkWatch>,
     ) -> NodeStream {
         socket.count(Figure::Links, 1);
@@ -70,7 +72,7 @@ impl NodeStream {
         NodeStream {
             socket,
             name: Some(name),
-            lost,
+            cluster,
             watch,
             failures: 0,
         }
@@ -87,7 +89,7 @@ impl NodeStream {
         ensures { self.new.failures ≡ self.old.failures }
     {
         if let Some(name) = self.name.take() {
-            report_end(&self.socket, name, &self.lost, self.reason());
+            report_end(&self.socket, name, &self.cluster.lost, self.reason());
         }
     }
 }

@@ -3,20 +3,14 @@
 ghost use Rattle.std.specs.Prelude.{◌≡◌, ◌≢◌, ℕ, true, false};
 ghost use Rattle.node_dial.specs.PlainNodes.{is_plain};
 
-use resp_wire::NoMemory;
 use slot_map::{NODE_LIMIT, NodeId};
-use std::alloc::Global;
 use std::cell::RefCell;
-use std::rc::Rc;
 
 /// The nodes whose connection was garbled while a block was under way: a node that refuses MULTI is one. They take runs of one.
 #[derive(Clone, Copy)]
 pub(crate) struct PlainNodes {
     plain: [bool; NODE_LIMIT],
 }
-
-/// The same, for all that belongs to the carrier.
-pub(crate) type SharedPlainNodes = Rc<RefCell<PlainNodes>>;
 
 impl PlainNodes {
     /// Each node takes blocks.
@@ -44,21 +38,8 @@ impl PlainNodes {
     }
 }
 
-/// No node is plain, for all that belongs to the carrier.
-pub(crate) fn no_plain_nodes(alloc: Global) -> Result<SharedPlainNodes, NoMemory> {
-    Ok(Rc::new(alloc, RefCell::new(PlainNodes::new()))?)
-}
-
-/// The same nodes, for one more that belongs to the carrier.
-pub(crate) fn share_plain(nodes: &SharedPlainNodes) -> Result<SharedPlainNodes, NoMemory> {
-    match nodes.clone() {
-        Ok(nodes) => Ok(nodes),
-        Err(_) => Err(NoMemory),
-    }
-}
-
 /// Whether runs may go to the node as blocks.
-pub(crate) fn takes_blocks(nodes: &SharedPlainNodes, node: NodeId) -> bool {
+pub(crate) fn takes_blocks(nodes: &RefCell<PlainNodes>, node: NodeId) -> bool {
     match nodes.try_borrow() {
         Ok(nodes) => !nodes.has(node),
         Err(_) => false,
@@ -66,7 +47,7 @@ pub(crate) fn takes_blocks(nodes: &SharedPlainNodes, node: NodeId) -> bool {
 }
 
 /// The node takes runs of one from now on.
-pub(crate) fn note_plain(nodes: &SharedPlainNodes, node: NodeId) {
+pub(crate) fn note_plain(nodes: &RefCell<PlainNodes>, node: NodeId) {
     if let Ok(mut nodes) = nodes.try_borrow_mut() {
         nodes.add(node);
     }

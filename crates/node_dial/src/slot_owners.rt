@@ -5,7 +5,6 @@ use slot_hash::{SLOT_COUNT, Slot};
 use slot_map::{MapOp, NodeId, NodeTable, SlotMap, ops_of};
 use std::alloc::Global;
 use std::cell::RefCell;
-use std::rc::Rc;
 
 /// The owner of each slot, from the last answer to CLUSTER SLOTS that named one.
 #[derive(Drop)]
@@ -14,17 +13,14 @@ pub(crate) struct SlotOwners {
     owners: SlotMap,
 }
 
-/// The same, for all that belongs to the carrier.
-pub(crate) type SharedSlotOwners = Rc<RefCell<SlotOwners>>;
-
 impl SlotOwners {
     /// No owner was told.
-    pub(crate) fn new(alloc: Global) -> Result<SharedSlotOwners, NoMemory> {
-        let owners = SlotOwners {
+    pub(crate) fn new(alloc: Global) -> Result<SlotOwners, NoMemory> {
+        let owners = SlotMap::new(alloc)?;
+        Ok(SlotOwners {
             nodes: NodeTable::new(alloc),
-            owners: SlotMap::new(alloc)?,
-        };
-        Ok(Rc::new(alloc, RefCell::new(owners))?)
+            owners,
+        })
     }
 
     /// Takes in what the node at this endpoint answered, and says how many slots have another owner by it. It leaves out an
@@ -67,30 +63,21 @@ impl SlotOwners {
 /// A node that tells of the owners.
 #[derive(Drop)]
 pub(crate) struct SlotTeller {
-    owners: SharedSlotOwners,
     host: Bytes,
     port: u16,
 }
 
 impl SlotTeller {
     /// The node at this endpoint.
-    pub(crate) fn new(
-        alloc: Global,
-        owners: &SharedSlotOwners,
-        host: &[u8],
-        port: u16,
-    ) -> Result<SlotTeller, NoMemory> {
+    pub(crate) fn new(alloc: Global, host: &[u8], port: u16) -> Result<SlotTeller, NoMemory> {
         let host = Bytes::from_slice(alloc, host)?;
-        match owners.clone() {
-            Ok(owners) => Ok(SlotTeller { owners, host, port }),
-            Err(_) => Err(NoMemory),
-        }
+        Ok(SlotTeller { host, port })
     }
 
     /// Notes what the node answered to CLUSTER SLOTS: how many slots have another owner by it than by the answers before.
     /// `None` where that is not known.
-    pub(crate) fn note(&self, answer: &Value) -> Option<usize> {
-        match self.owners.try_borrow_mut() {
+    pub(crate) fn note(&self, owners: &RefCell<SlotOwners>, answer: &Value) -> Option<usize> {
+        match owners.try_borrow_mut() {
             Ok(mut owners) => owners.take(self.host.as_slice(), self.port, answer),
             Err(_) => None,
         }

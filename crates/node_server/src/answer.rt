@@ -1,6 +1,7 @@
 //! What a node answers to a request.
 
-ghost use Rattle.std.specs.Prelude.{◌≡◌, ◌<◌, IfOk, OnErr, length};
+ghost use Rattle.std.specs.Prelude.{◌≡◌, ◌<◌, IfOk, OnErr, IsTrue, length};
+ghost use Rattle.resp_wire.specs.Text.{is_one_line};
 ghost use Rattle.node_server.specs.NodeAnswers.{one_key_only, planned, Answers, AnswersAlone, AnswersCall, AnswersParts, AnswersPlan, Executes, KeepsData};
 
 use crate::block::Block;
@@ -79,17 +80,31 @@ fn answer_alone(
     ensures block { OnErr result (block.new ≡ block.old) }
 {
     match call {
-        Call::Asking => Ok(Answer::Says(simple_line(alloc, b"OK")?)),
+        Call::Asking => say_line(alloc, b"OK"),
         Call::Slots => Ok(Answer::Says(state.cluster().slots_value(table)?)),
         Call::Multi => {
             let okay = simple_line(alloc, b"OK")?;
             *block = Block::open(alloc);
             Ok(Answer::Says(okay))
         }
-        Call::Exec => Ok(Answer::Says(error_line(alloc, b"ERR EXEC without MULTI")?)),
-        Call::Discard => Ok(Answer::Says(error_line(alloc, b"ERR DISCARD without MULTI")?)),
+        Call::Exec => say_error(alloc, b"ERR EXEC without MULTI"),
+        Call::Discard => say_error(alloc, b"ERR DISCARD without MULTI"),
         Call::Command => answer_command(alloc, caller, state, table, words),
     }
+}
+
+fn say_line(alloc: Global, text: &[u8]) -> Result<Answer, NoMemory>
+    requires { IsTrue (is_one_line text.now) }
+    ensures { IfOk result (λ answer. answer ≡ Answer.Says (Value.Simple text.now)) }
+{
+    Ok(Answer::Says(simple_line(alloc, text)?))
+}
+
+pub(crate) fn say_error(alloc: Global, text: &[u8]) -> Result<Answer, NoMemory>
+    requires { IsTrue (is_one_line text.now) }
+    ensures { IfOk result (λ answer. answer ≡ Answer.Says (Value.Error text.now)) }
+{
+    Ok(Answer::Says(error_line(alloc, text)?))
 }
 
 /// Answers a command.
@@ -138,7 +153,7 @@ fn answer_parts(
 pub(crate) fn refuse_several(alloc: Global) -> Result<Answer, NoMemory>
     ensures { IfOk result (λ answer. answer ≡ Answer.Says one_key_only) }
 {
-    Ok(Answer::Says(error_line(alloc, b"ERR node: one key only")?))
+    say_error(alloc, b"ERR node: one key only")
 }
 
 /// Executes the part at the caller's node, if the node has its slot.

@@ -5,7 +5,7 @@ ghost use Rattle.resp_wire.specs.Text.{is_one_line};
 ghost use Rattle.node_model.specs.Runs.{HaveOneSlot};
 ghost use Rattle.node_server.specs.NodeAnswers.{one_key_only, planned, AnswersExec, AnswersWithin, ExecutesBlock, ExecutesTogether, KeepsData, Queues, QueuesPart, QueuesParts, Waits};
 
-use crate::answer::{Answer, refuse_several};
+use crate::answer::{Answer, refuse_several, say_error};
 use crate::block::Block;
 use crate::call::Call;
 use crate::caller::Caller;
@@ -36,7 +36,7 @@ pub(crate) fn answer_within(
     ensures block { OnErr result (block.new ≡ block.old) }
 {
     match call {
-        Call::Multi => Ok(Answer::Says(error_line(alloc, b"ERR MULTI calls can not be nested")?)),
+        Call::Multi => say_error(alloc, b"ERR MULTI calls can not be nested"),
         Call::Exec => {
             let value = answer_exec(alloc, caller, block, state, table)?;
             *block = Block::Closed;

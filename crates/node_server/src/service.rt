@@ -38,16 +38,24 @@ pub fn run_nodes<R: Wait + Net>(
 ) -> Result<(), WireRunFault> {
     let poll = Poll::new(rt).map_err(WireRunFault::Poll)?;
     let mut service = Service::new(alloc, poll, listeners, state, table, conns)?;
-    let mut events = Events::with_capacity(alloc, EVENTS).map_err(|_| WireRunFault::NoMemory)?;
+    match Events::with_capacity(alloc, EVENTS) {
+        Ok(mut events) => serve(rt, &mut service, &mut events),
+        Err(_) => Err(WireRunFault::NoMemory),
+    }
+}
+
+fn serve<R: Wait>(
+    rt: &R,
+    service: &mut Service<'_>,
+    events: &mut Events,
+) -> Result<(), WireRunFault> {
     let mut buffer = [0u8; READ_BYTES];
     for _ in rt.forever() {
         if service.is_over() {
             return Ok(());
         }
-        service.poll_events(&mut events)?;
-        service.note_events(&events)?;
-        service.accept_all()?;
-        service.turn_all(&mut buffer)?;
+        service.poll_events(events)?;
+        service.serve_events(events, &mut buffer)?;
     }
     unreachable!()
 }
@@ -126,8 +134,15 @@ impl<'a> Service<'a> {
         }
     }
 
+    /// Does what can be done at once, after these events.
+    fn serve_events(&mut self, events: &Events, buffer: &mut [u8]) -> Result<(), NoMemory> {
+        self.note_events(events)?;
+        self.accept_all()?;
+        self.turn_all(buffer)
+    }
+
     /// Notes which sockets are ready.
-    fn note_events(&mut self, events: &Events) -> Result<(), WireRunFault> {
+    fn note_events(&mut self, events: &Events) -> Result<(), NoMemory> {
         for event in events {
             let Token(place) = event.token();
             if let Some(listener) = self.listeners.get_mut(place) {
@@ -144,22 +159,20 @@ impl<'a> Service<'a> {
     }
 
     /// Gives the peer a turn in this round.
-    fn activate(&mut self, key: usize) -> Result<(), WireRunFault> {
+    fn activate(&mut self, key: usize) -> Result<(), NoMemory> {
         let Some(peer) = self.peers.get_mut(key) else {
             return Ok(());
         };
         if peer.active {
             return Ok(());
         }
-        self.active
-            .push_back(key)
-            .map_err(|_| WireRunFault::NoMemory)?;
+        self.active.push_back(key)?;
         peer.active = true;
         Ok(())
     }
 
     /// Accepts the connections that wait.
-    fn accept_all(&mut self) -> Result<(), WireRunFault> {
+    fn accept_all(&mut self) -> Result<(), NoMemory> {
         self.refused = false;
         for place in 0..self.listeners.len() {
             self.accept_at(place)?;
@@ -168,7 +181,7 @@ impl<'a> Service<'a> {
     }
 
     /// Accepts the connections that wait at a listener.
-    fn accept_at(&mut self, place: usize) -> Result<(), WireRunFault> {
+    fn accept_at(&mut self, place: usize) -> Result<(), NoMemory> {
         for _ in 0..ACCEPT_BATCH {
             if !self.may_accept_more() {
                 return Ok(());
@@ -193,12 +206,10 @@ impl<'a> Service<'a> {
     }
 
     /// Adds a connection to the peers. It is closed at once where it can't be numbered or watched.
-    fn add_peer(&mut self, stream: TcpStream, node: NodeId) -> Result<(), WireRunFault> {
-        self.left = self.left.map(|left| left.saturating_sub(1));
-        let Some(client) = self.next else {
+    fn add_peer(&mut self, stream: TcpStream, node: NodeId) -> Result<(), NoMemory> {
+        let Some(client) = self.next_client() else {
             return Ok(());
         };
-        self.next = client.checked_add(1);
         let Ok(mut socket) = Socket::new(stream) else {
             return Ok(());
         };
@@ -208,17 +219,27 @@ impl<'a> Service<'a> {
             return Ok(());
         }
         let peer = Peer::new(socket, Connection::new(self.alloc, node, client));
-        self.peers.insert(peer).map_err(|_| WireRunFault::NoMemory)?;
+        self.peers.insert(peer)?;
         self.activate(key)
     }
 
+    /// The number of the connection that comes now, while there is one.
+    fn next_client(&mut self) -> Option<u32> {
+        if let Some(left) = self.left {
+            self.left = Some(left.saturating_sub(1));
+        }
+        let client = self.next?;
+        self.next = client.checked_add(1);
+        Some(client)
+    }
+
     /// Gives each active peer a turn.
-    fn turn_all(&mut self, buffer: &mut [u8]) -> Result<(), WireRunFault> {
+    fn turn_all(&mut self, buffer: &mut [u8]) -> Result<(), NoMemory> {
         for _ in 0..self.active.len() {
             let Some(key) = self.active.pop_front() else {
                 return Ok(());
             };
-            self.turn(key, buffer).map_err(|_| WireRunFault::NoMemory)?;
+            self.turn(key, buffer)?;
         }
         Ok(())
     }
@@ -248,13 +269,19 @@ fn watch_listeners(
     let mut watched: Vec<NodeListener> = Vec::new(alloc);
     for listener in listeners {
         let place = watched.len();
-        let Some(node) = u8::try_from(place).ok().and_then(NodeId::new) else {
+        let Some(node) = node_at(place) else {
             return Err(WireRunFault::Listen(ErrorKind::InvalidInput.into()));
         };
         let listener = NodeListener::new(poll.registry(), listener, Token(place), node).map_err(
             WireRunFault::Listen,
         )?;
-        watched.push(listener).map_err(|_| WireRunFault::NoMemory)?;
+        if watched.push(listener).is_err() {
+            return Err(WireRunFault::NoMemory);
+        }
     }
     Ok(watched)
+}
+
+fn node_at(place: usize) -> Option<NodeId> {
+    NodeId::new(u8::try_from(place).ok()?)
 }

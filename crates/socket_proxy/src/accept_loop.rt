@@ -44,23 +44,46 @@ pub(crate) enum Activity {
     Busy,
 }
 
+impl Activity {
+    /// With what moved beside the turns.
+    pub(crate) fn beside(self, moved: bool) -> Activity {
+        match self {
+            Activity::Idle if moved => Activity::Active,
+            activity => activity,
+        }
+    }
+}
+
 /// The acceptor, and the poll of the carrier's thread.
 #[derive(Drop)]
 pub(crate) struct AcceptLoop {
-    pub(crate) acceptor: Acceptor,
-    pub(crate) poller: Poller,
-    pub(crate) lookout: Lookout,
+    acceptor: Acceptor,
+    poller: Poller,
+    lookout: Lookout,
     /// What each worker's poll watches.
-    pub(crate) registries: Vec<Registry>,
+    registries: Vec<Registry>,
     /// The thread is marked asleep, and sleeps after one more turn that moves nothing.
-    pub(crate) marked_asleep: bool,
+    marked_asleep: bool,
     /// The thread slept before the turns that are over.
-    pub(crate) has_slept: bool,
+    has_slept: bool,
     /// When accepting is tried again, in milliseconds.
-    pub(crate) retried: u64,
+    retried: u64,
 }
 
 impl AcceptLoop {
+    /// A thread that did not sleep yet, with the registries of the workers.
+    pub(crate) fn new(acceptor: Acceptor, poller: Poller, registries: Vec<Registry>) -> AcceptLoop {
+        AcceptLoop {
+            acceptor,
+            poller,
+            lookout: Lookout::new(),
+            registries,
+            marked_asleep: false,
+            has_slept: false,
+            retried: 0,
+        }
+    }
+
     /// Accepts the next client.
     pub(crate) fn accept_client(&mut self, shared: &Shared) -> AcceptOutcome {
         self.retry(shared.carrier.ready.time());

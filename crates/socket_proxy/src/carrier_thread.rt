@@ -3,10 +3,10 @@
 ghost use Rattle.std.specs.Prelude.{◌<◌, length};
 
 use crate::accept_loop::{AcceptLoop, AcceptOutcome, AcceptedClient, Activity};
+use crate::carrier_setup::{CarrierSetup, socket_dial};
 use crate::client::SocketClient;
 use crate::shared::Shared;
-use mio::Registry;
-use node_dial::{Connector, Credentials, LookUps, NodeSocket, SocketDial, advance_look_ups};
+use node_dial::{NodeSocket, SharedLookUps, SocketDial, advance_look_ups};
 use node_link::FLUSH_AFTER_READS;
 use polled_sockets::ReadySet;
 use proxy_lanes::{CarrierEnds, Naming, Publisher};
@@ -14,10 +14,9 @@ use proxy_report::Reporter;
 use proxy_runtime::WireRunFault;
 use proxy_turns::{Carrier, Newcomer};
 use resp_wire::NoMemory;
-use slot_map::NodeTable;
 use std::alloc::Global;
 use std::net::{Net, TcpListener, TcpStream};
-use std::sync::{Arc, Wait};
+use std::sync::Wait;
 use std::thread::Threads;
 use std::time::Clock;
 
@@ -38,21 +37,6 @@ type SocketCarrier<'b, J, R> = Carrier<
     SocketDial<'b, R>,
     NodeSocket,
 >;
-
-/// What the carrier's thread is given beside its ends.
-#[derive(Drop)]
-pub(crate) struct CarrierSetup<'b> {
-    /// The table of the nodes, of which the first is the seed.
-    pub(crate) nodes: NodeTable,
-    pub(crate) accept_loop: AcceptLoop,
-    /// What the thread's poll watches.
-    pub(crate) registry: Registry,
-    /// The same, for the look-ups of names.
-    pub(crate) look_up_registry: Registry,
-    /// What each node is told first; `None` for nothing.
-    pub(crate) credentials: Option<Arc<Credentials, Global>>,
-    pub(crate) reporter: Reporter<'b>,
-}
 
 /// A client that waits for a place in the lane of its worker.
 #[derive(Drop)]
@@ -79,8 +63,7 @@ where
         + Send
         + 'static,
 {
-    let ended = carrier_loop(rt, alloc, ends, setup, shared);
-    match ended {
+    match carry(rt, alloc, ends, setup, shared) {
         Ok(()) => None,
         Err(NoMemory) => {
             shared.stop();
@@ -89,7 +72,7 @@ where
     }
 }
 
-fn carrier_loop<'b, J, R>(
+fn carry<'b, J, R>(
     rt: &'b R,
     alloc: Global,
     ends: SocketEnds<'b, J, R>,
@@ -109,19 +92,40 @@ where
     let CarrierSetup {
         nodes,
         mut accept_loop,
-        registry,
-        look_up_registry,
-        credentials,
+        connecting,
+        look_ups,
         mut reporter,
     } = setup;
-    let ready = Arc::try_clone(&shared.carrier.ready)?;
-    let look_ups = LookUps::new(alloc, look_up_registry)?;
-    let Ok(asked) = look_ups.clone() else {
-        return Err(NoMemory);
-    };
-    let connector = Connector::new(rt, alloc, ready, registry, asked, credentials);
-    let dial = SocketDial::new(alloc, connector)?;
+    let dial = socket_dial(rt, alloc, connecting)?;
     let mut carrier = Carrier::new(alloc, ends, dial, nodes);
+    carrier_loop(
+        rt,
+        &mut carrier,
+        &look_ups,
+        &mut accept_loop,
+        &mut reporter,
+        shared,
+    )
+}
+
+fn carrier_loop<'b, J, R>(
+    rt: &'b R,
+    carrier: &mut SocketCarrier<'b, J, R>,
+    look_ups: &SharedLookUps,
+    accept_loop: &mut AcceptLoop,
+    reporter: &mut Reporter<'_>,
+    shared: &Shared,
+) -> Result<(), NoMemory>
+where
+    J: Naming,
+    R: Threads
+        + Wait
+        + Clock
+        + Net<Listener = TcpListener, Stream = TcpStream>
+        + Copy
+        + Send
+        + 'static,
+{
     let mut waiting: Option<PendingClient<J>> = None;
     let mut quiet = 0u32;
     for _ in rt.forever() {
@@ -130,12 +134,10 @@ where
         if shared.is_stopped() {
             return Ok(());
         }
-        let accepted = accept_clients(carrier.ends(), &mut accept_loop, shared, &mut waiting);
-        let mut activity = take_turns(&mut carrier, &shared.carrier.ready, &mut quiet)?;
-        let looked_up = advance_look_ups(rt, &look_ups);
-        if (accepted | looked_up) && activity == Activity::Idle {
-            activity = Activity::Active;
-        }
+        let accepted = accept_clients(carrier.ends(), accept_loop, shared, &mut waiting);
+        let turns = take_turns(carrier, &shared.carrier.ready, &mut quiet)?;
+        let looked_up = advance_look_ups(rt, look_ups);
+        let activity = turns.beside(accepted | looked_up);
         accept_loop.after_turns(rt, shared, carrier.ends(), activity);
     }
     unreachable!()
@@ -181,7 +183,7 @@ where
     let mut moved = false;
     for _ in 0..ACCEPT_BATCH {
         if let Some(client) = waiting.take() {
-            *waiting = hand_to_worker(ends, client);
+            put(waiting, hand_to_worker(ends, client));
             if waiting.is_some() {
                 return moved;
             }
@@ -189,7 +191,7 @@ where
         }
         match accept_loop.accept_client(shared) {
             AcceptOutcome::Accepted(accepted) => {
-                *waiting = Some(pending_client(ends, accepted));
+                put(waiting, Some(pending_client(ends, accepted)));
                 moved = true;
             }
             AcceptOutcome::Rejected => moved = true,
@@ -197,6 +199,10 @@ where
         }
     }
     moved
+}
+
+fn put<T: Drop>(place: &mut Option<T>, value: Option<T>) {
+    *place = value;
 }
 
 /// The client with a front of the published map.

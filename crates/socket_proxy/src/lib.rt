@@ -16,6 +16,7 @@
 
 mod accept_loop;
 mod acceptor;
+mod carrier_setup;
 mod carrier_thread;
 mod client;
 mod client_room;

@@ -4,32 +4,26 @@ ghost use Rattle.std.specs.Prelude.{◌≡◌, ◌<◌, ◌≤◌, IsTrue};
 ghost use Rattle.resp_wire.specs.Text.{is_one_line};
 ghost use Rattle.proxy_lanes.specs.Opened.{book_of};
 
-use crate::accept_loop::AcceptLoop;
-use crate::acceptor::Acceptor;
-use crate::carrier_thread::{CarrierSetup, run_carrier};
+use crate::carrier_setup::{CarrierSetup, carrier_setup};
+use crate::carrier_thread::run_carrier;
 use crate::client::SocketClient;
-use crate::client_room::ClientRoom;
-use crate::lookout::Lookout;
-use crate::setup::{
-    client_share, clone_registries, clone_registry, push, setup_thread, setup_workers,
-};
+use crate::setup::{ThreadSetups, client_share, push, setup_threads};
 use crate::shared::Shared;
 use crate::worker_thread::{SocketWorkerSetup, WorkerSetup, run_worker};
 use event_log::ErrorStream;
+use key_split::{Run, Ticket, Told};
 use mio::net::TcpListener;
 use node_dial::Credentials;
-use polled_sockets::{Poller, Registration};
-use proxy_lanes::{Naming, Opened, WorkerEnds, lanes};
-use proxy_report::Reporter;
+use polled_sockets::Poller;
+use proxy_lanes::{Inlet, MapView, Naming, Newcomers, Opened, Outlet, WorkerEnds, lanes};
 use proxy_runtime::{ThreadsFault, WireRunFault, run_threads};
 use proxy_turns::Newcomer;
 use resp_wire::NoMemory;
-use slot_map::NodeTable;
 use std::alloc::{AllocGlobal, Global};
 use std::marker::Brand;
 use std::net::{self, Net};
 use std::random::RandomSource;
-use std::sync::{Arc, Wait};
+use std::sync::Wait;
 use std::thread::Threads;
 use std::time::Clock;
 
@@ -71,58 +65,34 @@ where
     requires workers { (0 < proxy.workers) × (proxy.workers ≤ 64) }
     requires host { IsTrue (is_one_line proxy.host.now) }
 {
-    let Proxy {
-        listener,
-        host,
-        port,
+    let (workers, clients) = (proxy.workers, proxy.clients);
+    let ThreadSetups {
+        shared,
+        pollers,
+        poller,
+    } = setup_threads(rt, alloc, workers)?;
+    let carrier = carrier_setup(alloc, proxy, &shared, poller, &pollers)?;
+    run_named::<Brand, R>(
+        rt,
+        alloc,
+        &shared,
+        pollers,
+        carrier,
         workers,
         clients,
-        descriptors,
-        credentials,
-        log,
-    } = proxy;
-    let mut nodes = NodeTable::new(alloc);
-    if nodes.intern(host, port).is_err() {
-        return Err(WireRunFault::NoMemory);
-    }
-    let setup = ProxySetup {
-        listener,
-        nodes,
-        workers,
-        clients,
-        room: ClientRoom::new(descriptors),
-        credentials: share(alloc, credentials)?,
-        log,
-    };
-    run_named::<Brand, R>(rt, alloc, setup, Opened::new())
+        Opened::new(),
+    )
 }
 
-fn share(
-    alloc: Global,
-    credentials: Option<Credentials>,
-) -> Result<Option<Arc<Credentials, Global>>, NoMemory> {
-    match credentials {
-        Some(credentials) => Ok(Some(Arc::new(alloc, credentials)?)),
-        None => Ok(None),
-    }
-}
-
-/// What a run is given, with the table of the seed.
-#[derive(Drop)]
-struct ProxySetup<'a> {
-    listener: TcpListener,
-    nodes: NodeTable,
-    workers: u16,
-    clients: Option<u32>,
-    room: ClientRoom,
-    credentials: Option<Arc<Credentials, Global>>,
-    log: &'a ErrorStream,
-}
-
+/// Runs the workers and the carrier, with lanes of this name between them.
 fn run_named<J, R>(
     rt: &R,
     alloc: Global,
-    setup: ProxySetup<'_>,
+    shared: &Shared,
+    pollers: Vec<Poller>,
+    carrier: CarrierSetup<'_>,
+    workers: u16,
+    clients: Option<u32>,
     opened: Opened,
 ) -> Result<(), WireRunFault>
 where
@@ -138,48 +108,14 @@ where
         + Sync
         + 'static,
     requires name { book_of opened ≡ J.book }
-    requires workers { (0 < setup.workers) × (setup.workers ≤ 64) }
+    requires workers { (0 < workers) × (workers ≤ 64) }
 {
-    let ProxySetup {
-        listener,
-        nodes,
-        workers,
-        clients,
-        room,
-        credentials,
-        log,
-    } = setup;
-    let (worker_handles, pollers) = setup_workers(rt, alloc, workers)?;
-    let (carrier_handle, poller) = setup_thread(rt, alloc)?;
-    let shared = Shared::new(worker_handles, carrier_handle);
-    let registries = clone_registries(alloc, &pollers)?;
-    let acceptor = acceptor(listener, &shared, &poller, clients, room)?;
-    let accept_loop = AcceptLoop {
-        acceptor,
-        poller,
-        lookout: Lookout::new(),
-        registries,
-        marked_asleep: false,
-        has_slept: false,
-        retried: 0,
-    };
-    let registry = clone_registry(&accept_loop.poller)?;
-    let look_up_registry = clone_registry(&accept_loop.poller)?;
-    let reporter = Reporter::new(alloc, log, shared.reports(alloc)?)?;
-    let carrier = CarrierSetup {
-        nodes,
-        accept_loop,
-        registry,
-        look_up_registry,
-        credentials,
-        reporter,
-    };
     let (worker_ends, ends) = lanes::<Newcomer<SocketClient, J>, J, &R>(
         alloc, rt, opened, workers,
     )?;
-    let workers = worker_setups(alloc, worker_ends, pollers, clients)?;
-    run_workers(rt, alloc, workers, &shared, || -> Option<WireRunFault> {
-        run_carrier(rt, alloc, ends, carrier, &shared)
+    let setups = worker_setups(alloc, worker_ends, pollers, clients)?;
+    run_workers(rt, alloc, setups, shared, || -> Option<WireRunFault> {
+        run_carrier(rt, alloc, ends, carrier, shared)
     })
 }
 
@@ -243,20 +179,6 @@ where
     run_threads(rt, alloc, workers, work, call_off, carry)
 }
 
-/// What accepts clients.
-fn acceptor(
-    listener: TcpListener,
-    shared: &Shared,
-    poller: &Poller,
-    clients: Option<u32>,
-    room: ClientRoom,
-) -> Result<Acceptor, WireRunFault> {
-    let registration = Registration::new(&shared.carrier.ready)?;
-    Acceptor::new(listener, registration, poller.registry(), clients, room).map_err(
-        WireRunFault::Listen,
-    )
-}
-
 /// What each worker's thread is given. Each takes its share of all clients that come.
 fn worker_setups<J: Naming>(
     alloc: Global,
@@ -266,25 +188,32 @@ fn worker_setups<J: Naming>(
 ) -> Result<Vec<SocketWorkerSetup<J>>, NoMemory> {
     let mut setups = Vec::new(alloc);
     for (ends, poller) in ends.into_iter().zip(pollers) {
-        let WorkerEnds {
-            worker,
-            workers,
-            outlet,
-            inlet,
-            newcomers,
-            view,
-        } = ends;
-        let setup = WorkerSetup {
-            worker,
-            workers,
-            clients: client_share(clients, worker, workers),
-            newcomers,
-            outlet,
-            inlet,
-            view,
-            poller,
-        };
-        push(&mut setups, setup)?;
+        push(&mut setups, worker_setup(ends, poller, clients))?;
     }
     Ok(setups)
+}
+
+fn worker_setup<H: Drop, J: Naming>(
+    ends: WorkerEnds<H, J>,
+    poller: Poller,
+    clients: Option<u32>,
+) -> WorkerSetup<Newcomers<H>, Outlet<Run>, Inlet<(Ticket, Told)>, MapView<J>, Poller> {
+    let WorkerEnds {
+        worker,
+        workers,
+        outlet,
+        inlet,
+        newcomers,
+        view,
+    } = ends;
+    WorkerSetup {
+        worker,
+        workers,
+        clients: client_share(clients, worker, workers),
+        newcomers,
+        outlet,
+        inlet,
+        view,
+        poller,
+    }
 }

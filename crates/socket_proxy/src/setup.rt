@@ -1,6 +1,6 @@
 //! What each thread is given before it starts.
 
-use crate::shared::ThreadHandle;
+use crate::shared::{Shared, ThreadHandle};
 use crate::unfinished::Unfinished;
 use mio::Registry;
 use polled_sockets::{Poller, ReadySet};
@@ -11,8 +11,33 @@ use std::alloc::Global;
 use std::net::Net;
 use std::sync::Arc;
 
+/// What all threads share, and what each polls.
+#[derive(Drop)]
+pub(crate) struct ThreadSetups {
+    pub(crate) shared: Shared,
+    /// Those of the workers.
+    pub(crate) pollers: Vec<Poller>,
+    /// The carrier's.
+    pub(crate) poller: Poller,
+}
+
+/// Handles and pollers for so many workers, and for the carrier.
+pub(crate) fn setup_threads<R: Net>(
+    rt: &R,
+    alloc: Global,
+    workers: u16,
+) -> Result<ThreadSetups, WireRunFault> {
+    let (handles, pollers) = setup_workers(rt, alloc, workers)?;
+    let (carrier, poller) = setup_thread(rt, alloc)?;
+    Ok(ThreadSetups {
+        shared: Shared::new(handles, carrier),
+        pollers,
+        poller,
+    })
+}
+
 /// A handle and a poller for each worker's thread.
-pub(crate) fn setup_workers<R: Net>(
+fn setup_workers<R: Net>(
     rt: &R,
     alloc: Global,
     workers: u16,
@@ -28,10 +53,7 @@ pub(crate) fn setup_workers<R: Net>(
 }
 
 /// A thread's handle and poller.
-pub(crate) fn setup_thread<R: Net>(
-    rt: &R,
-    alloc: Global,
-) -> Result<(ThreadHandle, Poller), WireRunFault> {
+fn setup_thread<R: Net>(rt: &R, alloc: Global) -> Result<(ThreadHandle, Poller), WireRunFault> {
     let ready = shared_ready_set(alloc)?;
     let (poller, parker) = Poller::new(rt, alloc)?;
     let unfinished = Unfinished::new(alloc)?;

@@ -1,0 +1,163 @@
+//! What the carrier's thread is given before it starts.
+
+ghost use Rattle.std.specs.Prelude.{IsTrue};
+ghost use Rattle.resp_wire.specs.Text.{is_one_line};
+
+use crate::accept_loop::AcceptLoop;
+use crate::acceptor::Acceptor;
+use crate::client_room::ClientRoom;
+use crate::run::Proxy;
+use crate::setup::{clone_registries, clone_registry};
+use crate::shared::Shared;
+use mio::Registry;
+use mio::net::TcpListener;
+use node_dial::{Connector, Credentials, LookUps, SharedLookUps, SocketDial};
+use polled_sockets::{Poller, ReadySet, Registration};
+use proxy_report::Reporter;
+use proxy_runtime::WireRunFault;
+use resp_wire::NoMemory;
+use slot_map::NodeTable;
+use std::alloc::Global;
+use std::net::{self, Net};
+use std::sync::Arc;
+use std::time::Clock;
+
+/// What the carrier's thread is given beside its ends.
+#[derive(Drop)]
+pub(crate) struct CarrierSetup<'a> {
+    /// The table of the nodes, of which the first is the seed.
+    pub(crate) nodes: NodeTable,
+    pub(crate) accept_loop: AcceptLoop,
+    pub(crate) connecting: ConnectorSetup,
+    pub(crate) look_ups: SharedLookUps,
+    pub(crate) reporter: Reporter<'a>,
+}
+
+/// What connections to nodes are made with.
+#[derive(Drop)]
+pub(crate) struct ConnectorSetup {
+    ready: Arc<ReadySet, Global>,
+    /// What the thread's poll watches.
+    registry: Registry,
+    look_ups: SharedLookUps,
+    /// What each node is told first; `None` for nothing.
+    credentials: Option<Arc<Credentials, Global>>,
+}
+
+/// What the carrier of this proxy is given, whose thread has this poll. Those of the workers are registered with, too.
+pub(crate) fn carrier_setup<'a>(
+    alloc: Global,
+    proxy: Proxy<'a>,
+    shared: &Shared,
+    poller: Poller,
+    pollers: &[Poller],
+) -> Result<CarrierSetup<'a>, WireRunFault>
+    requires host { IsTrue (is_one_line proxy.host.now) }
+{
+    let Proxy {
+        listener,
+        host,
+        port,
+        workers: _,
+        clients,
+        descriptors,
+        credentials,
+        log,
+    } = proxy;
+    let nodes = seed_table(alloc, host, port)?;
+    let look_ups = LookUps::new(alloc, clone_registry(&poller)?)?;
+    let connecting = connector_setup(alloc, shared, &poller, &look_ups, credentials)?;
+    let reporter = Reporter::new(alloc, log, shared.reports(alloc)?)?;
+    let acceptor = acceptor(
+        listener,
+        shared,
+        &poller,
+        clients,
+        ClientRoom::new(descriptors),
+    )?;
+    let registries = clone_registries(alloc, pollers)?;
+    Ok(CarrierSetup {
+        nodes,
+        accept_loop: AcceptLoop::new(acceptor, poller, registries),
+        connecting,
+        look_ups,
+        reporter,
+    })
+}
+
+/// The table of the nodes that are known at the start: the seed.
+fn seed_table(alloc: Global, host: &[u8], port: u16) -> Result<NodeTable, NoMemory>
+    requires host { IsTrue (is_one_line host.now) }
+{
+    let mut nodes = NodeTable::new(alloc);
+    match nodes.intern(host, port) {
+        Ok(_) => Ok(nodes),
+        Err(_) => Err(NoMemory),
+    }
+}
+
+fn connector_setup(
+    alloc: Global,
+    shared: &Shared,
+    poller: &Poller,
+    look_ups: &SharedLookUps,
+    credentials: Option<Credentials>,
+) -> Result<ConnectorSetup, WireRunFault> {
+    let credentials = share(alloc, credentials)?;
+    let registry = clone_registry(poller)?;
+    let ready = Arc::try_clone(&shared.carrier.ready)?;
+    match look_ups.clone() {
+        Ok(look_ups) => Ok(ConnectorSetup {
+            ready,
+            registry,
+            look_ups,
+            credentials,
+        }),
+        Err(_) => Err(WireRunFault::NoMemory),
+    }
+}
+
+fn share(
+    alloc: Global,
+    credentials: Option<Credentials>,
+) -> Result<Option<Arc<Credentials, Global>>, NoMemory> {
+    match credentials {
+        Some(credentials) => Ok(Some(Arc::new(alloc, credentials)?)),
+        None => Ok(None),
+    }
+}
+
+/// What accepts clients.
+fn acceptor(
+    listener: TcpListener,
+    shared: &Shared,
+    poller: &Poller,
+    clients: Option<u32>,
+    room: ClientRoom,
+) -> Result<Acceptor, WireRunFault> {
+    let registration = Registration::new(&shared.carrier.ready)?;
+    Acceptor::new(listener, registration, poller.registry(), clients, room).map_err(
+        WireRunFault::Listen,
+    )
+}
+
+/// A dial that makes its connections so.
+pub(crate) fn socket_dial<'b, R>(
+    rt: &'b R,
+    alloc: Global,
+    connecting: ConnectorSetup,
+) -> Result<SocketDial<'b, R>, NoMemory>
+where
+    R: Clock + Net<Listener = net::TcpListener, Stream = net::TcpStream>,
+{
+    let ConnectorSetup {
+        ready,
+        registry,
+        look_ups,
+        credentials,
+    } = connecting;
+    SocketDial::new(
+        alloc,
+        Connector::new(rt, alloc, ready, registry, look_ups, credentials),
+    )
+}
