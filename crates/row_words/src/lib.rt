@@ -5,8 +5,9 @@
 //!
 //! and in the `impl Objects`
 //!
-//!     match (object, args.name()?) {
-//!         ("key", "slot") => answer.slot(slot_of(args.bytes()?)),
+//!     match line.call() {
+//!         "of" => match line.bytes() {
+//!             Some(key) => ..
 //!         ..
 //!     }
 //!
@@ -19,14 +20,17 @@
 #![tactic(auto)]
 
 mod answer;
-mod args;
 mod fault;
+mod line;
 mod rows;
 mod shown;
 mod travel;
+mod word;
 mod words;
 
 pub use answer::Answer;
-pub use args::Args;
 pub use fault::CallFault;
+pub use line::Line;
 pub use rows::{Objects, Rows};
+pub use shown::Shown;
+pub use word::Word;
