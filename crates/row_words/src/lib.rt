@@ -5,10 +5,16 @@
 //!
 //! and in the `impl Objects`
 //!
-//!     match line.call() {
-//!         "of" => match line.bytes() {
-//!             Some(key) => ..
+//!     match line.object() {
+//!         "key" => show_slot(line),
 //!         ..
+//!         _ => line.refuse(CallFault::NoSuchObject),
+//!     }
+//!
+//! where
+//!
+//!     if let Some(key) = line.read::<Bytes>() {
+//!         line.show(slot_of(key.as_slice()));
 //!     }
 //!
 //! Words stand between spaces. A word in quotes has any bytes, some of them as \r \n \\ \" \xHH. The bytes of the
