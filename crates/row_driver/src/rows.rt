@@ -10,6 +10,7 @@ mod held;
 mod lanes;
 mod links;
 mod local;
+mod made;
 mod maps;
 mod nodes;
 mod objects;

@@ -10,23 +10,26 @@ pub struct Answer {
     text: String,
     /// Whether memory was wanting for some of it.
     cut: bool,
+    /// Whether memory was wanting for what some of it is read from.
+    lacks_words: bool,
 }
 
 impl Answer {
-    pub fn new(alloc: Global) -> Answer {
+    pub(crate) fn new(alloc: Global) -> Answer {
         Answer {
             alloc,
             text: String::new(alloc),
             cut: false,
+            lacks_words: false,
         }
     }
 
-    pub fn allocator(&self) -> Global {
+    pub(crate) fn allocator(&self) -> Global {
         self.alloc
     }
 
     /// The words of the line so far, or None where some of them found no memory.
-    pub fn text(&self) -> Option<&str> {
+    pub(crate) fn text(&self) -> Option<&str> {
         if self.cut {
             return None;
         }
@@ -34,27 +37,26 @@ impl Answer {
     }
 
     /// Begins a new line.
-    pub fn clear(&mut self) {
+    pub(crate) fn clear(&mut self) {
         self.text.clear();
         self.cut = false;
+        self.lacks_words = false;
+    }
+
+    /// Whether memory was wanting for what some of the line is read from.
+    pub(crate) fn lacks_words(&self) -> bool {
+        self.lacks_words
+    }
+
+    /// Notes that memory was wanting for what the next words are read from.
+    pub(crate) fn lack_words(&mut self) {
+        self.lacks_words = true;
     }
 
     /// A word that needs no quotes.
     pub fn name(&mut self, name: &str) {
         self.space();
         self.put(name);
-    }
-
-    pub fn yes_or_no(&mut self, answer: bool) {
-        self.name(if answer { "yes" } else { "no" });
-    }
-
-    /// `ok`, or the fault by its name.
-    pub fn done<F: Debug + Drop>(&mut self, done: Result<(), F>) {
-        match done {
-            Ok(()) => self.name("ok"),
-            Err(fault) => self.debug(&fault),
-        }
     }
 
     pub fn number(&mut self, number: u64) {
@@ -64,7 +66,7 @@ impl Answer {
         }
     }
 
-    pub fn integer(&mut self, number: i64) {
+    pub(crate) fn integer(&mut self, number: i64) {
         self.space();
         if write!(self.text, "{number}").is_err() {
             self.cut = true;

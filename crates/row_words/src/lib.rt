@@ -5,9 +5,16 @@
 //!
 //! and in the `impl Objects`
 //!
-//!     match (object, args.name()?) {
-//!         ("key", "slot") => answer.slot(slot_of(args.bytes()?)),
+//!     match line.object() {
+//!         "key" => show_slot(line),
 //!         ..
+//!         _ => line.refuse(CallFault::NoSuchObject),
+//!     }
+//!
+//! where
+//!
+//!     if let Some(key) = line.read::<Bytes>() {
+//!         line.show(slot_of(key.as_slice()));
 //!     }
 //!
 //! Words stand between spaces. A word in quotes has any bytes, some of them as \r \n \\ \" \xHH. The bytes of the
@@ -19,14 +26,17 @@
 #![tactic(auto)]
 
 mod answer;
-mod args;
 mod fault;
+mod line;
 mod rows;
 mod shown;
 mod travel;
+mod word;
 mod words;
 
 pub use answer::Answer;
-pub use args::Args;
 pub use fault::CallFault;
+pub use line::Line;
 pub use rows::{Objects, Rows};
+pub use shown::Shown;
+pub use word::Word;

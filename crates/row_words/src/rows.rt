@@ -1,35 +1,28 @@
 //! Rows: the lines up to `reset`, over new objects.
 
 use crate::answer::Answer;
-use crate::args::Args;
 use crate::fault::CallFault;
-use crate::words::words_in;
+use crate::line::Line;
 use std::alloc::Global;
 use std::io::{self, BufRead, Write};
 
 /// What the calls of a row are made of.
 pub trait Objects {
-    /// Makes the call of the object of that name that the words ask for.
-    fn call(
-        &mut self,
-        object: &str,
-        args: &mut Args<'_>,
-        answer: &mut Answer,
-    ) -> Result<(), CallFault>;
+    /// Makes the call that the line asks for, or says in the line why it is not made.
+    fn call(&mut self, line: &mut Line);
 }
 
 /// The lines that are read, and where their answers go.
 #[derive(Drop)]
 pub struct Rows<B, W> {
-    alloc: Global,
     reader: B,
     writer: W,
-    line: String,
-    answer: Answer,
+    text: String,
+    line: Line,
 }
 
 /// What a line was.
-enum Line {
+enum Read {
     Call,
     Reset,
     End,
@@ -38,11 +31,10 @@ enum Line {
 impl<B: BufRead, W: Write> Rows<B, W> {
     pub fn new(alloc: Global, reader: B, writer: W) -> Rows<B, W> {
         Rows {
-            alloc,
             reader,
             writer,
-            line: String::new(alloc),
-            answer: Answer::new(alloc),
+            text: String::new(alloc),
+            line: Line::new(alloc),
         }
     }
 
@@ -50,29 +42,28 @@ impl<B: BufRead, W: Write> Rows<B, W> {
     pub fn answer_row<O: Objects + Drop>(&mut self, mut objects: O) -> io::Result<bool> {
         for _ in 0..u64::MAX {
             match self.next_line()? {
-                Line::Call => self.answer_line(&mut objects)?,
-                Line::Reset => return self.end_row(),
-                Line::End => return Ok(false),
+                Read::Call => self.answer_line(&mut objects)?,
+                Read::Reset => return self.end_row(),
+                Read::End => return Ok(false),
             }
         }
         Ok(false)
     }
 
-    fn next_line(&mut self) -> io::Result<Line> {
-        self.line.clear();
-        if self.reader.read_line(&mut self.line)? == 0 {
-            return Ok(Line::End);
+    fn next_line(&mut self) -> io::Result<Read> {
+        self.text.clear();
+        if self.reader.read_line(&mut self.text)? == 0 {
+            return Ok(Read::End);
         }
-        if self.line.as_str().trim_end() == "reset" {
-            return Ok(Line::Reset);
+        if self.text.as_str().trim_end() == "reset" {
+            return Ok(Read::Reset);
         }
-        Ok(Line::Call)
+        Ok(Read::Call)
     }
 
     fn answer_line<O: Objects>(&mut self, objects: &mut O) -> io::Result<()> {
-        let line = self.line.as_str().trim_end();
-        answer_call(self.alloc, objects, line, &mut self.answer);
-        write_answer(&mut self.writer, &self.answer)
+        answer_call(objects, self.text.as_str().trim_end(), &mut self.line);
+        write_answer(&mut self.writer, &self.line.answer)
     }
 
     fn end_row(&mut self) -> io::Result<bool> {
@@ -94,35 +85,19 @@ fn write_answer<W: Write>(writer: &mut W, answer: &Answer) -> io::Result<()> {
 }
 
 /// Answers a line by what its call answers, or by `?` and why there is no such call.
-fn answer_call<O: Objects>(alloc: Global, objects: &mut O, line: &str, answer: &mut Answer) {
-    answer.clear();
-    if let Err(fault) = call(alloc, objects, line, answer) {
-        answer.clear();
-        answer.name("?");
-        answer.debug(&fault);
+fn answer_call<O: Objects>(objects: &mut O, text: &str, line: &mut Line) {
+    if let Some(fault) = fault_of(objects, text, line) {
+        line.answer.clear();
+        line.answer.name("?");
+        line.answer.debug(&fault);
     }
 }
 
-fn call<O: Objects>(
-    alloc: Global,
-    objects: &mut O,
-    line: &str,
-    answer: &mut Answer,
-) -> Result<(), CallFault> {
-    let words = words_in(alloc, line.as_bytes())?;
-    call_of(objects, Args::new(&words), answer)
-}
-
-fn call_of<O: Objects>(
-    objects: &mut O,
-    mut args: Args<'_>,
-    answer: &mut Answer,
-) -> Result<(), CallFault> {
-    let object = args.name()?;
-    objects.call(object, &mut args, answer)?;
-    if args.is_empty() {
-        Ok(())
-    } else {
-        Err(CallFault::FurtherWord)
+/// Makes the call of a line. Why it is not made, if it is not.
+fn fault_of<O: Objects>(objects: &mut O, text: &str, line: &mut Line) -> Option<CallFault> {
+    if let Err(fault) = line.begin(text.as_bytes()) {
+        return Some(fault);
     }
+    objects.call(line);
+    line.outcome()
 }

@@ -1,31 +1,205 @@
-//! Values, tickets and what commands are told, in the words of an answer.
+//! What is shown in the words of an answer.
 
 use crate::answer::Answer;
-use key_split::{Batch, Ended, Part, Ticket, Told, words_of};
-use resp_wire::{Bytes, NoMemory, Value};
+use key_split::{Batch, Ended, Part, Run, Ticket, Told, words_of};
+use resp_wire::{Bytes, Value};
 use slot_hash::Slot;
-use slot_map::NodeId;
+use slot_map::{MapOp, NodeId};
+use std::fmt::Debug;
 
 /// How deep arrays nest: those of a reader do no deeper.
 const DEPTH: u32 = 8;
 
+/// What an answer has words for.
+pub trait Shown {
+    /// Puts its words behind those of the answer.
+    fn show(&self, answer: &mut Answer);
+}
+
+/// What was done.
+impl Shown for () {
+    fn show(&self, answer: &mut Answer) {
+        answer.name("ok");
+    }
+}
+
+impl Shown for bool {
+    fn show(&self, answer: &mut Answer) {
+        answer.name(if *self { "yes" } else { "no" });
+    }
+}
+
+impl Shown for u64 {
+    fn show(&self, answer: &mut Answer) {
+        answer.number(*self);
+    }
+}
+
+impl Shown for usize {
+    fn show(&self, answer: &mut Answer) {
+        answer.number(*self as u64);
+    }
+}
+
+impl Shown for u32 {
+    fn show(&self, answer: &mut Answer) {
+        answer.number(u64::from(*self));
+    }
+}
+
+impl Shown for u16 {
+    fn show(&self, answer: &mut Answer) {
+        answer.number(u64::from(*self));
+    }
+}
+
+impl Shown for Slot {
+    fn show(&self, answer: &mut Answer) {
+        answer.number(u64::from(self.number()));
+    }
+}
+
+impl Shown for NodeId {
+    fn show(&self, answer: &mut Answer) {
+        answer.number(u64::from(self.number()));
+    }
+}
+
+/// `range FIRST LAST NODE` or `slot SLOT NODE`
+impl Shown for MapOp {
+    fn show(&self, answer: &mut Answer) {
+        match *self {
+            MapOp::SetRange(first, last, node) => {
+                answer.name("range");
+                first.show(answer);
+                last.show(answer);
+                node.show(answer);
+            }
+            MapOp::SetSlot(slot, node) => answer.redirect("slot", slot, node),
+        }
+    }
+}
+
+impl Shown for Bytes {
+    fn show(&self, answer: &mut Answer) {
+        answer.bytes(self.as_slice());
+    }
+}
+
+impl<T: Shown> Shown for &T {
+    fn show(&self, answer: &mut Answer) {
+        (**self).show(answer);
+    }
+}
+
+impl<T: Shown> Shown for Option<T> {
+    fn show(&self, answer: &mut Answer) {
+        match self {
+            Some(shown) => shown.show(answer),
+            None => answer.name("none"),
+        }
+    }
+}
+
+/// A fault goes by its name.
+impl<T: Shown, F: Debug> Shown for Result<T, F> {
+    fn show(&self, answer: &mut Answer) {
+        match self {
+            Ok(shown) => shown.show(answer),
+            Err(fault) => answer.debug(fault),
+        }
+    }
+}
+
+/// One behind the other.
+impl<T: Shown, U: Shown> Shown for (T, U) {
+    fn show(&self, answer: &mut Answer) {
+        self.0.show(answer);
+        self.1.show(answer);
+    }
+}
+
+impl Shown for Value {
+    fn show(&self, answer: &mut Answer) {
+        answer.value_within(self, DEPTH);
+    }
+}
+
+impl Shown for Ticket {
+    fn show(&self, answer: &mut Answer) {
+        let text = format!(in answer.allocator(); "{}.{}.{}", self.worker, self.client, self.part);
+        if let Ok(text) = text {
+            answer.name(text.as_str());
+        }
+    }
+}
+
+/// The words for a node.
+impl Shown for Part {
+    fn show(&self, answer: &mut Answer) {
+        match words_of(answer.allocator(), self) {
+            Ok(words) => answer.words(&words),
+            Err(_) => answer.lack_words(),
+        }
+    }
+}
+
+impl Shown for Batch {
+    fn show(&self, answer: &mut Answer) {
+        self.ticket.show(answer);
+        self.node.show(answer);
+        answer.name(if self.asking { "asking" } else { "plain" });
+        self.part.show(answer);
+    }
+}
+
+/// Its commands, with `;` between them.
+impl Shown for Run {
+    fn show(&self, answer: &mut Answer) {
+        self.first().show(answer);
+        for batch in self.later() {
+            answer.name(";");
+            batch.show(answer);
+        }
+    }
+}
+
+impl Shown for Told {
+    fn show(&self, answer: &mut Answer) {
+        match self {
+            Told::Reply(value) => {
+                answer.name("reply");
+                value.show(answer);
+            }
+            Told::Moved(slot, node) => answer.redirect("moved", *slot, *node),
+            Told::Ask(slot, node) => answer.redirect("ask", *slot, *node),
+            Told::TryAgain => answer.name("tryagain"),
+            Told::ClusterDown => answer.name("clusterdown"),
+            Told::Unclear => answer.name("unclear"),
+            Told::Lost => answer.name("lost"),
+            Told::Unsent => answer.name("unsent"),
+        }
+    }
+}
+
+impl Shown for Ended {
+    fn show(&self, answer: &mut Answer) {
+        match self {
+            Ended::Answered(value) => {
+                answer.name("answered");
+                value.show(answer);
+            }
+            Ended::GaveUp => answer.name("gaveup"),
+            Ended::Lost => answer.name("lost"),
+        }
+    }
+}
+
 impl Answer {
-    pub fn slot(&mut self, slot: Slot) {
-        self.number(u64::from(slot.number()));
-    }
-
-    pub fn node(&mut self, node: NodeId) {
-        self.number(u64::from(node.number()));
-    }
-
     pub fn words(&mut self, words: &[Bytes]) {
         for word in words {
             self.bytes(word.as_slice());
         }
-    }
-
-    pub fn value(&mut self, value: &Value) {
-        self.value_within(value, DEPTH);
     }
 
     /// A value with arrays that nest no deeper.
@@ -62,60 +236,9 @@ impl Answer {
         self.bytes(bytes);
     }
 
-    pub fn ticket(&mut self, ticket: Ticket) {
-        let text = format!(in self.allocator();
-            "{}.{}.{}",
-            ticket.worker, ticket.client, ticket.part
-        );
-        if let Ok(text) = text {
-            self.name(text.as_str());
-        }
-    }
-
-    /// The words for a node.
-    pub fn part(&mut self, part: &Part) -> Result<(), NoMemory> {
-        let words = words_of(self.allocator(), part)?;
-        self.words(&words);
-        Ok(())
-    }
-
-    pub fn batch(&mut self, batch: &Batch) -> Result<(), NoMemory> {
-        self.ticket(batch.ticket);
-        self.node(batch.node);
-        self.name(if batch.asking { "asking" } else { "plain" });
-        self.part(&batch.part)
-    }
-
-    pub fn told(&mut self, told: &Told) {
-        match told {
-            Told::Reply(value) => {
-                self.name("reply");
-                self.value(value);
-            }
-            Told::Moved(slot, node) => self.redirect("moved", *slot, *node),
-            Told::Ask(slot, node) => self.redirect("ask", *slot, *node),
-            Told::TryAgain => self.name("tryagain"),
-            Told::ClusterDown => self.name("clusterdown"),
-            Told::Unclear => self.name("unclear"),
-            Told::Lost => self.name("lost"),
-            Told::Unsent => self.name("unsent"),
-        }
-    }
-
     fn redirect(&mut self, how: &str, slot: Slot, node: NodeId) {
         self.name(how);
-        self.slot(slot);
-        self.node(node);
-    }
-
-    pub fn end(&mut self, end: &Ended) {
-        match end {
-            Ended::Answered(value) => {
-                self.name("answered");
-                self.value(value);
-            }
-            Ended::GaveUp => self.name("gaveup"),
-            Ended::Lost => self.name("lost"),
-        }
+        slot.show(self);
+        node.show(self);
     }
 }

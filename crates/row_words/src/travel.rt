@@ -1,85 +1,105 @@
 //! Words that name what travels between a client and the nodes.
 
-use crate::args::{Args, number_in};
 use crate::fault::CallFault;
+use crate::line::Line;
+use crate::word::{Word, number_in};
 use key_split::{Batch, Ended, Part, Planned, Ticket, Told, plan};
 use resp_wire::Bytes;
-use slot_hash::Slot;
 use slot_map::NodeId;
 use std::alloc::Global;
 
-impl<'a> Args<'a> {
-    pub fn ticket(&mut self) -> Result<Ticket, CallFault> {
-        ticket_in(self.bytes()?).ok_or(CallFault::BadTicket)
+impl Word for Ticket {
+    fn next_in(line: &mut Line) -> Option<Ticket> {
+        let ticket = ticket_in(line.bytes()?);
+        line.found(ticket, CallFault::BadTicket)
     }
+}
 
-    /// The part that the words that are left ask for.
-    pub fn part(&mut self, alloc: Global) -> Result<Part, CallFault> {
-        part_of(alloc, self.rest())
+/// The part that the words that are left ask for.
+impl Word for Part {
+    fn next_in(line: &mut Line) -> Option<Part> {
+        let alloc = line.alloc;
+        let part = part_of(alloc, line.rest());
+        line.found(part, CallFault::NoPart)
     }
+}
 
+impl Line {
     /// Whether ASKING goes before a command.
-    pub fn asking(&mut self) -> Result<bool, CallFault> {
-        match self.name()? {
-            "plain" => Ok(false),
-            "asking" => Ok(true),
-            _ => Err(CallFault::UnknownWord),
-        }
+    pub fn asking(&mut self) -> Option<bool> {
+        let asking = asking_in(self.name()?);
+        self.found(asking, CallFault::UnknownWord)
     }
+}
 
-    pub fn batch(&mut self, alloc: Global) -> Result<Batch, CallFault> {
-        let ticket = self.ticket()?;
-        let node = self.node()?;
-        let asking = self.asking()?;
-        let part = self.part(alloc)?;
-        Ok(Batch {
+impl Word for Batch {
+    fn next_in(line: &mut Line) -> Option<Batch> {
+        let (ticket, node) = line.read::<(Ticket, NodeId)>()?;
+        let asking = line.asking()?;
+        let part = line.read()?;
+        Some(Batch {
             ticket,
             node,
             asking,
             part,
         })
     }
+}
 
-    pub fn told(&mut self, alloc: Global) -> Result<Told, CallFault> {
-        match self.name()? {
-            "reply" => Ok(Told::Reply(self.value(alloc)?)),
+impl Word for Told {
+    fn next_in(line: &mut Line) -> Option<Told> {
+        match line.name()? {
+            "reply" => {
+                let value = line.read()?;
+                Some(Told::Reply(value))
+            }
             "moved" => {
-                let (slot, node) = self.redirect()?;
-                Ok(Told::Moved(slot, node))
+                let (slot, node) = line.read()?;
+                Some(Told::Moved(slot, node))
             }
             "ask" => {
-                let (slot, node) = self.redirect()?;
-                Ok(Told::Ask(slot, node))
+                let (slot, node) = line.read()?;
+                Some(Told::Ask(slot, node))
             }
-            name => told_alone(name),
-        }
-    }
-
-    /// A slot, and the node that a command for it is sent to.
-    fn redirect(&mut self) -> Result<(Slot, NodeId), CallFault> {
-        let slot = self.slot()?;
-        Ok((slot, self.node()?))
-    }
-
-    pub fn end(&mut self, alloc: Global) -> Result<Ended, CallFault> {
-        match self.name()? {
-            "answered" => Ok(Ended::Answered(self.value(alloc)?)),
-            "gaveup" => Ok(Ended::GaveUp),
-            "lost" => Ok(Ended::Lost),
-            _ => Err(CallFault::UnknownWord),
+            name => {
+                let told = told_alone(name);
+                line.found(told, CallFault::UnknownWord)
+            }
         }
     }
 }
 
-/// What one word says that a command is told.
-fn told_alone(name: &str) -> Result<Told, CallFault> {
+impl Word for Ended {
+    fn next_in(line: &mut Line) -> Option<Ended> {
+        match line.name()? {
+            "answered" => {
+                let value = line.read()?;
+                Some(Ended::Answered(value))
+            }
+            "gaveup" => Some(Ended::GaveUp),
+            "lost" => Some(Ended::Lost),
+            _ => line.found(None, CallFault::UnknownWord),
+        }
+    }
+}
+
+fn asking_in(name: &str) -> Option<bool> {
     match name {
-        "tryagain" => Ok(Told::TryAgain),
-        "clusterdown" => Ok(Told::ClusterDown),
-        "unclear" => Ok(Told::Unclear),
-        "lost" => Ok(Told::Lost),
-        "unsent" => Ok(Told::Unsent),
-        _ => Err(CallFault::UnknownWord),
+        "plain" => Some(false),
+        "asking" => Some(true),
+        _ => None,
+    }
+}
+
+/// What one word says that a command is told.
+fn told_alone(name: &str) -> Option<Told> {
+    match name {
+        "tryagain" => Some(Told::TryAgain),
+        "clusterdown" => Some(Told::ClusterDown),
+        "unclear" => Some(Told::Unclear),
+        "lost" => Some(Told::Lost),
+        "unsent" => Some(Told::Unsent),
+        _ => None,
     }
 }
 
@@ -103,12 +123,12 @@ fn numbers_in(word: &[u8]) -> Option<[u64; 3]> {
 }
 
 /// The last part of a request, which is its only one where its keys are of one slot.
-fn part_of(alloc: Global, words: &[Bytes]) -> Result<Part, CallFault> {
+fn part_of(alloc: Global, words: &[Bytes]) -> Option<Part> {
     if words.is_empty() {
-        return Err(CallFault::NoPart);
+        return None;
     }
     match plan(alloc, words) {
-        Ok(Planned::Parts(_, parts)) => parts.into_vec().pop().ok_or(CallFault::NoPart),
-        Ok(_) | Err(_) => Err(CallFault::NoPart),
+        Ok(Planned::Parts(_, parts)) => parts.into_vec().pop(),
+        Ok(_) | Err(_) => None,
     }
 }

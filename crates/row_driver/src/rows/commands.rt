@@ -1,160 +1,110 @@
 //! One command, stepped by hand.
 
-use crate::rows::held::put;
+use crate::rows::held::{Held, Object};
+use crate::rows::made::MadeOf;
 use command_future::{Command, Step, Want};
-use row_words::{Answer, Args, CallFault};
+use key_split::{Part, Ticket};
+use row_words::{CallFault, Line};
 use std::alloc::Global;
 
-#[derive(Drop)]
-pub struct CommandObjects {
-    alloc: Global,
-    command: Option<Command>,
+/// A call of the command, or of a new one.
+pub fn call(held: &mut Held<Command>, line: &mut Line) {
+    match line.call() {
+        "new" => held.renew::<(Ticket, Part)>(line),
+        "finish" => finish(held, line),
+        _ => held.call(line),
+    }
 }
 
-impl CommandObjects {
-    pub fn new(alloc: Global) -> CommandObjects {
-        CommandObjects {
-            alloc,
-            command: None,
+/// The command of a ticket and a part.
+impl MadeOf<(Ticket, Part)> for Command {
+    fn made_of(_: Global, (ticket, part): (Ticket, Part)) -> Command {
+        Command::new(ticket, part)
+    }
+}
+
+impl Object for Command {
+    fn call(&mut self, line: &mut Line) {
+        match line.call() {
+            "batch" => show_batch(self, line),
+            "posted" => post(self, line),
+            "told" => tell(self, line),
+            "part" => line.show(self.part()),
+            "want" => show_want(self.want(), line),
+            "end" => line.show(self.end()),
+            "slot" => line.show(self.slot()),
+            "ticket" => line.show(self.ticket()),
+            _ => line.refuse(CallFault::NoSuchCall),
         }
     }
-
-    pub fn call(&mut self, args: &mut Args<'_>, answer: &mut Answer) -> Result<(), CallFault> {
-        match args.name()? {
-            "new" => self.renew(args, answer),
-            "finish" => finish(&mut self.command, answer),
-            call => match &mut self.command {
-                Some(command) => call_of(self.alloc, command, call, args, answer),
-                None => Err(CallFault::NotMade),
-            },
-        }
-    }
-
-    fn renew(&mut self, args: &mut Args<'_>, answer: &mut Answer) -> Result<(), CallFault> {
-        let command = command_in(self.alloc, args)?;
-        put(&mut self.command, Some(command));
-        answer.name("ok");
-        Ok(())
-    }
 }
 
-/// `TICKET WORDS..`
-fn command_in(alloc: Global, args: &mut Args<'_>) -> Result<Command, CallFault> {
-    let ticket = args.ticket()?;
-    Ok(Command::new(ticket, args.part(alloc)?))
-}
-
-fn call_of(
-    alloc: Global,
-    command: &mut Command,
-    call: &str,
-    args: &mut Args<'_>,
-    answer: &mut Answer,
-) -> Result<(), CallFault> {
-    match call {
-        "batch" => show_batch(alloc, command, args, answer),
-        "posted" => post(command, args, answer),
-        "told" => tell(alloc, command, args, answer),
-        "part" => Ok(answer.part(command.part())?),
-        _ => look(command, call, answer),
-    }
-}
-
-fn look(command: &Command, call: &str, answer: &mut Answer) -> Result<(), CallFault> {
-    match call {
-        "want" => show_want(command.want(), answer),
-        "end" => show_end(command, answer),
-        "slot" => answer.slot(command.slot()),
-        "ticket" => answer.ticket(command.ticket()),
-        _ => return Err(CallFault::NoSuchCall),
-    }
-    Ok(())
-}
-
-fn show_want(want: Want, answer: &mut Answer) {
+fn show_want(want: Want, line: &mut Line) {
     match want {
         Want::Post(asking, named) => {
-            answer.name("post");
-            answer.name(if asking { "asking" } else { "plain" });
+            line.say("post");
+            line.say(if asking { "asking" } else { "plain" });
             match named {
-                Some(node) => answer.node(node),
-                None => answer.name("any"),
+                Some(node) => line.show(node),
+                None => line.say("any"),
             }
         }
-        Want::Await => answer.name("await"),
-        Want::Finished => answer.name("finished"),
+        Want::Await => line.say("await"),
+        Want::Finished => line.say("finished"),
     }
 }
 
-fn show_batch(
-    alloc: Global,
-    command: &Command,
-    args: &mut Args<'_>,
-    answer: &mut Answer,
-) -> Result<(), CallFault> {
-    let given = args.node()?;
+fn show_batch(command: &Command, line: &mut Line) {
+    let Some(given) = line.read() else {
+        return;
+    };
     let node = match command.want() {
         Want::Post(_, Some(named)) => named,
         Want::Post(_, None) => given,
-        _ => return Err(CallFault::NotNow),
+        _ => return line.refuse(CallFault::NotNow),
     };
-    let batch = command.batch(alloc, node)?;
-    Ok(answer.batch(&batch)?)
+    line.show(command.batch(line.alloc, node));
 }
 
-fn post(command: &mut Command, args: &mut Args<'_>, answer: &mut Answer) -> Result<(), CallFault> {
-    let given = args.node()?;
+fn post(command: &mut Command, line: &mut Line) {
+    let Some(given) = line.read() else {
+        return;
+    };
     match command.want() {
         Want::Post(_, Some(named)) if named == given => command.posted(named),
         Want::Post(_, None) => command.posted(given),
-        _ => return Err(CallFault::NotNow),
+        _ => return line.refuse(CallFault::NotNow),
     }
-    answer.name("ok");
-    Ok(())
+    line.done();
 }
 
-fn tell(
-    alloc: Global,
-    command: &mut Command,
-    args: &mut Args<'_>,
-    answer: &mut Answer,
-) -> Result<(), CallFault> {
-    let told = args.told(alloc)?;
+fn tell(command: &mut Command, line: &mut Line) {
+    let Some(told) = line.read() else {
+        return;
+    };
     match command.want() {
-        Want::Await => show_step(command.told(told), answer),
-        _ => return Err(CallFault::NotNow),
+        Want::Await => line.say(step_name(command.told(told))),
+        _ => line.refuse(CallFault::NotNow),
     }
-    Ok(())
 }
 
-fn show_step(step: Step, answer: &mut Answer) {
+fn step_name(step: Step) -> &'static str {
     match step {
-        Step::Again => answer.name("again"),
-        Step::Done => answer.name("done"),
-    }
-}
-
-fn show_end(command: &Command, answer: &mut Answer) {
-    match command.end() {
-        Some(end) => answer.end(end),
-        None => answer.name("none"),
+        Step::Again => "again",
+        Step::Done => "done",
     }
 }
 
 /// Its ticket and its end, or the command is held again.
-fn finish(held: &mut Option<Command>, answer: &mut Answer) -> Result<(), CallFault> {
-    let Some(command) = held.take() else {
-        return Err(CallFault::NotMade);
+fn finish(held: &mut Held<Command>, line: &mut Line) {
+    let Some(command) = held.value.take() else {
+        return line.refuse(CallFault::NotMade);
     };
     match command.finish() {
-        Ok((ticket, end)) => {
-            answer.ticket(ticket);
-            answer.end(&end);
-        }
+        Ok(end) => line.show(end),
         Err(command) => {
-            put(held, Some(command));
-            answer.name("back");
+            held.put(command);
+            line.say("back");
         }
     }
-    Ok(())
 }

@@ -2,42 +2,24 @@
 
 ghost use Rattle.std.specs.Prelude.{◌≡◌, ⊤};
 
-use crate::rows::held::put;
+use crate::rows::held::{Object, put};
 use command_future::{self, Command, OneCommand, Posting, Want};
 use futures::executor::block_on;
 use futures::test::MockTask;
 use key_split::{Batch, Ticket, Told};
-use row_words::{Answer, Args, CallFault};
+use row_words::{CallFault, Line, Word};
 use slot_map::NodeId;
 use std::alloc::{AllocGlobal, Global};
 use std::collections::VecDeque;
 use std::random::RandomSource;
 use std::sync::Wait;
 
-#[derive(Drop)]
-pub struct CourierObjects {
-    courier: Courier,
-}
-
-impl CourierObjects {
-    pub fn new(alloc: Global) -> CourierObjects {
-        CourierObjects {
-            courier: Courier::new(alloc),
-        }
-    }
-
-    /// What the courier does, and a command that it carries to its end.
-    pub fn call<R: Wait + RandomSource + AllocGlobal>(
-        &mut self,
-        rt: &R,
-        args: &mut Args<'_>,
-        answer: &mut Answer,
-    ) -> Result<(), CallFault> {
-        match args.name()? {
-            "carry" => carry(rt, &mut self.courier, args, answer),
-            "poll" => poll_once(rt, &mut self.courier, args, answer),
-            call => self.courier.call(call, args, answer),
-        }
+/// What the courier does, and a command that it carries to its end.
+pub fn call<R: Wait + RandomSource + AllocGlobal>(rt: &R, courier: &mut Courier, line: &mut Line) {
+    match line.call() {
+        "carry" => carry(rt, courier, line),
+        "poll" => poll_once(rt, courier, line),
+        _ => courier.call(line),
     }
 }
 
@@ -61,46 +43,44 @@ impl Courier {
             posted: Vec::new(alloc),
         }
     }
+}
 
-    fn call(
-        &mut self,
-        call: &str,
-        args: &mut Args<'_>,
-        answer: &mut Answer,
-    ) -> Result<(), CallFault> {
-        match call {
-            "posts" => {
-                answer.number(self.posted.len() as u64);
-                Ok(())
-            }
-            "posted" => show_batches(&self.posted, answer),
-            _ => {
-                self.change(call, args)?;
-                answer.name("ok");
-                Ok(())
-            }
+impl Object for Courier {
+    fn call(&mut self, line: &mut Line) {
+        match line.call() {
+            "posts" => line.show(self.posted.len()),
+            "posted" => show_batches(&self.posted, line),
+            "new" => put(self, Courier::new(line.alloc), line),
+            "later" => put_read(&mut self.later, line),
+            "node" => put_read(&mut self.node, line),
+            "tells" => will_tell(&mut self.tells, line),
+            _ => line.refuse(CallFault::NoSuchCall),
         }
-    }
-
-    /// From now on it does otherwise.
-    fn change(&mut self, call: &str, args: &mut Args<'_>) -> Result<(), CallFault> {
-        match call {
-            "new" => put(self, Courier::new(self.alloc)),
-            "later" => self.later = args.number()?,
-            "node" => self.node = args.node()?,
-            "tells" => self.tells.push_back(args.told(self.alloc)?)?,
-            _ => return Err(CallFault::NoSuchCall),
-        }
-        Ok(())
     }
 }
 
-fn show_batches(batches: &[Batch], answer: &mut Answer) -> Result<(), CallFault> {
-    for batch in batches {
-        answer.name(";");
-        answer.batch(batch)?;
+/// From now on it does otherwise.
+fn put_read<T: Word + Drop>(place: &mut T, line: &mut Line) {
+    if let Some(read) = line.read::<T>() {
+        put(place, read, line);
     }
-    Ok(())
+}
+
+fn will_tell(tells: &mut VecDeque<Told>, line: &mut Line) {
+    let Some(told) = line.read() else {
+        return;
+    };
+    match tells.push_back(told) {
+        Ok(()) => line.done(),
+        Err(_) => line.refuse(CallFault::NoMemory),
+    }
+}
+
+fn show_batches(batches: &[Batch], line: &mut Line) {
+    for batch in batches {
+        line.say(";");
+        line.show(batch);
+    }
 }
 
 impl command_future::Courier for Courier {
@@ -134,43 +114,26 @@ impl command_future::Courier for Courier {
 }
 
 /// Carries a command to its end.
-fn carry<R: Wait + RandomSource + AllocGlobal>(
-    rt: &R,
-    courier: &mut Courier,
-    args: &mut Args<'_>,
-    answer: &mut Answer,
-) -> Result<(), CallFault> {
-    let ticket = args.ticket()?;
-    let part = args.part(rt.alloc())?;
+fn carry<R: Wait + RandomSource + AllocGlobal>(rt: &R, courier: &mut Courier, line: &mut Line) {
+    let Some((ticket, part)) = line.read() else {
+        return;
+    };
     match block_on(rt, OneCommand::new(Command::new(ticket, part), courier)) {
-        Ok((ticket, end)) => {
-            answer.ticket(ticket);
-            answer.end(&end);
-            Ok(())
-        }
-        Err(_) => Err(CallFault::NoMemory),
+        Ok(end) => line.show(end),
+        Err(_) => line.refuse(CallFault::NoMemory),
     }
 }
 
 /// Polls a command once: whether it is pending, and whether its task was woken.
-fn poll_once<R: Wait + RandomSource + AllocGlobal>(
-    rt: &R,
-    courier: &mut Courier,
-    args: &mut Args<'_>,
-    answer: &mut Answer,
-) -> Result<(), CallFault> {
-    let Ok(task) = MockTask::new(rt) else {
-        return Err(CallFault::NoMemory);
+fn poll_once<R: Wait + RandomSource + AllocGlobal>(rt: &R, courier: &mut Courier, line: &mut Line) {
+    let Some((ticket, part)) = line.read() else {
+        return;
     };
-    let ticket = args.ticket()?;
-    let part = args.part(rt.alloc())?;
+    let Ok(task) = MockTask::new(rt) else {
+        return line.refuse(CallFault::NoMemory);
+    };
     let mut future = OneCommand::new(Command::new(ticket, part), courier);
     let pending = task.poll(&mut future).is_pending();
-    show_poll(pending, task.is_woken(), answer);
-    Ok(())
-}
-
-fn show_poll(pending: bool, woken: bool, answer: &mut Answer) {
-    answer.name(if pending { "pending" } else { "ready" });
-    answer.name(if woken { "woken" } else { "still" });
+    line.say(if pending { "pending" } else { "ready" });
+    line.say(if task.is_woken() { "woken" } else { "still" });
 }

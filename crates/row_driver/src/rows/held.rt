@@ -1,6 +1,76 @@
 //! Places whose values change.
 
-/// Puts a value in the place of another. The type is a parameter, since a value of such a type is dropped by one call.
-pub fn put<T: Drop>(place: &mut T, value: T) {
+use crate::rows::made::MadeOf;
+use row_words::{CallFault, Line, Word};
+use std::fmt::Debug;
+
+/// What answers calls.
+pub trait Object {
+    /// Makes the call that the line asks for, or says in the line why it is not made.
+    fn call(&mut self, line: &mut Line);
+}
+
+/// A value that a call makes, or none as yet.
+#[derive(Drop)]
+pub struct Held<T> {
+    pub value: Option<T>,
+}
+
+impl<T> Held<T> {
+    pub fn none() -> Held<T> {
+        Held { value: None }
+    }
+}
+
+impl<T: Drop> Held<T> {
+    pub fn put(&mut self, value: T) {
+        self.value = Some(value);
+    }
+
+    /// Holds what was made, or answers the fault for which it was not.
+    pub fn hold<F: Debug + Drop>(&mut self, made: Result<T, F>, line: &mut Line) {
+        match made {
+            Ok(value) => {
+                self.put(value);
+                line.done();
+            }
+            Err(fault) => line.answer.debug(&fault),
+        }
+    }
+
+    /// Holds a new value, made of what the line says.
+    pub fn renew<G: Word + Drop>(&mut self, line: &mut Line)
+    where
+        T: MadeOf<G>,
+    {
+        if let Some(given) = line.read::<G>() {
+            self.put(T::made_of(line.alloc, given));
+            line.done();
+        }
+    }
+}
+
+impl<T: Object> Held<T> {
+    /// A call of the value.
+    pub fn call(&mut self, line: &mut Line) {
+        match &mut self.value {
+            Some(value) => value.call(line),
+            None => line.refuse(CallFault::NotMade),
+        }
+    }
+}
+
+/// Puts a value in the place of another, and answers `ok`. The type is a parameter, since a value of such a type is dropped by
+/// one call.
+pub fn put<T: Drop>(place: &mut T, value: T, line: &mut Line) {
     *place = value;
+    line.done();
+}
+
+/// Keeps one more.
+pub fn keep<T: Drop>(kept: &mut Vec<T>, value: T, line: &mut Line) {
+    match kept.push(value) {
+        Ok(()) => line.done(),
+        Err(_) => line.refuse(CallFault::NoMemory),
+    }
 }

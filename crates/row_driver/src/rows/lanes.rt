@@ -1,15 +1,15 @@
 //! The lanes between two workers and the carrier, and the map that the carrier publishes, in one thread.
 
-use crate::rows::maps::op_of;
-use key_split::{Run, Ticket, Told};
+use crate::rows::maps::{range_in, slot_in};
+use key_split::{Batch, Run, Ticket, Told};
 use proxy_lanes::{CarrierEnds, Front, MapView, Naming, Outlet, Publisher, WorkerEnds};
-use row_words::{Answer, Args, CallFault};
+use row_words::{CallFault, Line};
+use slot_map::MapOp;
 use std::alloc::Global;
 use std::sync::Wait;
 
 #[derive(Drop)]
 pub struct LaneObjects<J: Naming, R: Wait + Drop> {
-    alloc: Global,
     workers: Vec<WorkerEnds<u32, J>>,
     carrier: CarrierEnds<u32, Publisher<J, R>>,
     /// What was published, as it was told to workers.
@@ -23,74 +23,78 @@ impl<J: Naming, R: Wait + Drop> LaneObjects<J, R> {
         carrier: CarrierEnds<u32, Publisher<J, R>>,
     ) -> LaneObjects<J, R> {
         LaneObjects {
-            alloc,
             workers,
             carrier,
             fronts: Vec::new(alloc),
         }
     }
 
-    pub fn call(&mut self, args: &mut Args<'_>, answer: &mut Answer) -> Result<(), CallFault> {
-        match args.name()? {
-            "publish" => self.publish(args, answer),
-            "tell" => self.tell(answer),
-            "learn" => self.learn(args, answer),
-            "give" => give(self.alloc, &mut self.carrier, args, answer),
-            call => self.call_of_end(call, args, answer),
+    pub fn call(&mut self, line: &mut Line) {
+        match line.call() {
+            "publish" => self.publish(line),
+            "tell" => self.tell(line),
+            "learn" => self.learn(line),
+            "give" => give(&mut self.carrier, line),
+            "take" => take(&mut self.carrier, line),
+            "finish" => finish(&mut self.carrier, line),
+            "hand" => hand(&mut self.carrier, line),
+            _ => self.call_of_worker(line),
         }
     }
 
-    /// A call of the carrier's end of a lane, or of the worker's.
-    fn call_of_end(
-        &mut self,
-        call: &str,
-        args: &mut Args<'_>,
-        answer: &mut Answer,
-    ) -> Result<(), CallFault> {
-        match call {
-            "take" => take(&mut self.carrier, args, answer),
-            "finish" => finish(&mut self.carrier, args, answer),
-            "hand" => hand(&mut self.carrier, args, answer),
-            _ => self.call_of_worker(call, args, answer),
-        }
-    }
-
-    fn call_of_worker(
-        &mut self,
-        call: &str,
-        args: &mut Args<'_>,
-        answer: &mut Answer,
-    ) -> Result<(), CallFault> {
-        match self.workers.get_mut(args.size()?) {
-            Some(ends) => call_of_ends(self.alloc, ends, call, args, answer),
-            None => Err(CallFault::NotMade),
+    /// A call of a worker's end of its lane.
+    fn call_of_worker(&mut self, line: &mut Line) {
+        let Some(worker) = line.read::<usize>() else {
+            return;
+        };
+        match self.workers.get_mut(worker) {
+            Some(ends) => call_of_ends(ends, line),
+            None => line.refuse(CallFault::NotMade),
         }
     }
 
     /// `publish range FIRST LAST NODE` or `publish slot SLOT NODE`
-    fn publish(&mut self, args: &mut Args<'_>, answer: &mut Answer) -> Result<(), CallFault> {
-        let op = op_of(args.name()?, args)?;
-        answer.done(self.carrier.map.publish(&[op]));
-        Ok(())
+    fn publish(&mut self, line: &mut Line) {
+        if let Some(op) = op_in(line) {
+            line.show(self.carrier.map.publish(&[op]));
+        }
     }
 
     /// Keeps what was published so far, and shows its place among what was kept.
-    fn tell(&mut self, answer: &mut Answer) -> Result<(), CallFault> {
-        let front = self.carrier.map.tell().ok_or(CallFault::NotNow)?;
-        answer.number(self.fronts.len() as u64);
-        self.fronts.push(Some(front))?;
-        Ok(())
+    fn tell(&mut self, line: &mut Line) {
+        match self.carrier.map.tell() {
+            Some(front) => keep_front(&mut self.fronts, front, line),
+            None => line.refuse(CallFault::NotNow),
+        }
     }
 
     /// `learn WORKER PLACE`
-    fn learn(&mut self, args: &mut Args<'_>, answer: &mut Answer) -> Result<(), CallFault> {
-        let worker = args.size()?;
-        let place = args.size()?;
+    fn learn(&mut self, line: &mut Line) {
+        let Some((worker, place)) = line.read() else {
+            return;
+        };
         match learn_kept(&mut self.workers, worker, &mut self.fronts, place) {
-            Some(()) => answer.name("ok"),
-            None => return Err(CallFault::NotMade),
+            Some(()) => line.done(),
+            None => line.refuse(CallFault::NotMade),
         }
-        Ok(())
+    }
+}
+
+fn op_in(line: &mut Line) -> Option<MapOp> {
+    match line.name()? {
+        "range" => range_in(line),
+        "slot" => slot_in(line),
+        _ => {
+            line.refuse(CallFault::NoSuchCall);
+            None
+        }
+    }
+}
+
+fn keep_front<F: Drop>(fronts: &mut Vec<Option<F>>, front: F, line: &mut Line) {
+    line.show(fronts.len());
+    if fronts.push(Some(front)).is_err() {
+        line.refuse(CallFault::NoMemory);
     }
 }
 
@@ -112,162 +116,84 @@ fn kept_at<F: Drop>(kept: &mut [Option<F>], place: usize) -> Option<F> {
 }
 
 /// `give WORKER TICKET TOLD`
-fn give<M: Drop>(
-    alloc: Global,
-    carrier: &mut CarrierEnds<u32, M>,
-    args: &mut Args<'_>,
-    answer: &mut Answer,
-) -> Result<(), CallFault> {
-    let worker = args.short()?;
+fn give<M: Drop>(carrier: &mut CarrierEnds<u32, M>, line: &mut Line) {
+    let Some((worker, ticket, told)) = line.read::<(u16, Ticket, Told)>() else {
+        return;
+    };
     if usize::from(worker) >= carrier.workers() {
-        return Err(CallFault::NotMade);
+        return line.refuse(CallFault::NotMade);
     }
-    let ticket = args.ticket()?;
-    let told = args.told(alloc)?;
-    show_given(carrier.give(worker, ticket, told), answer);
-    Ok(())
-}
-
-fn show_given(given: Result<(), (Ticket, Told)>, answer: &mut Answer) {
-    match given {
-        Ok(()) => answer.name("ok"),
-        Err((ticket, told)) => {
-            answer.name("back");
-            answer.ticket(ticket);
-            answer.told(&told);
+    match carrier.give(worker, ticket, told) {
+        Ok(()) => line.done(),
+        Err(back) => {
+            line.say("back");
+            line.show(back);
         }
     }
 }
 
 /// Takes the next run of a worker.
-fn take<M: Drop>(
-    carrier: &mut CarrierEnds<u32, M>,
-    args: &mut Args<'_>,
-    answer: &mut Answer,
-) -> Result<(), CallFault> {
-    let worker = args.short()?;
+fn take<M: Drop>(carrier: &mut CarrierEnds<u32, M>, line: &mut Line) {
+    let Some(worker) = line.read::<u16>() else {
+        return;
+    };
     if usize::from(worker) >= carrier.workers() {
-        return Err(CallFault::NotMade);
+        return line.refuse(CallFault::NotMade);
     }
-    match carrier.take(worker) {
-        Some(run) => show_run(&run, answer),
-        None => {
-            answer.name("none");
-            Ok(())
-        }
-    }
+    line.show(carrier.take(worker));
 }
 
 /// Finishes what goes down to a worker.
-fn finish<M: Drop>(
-    carrier: &mut CarrierEnds<u32, M>,
-    args: &mut Args<'_>,
-    answer: &mut Answer,
-) -> Result<(), CallFault> {
-    let worker = args.short()?;
+fn finish<M: Drop>(carrier: &mut CarrierEnds<u32, M>, line: &mut Line) {
+    let Some(worker) = line.read::<u16>() else {
+        return;
+    };
     if usize::from(worker) >= carrier.workers() {
-        return Err(CallFault::NotMade);
+        return line.refuse(CallFault::NotMade);
     }
-    answer.name(match carrier.finish_down(worker) {
-        Some(_) => "note",
-        None => "none",
-    });
-    Ok(())
+    let is_noted = carrier.finish_down(worker).is_some();
+    line.say(if is_noted { "note" } else { "none" });
 }
 
 /// `hand WORKER CLIENT`
-fn hand<M: Drop>(
-    carrier: &mut CarrierEnds<u32, M>,
-    args: &mut Args<'_>,
-    answer: &mut Answer,
-) -> Result<(), CallFault> {
-    let worker = args.short()?;
-    let client = u32::from(args.short()?);
+fn hand<M: Drop>(carrier: &mut CarrierEnds<u32, M>, line: &mut Line) {
+    let Some((worker, client)) = line.read::<(u16, u16)>() else {
+        return;
+    };
     if usize::from(worker) >= carrier.workers() {
-        return Err(CallFault::NotMade);
+        return line.refuse(CallFault::NotMade);
     }
-    answer.name(match carrier.hand(worker, client) {
-        Ok(()) => "ok",
-        Err(_) => "back",
-    });
-    Ok(())
+    let is_handed = carrier.hand(worker, u32::from(client)).is_ok();
+    line.say(if is_handed { "ok" } else { "back" });
 }
 
 // A call that a worker makes on its way, with no right to wait.
-fn call_of_ends<J: Naming>(
-    alloc: Global,
-    ends: &mut WorkerEnds<u32, J>,
-    call: &str,
-    args: &mut Args<'_>,
-    answer: &mut Answer,
-) -> Result<(), CallFault> {
-    match call {
-        "post" => post(alloc, &mut ends.outlet, args, answer),
-        "told" => show_told(ends.inlet.take(), answer),
-        "newcomer" => show_newcomer(ends.newcomers.take(), answer),
-        "node" => show_node(&mut ends.view, args, answer),
-        _ => Err(CallFault::NoSuchCall),
+fn call_of_ends<J: Naming>(ends: &mut WorkerEnds<u32, J>, line: &mut Line) {
+    match line.call() {
+        "post" => post(&mut ends.outlet, line),
+        "told" => line.show(ends.inlet.take()),
+        "newcomer" => line.show(ends.newcomers.take()),
+        "node" => show_node(&mut ends.view, line),
+        _ => line.refuse(CallFault::NoSuchCall),
     }
 }
 
-fn post(
-    alloc: Global,
-    outlet: &mut Outlet<Run>,
-    args: &mut Args<'_>,
-    answer: &mut Answer,
-) -> Result<(), CallFault> {
-    let run = Run::one(alloc, args.batch(alloc)?);
-    match outlet.post(run) {
-        Ok(()) => {
-            answer.name("ok");
-            Ok(())
-        }
+fn post(outlet: &mut Outlet<Run>, line: &mut Line) {
+    let Some(batch) = line.read::<Batch>() else {
+        return;
+    };
+    match outlet.post(Run::one(line.alloc, batch)) {
+        Ok(()) => line.done(),
         Err(run) => {
-            answer.name("back");
-            show_run(&run, answer)
+            line.say("back");
+            line.show(run);
         }
     }
-}
-
-/// Its commands, with `;` between them.
-fn show_run(run: &Run, answer: &mut Answer) -> Result<(), CallFault> {
-    answer.batch(run.first())?;
-    for batch in run.later() {
-        answer.name(";");
-        answer.batch(batch)?;
-    }
-    Ok(())
-}
-
-pub fn show_told(told: Option<(Ticket, Told)>, answer: &mut Answer) -> Result<(), CallFault> {
-    match told {
-        Some((ticket, told)) => {
-            answer.ticket(ticket);
-            answer.told(&told);
-        }
-        None => answer.name("none"),
-    }
-    Ok(())
-}
-
-fn show_newcomer(client: Option<u32>, answer: &mut Answer) -> Result<(), CallFault> {
-    match client {
-        Some(client) => answer.number(u64::from(client)),
-        None => answer.name("none"),
-    }
-    Ok(())
 }
 
 /// The node that the published map shows for a slot.
-pub fn show_node<J: Naming>(
-    view: &mut MapView<J>,
-    args: &mut Args<'_>,
-    answer: &mut Answer,
-) -> Result<(), CallFault> {
-    match view.node_of(args.slot()?) {
-        Ok(Some(node)) => answer.node(node),
-        Ok(None) => answer.name("none"),
-        Err(fault) => answer.debug(&fault),
+pub fn show_node<J: Naming>(view: &mut MapView<J>, line: &mut Line) {
+    if let Some(slot) = line.read() {
+        line.show(view.node_of(slot));
     }
-    Ok(())
 }

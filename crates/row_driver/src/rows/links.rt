@@ -1,169 +1,160 @@
 //! Links and ports over a stream in memory.
 
-use crate::rows::held::put;
-use crate::rows::maps::MapObjects;
+use crate::rows::held::{Held, Object, put};
 use crate::rows::stream::MemoryStream;
-use crate::rows::wire::WireObjects;
+use key_split::Batch;
 use node_link::{BytePort, FLUSH_AFTER_READS, Got, Link, LinkFault, NodePort, PortFault};
 use resp_wire::{Limits, Value};
-use row_words::{Answer, Args, CallFault};
-use slot_map::{NodeId, NodeTable};
+use row_words::{CallFault, Line};
+use slot_map::NodeTable;
 use std::alloc::Global;
 
 type Port = BytePort<MemoryStream>;
 
 #[derive(Drop)]
 pub struct LinkObjects {
-    alloc: Global,
     /// The stream of the link or port that is made next.
     stream: MemoryStream,
-    port: Option<Port>,
-    link: Option<Link<Port>>,
+    port: Held<Port>,
+    link: Held<Link<Port>>,
 }
 
 impl LinkObjects {
     pub fn new(alloc: Global) -> LinkObjects {
         LinkObjects {
-            alloc,
             stream: MemoryStream::new(alloc, Vec::new(alloc)),
-            port: None,
-            link: None,
+            port: Held::none(),
+            link: Held::none(),
         }
     }
 
-    /// How the next stream is.
-    pub fn stream(&mut self, args: &mut Args<'_>, answer: &mut Answer) -> Result<(), CallFault> {
-        match args.name()? {
-            "gives" => self.give(args, answer),
-            "slow" => {
-                self.stream.slow_down();
-                answer.name("ok");
-                Ok(())
-            }
-            "room" => self.make_room(args, answer),
-            "moves" => self.slow_to(args, answer),
-            _ => Err(CallFault::NoSuchCall),
+    pub fn stream(&mut self, line: &mut Line) {
+        self.stream.call(line);
+    }
+
+    pub fn port(&mut self, line: &mut Line) {
+        match line.call() {
+            "new" => self.renew_port(line),
+            _ => self.port.call(line),
         }
     }
 
-    /// The next stream gives these bytes.
-    fn give(&mut self, args: &mut Args<'_>, answer: &mut Answer) -> Result<(), CallFault> {
-        let coming = Vec::from_slice(self.alloc, args.bytes()?)?;
-        put(&mut self.stream, MemoryStream::new(self.alloc, coming));
-        answer.name("ok");
-        Ok(())
+    fn renew_port(&mut self, line: &mut Line) {
+        self.port.put(next_port(&mut self.stream, line.alloc));
+        line.done();
     }
 
-    /// The next stream fails behind so many bytes.
-    fn make_room(&mut self, args: &mut Args<'_>, answer: &mut Answer) -> Result<(), CallFault> {
-        self.stream.make_room(args.size()?);
-        answer.name("ok");
-        Ok(())
-    }
-
-    /// The next stream moves so many bytes at once.
-    fn slow_to(&mut self, args: &mut Args<'_>, answer: &mut Answer) -> Result<(), CallFault> {
-        self.stream.slow_to(args.size()?);
-        answer.name("ok");
-        Ok(())
-    }
-
-    /// A port over the stream that was described.
-    fn next_port(&mut self) -> Port {
-        let next = MemoryStream::new(self.alloc, Vec::new(self.alloc));
-        let stream = std::mem::replace(&mut self.stream, next);
-        BytePort::new(self.alloc, stream, Limits::full())
-    }
-
-    pub fn port(&mut self, args: &mut Args<'_>, answer: &mut Answer) -> Result<(), CallFault> {
-        match args.name()? {
-            "new" => self.renew_port(answer),
-            call => match &mut self.port {
-                Some(port) => call_of_port(self.alloc, port, call, args, answer),
-                None => Err(CallFault::NotMade),
-            },
+    pub fn link(&mut self, table: &mut NodeTable, value: &mut Held<Value>, line: &mut Line) {
+        match line.call() {
+            "new" => self.renew_link(line),
+            "patience" => line.show(FLUSH_AFTER_READS),
+            "receive" => self.receive(table, 1, value, line),
+            "wait" => self.wait(table, value, line),
+            _ => self.link.call(line),
         }
     }
 
-    fn renew_port(&mut self, answer: &mut Answer) -> Result<(), CallFault> {
-        let port = self.next_port();
-        put(&mut self.port, Some(port));
-        answer.name("ok");
-        Ok(())
+    fn renew_link(&mut self, line: &mut Line) {
+        if let Some(node) = line.read() {
+            let port = next_port(&mut self.stream, line.alloc);
+            self.link.put(Link::new(line.alloc, port, node));
+            line.done();
+        }
     }
 
-    fn renew_link(&mut self, args: &mut Args<'_>, answer: &mut Answer) -> Result<(), CallFault> {
-        let node = args.node()?;
-        let port = self.next_port();
-        put(&mut self.link, Some(Link::new(self.alloc, port, node)));
-        answer.name("ok");
-        Ok(())
+    fn wait(&mut self, table: &mut NodeTable, value: &mut Held<Value>, line: &mut Line) {
+        if let Some(calls) = line.read() {
+            self.receive(table, calls, value, line);
+        }
     }
 
-    pub fn link(
+    /// Receives until something comes, so many times at most.
+    fn receive(
         &mut self,
-        maps: &mut MapObjects,
-        wire: &mut WireObjects,
-        args: &mut Args<'_>,
-        answer: &mut Answer,
-    ) -> Result<(), CallFault> {
-        match args.name()? {
-            "new" => self.renew_link(args, answer),
-            "patience" => {
-                answer.number(u64::from(FLUSH_AFTER_READS));
-                Ok(())
+        table: &mut NodeTable,
+        calls: u64,
+        value: &mut Held<Value>,
+        line: &mut Line,
+    ) {
+        match &mut self.link.value {
+            Some(link) => show_received(receive(link, table, calls), value, line),
+            None => line.refuse(CallFault::NotMade),
+        }
+    }
+}
+
+/// A port over the stream that was described.
+fn next_port(stream: &mut MemoryStream, alloc: Global) -> Port {
+    let next = MemoryStream::new(alloc, Vec::new(alloc));
+    BytePort::new(alloc, std::mem::replace(stream, next), Limits::full())
+}
+
+/// How the next stream is.
+impl Object for MemoryStream {
+    fn call(&mut self, line: &mut Line) {
+        match line.call() {
+            "gives" => give(self, line),
+            "slow" => {
+                self.slow_down();
+                line.done();
             }
-            call => match &mut self.link {
-                Some(link) => call_of_link(self.alloc, link, maps, wire, call, args, answer),
-                None => Err(CallFault::NotMade),
-            },
+            "room" => make_room(self, line),
+            "moves" => slow_to(self, line),
+            _ => line.refuse(CallFault::NoSuchCall),
         }
     }
 }
 
-/// Shows what the port's stream moved.
-fn moved(port: &Port, call: &str, answer: &mut Answer) -> Result<(), CallFault> {
-    match call {
-        "written" => answer.bytes(port.stream().taken()),
-        "reads" => answer.number(port.stream().reads()),
-        "writes" => answer.number(port.stream().writes()),
-        _ => return Err(CallFault::NoSuchCall),
+/// The next stream gives these bytes.
+fn give(stream: &mut MemoryStream, line: &mut Line) {
+    let alloc = line.alloc;
+    let Some(bytes) = line.bytes() else {
+        return;
+    };
+    match Vec::from_slice(alloc, bytes) {
+        Ok(coming) => put(stream, MemoryStream::new(alloc, coming), line),
+        Err(_) => line.refuse(CallFault::NoMemory),
     }
-    Ok(())
 }
 
-fn call_of_port(
-    alloc: Global,
-    port: &mut Port,
-    call: &str,
-    args: &mut Args<'_>,
-    answer: &mut Answer,
-) -> Result<(), CallFault> {
-    match call {
-        "send" => send_over(alloc, port, args, answer),
-        "slots" => {
-            answer.done(port.ask_slots());
-            Ok(())
+/// The next stream fails behind so many bytes.
+fn make_room(stream: &mut MemoryStream, line: &mut Line) {
+    if let Some(room) = line.read() {
+        stream.make_room(room);
+        line.done();
+    }
+}
+
+/// The next stream moves so many bytes at once.
+fn slow_to(stream: &mut MemoryStream, line: &mut Line) {
+    if let Some(at_once) = line.read() {
+        stream.slow_to(at_once);
+        line.done();
+    }
+}
+
+impl Object for Port {
+    fn call(&mut self, line: &mut Line) {
+        match line.call() {
+            "send" => send_over(self, line),
+            "slots" => line.show(self.ask_slots()),
+            "next" => line.show(self.next()),
+            "wait" => wait_over(self, line),
+            _ => show_moved(self, line),
         }
-        "next" => show_next(port.next(), answer),
-        "wait" => wait_over(port, args, answer),
-        _ => moved(port, call, answer),
     }
 }
 
-fn send_over(
-    alloc: Global,
-    port: &mut Port,
-    args: &mut Args<'_>,
-    answer: &mut Answer,
-) -> Result<(), CallFault> {
-    let batch = args.batch(alloc)?;
-    answer.done(port.send(&batch));
-    Ok(())
+fn send_over(port: &mut Port, line: &mut Line) {
+    if let Some(batch) = line.read::<Batch>() {
+        line.show(port.send(&batch));
+    }
 }
 
-fn wait_over(port: &mut Port, args: &mut Args<'_>, answer: &mut Answer) -> Result<(), CallFault> {
-    show_next(next_within(port, args.number()?), answer)
+fn wait_over(port: &mut Port, line: &mut Line) {
+    if let Some(calls) = line.read() {
+        line.show(next_within(port, calls));
+    }
 }
 
 /// The next value, of so many calls at most.
@@ -177,120 +168,75 @@ fn next_within(port: &mut Port, calls: u64) -> Result<Option<Value>, PortFault> 
     Ok(None)
 }
 
-fn show_next(next: Result<Option<Value>, PortFault>, answer: &mut Answer) -> Result<(), CallFault> {
-    match next {
-        Ok(Some(value)) => answer.value(&value),
-        Ok(None) => answer.name("none"),
-        Err(fault) => answer.debug(&fault),
+/// Shows what the port's stream moved.
+fn show_moved(port: &Port, line: &mut Line) {
+    match line.call() {
+        "written" => line.answer.bytes(port.stream().taken()),
+        "reads" => line.show(port.stream().reads()),
+        "writes" => line.show(port.stream().writes()),
+        _ => line.refuse(CallFault::NoSuchCall),
     }
-    Ok(())
-}
-
-fn call_of_link(
-    alloc: Global,
-    link: &mut Link<Port>,
-    maps: &mut MapObjects,
-    wire: &mut WireObjects,
-    call: &str,
-    args: &mut Args<'_>,
-    answer: &mut Answer,
-) -> Result<(), CallFault> {
-    match call {
-        "receive" => show_received(receive(link, &mut maps.table)?, wire, answer),
-        "wait" => show_received(wait(link, &mut maps.table, args.number()?)?, wire, answer),
-        _ => return call_alone(alloc, link, call, args, answer),
-    }
-    Ok(())
 }
 
 /// A call that receives nothing.
-fn call_alone(
-    alloc: Global,
-    link: &mut Link<Port>,
-    call: &str,
-    args: &mut Args<'_>,
-    answer: &mut Answer,
-) -> Result<(), CallFault> {
-    match call {
-        "send" => send(alloc, link, args, answer),
-        "slots" => {
-            answer.done(link.ask_slots());
-            Ok(())
+impl Object for Link<Port> {
+    fn call(&mut self, line: &mut Line) {
+        match line.call() {
+            "send" => send(self, line),
+            "slots" => line.show(self.ask_slots()),
+            "lose" => lose(self, line),
+            "failed" => line.show(self.failed()),
+            _ => show_moved(self.port(), line),
         }
-        "lose" => lose(link, answer),
-        "failed" => {
-            answer.yes_or_no(link.failed());
-            Ok(())
-        }
-        _ => moved(link.port(), call, answer),
     }
 }
 
-fn send(
-    alloc: Global,
-    link: &mut Link<Port>,
-    args: &mut Args<'_>,
-    answer: &mut Answer,
-) -> Result<(), CallFault> {
-    let batch = args.batch(alloc)?;
-    answer.done(link.send(&batch));
-    Ok(())
+fn send(link: &mut Link<Port>, line: &mut Line) {
+    if let Some(batch) = line.read::<Batch>() {
+        line.show(link.send(&batch));
+    }
 }
 
+/// What is received of so many calls at most, or None where the link's node is not in the table.
 fn receive(
     link: &mut Link<Port>,
     table: &mut NodeTable,
-) -> Result<Result<Option<Got>, LinkFault>, CallFault> {
-    if table.endpoint(link.node()).is_none() {
-        return Err(CallFault::NotNow);
-    }
-    Ok(link.receive(table))
-}
-
-/// Receives until something comes, so many times at most.
-fn wait(
-    link: &mut Link<Port>,
-    table: &mut NodeTable,
     calls: u64,
-) -> Result<Result<Option<Got>, LinkFault>, CallFault> {
+) -> Option<Result<Option<Got>, LinkFault>> {
     for _ in 0..calls {
-        match receive(link, table)? {
+        table.endpoint(link.node())?;
+        match link.receive(table) {
             Ok(None) => {}
-            received => return Ok(received),
+            received => return Some(received),
         }
     }
-    Ok(Ok(None))
+    Some(Ok(None))
 }
 
 /// Shows what was received. The answer to CLUSTER SLOTS is then the value that is held.
 fn show_received(
-    received: Result<Option<Got>, LinkFault>,
-    wire: &mut WireObjects,
-    answer: &mut Answer,
+    received: Option<Result<Option<Got>, LinkFault>>,
+    held: &mut Held<Value>,
+    line: &mut Line,
 ) {
     match received {
-        Ok(Some(Got::Ticket(ticket, told))) => {
-            answer.ticket(ticket);
-            answer.told(&told);
+        Some(Ok(Some(Got::Ticket(ticket, told)))) => line.show((ticket, told)),
+        Some(Ok(Some(Got::Slots(value)))) => {
+            line.say("slots");
+            line.show(&value);
+            held.put(value);
         }
-        Ok(Some(Got::Slots(value))) => {
-            answer.name("slots");
-            answer.value(&value);
-            wire.hold(value);
-        }
-        Ok(None) => answer.name("none"),
-        Err(fault) => answer.debug(&fault),
+        Some(Ok(None)) => line.say("none"),
+        Some(Err(fault)) => line.answer.debug(&fault),
+        None => line.refuse(CallFault::NotNow),
     }
 }
 
 /// Loses the oldest ticket of a link that has failed.
-fn lose(link: &mut Link<Port>, answer: &mut Answer) -> Result<(), CallFault> {
-    if !link.failed() {
-        return Err(CallFault::NotNow);
+fn lose(link: &mut Link<Port>, line: &mut Line) {
+    if link.failed() {
+        line.show(link.lose());
+    } else {
+        line.refuse(CallFault::NotNow);
     }
-    match link.lose() {
-        Some(ticket) => answer.ticket(ticket),
-        None => answer.name("none"),
-    }
-    Ok(())
 }

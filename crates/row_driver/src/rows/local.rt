@@ -1,111 +1,69 @@
 //! The cluster behind a lock, driven by hand.
 
-use crate::rows::held::put;
-use key_split::Told;
+use crate::rows::held::{Held, Object};
+use key_split::Batch;
 use local_cluster::{LocalState, MoveStep, three_nodes};
-use node_model::ServeFault;
 use resp_wire::Bytes;
-use row_words::{Answer, Args, CallFault};
+use row_words::{CallFault, Line};
 use slot_hash::Slot;
-use std::alloc::Global;
+use slot_map::NodeId;
 
-#[derive(Drop)]
-pub struct LocalObjects {
-    alloc: Global,
-    state: Option<LocalState>,
+/// A call of the state, or of a new one.
+pub fn call(held: &mut Held<LocalState>, line: &mut Line) {
+    match line.call() {
+        "new" => renew(held, line),
+        _ => held.call(line),
+    }
 }
 
-impl LocalObjects {
-    pub fn new(alloc: Global) -> LocalObjects {
-        LocalObjects { alloc, state: None }
-    }
-
-    pub fn call(&mut self, args: &mut Args<'_>, answer: &mut Answer) -> Result<(), CallFault> {
-        match args.name()? {
-            "new" => {
-                self.renew(answer);
-                Ok(())
-            }
-            call => match &mut self.state {
-                Some(state) => call_of(self.alloc, state, call, args, answer),
-                None => Err(CallFault::NotMade),
-            },
+/// Three nodes, each with a third of the slots.
+fn renew(held: &mut Held<LocalState>, line: &mut Line) {
+    match three_nodes(line.alloc) {
+        Ok(cluster) => {
+            held.put(LocalState::new(line.alloc, cluster));
+            line.done();
         }
+        Err(fault) => line.answer.debug(&fault),
     }
+}
 
-    /// Three nodes, each with a third of the slots.
-    fn renew(&mut self, answer: &mut Answer) {
-        match three_nodes(self.alloc) {
-            Ok(cluster) => {
-                put(&mut self.state, Some(LocalState::new(self.alloc, cluster)));
-                answer.name("ok");
-            }
-            Err(fault) => answer.debug(&fault),
+impl Object for LocalState {
+    fn call(&mut self, line: &mut Line) {
+        match line.call() {
+            "serve" => serve(self, line),
+            "history" => line.show(self.history().len()),
+            _ => make_step(self, line),
         }
     }
 }
 
-fn call_of(
-    alloc: Global,
-    state: &mut LocalState,
-    call: &str,
-    args: &mut Args<'_>,
-    answer: &mut Answer,
-) -> Result<(), CallFault> {
-    match call {
-        "serve" => serve(alloc, state, args, answer),
-        "history" => {
-            answer.number(state.history().len() as u64);
-            Ok(())
-        }
-        _ => {
-            let step = step_in(alloc, call, args)?;
-            answer.done(state.step(&step));
-            Ok(())
-        }
+fn serve(state: &mut LocalState, line: &mut Line) {
+    if let Some(batch) = line.read::<Batch>() {
+        line.show(state.serve(&batch));
     }
 }
 
-fn serve(
-    alloc: Global,
-    state: &mut LocalState,
-    args: &mut Args<'_>,
-    answer: &mut Answer,
-) -> Result<(), CallFault> {
-    let batch = args.batch(alloc)?;
-    show_served(state.serve(&batch), answer);
-    Ok(())
-}
-
-fn show_served(served: Result<Told, ServeFault>, answer: &mut Answer) {
-    match served {
-        Ok(told) => answer.told(&told),
-        Err(fault) => answer.debug(&fault),
+fn make_step(state: &mut LocalState, line: &mut Line) {
+    if let Some(step) = step_in(line) {
+        line.show(state.step(&step));
     }
 }
 
 /// A step of a slot's move.
-fn step_in(alloc: Global, name: &str, args: &mut Args<'_>) -> Result<MoveStep, CallFault> {
-    let slot = args.slot()?;
-    match name {
-        "import" => Ok(MoveStep::Import(slot, args.node()?)),
-        "migrate" => Ok(MoveStep::Migrate(slot)),
-        "movekey" => Ok(MoveStep::MoveKey(slot, key_in(alloc, args)?)),
-        "moverest" => Ok(MoveStep::MoveRest(slot)),
-        _ => last_step_in(name, slot),
+fn step_in(line: &mut Line) -> Option<MoveStep> {
+    let slot = line.read::<Slot>()?;
+    match line.call() {
+        "import" => Some(MoveStep::Import(slot, line.read::<NodeId>()?)),
+        "movekey" => Some(MoveStep::MoveKey(slot, line.read::<Bytes>()?)),
+        "migrate" => Some(MoveStep::Migrate(slot)),
+        "moverest" => Some(MoveStep::MoveRest(slot)),
+        "own" => Some(MoveStep::Own(slot)),
+        "release" => Some(MoveStep::Release(slot)),
+        "forget" => Some(MoveStep::Forget(slot)),
+        "stay" => Some(MoveStep::Stay(slot)),
+        _ => {
+            line.refuse(CallFault::NoSuchCall);
+            None
+        }
     }
-}
-
-fn last_step_in(name: &str, slot: Slot) -> Result<MoveStep, CallFault> {
-    match name {
-        "own" => Ok(MoveStep::Own(slot)),
-        "release" => Ok(MoveStep::Release(slot)),
-        "forget" => Ok(MoveStep::Forget(slot)),
-        "stay" => Ok(MoveStep::Stay(slot)),
-        _ => Err(CallFault::NoSuchCall),
-    }
-}
-
-fn key_in(alloc: Global, args: &mut Args<'_>) -> Result<Bytes, CallFault> {
-    Ok(Bytes::from_slice(alloc, args.bytes()?)?)
 }

@@ -1,20 +1,22 @@
 //! The objects of the layers, by name.
 
-use crate::rows::commands::CommandObjects;
-use crate::rows::courier::CourierObjects;
+use crate::rows::courier::{self, Courier};
+use crate::rows::held::{Held, Object};
 use crate::rows::lanes::LaneObjects;
 use crate::rows::links::LinkObjects;
-use crate::rows::local::LocalObjects;
 use crate::rows::maps::MapObjects;
-use crate::rows::nodes::NodeObjects;
-use crate::rows::plans::PlanObjects;
-use crate::rows::reports::ReportObjects;
-use crate::rows::sessions::SessionObjects;
-use crate::rows::slots;
-use crate::rows::stores::StoreObjects;
-use crate::rows::wire::WireObjects;
+use crate::rows::plans::{self, PlanObjects};
+use crate::rows::reports::new_report;
+use crate::rows::wire::call_of_value;
+use crate::rows::{commands, local, nodes, slots};
+use cluster_world::RunReport;
+use command_future::Command;
+use local_cluster::LocalState;
+use node_model::{Cluster, Store};
 use proxy_lanes::Naming;
-use row_words::{Answer, Args, CallFault, Objects};
+use resp_wire::{Limits, Reader, Value};
+use row_words::{CallFault, Line, Objects};
+use session_order::Session;
 use std::alloc::{AllocGlobal, Global};
 use std::random::RandomSource;
 use std::sync::Wait;
@@ -32,16 +34,11 @@ where
     J: Naming,
     R: Wait + RandomSource + AllocGlobal + Drop,
 {
-    fn call(
-        &mut self,
-        object: &str,
-        args: &mut Args<'_>,
-        answer: &mut Answer,
-    ) -> Result<(), CallFault> {
-        match object {
-            "lanes" => self.lanes.call(args, answer),
-            "courier" => self.others.courier.call(&self.rt, args, answer),
-            _ => self.others.call(object, args, answer),
+    fn call(&mut self, line: &mut Line) {
+        match line.object() {
+            "lanes" => self.lanes.call(line),
+            "courier" => courier::call(&self.rt, &mut self.others.courier, line),
+            _ => self.others.call(line),
         }
     }
 }
@@ -49,99 +46,62 @@ where
 /// All objects but the lanes.
 #[derive(Drop)]
 pub struct RowObjects {
-    wire: WireObjects,
+    reader: Reader,
+    value: Held<Value>,
     maps: MapObjects,
     plans: PlanObjects,
-    commands: CommandObjects,
-    courier: CourierObjects,
-    sessions: SessionObjects,
-    stores: StoreObjects,
-    nodes: NodeObjects,
+    command: Held<Command>,
+    courier: Courier,
+    session: Session,
+    store: Store,
+    cluster: Held<Cluster>,
     links: LinkObjects,
-    reports: ReportObjects,
-    local: LocalObjects,
+    report: RunReport,
+    state: Held<LocalState>,
 }
 
 impl RowObjects {
     pub fn new(alloc: Global) -> RowObjects {
         RowObjects {
-            wire: WireObjects::new(alloc),
+            reader: Reader::new(alloc, Limits::full()),
+            value: Held::none(),
             maps: MapObjects::new(alloc),
             plans: PlanObjects::new(alloc),
-            commands: CommandObjects::new(alloc),
-            courier: CourierObjects::new(alloc),
-            sessions: SessionObjects::new(alloc),
-            stores: StoreObjects::new(alloc),
-            nodes: NodeObjects::new(alloc),
+            command: Held::none(),
+            courier: Courier::new(alloc),
+            session: Session::new(alloc, 0, 0, Limits::full()),
+            store: Store::new(alloc),
+            cluster: Held::none(),
             links: LinkObjects::new(alloc),
-            reports: ReportObjects::new(alloc),
-            local: LocalObjects::new(alloc),
+            report: new_report(alloc),
+            state: Held::none(),
         }
     }
+}
 
-    /// Makes the call of the object of that name.
-    fn call(
-        &mut self,
-        object: &str,
-        args: &mut Args<'_>,
-        answer: &mut Answer,
-    ) -> Result<(), CallFault> {
-        match object {
-            "command" => self.commands.call(args, answer),
-            "session" => self.sessions.call(args, answer),
-            "store" => self.stores.call(args, answer),
-            "report" => self.reports.call(args, answer),
-            _ => self.call_of_bytes(object, args, answer),
-        }
-    }
-
-    fn call_of_bytes(
-        &mut self,
-        object: &str,
-        args: &mut Args<'_>,
-        answer: &mut Answer,
-    ) -> Result<(), CallFault> {
-        match object {
-            "reader" => self.wire.reader(args, answer),
-            "value" => self.wire.value(args, answer),
-            "slot" => slots::call(args, answer),
-            "plan" => self.plans.call(args, answer),
-            "part" => self.plans.part(args, answer),
-            "end" => self.plans.end(args, answer),
-            _ => self.call_of_maps(object, args, answer),
-        }
-    }
-
-    fn call_of_maps(
-        &mut self,
-        object: &str,
-        args: &mut Args<'_>,
-        answer: &mut Answer,
-    ) -> Result<(), CallFault> {
-        match object {
-            "table" => self.maps.table(args, answer),
-            "map" => self.maps.map(&self.wire, args, answer),
-            "copy" => self.maps.copy(args, answer),
-            "told" => self.maps.told(args, answer),
-            _ => self.call_of_nodes(object, args, answer),
-        }
-    }
-
-    fn call_of_nodes(
-        &mut self,
-        object: &str,
-        args: &mut Args<'_>,
-        answer: &mut Answer,
-    ) -> Result<(), CallFault> {
-        match object {
-            "cluster" => self.nodes.call(&self.maps, &mut self.wire, args, answer),
-            "stream" => self.links.stream(args, answer),
-            "port" => self.links.port(args, answer),
-            "link" => self
-                .links
-                .link(&mut self.maps, &mut self.wire, args, answer),
-            "state" => self.local.call(args, answer),
-            _ => Err(CallFault::NoSuchObject),
+impl Object for RowObjects {
+    fn call(&mut self, line: &mut Line) {
+        match line.object() {
+            "command" => commands::call(&mut self.command, line),
+            "session" => self.session.call(line),
+            "store" => self.store.call(line),
+            "report" => self.report.call(line),
+            "reader" => self.reader.call(line),
+            "value" => call_of_value(&mut self.value, line),
+            "slot" => slots::call(line),
+            "plan" => self.plans.call(line),
+            "part" => plans::call_of_part(line),
+            "end" => plans::call_of_end(line),
+            "table" => self.maps.table.call(line),
+            "map" => self.maps.map(&self.value, line),
+            "copy" => self.maps.copy(line),
+            "told" => self.maps.told(line),
+            "cluster" => nodes::call(&mut self.cluster, &self.maps, &mut self.value, line),
+            "stream" => self.links.stream(line),
+            "port" => self.links.port(line),
+            "link" => self.links.link(&mut self.maps.table, &mut self.value, line),
+            "state" => local::call(&mut self.state, line),
+            _ => line.refuse(CallFault::NoSuchObject),
         }
     }
 }

@@ -3,14 +3,14 @@
 ghost use Rattle.std.specs.Prelude.{◌≡◌, length, IfOk};
 ghost use Rattle.key_split.specs.Join.{CanBeJoined};
 
+use crate::rows::held::keep;
 use key_split::{Ended, Joining, Name, Part, PlanFault, Planned, join, plan, refusal};
-use resp_wire::{Bytes, Value};
-use row_words::{Answer, Args, CallFault};
+use resp_wire::{Bytes, NoMemory, Value};
+use row_words::{CallFault, Line};
 use std::alloc::Global;
 
 #[derive(Drop)]
 pub struct PlanObjects {
-    alloc: Global,
     /// The words of a request.
     words: Vec<Bytes>,
     /// The ends of its parts, so far.
@@ -20,82 +20,57 @@ pub struct PlanObjects {
 impl PlanObjects {
     pub fn new(alloc: Global) -> PlanObjects {
         PlanObjects {
-            alloc,
             words: Vec::new(alloc),
             ends: Vec::new(alloc),
         }
     }
 
-    pub fn call(&mut self, args: &mut Args<'_>, answer: &mut Answer) -> Result<(), CallFault> {
-        match args.name()? {
-            "of" => self.plan(args, answer),
-            "end" => self.push_end(args, answer),
-            "join" => self.join(answer),
-            "refusal" => self.refusal(answer),
-            "alike" => self.alike(args, answer),
-            "name" => show_name(args, answer),
-            _ => Err(CallFault::NoSuchCall),
-        }
-    }
-
-    /// A part by itself.
-    pub fn part(&self, args: &mut Args<'_>, answer: &mut Answer) -> Result<(), CallFault> {
-        match args.name()? {
-            "copy" => copy_part(self.alloc, args, answer),
-            _ => Err(CallFault::NoSuchCall),
-        }
-    }
-
-    /// An end by itself.
-    pub fn end(&self, args: &mut Args<'_>, answer: &mut Answer) -> Result<(), CallFault> {
-        match args.name()? {
-            "copy" => copy_end(self.alloc, args, answer),
-            _ => Err(CallFault::NoSuchCall),
+    pub fn call(&mut self, line: &mut Line) {
+        match line.call() {
+            "of" => self.plan(line),
+            "end" => self.push_end(line),
+            "join" => show_joined(&self.words, &self.ends, line),
+            "refusal" => show_refusal(&self.words, line),
+            "alike" => show_alike(&self.words, line),
+            "name" => show_name(line),
+            _ => line.refuse(CallFault::NoSuchCall),
         }
     }
 
     /// Keeps the words of a request, and shows what they are planned as.
-    fn plan(&mut self, args: &mut Args<'_>, answer: &mut Answer) -> Result<(), CallFault> {
+    fn plan(&mut self, line: &mut Line) {
         self.ends.clear();
-        self.words = copies(self.alloc, args.rest())?;
-        match planned(self.alloc, &self.words) {
-            Ok(planned) => show_plan(&planned, answer),
-            Err(fault) => {
-                answer.debug(&fault);
-                Ok(())
-            }
+        match copies(line.alloc, line.rest()) {
+            Ok(words) => self.words = words,
+            Err(_) => return line.refuse(CallFault::NoMemory),
+        }
+        match planned(line.alloc, &self.words) {
+            Ok(planned) => show_plan(&planned, line),
+            Err(fault) => line.answer.debug(&fault),
         }
     }
 
     /// Keeps the end of the next part.
-    fn push_end(&mut self, args: &mut Args<'_>, answer: &mut Answer) -> Result<(), CallFault> {
-        self.ends.push(args.end(self.alloc)?)?;
-        answer.name("ok");
-        Ok(())
-    }
-
-    /// The reply that the ends become.
-    fn join(&mut self, answer: &mut Answer) -> Result<(), CallFault> {
-        let reply = joined(self.alloc, &self.words, &self.ends)?;
-        answer.value(&reply);
-        Ok(())
-    }
-
-    /// Whether two parts, by their places, are the same.
-    fn alike(&self, args: &mut Args<'_>, answer: &mut Answer) -> Result<(), CallFault> {
-        let one = args.size()?;
-        let other = args.size()?;
-        match planned(self.alloc, &self.words) {
-            Ok(Planned::Parts(_, parts)) => show_alike(parts.as_slice(), one, other, answer),
-            _ => Err(CallFault::NotNow),
+    fn push_end(&mut self, line: &mut Line) {
+        if let Some(end) = line.read() {
+            keep(&mut self.ends, end, line);
         }
     }
+}
 
-    /// The reply to a request that is refused.
-    fn refusal(&mut self, answer: &mut Answer) -> Result<(), CallFault> {
-        let reply = refused(self.alloc, &self.words)?;
-        answer.value(&reply);
-        Ok(())
+/// A part by itself.
+pub fn call_of_part(line: &mut Line) {
+    match line.call() {
+        "copy" => copy_part(line),
+        _ => line.refuse(CallFault::NoSuchCall),
+    }
+}
+
+/// An end by itself.
+pub fn call_of_end(line: &mut Line) {
+    match line.call() {
+        "copy" => copy_end(line),
+        _ => line.refuse(CallFault::NoSuchCall),
     }
 }
 
@@ -116,111 +91,116 @@ fn planned(alloc: Global, words: &[Bytes]) -> Result<Planned, PlanFault>
     plan(alloc, words)
 }
 
-fn joined(alloc: Global, words: &[Bytes], ends: &[Ended]) -> Result<Value, CallFault> {
-    match planned(alloc, words) {
-        Ok(planned) => joined_of(alloc, &planned, ends),
-        Err(_) => Err(CallFault::NotNow),
+/// The reply that the ends become.
+fn show_joined(words: &[Bytes], ends: &[Ended], line: &mut Line) {
+    match planned(line.alloc, words) {
+        Ok(planned) => show_joined_of(&planned, ends, line),
+        Err(_) => line.refuse(CallFault::NotNow),
     }
 }
 
-fn joined_of(alloc: Global, planned: &Planned, ends: &[Ended]) -> Result<Value, CallFault>
+fn show_joined_of(planned: &Planned, ends: &[Ended], line: &mut Line)
     requires { CanBeJoined planned.now }
 {
     match planned {
         Planned::Parts(joining, parts) if parts.as_slice().len() == ends.len() => {
-            Ok(join(alloc, joining, ends)?)
+            line.show(join(line.alloc, joining, ends));
         }
-        _ => Err(CallFault::NotNow),
+        _ => line.refuse(CallFault::NotNow),
     }
 }
 
-fn refused(alloc: Global, words: &[Bytes]) -> Result<Value, CallFault> {
-    match planned(alloc, words) {
-        Ok(_) => Err(CallFault::NotNow),
-        Err(fault) => Ok(refusal(alloc, &fault)?),
+/// The reply to a request that is refused.
+fn show_refusal(words: &[Bytes], line: &mut Line) {
+    match planned(line.alloc, words) {
+        Ok(_) => line.refuse(CallFault::NotNow),
+        Err(fault) => line.show(refusal(line.alloc, &fault)),
     }
 }
 
-fn show_plan(planned: &Planned, answer: &mut Answer) -> Result<(), CallFault> {
+fn show_plan(planned: &Planned, line: &mut Line) {
     match planned {
         Planned::Local(value) => {
-            answer.name("local");
-            answer.value(value);
-            Ok(())
+            line.say("local");
+            line.show(value);
         }
-        Planned::Close => {
-            answer.name("close");
-            Ok(())
-        }
+        Planned::Close => line.say("close"),
         Planned::Parts(joining, parts) => {
-            show_joining(joining, answer);
-            show_parts(parts.as_slice(), answer)
+            show_joining(joining, line);
+            show_parts(parts.as_slice(), line);
         }
     }
 }
 
-fn show_joining(joining: &Joining, answer: &mut Answer) {
+fn show_joining(joining: &Joining, line: &mut Line) {
     match joining {
-        Joining::One => answer.name("one"),
-        Joining::AllOk => answer.name("allok"),
-        Joining::Sum => answer.name("sum"),
+        Joining::One => line.say("one"),
+        Joining::AllOk => line.say("allok"),
+        Joining::Sum => line.say("sum"),
         Joining::Array(places) => {
-            answer.name("array");
+            line.say("array");
             for place in places.as_slice() {
-                answer.number(u64::from(*place));
+                line.show(*place);
             }
         }
     }
 }
 
-fn show_parts(parts: &[Part], answer: &mut Answer) -> Result<(), CallFault> {
+fn show_parts(parts: &[Part], line: &mut Line) {
     for part in parts {
-        answer.name(";");
-        answer.part(part)?;
+        line.say(";");
+        line.show(part);
     }
-    Ok(())
 }
 
-fn show_alike(
-    parts: &[Part],
-    one: usize,
-    other: usize,
-    answer: &mut Answer,
-) -> Result<(), CallFault> {
-    match (parts.get(one), parts.get(other)) {
-        (Some(part), Some(other)) => answer.yes_or_no(part == other),
-        _ => return Err(CallFault::NotMade),
+/// Whether two parts, by their places, are the same.
+fn show_alike(words: &[Bytes], line: &mut Line) {
+    let Some((one, other)) = line.read() else {
+        return;
+    };
+    match planned(line.alloc, words) {
+        Ok(Planned::Parts(_, parts)) => match are_alike(parts.as_slice(), one, other) {
+            Some(alike) => line.show(alike),
+            None => line.refuse(CallFault::NotMade),
+        },
+        _ => line.refuse(CallFault::NotNow),
     }
-    Ok(())
+}
+
+fn are_alike(parts: &[Part], one: usize, other: usize) -> Option<bool> {
+    Some(parts.get(one)? == parts.get(other)?)
 }
 
 /// A copy of a part, and whether it is the same.
-fn copy_part(alloc: Global, args: &mut Args<'_>, answer: &mut Answer) -> Result<(), CallFault> {
-    let part = args.part(alloc)?;
-    show_part_copy(&part, &part.copy(alloc)?, answer)
+fn copy_part(line: &mut Line) {
+    if let Some(part) = line.read::<Part>() {
+        line.show(part_copied(line.alloc, &part));
+    }
 }
 
-fn show_part_copy(part: &Part, copy: &Part, answer: &mut Answer) -> Result<(), CallFault> {
-    answer.yes_or_no(copy == part);
-    Ok(answer.part(copy)?)
+fn part_copied(alloc: Global, part: &Part) -> Result<(bool, Part), NoMemory> {
+    let copy = part.copy(alloc)?;
+    Ok((copy == *part, copy))
 }
 
 /// A copy of an end, and whether it is the same.
-fn copy_end(alloc: Global, args: &mut Args<'_>, answer: &mut Answer) -> Result<(), CallFault> {
-    let end = args.end(alloc)?;
-    show_end_copy(&end, &end.copy(alloc)?, answer);
-    Ok(())
-}
-
-fn show_end_copy(end: &Ended, copy: &Ended, answer: &mut Answer) {
-    answer.yes_or_no(copy == end);
-    answer.end(copy);
-}
-
-fn show_name(args: &mut Args<'_>, answer: &mut Answer) -> Result<(), CallFault> {
-    match Name::of(args.bytes()?) {
-        Some(name) => answer.debug(&name),
-        None => answer.name("none"),
+fn copy_end(line: &mut Line) {
+    if let Some(end) = line.read::<Ended>() {
+        line.show(end_copied(line.alloc, &end));
     }
-    Ok(())
+}
+
+fn end_copied(alloc: Global, end: &Ended) -> Result<(bool, Ended), NoMemory> {
+    let copy = end.copy(alloc)?;
+    Ok((copy == *end, copy))
+}
+
+fn show_name(line: &mut Line) {
+    let Some(word) = line.bytes() else {
+        return;
+    };
+    match Name::of(word) {
+        Some(name) => line.answer.debug(&name),
+        None => line.say("none"),
+    }
 }

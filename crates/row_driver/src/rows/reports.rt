@@ -1,83 +1,25 @@
 //! The report of a run, made by hand, and its audit.
 
-use crate::rows::held::put;
+use crate::rows::held::{Object, keep, put};
 use cluster_world::{Entry, RunReport, audit};
-use row_words::{Answer, Args, CallFault};
+use row_words::{CallFault, Line, Word};
 use std::alloc::Global;
 
-#[derive(Drop)]
-pub struct ReportObjects {
-    alloc: Global,
-    report: RunReport,
-}
-
-impl ReportObjects {
-    pub fn new(alloc: Global) -> ReportObjects {
-        ReportObjects {
-            alloc,
-            report: empty(alloc),
+impl Object for RunReport {
+    fn call(&mut self, line: &mut Line) {
+        match line.call() {
+            "new" => put(self, new_report(line.alloc), line),
+            "part" => keep_read(&mut self.parts, line),
+            "end" => keep_read(&mut self.ends, line),
+            "entry" => keep_entry(&mut self.history, line),
+            "audit" => line.show(audit(line.alloc, self)),
+            _ => line.refuse(CallFault::NoSuchCall),
         }
-    }
-
-    pub fn call(&mut self, args: &mut Args<'_>, answer: &mut Answer) -> Result<(), CallFault> {
-        match args.name()? {
-            "audit" => {
-                answer.yes_or_no(audit(self.alloc, &self.report)?);
-                Ok(())
-            }
-            call => {
-                self.change(call, args)?;
-                answer.name("ok");
-                Ok(())
-            }
-        }
-    }
-
-    fn change(&mut self, call: &str, args: &mut Args<'_>) -> Result<(), CallFault> {
-        match call {
-            "new" => {
-                put(&mut self.report, empty(self.alloc));
-                Ok(())
-            }
-            "part" => self.part(args),
-            "end" => self.end(args),
-            "entry" => self.entry(args),
-            _ => Err(CallFault::NoSuchCall),
-        }
-    }
-
-    /// `part TICKET WORDS..`
-    fn part(&mut self, args: &mut Args<'_>) -> Result<(), CallFault> {
-        let ticket = args.ticket()?;
-        let part = args.part(self.alloc)?;
-        self.report.parts.push((ticket, part))?;
-        Ok(())
-    }
-
-    /// `end TICKET END`
-    fn end(&mut self, args: &mut Args<'_>) -> Result<(), CallFault> {
-        let ticket = args.ticket()?;
-        let end = args.end(self.alloc)?;
-        self.report.ends.push((ticket, end))?;
-        Ok(())
-    }
-
-    /// `entry TICKET REPLY WORDS..`
-    fn entry(&mut self, args: &mut Args<'_>) -> Result<(), CallFault> {
-        let ticket = args.ticket()?;
-        let reply = args.value(self.alloc)?;
-        let part = args.part(self.alloc)?;
-        self.report.history.push(Entry {
-            ticket,
-            part,
-            reply,
-            moment: 1,
-        })?;
-        Ok(())
     }
 }
 
-fn empty(alloc: Global) -> RunReport {
+/// A report of no run.
+pub fn new_report(alloc: Global) -> RunReport {
     RunReport {
         parts: Vec::new(alloc),
         ends: Vec::new(alloc),
@@ -85,5 +27,25 @@ fn empty(alloc: Global) -> RunReport {
         replies: Vec::new(alloc),
         skipped: 0,
         stopped: Vec::new(alloc),
+    }
+}
+
+/// `part TICKET WORDS..` or `end TICKET END`
+fn keep_read<T: Word + Drop>(kept: &mut Vec<T>, line: &mut Line) {
+    if let Some(read) = line.read::<T>() {
+        keep(kept, read, line);
+    }
+}
+
+/// `entry TICKET REPLY WORDS..`
+fn keep_entry(history: &mut Vec<Entry>, line: &mut Line) {
+    if let Some((ticket, reply, part)) = line.read() {
+        let entry = Entry {
+            ticket,
+            part,
+            reply,
+            moment: 1,
+        };
+        keep(history, entry, line);
     }
 }

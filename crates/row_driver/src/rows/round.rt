@@ -3,8 +3,8 @@
 ghost use Rattle.std.specs.Prelude.{◌<◌};
 
 use resp_wire::{Limits, Reader, Value, WireFault, write_value};
-use row_words::{Answer, Args, CallFault};
-use std::alloc::{AllocError, Global};
+use row_words::Line;
+use std::alloc::Global;
 
 /// A reader, and what came of the values that it gave.
 #[derive(Drop)]
@@ -20,26 +20,31 @@ struct Round {
 
 /// `COUNT SIZE`: reads so many requests in pieces of so many bytes, and writes each back. Answers how many values came, and
 /// how many bytes were written.
-pub fn call(alloc: Global, args: &mut Args<'_>, answer: &mut Answer) -> Result<(), CallFault> {
-    let text = requests(alloc, args.number()?)?;
-    let mut round = Round::new(alloc);
-    match round.read_all(&text, args.size()?.max(1)) {
-        Ok(()) => {
-            answer.number(round.values);
-            answer.number(round.bytes);
-        }
-        Err(fault) => answer.debug(&fault),
+pub fn call(line: &mut Line) {
+    if let Some((count, size)) = line.read::<(u64, usize)>() {
+        line.show(rounds(line.alloc, count, size.max(1)));
     }
-    Ok(())
+}
+
+fn rounds(alloc: Global, count: u64, size: usize) -> Result<(u64, u64), WireFault>
+    requires { 0 < size }
+{
+    let Some(text) = requests(alloc, count) else {
+        return Err(WireFault::NoMemory);
+    };
+    let mut round = Round::new(alloc);
+    round.read_all(&text, size)?;
+    Ok((round.values, round.bytes))
 }
 
 /// So many requests for a key of ten bytes.
-fn requests(alloc: Global, count: u64) -> Result<Vec<u8>, AllocError> {
+fn requests(alloc: Global, count: u64) -> Option<Vec<u8>> {
     let mut text = Vec::new(alloc);
     for _ in 0..count {
-        text.extend_from_slice(b"*2\r\n$3\r\nGET\r\n$10\r\nkey:001234\r\n")?;
+        text.extend_from_slice(b"*2\r\n$3\r\nGET\r\n$10\r\nkey:001234\r\n")
+            .ok()?;
     }
-    Ok(text)
+    Some(text)
 }
 
 impl Round {

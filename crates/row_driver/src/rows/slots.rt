@@ -1,38 +1,41 @@
 //! Slots of keys.
 
-use row_words::{Answer, Args, CallFault};
+use resp_wire::Bytes;
+use row_words::{CallFault, Line};
 use slot_hash::{Slot, slot_of, tag_of};
 use slot_map::NodeId;
 
-pub fn call(args: &mut Args<'_>, answer: &mut Answer) -> Result<(), CallFault> {
-    match args.name()? {
-        "new" => show_slot(args, answer),
-        "node" => show_node(args, answer),
-        call => call_of_key(call, args.bytes()?, answer),
+pub fn call(line: &mut Line) {
+    match line.call() {
+        "new" => show_slot(line),
+        "node" => show_node(line),
+        "of" => show_slot_of(line),
+        "tag" => show_tag(line),
+        _ => line.refuse(CallFault::NoSuchCall),
     }
 }
 
-fn show_slot(args: &mut Args<'_>, answer: &mut Answer) -> Result<(), CallFault> {
-    match Slot::new(args.short()?) {
-        Some(slot) => answer.slot(slot),
-        None => answer.name("none"),
+fn show_slot(line: &mut Line) {
+    if let Some(number) = line.read() {
+        line.show(Slot::new(number));
     }
-    Ok(())
 }
 
-fn show_node(args: &mut Args<'_>, answer: &mut Answer) -> Result<(), CallFault> {
-    match NodeId::new(args.byte()?) {
-        Some(node) => answer.node(node),
-        None => answer.name("none"),
+fn show_node(line: &mut Line) {
+    if let Some(number) = line.read() {
+        line.show(NodeId::new(number));
     }
-    Ok(())
 }
 
-fn call_of_key(call: &str, key: &[u8], answer: &mut Answer) -> Result<(), CallFault> {
-    match call {
-        "of" => answer.slot(slot_of(key)),
-        "tag" => answer.bytes(tag_of(key)),
-        _ => return Err(CallFault::NoSuchCall),
+fn show_slot_of(line: &mut Line) {
+    if let Some(key) = line.bytes() {
+        let slot = slot_of(key);
+        line.show(slot);
     }
-    Ok(())
+}
+
+fn show_tag(line: &mut Line) {
+    if let Some(key) = line.read::<Bytes>() {
+        line.answer.bytes(tag_of(key.as_slice()));
+    }
 }

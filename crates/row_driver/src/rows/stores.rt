@@ -1,40 +1,22 @@
 //! One store.
 
-use crate::rows::held::put;
+use crate::rows::held::{Object, put};
+use key_split::Part;
 use node_model::Store;
-use row_words::{Answer, Args, CallFault};
-use std::alloc::Global;
+use row_words::{CallFault, Line};
 
-#[derive(Drop)]
-pub struct StoreObjects {
-    alloc: Global,
-    store: Store,
+impl Object for Store {
+    fn call(&mut self, line: &mut Line) {
+        match line.call() {
+            "new" => put(self, Store::new(line.alloc), line),
+            "apply" => apply(self, line),
+            _ => line.refuse(CallFault::NoSuchCall),
+        }
+    }
 }
 
-impl StoreObjects {
-    pub fn new(alloc: Global) -> StoreObjects {
-        StoreObjects {
-            alloc,
-            store: Store::new(alloc),
-        }
-    }
-
-    pub fn call(&mut self, args: &mut Args<'_>, answer: &mut Answer) -> Result<(), CallFault> {
-        match args.name()? {
-            "new" => {
-                put(&mut self.store, Store::new(self.alloc));
-                answer.name("ok");
-                Ok(())
-            }
-            "apply" => self.apply(args, answer),
-            _ => Err(CallFault::NoSuchCall),
-        }
-    }
-
-    fn apply(&mut self, args: &mut Args<'_>, answer: &mut Answer) -> Result<(), CallFault> {
-        let part = args.part(self.alloc)?;
-        let reply = self.store.apply(&part)?;
-        answer.value(&reply);
-        Ok(())
+fn apply(store: &mut Store, line: &mut Line) {
+    if let Some(part) = line.read::<Part>() {
+        line.show(store.apply(&part));
     }
 }

@@ -1,84 +1,118 @@
 //! `play`: clients that come, the play's beginning, and orders.
 
+use crate::rows::held::Held;
 use crate::rows::play::orders::add_next;
-use crate::rows::play::stage::Plays;
+use crate::rows::play::stage::{Begins, Entrance, PlayOutside, Plays};
 use crate::rows::proxy::clients::Clients;
-use row_words::{Answer, Args, CallFault, Objects};
+use crate::rows::proxy::gate::Open;
+use resp_wire::Bytes;
+use row_words::{CallFault, Line, Objects};
 use std::alloc::Global;
 use turn_play::PlayFault;
 
-/// A play with its clients, beside other objects.
+/// A play, or the ends that it will have, with its clients, beside other objects.
 #[derive(Drop)]
-pub struct PlayObjects<P, O> {
-    alloc: Global,
-    play: P,
+pub struct PlayObjects<'g, E, P, O> {
+    gate: &'g Open,
+    ends: Held<E>,
+    play: Held<P>,
     clients: Clients,
     others: O,
 }
 
-impl<P: Plays, O> PlayObjects<P, O> {
-    pub fn new(alloc: Global, play: P, others: O) -> PlayObjects<P, O> {
+impl<'g, E: Entrance + Drop, P: Plays + Begins<'g, E> + Drop, O> PlayObjects<'g, E, P, O> {
+    /// Where a play over these ends is to begin.
+    pub fn new(alloc: Global, gate: &'g Open, ends: E, others: O) -> PlayObjects<'g, E, P, O> {
         PlayObjects {
-            alloc,
-            play,
+            gate,
+            ends: Held { value: Some(ends) },
+            play: Held::none(),
             clients: Clients::new(alloc),
             others,
         }
     }
 
-    fn call_play(&mut self, args: &mut Args<'_>, answer: &mut Answer) -> Result<(), CallFault> {
-        match args.name()? {
-            "client" => self.come(args, answer),
-            "begin" => {
-                self.play.begin()?;
-                answer.name("ok");
-                Ok(())
-            }
-            "do" => {
-                answer.done(self.obey(args)?);
-                Ok(())
-            }
-            "held" => self.clients.show_held(args, answer),
-            _ => Err(CallFault::NoSuchCall),
+    fn call_play(&mut self, line: &mut Line) {
+        match line.call() {
+            "client" => come(&mut self.ends, &mut self.clients, line),
+            "begin" => self.begin(line),
+            "do" => obey(&mut self.play, line),
+            "held" => self.clients.show_held(line),
+            _ => line.refuse(CallFault::NoSuchCall),
         }
     }
 
-    /// `client WORKER NUMBER BYTES`
-    fn come(&mut self, args: &mut Args<'_>, answer: &mut Answer) -> Result<(), CallFault> {
-        let worker = args.short()?;
-        let number = args.client()?;
-        let port = self.clients.add(number, args.bytes()?)?;
-        let handed = self.play.hand(worker, number, port)?;
-        answer.name(if handed { "ok" } else { "full" });
-        Ok(())
-    }
-
-    /// Obeys the orders of a line, up to the one at which the play stops.
-    fn obey(&mut self, args: &mut Args<'_>) -> Result<Result<(), PlayFault>, CallFault> {
-        let mut orders = Vec::new(self.alloc);
-        for _ in 0..u64::MAX {
-            if args.is_empty() {
-                break;
-            }
-            let before = add_next(self.alloc, &mut self.play, &mut orders, args)?;
-            if before.is_err() {
-                return Ok(before);
-            }
+    fn begin(&mut self, line: &mut Line) {
+        let Ok(outside) = PlayOutside::new(line.alloc) else {
+            return line.refuse(CallFault::NoMemory);
+        };
+        match self.ends.value.take() {
+            Some(ends) => self
+                .play
+                .hold(P::begin(line.alloc, self.gate, ends, outside), line),
+            None => line.refuse(CallFault::NotNow),
         }
-        self.play.play(orders.as_slice())
     }
 }
 
-impl<P: Plays, O: Objects> Objects for PlayObjects<P, O> {
-    fn call(
-        &mut self,
-        object: &str,
-        args: &mut Args<'_>,
-        answer: &mut Answer,
-    ) -> Result<(), CallFault> {
-        match object {
-            "play" => self.call_play(args, answer),
-            _ => self.others.call(object, args, answer),
+/// `client WORKER NUMBER BYTES`
+fn come<E: Entrance>(ends: &mut Held<E>, clients: &mut Clients, line: &mut Line) {
+    let Some((worker, number, bytes)) = line.read::<(u16, u32, Bytes)>() else {
+        return;
+    };
+    match hand(ends, clients, worker, number, bytes) {
+        Ok(handed) => line.say(if handed { "ok" } else { "full" }),
+        Err(fault) => line.refuse(fault),
+    }
+}
+
+/// Hands a new client that sends these bytes to its worker, where the play has not begun. False where its lane is full.
+fn hand<E: Entrance>(
+    ends: &mut Held<E>,
+    clients: &mut Clients,
+    worker: u16,
+    number: u32,
+    bytes: Bytes,
+) -> Result<bool, CallFault> {
+    let port = clients.add(number, bytes)?;
+    match &mut ends.value {
+        Some(ends) => ends.hand(worker, number, port),
+        None => Err(CallFault::NotNow),
+    }
+}
+
+/// Obeys the orders of a line, where the play has begun.
+fn obey<P: Plays>(held: &mut Held<P>, line: &mut Line) {
+    match &mut held.value {
+        Some(play) => match obeyed(play, line) {
+            Ok(obeyed) => line.show(obeyed),
+            Err(fault) => line.refuse(fault),
+        },
+        None => line.refuse(CallFault::NotMade),
+    }
+}
+
+/// Obeys orders up to the one at which the play stops.
+fn obeyed<P: Plays>(play: &mut P, line: &mut Line) -> Result<Result<(), PlayFault>, CallFault> {
+    let mut orders = Vec::new(line.alloc);
+    for _ in 0..u64::MAX {
+        if line.is_read() {
+            break;
+        }
+        let before = add_next(play, &mut orders, line)?;
+        if before.is_err() {
+            return Ok(before);
+        }
+    }
+    Ok(play.play(orders.as_slice()))
+}
+
+impl<'g, E: Entrance + Drop, P: Plays + Begins<'g, E> + Drop, O: Objects> Objects
+    for PlayObjects<'g, E, P, O> {
+    fn call(&mut self, line: &mut Line) {
+        match line.object() {
+            "play" => self.call_play(line),
+            _ => self.others.call(line),
         }
     }
 }

@@ -2,53 +2,67 @@
 
 use crate::rows::play::stage::Plays;
 use node_model::Verdict;
-use row_words::{Args, CallFault};
+use resp_wire::Bytes;
+use row_words::{CallFault, Line};
+use slot_hash::Slot;
 use slot_map::NodeId;
-use std::alloc::Global;
+use std::str;
 use turn_play::{Move, Order, PlayFault};
 
 /// Adds the next order of a line. Which key moves is seen once all orders before are obeyed, so these are obeyed first.
 pub fn add_next<P: Plays>(
-    alloc: Global,
     play: &mut P,
     orders: &mut Vec<Order>,
-    args: &mut Args<'_>,
+    line: &mut Line,
 ) -> Result<Result<(), PlayFault>, CallFault> {
-    match args.name()? {
-        "all" => add_rounds(orders, args.short()?)?,
-        "movekey" => return move_key(alloc, play, orders, args),
-        name => orders.push(order_of(name, args)?)?,
+    let Some(word) = line.read::<Bytes>() else {
+        return Err(CallFault::MissingWord);
+    };
+    match str::from_utf8(word.as_slice()).unwrap_or("") {
+        "all" => add_rounds(orders, line)?,
+        "movekey" => return move_key(play, orders, line),
+        name => add_one(orders, name, line)?,
     }
     Ok(Ok(()))
 }
 
-fn order_of(name: &str, args: &mut Args<'_>) -> Result<Order, CallFault> {
-    match name {
-        "worker" => Ok(Order::Worker(usize::from(args.short()?))),
-        "carrier" => Ok(Order::Carrier),
-        "serve" => Ok(Order::Serve(args.node()?, Verdict::Plain)),
-        "tryagain" => Ok(Order::Serve(args.node()?, Verdict::TryAgain)),
-        "clusterdown" => Ok(Order::Serve(args.node()?, Verdict::ClusterDown)),
-        "break" => Ok(Order::Break(args.node()?)),
-        _ => Ok(Order::Move(step_of(name, args)?)),
+fn add_one(orders: &mut Vec<Order>, name: &str, line: &mut Line) -> Result<(), CallFault> {
+    match order_of(name, line) {
+        Some(order) => Ok(orders.push(order)?),
+        None => Err(CallFault::UnknownWord),
     }
 }
 
-fn step_of(name: &str, args: &mut Args<'_>) -> Result<Move, CallFault> {
-    let slot = args.slot()?;
+fn order_of(name: &str, line: &mut Line) -> Option<Order> {
     match name {
-        "import" => Ok(Move::Import(slot, args.node()?)),
-        "migrate" => Ok(Move::Migrate(slot)),
-        "own" => Ok(Move::Own(slot)),
-        "release" => Ok(Move::Release(slot)),
-        "forget" => Ok(Move::Forget(slot)),
-        "stay" => Ok(Move::Stay(slot)),
-        _ => Err(CallFault::UnknownWord),
+        "carrier" => Some(Order::Carrier),
+        "worker" => Some(Order::Worker(usize::from(line.read::<u16>()?))),
+        "break" => Some(Order::Break(line.read()?)),
+        "serve" => Some(Order::Serve(line.read()?, Verdict::Plain)),
+        "tryagain" => Some(Order::Serve(line.read()?, Verdict::TryAgain)),
+        "clusterdown" => Some(Order::Serve(line.read()?, Verdict::ClusterDown)),
+        _ => Some(Order::Move(step_of(name, line)?)),
+    }
+}
+
+fn step_of(name: &str, line: &mut Line) -> Option<Move> {
+    let slot = line.read::<Slot>()?;
+    match name {
+        "import" => Some(Move::Import(slot, line.read()?)),
+        "migrate" => Some(Move::Migrate(slot)),
+        "own" => Some(Move::Own(slot)),
+        "release" => Some(Move::Release(slot)),
+        "forget" => Some(Move::Forget(slot)),
+        "stay" => Some(Move::Stay(slot)),
+        _ => None,
     }
 }
 
 /// A turn of each worker, one of the carrier, and a request served by each node, so many times.
-fn add_rounds(orders: &mut Vec<Order>, count: u16) -> Result<(), CallFault> {
+fn add_rounds(orders: &mut Vec<Order>, line: &mut Line) -> Result<(), CallFault> {
+    let Some(count) = line.read::<u16>() else {
+        return Err(CallFault::MissingWord);
+    };
     for _ in 0..count {
         orders.push(Order::Worker(0))?;
         orders.push(Order::Worker(1))?;
@@ -69,16 +83,17 @@ fn add_serving(orders: &mut Vec<Order>) -> Result<(), CallFault> {
 
 /// Obeys the orders before, and then moves a key of the slot, where one is left.
 fn move_key<P: Plays>(
-    alloc: Global,
     play: &mut P,
     orders: &mut Vec<Order>,
-    args: &mut Args<'_>,
+    line: &mut Line,
 ) -> Result<Result<(), PlayFault>, CallFault> {
-    let slot = args.slot()?;
-    let before = play.play(orders.as_slice())?;
-    *orders = Vec::new(alloc);
-    if let Some(key) = play.rest_key(slot)? {
-        orders.push(Order::Move(Move::Key(slot, key)))?;
+    let Some(slot) = line.read::<Slot>() else {
+        return Err(CallFault::MissingWord);
+    };
+    let before = play.play(orders.as_slice());
+    orders.clear();
+    if let Some(key) = play.rest_key(slot) {
+        orders.push(Order::Move(Move::Key(slot, key.copy(line.alloc)?)))?;
     }
     Ok(before)
 }

@@ -4,7 +4,7 @@ ghost use Rattle.std.specs.Prelude.{◌≡◌};
 ghost use Rattle.proxy_lanes.specs.Opened.{book_of};
 
 use crate::rows::play::objects::PlayObjects;
-use crate::rows::play::stage::Stage;
+use crate::rows::play::stage::{Begins, Ends, Entrance, MemoryPlay, Plays};
 use crate::rows::proxy;
 use crate::rows::proxy::client::SharedClient;
 use crate::rows::proxy::gate::Open;
@@ -46,13 +46,32 @@ where
     O: Objects + Drop,
     requires { book_of opened ≡ J.book }
 {
-    let gate = Open;
     match lanes::<Newcomer<SharedClient, J>, J, R>(rt.alloc(), rt, opened, WORKERS) {
         Ok((workers, carrier)) => {
-            let stage = Stage::new(rt.alloc(), &gate, workers, carrier);
-            let objects = PlayObjects::new(rt.alloc(), stage, others);
-            proxy::answer_row(rt, objects, rows)
+            let gate = Open;
+            let ends = Ends { workers, carrier };
+            row_over::<R, B, W, O, Ends<J, R>, MemoryPlay<'_, J, R>>(rt, &gate, ends, others, rows)
         }
         Err(_) => Ok(false),
     }
+}
+
+// The types of ends and plays are parameters here, since a value of such a type is dropped by one call.
+fn row_over<'g, R, B, W, O, E, P>(
+    rt: R,
+    gate: &'g Open,
+    ends: E,
+    others: O,
+    rows: &mut Rows<B, W>,
+) -> io::Result<bool>
+where
+    R: Wait + RandomSource + Clock + AllocGlobal + Copy + Drop,
+    B: BufRead,
+    W: Write,
+    O: Objects + Drop,
+    E: Entrance + Drop,
+    P: Plays + Begins<'g, E> + Drop,
+{
+    let objects = PlayObjects::<'g, E, P, O>::new(rt.alloc(), gate, ends, others);
+    proxy::answer_row(rt, objects, rows)
 }

@@ -4,102 +4,101 @@ use crate::rows::proxy::client::SharedClient;
 use crate::rows::proxy::gate::Open;
 use crate::rows::proxy::memory::{MemoryCarrierEnds, MemoryEnds, newcomer_to};
 use crate::rows::proxy::nodes::{cluster_of_three, table_of_three};
+use node_model::Cluster;
 use proxy_lanes::Naming;
-use resp_wire::Bytes;
+use resp_wire::{Bytes, NoMemory};
 use row_words::CallFault;
 use slot_hash::Slot;
+use slot_map::NodeTable;
 use std::alloc::Global;
 use std::sync::Wait;
 use turn_play::{Order, Play, PlayFault};
 
-/// What clients come to, and what does as it is told.
-pub trait Plays {
-    /// Hands a client to its worker, where the play has not begun. False where the worker's lane is full.
+/// Where clients come to, before a play has begun.
+pub trait Entrance {
+    /// Hands a client to its worker. False where the worker's lane is full.
     fn hand(&mut self, worker: u16, number: u32, port: SharedClient) -> Result<bool, CallFault>;
+}
 
-    fn begin(&mut self) -> Result<(), CallFault>;
+/// What does as it is told.
+pub trait Plays {
+    /// Obeys these orders.
+    fn play(&mut self, orders: &[Order]) -> Result<(), PlayFault>;
 
-    /// Obeys these orders, where the play has begun.
-    fn play(&mut self, orders: &[Order]) -> Result<Result<(), PlayFault>, CallFault>;
+    /// A key of the slot that its migrating node holds.
+    fn rest_key(&self, slot: Slot) -> Option<&Bytes>;
+}
 
-    /// A key of the slot that its migrating node holds, where the play has begun.
-    fn rest_key(&self, slot: Slot) -> Result<Option<Bytes>, CallFault>;
+/// What begins over such ends.
+pub trait Begins<'g, E>: Sized {
+    fn begin(
+        alloc: Global,
+        gate: &'g Open,
+        ends: E,
+        outside: PlayOutside,
+    ) -> Result<Self, NoMemory>;
 }
 
 /// The ends of the lanes of a play that has not begun.
 #[derive(Drop)]
-struct Ends<J: Naming, R: Wait + Drop> {
-    workers: Vec<MemoryEnds<J>>,
-    carrier: MemoryCarrierEnds<J, R>,
+pub struct Ends<J: Naming, R: Wait + Drop> {
+    pub workers: Vec<MemoryEnds<J>>,
+    pub carrier: MemoryCarrierEnds<J, R>,
 }
 
-/// A play, or the ends that it will have.
+impl<J: Naming, R: Wait + Drop> Entrance for Ends<J, R> {
+    fn hand(&mut self, worker: u16, number: u32, port: SharedClient) -> Result<bool, CallFault> {
+        newcomer_to(&mut self.carrier, worker, number, port)
+    }
+}
+
+/// The nodes of a play, and the tables in which they stand.
 #[derive(Drop)]
-pub struct Stage<'g, J: Naming, R: Wait + Drop> {
-    alloc: Global,
-    gate: &'g Open,
-    ends: Option<Ends<J, R>>,
-    play: Option<Play<'g, SharedClient, J, R, Open>>,
+pub struct PlayOutside {
+    seeds: NodeTable,
+    cluster: Cluster,
+    nodes: NodeTable,
 }
 
-impl<'g, J: Naming, R: Wait + Drop> Stage<'g, J, R> {
-    /// Where a play over these ends is to begin.
-    pub fn new(
+impl PlayOutside {
+    pub fn new(alloc: Global) -> Result<PlayOutside, NoMemory> {
+        Ok(PlayOutside {
+            seeds: table_of_three(alloc)?,
+            cluster: cluster_of_three(alloc)?,
+            nodes: table_of_three(alloc)?,
+        })
+    }
+}
+
+/// A play over ends in memory.
+pub type MemoryPlay<'g, J, R> = Play<'g, SharedClient, J, R, Open>;
+
+impl<'g, J: Naming, R: Wait + Drop> Begins<'g, Ends<J, R>> for MemoryPlay<'g, J, R> {
+    fn begin(
         alloc: Global,
         gate: &'g Open,
-        workers: Vec<MemoryEnds<J>>,
-        carrier: MemoryCarrierEnds<J, R>,
-    ) -> Stage<'g, J, R> {
-        Stage {
+        ends: Ends<J, R>,
+        outside: PlayOutside,
+    ) -> Result<MemoryPlay<'g, J, R>, NoMemory> {
+        Play::new(
             alloc,
             gate,
-            ends: Some(Ends { workers, carrier }),
-            play: None,
-        }
-    }
-
-    fn begun(&self) -> Result<&Play<'g, SharedClient, J, R, Open>, CallFault> {
-        self.play.as_ref().ok_or(CallFault::NotMade)
+            None,
+            ends.workers,
+            ends.carrier,
+            outside.seeds,
+            outside.cluster,
+            outside.nodes,
+        )
     }
 }
 
-impl<'g, J: Naming, R: Wait + Drop> Plays for Stage<'g, J, R> {
-    fn hand(&mut self, worker: u16, number: u32, port: SharedClient) -> Result<bool, CallFault> {
-        match &mut self.ends {
-            Some(ends) => newcomer_to(&mut ends.carrier, worker, number, port),
-            None => Err(CallFault::NotNow),
-        }
+impl<'g, J: Naming, R: Wait + Drop> Plays for MemoryPlay<'g, J, R> {
+    fn play(&mut self, orders: &[Order]) -> Result<(), PlayFault> {
+        self.play(orders)
     }
 
-    fn begin(&mut self) -> Result<(), CallFault> {
-        let Some(Ends { workers, carrier }) = self.ends.take() else {
-            return Err(CallFault::NotNow);
-        };
-        let play = Play::new(
-            self.alloc,
-            self.gate,
-            None,
-            workers,
-            carrier,
-            table_of_three(self.alloc)?,
-            cluster_of_three(self.alloc)?,
-            table_of_three(self.alloc)?,
-        )?;
-        self.play = Some(play);
-        Ok(())
-    }
-
-    fn play(&mut self, orders: &[Order]) -> Result<Result<(), PlayFault>, CallFault> {
-        match &mut self.play {
-            Some(play) => Ok(play.play(orders)),
-            None => Err(CallFault::NotMade),
-        }
-    }
-
-    fn rest_key(&self, slot: Slot) -> Result<Option<Bytes>, CallFault> {
-        match self.begun()?.cluster().rest_key(slot) {
-            Some(key) => Ok(Some(key.copy(self.alloc)?)),
-            None => Ok(None),
-        }
+    fn rest_key(&self, slot: Slot) -> Option<&Bytes> {
+        self.cluster().rest_key(slot)
     }
 }

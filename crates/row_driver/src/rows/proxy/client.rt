@@ -1,5 +1,6 @@
 //! A client in memory, which the driver still sees while a worker serves it.
 
+use crate::rows::made::{MadeOf, shared_of};
 use key_split::{Ended, Ticket};
 use node_link::Flow;
 use proxy_turns::{ClientPort, Script};
@@ -17,10 +18,8 @@ pub struct SharedClient {
 impl SharedClient {
     /// A client that sends these bytes.
     pub fn new(alloc: Global, client: u32, bytes: Bytes) -> Result<SharedClient, NoMemory> {
-        match Rc::new(alloc, RefCell::new(Script::new(alloc, client, bytes))) {
-            Ok(script) => Ok(SharedClient { script }),
-            Err(_) => Err(NoMemory),
-        }
+        let script = shared_of::<(u32, Bytes), Script>(alloc, (client, bytes))?;
+        Ok(SharedClient { script })
     }
 
     /// The same client.
@@ -43,6 +42,12 @@ impl SharedClient {
         let script = self.script.try_replace(empty).ok()?;
         let (_, replies, ends) = script.into_parts();
         Some((replies, ends.len()))
+    }
+}
+
+impl MadeOf<(u32, Bytes)> for Script {
+    fn made_of(alloc: Global, (client, bytes): (u32, Bytes)) -> Script {
+        Script::new(alloc, client, bytes)
     }
 }
 

@@ -2,7 +2,7 @@
 
 use crate::rows::proxy::client::SharedClient;
 use resp_wire::Bytes;
-use row_words::{Answer, Args, CallFault};
+use row_words::{CallFault, Line};
 use std::alloc::Global;
 
 /// The clients that came.
@@ -21,46 +21,57 @@ impl Clients {
     }
 
     /// A new client that sends these bytes.
-    pub fn add(&mut self, number: u32, bytes: &[u8]) -> Result<SharedClient, CallFault> {
-        let bytes = Bytes::from_slice(self.alloc, bytes)?;
+    pub fn add(&mut self, number: u32, bytes: Bytes) -> Result<SharedClient, CallFault> {
         let client = SharedClient::new(self.alloc, number, bytes)?;
         self.held.push((number, client.again()?))?;
         Ok(client)
     }
 
     /// The client of that number.
-    fn of(&self, number: u32) -> Result<&SharedClient, CallFault> {
+    fn of(&self, number: u32) -> Option<&SharedClient> {
         for (held, client) in &self.held {
             if *held == number {
-                return Ok(client);
+                return Some(client);
             }
         }
-        Err(CallFault::NotMade)
+        None
     }
 
     /// The client of that number, to be held by another too.
     pub fn again(&self, number: u32) -> Result<SharedClient, CallFault> {
-        Ok(self.of(number)?.again()?)
+        match self.of(number) {
+            Some(client) => Ok(client.again()?),
+            None => Err(CallFault::NotMade),
+        }
     }
 
-    /// Gives a client bytes, as if they had been replied.
-    pub fn hears(&self, args: &mut Args<'_>, answer: &mut Answer) -> Result<(), CallFault> {
-        let client = self.of(args.client()?)?;
-        if !client.hears(args.bytes()?) {
-            return Err(CallFault::NoMemory);
+    /// `CLIENT BYTES`: gives a client bytes, as if they had been replied.
+    pub fn hears(&self, line: &mut Line) {
+        let Some((number, bytes)) = line.read::<(u32, Bytes)>() else {
+            return;
+        };
+        match self.of(number) {
+            Some(client) if client.hears(bytes.as_slice()) => line.done(),
+            Some(_) => line.refuse(CallFault::NoMemory),
+            None => line.refuse(CallFault::NotMade),
         }
-        answer.name("ok");
-        Ok(())
     }
 
     /// Takes away what a client holds: the bytes, and how many ends were noted.
-    pub fn show_held(&self, args: &mut Args<'_>, answer: &mut Answer) -> Result<(), CallFault> {
-        let client = self.of(args.client()?)?;
-        let Some((bytes, ends)) = client.take_held(self.alloc) else {
-            return Err(CallFault::NotNow);
+    pub fn show_held(&self, line: &mut Line) {
+        let Some(number) = line.read() else {
+            return;
         };
-        answer.bytes(bytes.as_slice());
-        answer.number(ends as u64);
-        Ok(())
+        match self.of(number) {
+            Some(client) => show_held(client, line),
+            None => line.refuse(CallFault::NotMade),
+        }
+    }
+}
+
+fn show_held(client: &SharedClient, line: &mut Line) {
+    match client.take_held(line.alloc) {
+        Some(held) => line.show(held),
+        None => line.refuse(CallFault::NotNow),
     }
 }

@@ -9,8 +9,8 @@ use futures::executor::block_on;
 use proxy_lanes::Naming;
 use proxy_turns::{Worker, WorkerOutcome};
 use resp_wire::Bytes;
-use row_words::{Answer, Args, CallFault};
-use std::alloc::{AllocGlobal, Global};
+use row_words::{CallFault, Line};
+use std::alloc::AllocGlobal;
 use std::cell::{Cell, RefCell};
 use std::random::RandomSource;
 use std::sync::Wait;
@@ -23,52 +23,57 @@ pub fn call<J, R, C>(
     lane: &mut Lane<J>,
     carrier: &RefCell<C>,
     clients: &Clients,
-    args: &mut Args<'_>,
-    answer: &mut Answer,
-) -> Result<(), CallFault>
+    line: &mut Line,
+)
 where
     J: Naming,
     R: Wait + RandomSource + AllocGlobal,
     C: Turned,
 {
-    match args.name()? {
-        "run" => {
-            let count = args.client()?;
-            let gate = gate_in(lane.alloc, carrier, clients, args)?;
-            run_over(rt, lane, &gate, count, answer)
-        }
-        _ => Err(CallFault::NoSuchCall),
+    match line.call() {
+        "run" => run_with(rt, lane, carrier, clients, line),
+        _ => line.refuse(CallFault::NoSuchCall),
     }
 }
 
-fn gate_in<'a, C: Turned>(
-    alloc: Global,
-    carrier: &'a RefCell<C>,
+fn run_with<J, R, C>(
+    rt: &R,
+    lane: &mut Lane<J>,
+    carrier: &RefCell<C>,
     clients: &Clients,
-    args: &mut Args<'_>,
-) -> Result<TurningGate<'a, C>, CallFault> {
-    Ok(TurningGate {
-        carrier,
-        passes: Cell::new(0),
-        most: args.client()?,
-        injected: injected_in(alloc, clients, args)?,
-    })
+    line: &mut Line,
+)
+where
+    J: Naming,
+    R: Wait + RandomSource + AllocGlobal,
+    C: Turned,
+{
+    let Some((count, most)) = line.read() else {
+        return;
+    };
+    match injected_in(clients, line) {
+        Ok(injected) => {
+            let gate = TurningGate {
+                carrier,
+                passes: Cell::new(0),
+                most,
+                injected,
+            };
+            run_over(rt, lane, &gate, count, line);
+        }
+        Err(fault) => line.refuse(fault),
+    }
 }
 
-fn injected_in(
-    alloc: Global,
-    clients: &Clients,
-    args: &mut Args<'_>,
-) -> Result<Option<InjectedReply>, CallFault> {
-    if args.is_empty() {
+fn injected_in(clients: &Clients, line: &mut Line) -> Result<Option<InjectedReply>, CallFault> {
+    if line.is_read() {
         return Ok(None);
     }
-    let number = args.client()?;
-    let after = args.client()?;
-    let bytes = Bytes::from_slice(alloc, args.bytes()?)?;
-    let client = clients.again(number)?;
+    let Some((number, after, bytes)) = line.read::<(u32, u32, Bytes)>() else {
+        return Err(CallFault::MissingWord);
+    };
     Ok(Some(InjectedReply {
-        client,
+        client: clients.again(number)?,
         after,
         bytes,
     }))
@@ -79,16 +84,16 @@ fn run_over<J, R, C>(
     lane: &mut Lane<J>,
     gate: &TurningGate<'_, C>,
     clients: u32,
-    answer: &mut Answer,
-) -> Result<(), CallFault>
+    line: &mut Line,
+)
 where
     J: Naming,
     R: Wait + RandomSource + AllocGlobal,
     C: Turned,
 {
     match lane.ends.take() {
-        Some(own) => run(rt, own, gate, clients, answer),
-        None => Err(CallFault::NotNow),
+        Some(own) => run(rt, own, gate, clients, line),
+        None => line.refuse(CallFault::NotNow),
     }
 }
 
@@ -97,8 +102,8 @@ fn run<J, R, C>(
     own: MemoryEnds<J>,
     gate: &TurningGate<'_, C>,
     clients: u32,
-    answer: &mut Answer,
-) -> Result<(), CallFault>
+    line: &mut Line,
+)
 where
     J: Naming,
     R: Wait + RandomSource + AllocGlobal,
@@ -107,11 +112,10 @@ where
     let worker = Worker::new(rt.alloc(), own, gate, Some(clients));
     match block_on(rt, worker) {
         Ok(end) => {
-            answer.name(outcome_name(end.outcome));
-            answer.number(end.ports.len() as u64);
-            Ok(())
+            line.say(outcome_name(end.outcome));
+            line.show(end.ports.len());
         }
-        Err(_) => Err(CallFault::NoMemory),
+        Err(_) => line.refuse(CallFault::NoMemory),
     }
 }
 

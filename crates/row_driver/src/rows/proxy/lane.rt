@@ -1,109 +1,91 @@
 //! `lane`: a worker's ends without a worker.
 
-use crate::rows::held::put;
-use crate::rows::lanes::{show_node, show_told};
+use crate::rows::held::Held;
+use crate::rows::lanes::show_node;
 use crate::rows::proxy::memory::MemoryEnds;
 use key_split::{Batch, Run};
 use proxy_lanes::{Naming, Outlet};
-use row_words::{Answer, Args, CallFault};
-use std::alloc::Global;
+use row_words::{CallFault, Line};
 
 /// The ends of a worker's lane, until a future takes them.
 #[derive(Drop)]
 pub struct Lane<J: Naming> {
-    pub alloc: Global,
     pub ends: Option<MemoryEnds<J>>,
     /// The run that is put together for the lane.
-    run: Option<Run>,
+    run: Held<Run>,
 }
 
 impl<J: Naming> Lane<J> {
-    pub fn new(alloc: Global, ends: Option<MemoryEnds<J>>) -> Lane<J> {
+    pub fn new(ends: Option<MemoryEnds<J>>) -> Lane<J> {
         Lane {
-            alloc,
             ends,
-            run: None,
+            run: Held::none(),
         }
     }
 
-    pub fn call(&mut self, args: &mut Args<'_>, answer: &mut Answer) -> Result<(), CallFault> {
+    pub fn call(&mut self, line: &mut Line) {
         match &mut self.ends {
-            Some(ends) => call_of(self.alloc, ends, &mut self.run, args, answer),
-            None => Err(CallFault::NotNow),
+            Some(ends) => call_of(ends, &mut self.run, line),
+            None => line.refuse(CallFault::NotNow),
         }
     }
 }
 
-fn call_of<J: Naming>(
-    alloc: Global,
-    ends: &mut MemoryEnds<J>,
-    held: &mut Option<Run>,
-    args: &mut Args<'_>,
-    answer: &mut Answer,
-) -> Result<(), CallFault> {
-    match args.name()? {
-        "post" => post(&mut ends.outlet, run_in(alloc, args)?, answer),
-        "take" => show_told(ends.inlet.take(), answer),
-        "node" => show_node(&mut ends.view, args, answer),
-        name => call_of_run(alloc, &mut ends.outlet, held, name, args, answer),
+fn call_of<J: Naming>(ends: &mut MemoryEnds<J>, held: &mut Held<Run>, line: &mut Line) {
+    match line.call() {
+        "take" => line.show(ends.inlet.take()),
+        "node" => show_node(&mut ends.view, line),
+        "run" => post_held(&mut ends.outlet, held, line),
+        "post" => post_one(&mut ends.outlet, line),
+        _ => call_of_run(held, line),
     }
 }
 
-/// Puts a run together, or posts it.
-fn call_of_run(
-    alloc: Global,
-    outlet: &mut Outlet<Run>,
-    held: &mut Option<Run>,
-    name: &str,
-    args: &mut Args<'_>,
-    answer: &mut Answer,
-) -> Result<(), CallFault> {
-    match name {
-        "begin" => begin(alloc, held, args, answer),
-        "behind" => put_behind(held, args.batch(alloc)?, answer),
-        "run" => match held.take() {
-            Some(run) => post(outlet, run, answer),
-            None => Err(CallFault::NotMade),
-        },
-        _ => Err(CallFault::NoSuchCall),
+/// Posts the run that was put together.
+fn post_held(outlet: &mut Outlet<Run>, held: &mut Held<Run>, line: &mut Line) {
+    match held.value.take() {
+        Some(run) => post(outlet, run, line),
+        None => line.refuse(CallFault::NotMade),
     }
 }
 
-/// A run of one command.
-fn run_in(alloc: Global, args: &mut Args<'_>) -> Result<Run, CallFault> {
-    Ok(Run::one(alloc, args.batch(alloc)?))
+/// Posts a run of one command.
+fn post_one(outlet: &mut Outlet<Run>, line: &mut Line) {
+    if let Some(batch) = line.read::<Batch>() {
+        post(outlet, Run::one(line.alloc, batch), line);
+    }
 }
 
-fn post(outlet: &mut Outlet<Run>, run: Run, answer: &mut Answer) -> Result<(), CallFault> {
+fn post(outlet: &mut Outlet<Run>, run: Run, line: &mut Line) {
     let posted = outlet.post(run).is_ok();
-    answer.name(if posted { "ok" } else { "full" });
-    Ok(())
+    line.say(if posted { "ok" } else { "full" });
 }
 
-fn begin(
-    alloc: Global,
-    held: &mut Option<Run>,
-    args: &mut Args<'_>,
-    answer: &mut Answer,
-) -> Result<(), CallFault> {
-    let run = run_in(alloc, args)?;
-    put(held, Some(run));
-    answer.name("ok");
-    Ok(())
+/// Begins a run, or puts a command behind those of the run.
+fn call_of_run(held: &mut Held<Run>, line: &mut Line) {
+    let Some(batch) = line.read::<Batch>() else {
+        return;
+    };
+    match line.call() {
+        "begin" => {
+            held.put(Run::one(line.alloc, batch));
+            line.done();
+        }
+        "behind" => put_behind(held, batch, line),
+        _ => line.refuse(CallFault::NoSuchCall),
+    }
 }
 
 /// Puts a command behind those of the run, where it goes with them.
-fn put_behind(held: &mut Option<Run>, batch: Batch, answer: &mut Answer) -> Result<(), CallFault> {
-    let Some(run) = held else {
-        return Err(CallFault::NotMade);
+fn put_behind(held: &mut Held<Run>, batch: Batch, line: &mut Line) {
+    let Some(run) = &mut held.value else {
+        return line.refuse(CallFault::NotMade);
     };
     if !run.takes(&batch) {
-        answer.name("apart");
-        return Ok(());
+        return line.say("apart");
     }
-    if run.push(batch).is_err() {
-        return Err(CallFault::NoMemory);
+    match run.push(batch) {
+        Ok(()) => line.done(),
+        Err(_) => line.refuse(CallFault::NoMemory),
     }
-    answer.name("ok");
-    Ok(())
 }

@@ -1,5 +1,6 @@
 //! Workers and a carrier of the proxy, between clients and nodes in memory.
 
+use crate::rows::made::MadeOf;
 use crate::rows::proxy::client::SharedClient;
 use crate::rows::proxy::dial::MemoryDial;
 use crate::rows::proxy::gate::Open;
@@ -62,14 +63,21 @@ pub fn newcomer_to<J: Naming, R: Wait + Drop>(
     Ok(ends.hand(worker, newcomer).is_ok())
 }
 
-pub fn workers_for<'g, J: Naming>(
+impl<'g, J: Naming> MadeOf<(MemoryEnds<J>, &'g Open)> for MemoryWorker<'g, J> {
+    fn made_of(alloc: Global, (own, gate): (MemoryEnds<J>, &'g Open)) -> MemoryWorker<'g, J> {
+        Worker::new(alloc, own, gate, None)
+    }
+}
+
+/// A worker over each of these ends.
+pub fn workers_for<'g, E: Drop, T: MadeOf<(E, &'g Open)> + Drop>(
     alloc: Global,
-    ends: Vec<MemoryEnds<J>>,
+    ends: Vec<E>,
     gate: &'g Open,
-) -> Result<Vec<MemoryWorker<'g, J>>, CallFault> {
+) -> Result<Vec<T>, CallFault> {
     let mut workers = Vec::new(alloc);
     for own in ends {
-        workers.push(Worker::new(alloc, own, gate, None))?;
+        workers.push(T::made_of(alloc, (own, gate)))?;
     }
     Ok(workers)
 }

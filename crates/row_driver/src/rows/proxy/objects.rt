@@ -6,7 +6,7 @@ use crate::rows::proxy::nodes::SharedNodes;
 use crate::rows::proxy::turned::{Hands, Turned, Turns};
 use crate::rows::proxy::{future, steps, timing, turns};
 use proxy_lanes::Naming;
-use row_words::{Answer, Args, CallFault, Objects};
+use row_words::{Line, Objects};
 use std::alloc::AllocGlobal;
 use std::random::RandomSource;
 use std::sync::Wait;
@@ -31,47 +31,20 @@ where
     C: Hands,
     O: Objects,
 {
-    fn call(
-        &mut self,
-        object: &str,
-        args: &mut Args<'_>,
-        answer: &mut Answer,
-    ) -> Result<(), CallFault> {
-        match object {
-            "turns" => turns::call(&mut self.turned, &mut self.clients, args, answer),
-            "lane" => self.lane.call(args, answer),
-            "nodes" => steps::call(&self.nodes, args, answer),
-            _ => self.call_of_runtime(object, args, answer),
-        }
-    }
-}
-
-impl<J, R, W, C, O> TurnObjects<J, R, W, C, O>
-where
-    J: Naming,
-    R: Wait + RandomSource + Clock + AllocGlobal,
-    W: Turned,
-    C: Hands,
-    O: Objects,
-{
-    /// A call that needs the runtime, or of another object.
-    fn call_of_runtime(
-        &mut self,
-        object: &str,
-        args: &mut Args<'_>,
-        answer: &mut Answer,
-    ) -> Result<(), CallFault> {
-        match object {
-            "time" => timing::call(&self.rt, &mut self.turned, args, answer),
+    fn call(&mut self, line: &mut Line) {
+        match line.object() {
+            "turns" => turns::call(&mut self.turned, &mut self.clients, line),
+            "lane" => self.lane.call(line),
+            "nodes" => steps::call(&self.nodes, line),
+            "time" => timing::call(&self.rt, &mut self.turned, line),
             "future" => future::call(
                 &self.rt,
                 &mut self.lane,
                 &self.turned.carrier,
                 &self.clients,
-                args,
-                answer,
+                line,
             ),
-            _ => self.others.call(object, args, answer),
+            _ => self.others.call(line),
         }
     }
 }

@@ -7,7 +7,7 @@ use crate::rows::proxy::client::SharedClient;
 use crate::rows::proxy::clients::Clients;
 use crate::rows::proxy::gate::Open;
 use crate::rows::proxy::lane::Lane;
-use crate::rows::proxy::memory::{MemoryCarrierEnds, MemoryEnds, workers_for};
+use crate::rows::proxy::memory::{MemoryCarrierEnds, MemoryEnds, MemoryWorker, workers_for};
 use crate::rows::proxy::nodes::SharedNodes;
 use crate::rows::proxy::objects::TurnObjects;
 use crate::rows::proxy::outside::Outside;
@@ -76,9 +76,9 @@ where
     O: Objects + Drop,
 {
     let carrier = Carrier::new(rt.alloc(), carrier, outside.dial, outside.known);
-    let lane = Lane::new(rt.alloc(), ends.pop());
+    let lane = Lane::new(ends.pop());
     let gate = Open;
-    let workers = workers_for(rt.alloc(), ends, &gate);
+    let workers = workers_for::<MemoryEnds<J>, MemoryWorker<'_, J>>(rt.alloc(), ends, &gate);
     row_with(rt, outside.nodes, workers, carrier, lane, others, rows)
 }
 

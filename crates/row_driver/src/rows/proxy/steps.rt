@@ -1,62 +1,60 @@
 //! `nodes`: how the nodes can be reached, how slots move, and how many commands came.
 
+use crate::rows::held::Object;
 use crate::rows::proxy::nodes::{Nodes, SharedNodes};
-use node_model::MoveFault;
-use row_words::{Answer, Args, CallFault};
+use row_words::{CallFault, Line};
 
-pub fn call(
-    nodes: &SharedNodes,
-    args: &mut Args<'_>,
-    answer: &mut Answer,
-) -> Result<(), CallFault> {
+pub fn call(nodes: &SharedNodes, line: &mut Line) {
     match nodes.try_borrow_mut() {
-        Ok(mut nodes) => call_of(&mut nodes, args, answer),
-        Err(_) => Err(CallFault::NotNow),
+        Ok(mut nodes) => nodes.call(line),
+        Err(_) => line.refuse(CallFault::NotNow),
     }
 }
 
-fn call_of(nodes: &mut Nodes, args: &mut Args<'_>, answer: &mut Answer) -> Result<(), CallFault> {
-    match args.name()? {
-        "served" => answer.number(nodes.served),
-        name => answer.done(change(nodes, name, args)?),
+impl Object for Nodes {
+    fn call(&mut self, line: &mut Line) {
+        match line.call() {
+            "served" => line.show(self.served),
+            "refuse" => {
+                self.refuses = true;
+                line.done();
+            }
+            "leave" => {
+                self.listens = false;
+                line.done();
+            }
+            "fail" => fail_behind(self, line),
+            "longest" => set_longest(self, line),
+            "movekey" => move_a_key(self, line),
+            _ => self.cluster().call(line),
+        }
     }
-    Ok(())
 }
 
-/// Changes how the nodes can be reached, or makes a step of a slot's move.
-fn change(
-    nodes: &mut Nodes,
-    name: &str,
-    args: &mut Args<'_>,
-) -> Result<Result<(), MoveFault>, CallFault> {
-    match name {
-        "refuse" => nodes.refuses = true,
-        "leave" => nodes.listens = false,
-        "fail" => nodes.calls = args.number()?,
-        "longest" => nodes.behind = behind_first(args.short()?)?,
-        _ => return step(nodes, name, args),
+/// New connections stand so many calls.
+fn fail_behind(nodes: &mut Nodes, line: &mut Line) {
+    if let Some(calls) = line.read() {
+        nodes.calls = calls;
+        line.done();
     }
-    Ok(Ok(()))
 }
 
-/// How many commands go behind the first of so many.
-fn behind_first(longest: u16) -> Result<u16, CallFault> {
-    longest.checked_sub(1).ok_or(CallFault::BadNumber)
+/// So many commands go together, the first among them.
+fn set_longest(nodes: &mut Nodes, line: &mut Line) {
+    let Some(longest) = line.read::<u16>() else {
+        return;
+    };
+    match longest.checked_sub(1) {
+        Some(behind) => {
+            nodes.behind = behind;
+            line.done();
+        }
+        None => line.refuse(CallFault::BadNumber),
+    }
 }
 
-/// Makes a step of a slot's move.
-fn step(
-    nodes: &mut Nodes,
-    name: &str,
-    args: &mut Args<'_>,
-) -> Result<Result<(), MoveFault>, CallFault> {
-    let slot = args.slot()?;
-    Ok(match name {
-        "import" => nodes.cluster().import_slot(slot, args.node()?),
-        "migrate" => nodes.cluster().migrate_slot(slot),
-        "movekey" => nodes.move_a_key(slot),
-        "own" => nodes.cluster().own_slot(slot),
-        "release" => nodes.cluster().release_slot(slot),
-        _ => return Err(CallFault::NoSuchCall),
-    })
+fn move_a_key(nodes: &mut Nodes, line: &mut Line) {
+    if let Some(slot) = line.read() {
+        line.show(nodes.move_a_key(slot));
+    }
 }

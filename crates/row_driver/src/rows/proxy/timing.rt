@@ -1,7 +1,7 @@
 //! `time`: what a turn costs that moves nothing.
 
 use crate::rows::proxy::turned::{Hands, Turned, Turns};
-use row_words::{Answer, Args, CallFault};
+use row_words::{CallFault, Line};
 use std::time::{Clock, Instant};
 
 /// Who is turned.
@@ -12,19 +12,26 @@ enum Who {
 }
 
 /// Answers how many nanoseconds a turn took of so many, or `moved` where one of them moved something.
-pub fn call<R: Clock, W: Turned, C: Hands>(
-    rt: &R,
-    turned: &mut Turns<W, C>,
-    args: &mut Args<'_>,
-    answer: &mut Answer,
-) -> Result<(), CallFault> {
-    let who = who_in(args)?;
-    let count = args.number()?;
-    match nanoseconds_of(rt, turned, who, count)? {
-        Some(spent) => answer.number(spent / count.max(1)),
-        None => answer.name("moved"),
+pub fn call<R: Clock, W: Turned, C: Hands>(rt: &R, turned: &mut Turns<W, C>, line: &mut Line) {
+    let Some(who) = who_in(line) else {
+        return line.refuse(CallFault::NoSuchCall);
+    };
+    let Some(count) = line.read() else {
+        return;
+    };
+    match nanoseconds_of(rt, turned, who, count) {
+        Ok(Some(spent)) => line.show(spent / count.max(1)),
+        Ok(None) => line.say("moved"),
+        Err(fault) => line.refuse(fault),
     }
-    Ok(())
+}
+
+fn who_in(line: &Line) -> Option<Who> {
+    match line.call() {
+        "worker" => Some(Who::Worker),
+        "carrier" => Some(Who::Carrier),
+        _ => None,
+    }
 }
 
 /// How long so many turns took, or None where one of them moved something.
@@ -40,14 +47,9 @@ fn nanoseconds_of<R: Clock, W: Turned, C: Hands>(
     if turn(turned, who, count)? {
         return Ok(None);
     }
-    Ok(Some(nanoseconds_since(rt, start)?))
-}
-
-fn who_in(args: &mut Args<'_>) -> Result<Who, CallFault> {
-    match args.name()? {
-        "worker" => Ok(Who::Worker),
-        "carrier" => Ok(Who::Carrier),
-        _ => Err(CallFault::NoSuchCall),
+    match start.elapsed(rt) {
+        Ok(spent) => Ok(Some(u64::try_from(spent.as_nanos()).unwrap_or(u64::MAX))),
+        Err(_) => Err(CallFault::NotNow),
     }
 }
 
@@ -65,11 +67,4 @@ fn turn<W: Turned, C: Hands>(
         };
     }
     Ok(moved)
-}
-
-fn nanoseconds_since<R: Clock>(rt: &R, start: Instant) -> Result<u64, CallFault> {
-    match start.elapsed(rt) {
-        Ok(spent) => Ok(u64::try_from(spent.as_nanos()).unwrap_or(u64::MAX)),
-        Err(_) => Err(CallFault::NotNow),
-    }
 }
