@@ -34,17 +34,22 @@ pub fn credentials_of<R: Env + AllocGlobal>(
 ) -> Result<Option<Credentials>, EnvironmentFault> {
     let password = variable(rt, PASSWORD)?;
     let user = variable(rt, USER)?;
-    match (user, password) {
-        (None, None) => Ok(None),
-        (Some(_), None) => Err(EnvironmentFault::UserAlone),
-        (None, Some(password)) => {
-            Ok(Some(Credentials::of_password(rt.alloc(), password.as_bytes())?))
-        }
-        (Some(user), Some(password)) => Ok(Some(Credentials::of_user(
-            rt.alloc(),
-            user.as_bytes(),
-            password.as_bytes(),
-        )?)),
+    match password {
+        Some(password) => Ok(Some(named(rt.alloc(), user, password.as_bytes())?)),
+        None if user.is_some() => Err(EnvironmentFault::UserAlone),
+        None => Ok(None),
+    }
+}
+
+/// The credentials of this user, or of none, with the password.
+fn named(
+    alloc: Global,
+    user: Option<String<Global>>,
+    password: &[u8],
+) -> Result<Credentials, NoMemory> {
+    match user {
+        Some(user) => Credentials::of_user(alloc, user.as_bytes(), password),
+        None => Credentials::of_password(alloc, password),
     }
 }
 

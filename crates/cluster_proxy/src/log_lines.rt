@@ -5,6 +5,7 @@ use event_log::{ErrorStream, Line, utc_text};
 use program_words::{Serving, VERSION};
 use proxy_runtime::WireRunFault;
 use std::alloc::{AllocError, Global};
+use std::fmt::Display;
 use std::time::Clock;
 
 /// Logs that clients are served, and with what.
@@ -20,18 +21,29 @@ fn start_line<R: Clock>(rt: &R, alloc: Global, serving: Serving<'_>) -> Result<L
         seed,
         workers,
     } = serving;
+    let line = new_line(rt, alloc, "info", "started")?;
+    let line = line.pair("version", VERSION.as_bytes())?;
+    let line = with_pair(alloc, line, "listen", &listen)?;
+    let line = with_pair(alloc, line, "seed", &seed)?;
+    let line = with_pair(alloc, line, "workers", &workers)?;
+    with_pair(alloc, line, "descriptors", &descriptor_limit().unwrap_or(0))
+}
+
+/// A line of this moment.
+fn new_line<R: Clock>(rt: &R, alloc: Global, level: &str, event: &str) -> Result<Line, AllocError> {
     let time = utc_text(rt, alloc)?;
-    let listen = format!(in alloc; "{listen}")?;
-    let seed = format!(in alloc; "{seed}")?;
-    let workers = format!(in alloc; "{workers}")?;
-    let descriptors = descriptor_limit().unwrap_or(0);
-    let descriptors = format!(in alloc; "{descriptors}")?;
-    Line::new(alloc, time.as_bytes(), "info", "started")?
-        .pair("version", VERSION.as_bytes())?
-        .pair("listen", listen.as_bytes())?
-        .pair("seed", seed.as_bytes())?
-        .pair("workers", workers.as_bytes())?
-        .pair("descriptors", descriptors.as_bytes())
+    Line::new(alloc, time.as_bytes(), level, event)
+}
+
+/// The line with what is shown of the value.
+fn with_pair<T: Display>(
+    alloc: Global,
+    line: Line,
+    key: &str,
+    value: &T,
+) -> Result<Line, AllocError> {
+    let shown = format!(in alloc; "{value}")?;
+    line.pair(key, shown.as_bytes())
 }
 
 /// Logs why the run ended.
@@ -51,12 +63,11 @@ fn end_line<R: Clock>(
     alloc: Global,
     ended: &Result<(), WireRunFault>,
 ) -> Result<Line, AllocError> {
-    let time = utc_text(rt, alloc)?;
     match ended {
-        Ok(()) => Line::new(alloc, time.as_bytes(), "info", "ended"),
+        Ok(()) => new_line(rt, alloc, "info", "ended"),
         Err(fault) => {
-            let reason = format!(in alloc; "{fault}")?;
-            Line::new(alloc, time.as_bytes(), "warn", "ended")?.pair("reason", reason.as_bytes())
+            let line = new_line(rt, alloc, "warn", "ended")?;
+            with_pair(alloc, line, "reason", fault)
         }
     }
 }

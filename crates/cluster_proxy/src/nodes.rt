@@ -29,16 +29,27 @@ pub fn serve_nodes<R: Wait + Net>(rt: &R, alloc: Global, ports: Ports) -> Result
     let mut table = NodeTable::new(alloc);
     for port in ports {
         let listener = listen(rt, port)?;
-        listeners.push(listener).map_err(|_| NodesFault::NoMemory)?;
-        if table.intern(b"127.0.0.1", port).is_err() {
+        if listeners.push(listener).is_err() || table.intern(b"127.0.0.1", port).is_err() {
             return Err(NodesFault::NoMemory);
         }
     }
+    serve_example(rt, alloc, listeners, &table)
+}
+
+fn serve_example<R: Wait + Net>(
+    rt: &R,
+    alloc: Global,
+    listeners: Vec<TcpListener>,
+    table: &NodeTable,
+) -> Result<(), NodesFault> {
     let Ok(cluster) = three_nodes(alloc) else {
         return Err(NodesFault::NoMemory);
     };
     let state = LocalState::new(alloc, cluster);
-    run_nodes(rt, alloc, listeners, state, &table, None).map_err(NodesFault::Run)
+    match run_nodes(rt, alloc, listeners, state, table, None) {
+        Ok(()) => Ok(()),
+        Err(fault) => Err(NodesFault::Run(fault)),
+    }
 }
 
 fn listen<R: Net>(rt: &R, port: u16) -> Result<TcpListener, NodesFault> {
