@@ -1,7 +1,10 @@
 //! Judges what the threads of a run hand back, by the scripts that they were given.
 
-ghost use Rattle.std.specs.Prelude.{◌≡◌, ◌<◌, ◌≤◌, ◌^◌, IfOk, length};
-ghost use Rattle.script_runs.specs.Judged.{Judges};
+ghost use Rattle.std.specs.Prelude.{◌≡◌, ◌↔◌, ◌<◌, ◌≤◌, ◌^◌, List, IfOk, IsTrue, length};
+ghost use Rattle.local_cluster.specs.Local.{LocalStateModel};
+ghost use Rattle.script_runs.specs.Judged.{Judges, Reports};
+ghost use Rattle.script_runs.specs.Requests.{Requested};
+ghost use Rattle.script_runs.specs.Run.{parts_from, AreAnswered, AskFor};
 
 use crate::clients::{gather, replay_all};
 use crate::local_fault::LocalFault;
@@ -23,13 +26,37 @@ pub(crate) fn judge(
     requires few { length scripts.now ≤ 2 ^ 32 }
     ensures { Judges scripts.now workers run state result }
 {
+    let (report, are_answered) = report_of_run(alloc, scripts, workers, run, state.history())?;
+    if !are_answered {
+        return Err(LocalFault::Audit(report));
+    }
+    if !audit(alloc, &report)? {
+        return Err(LocalFault::Audit(report));
+    }
+    Ok((report, state))
+}
+
+/// The report of a run with this history, and whether each client was answered as its script and the ends say.
+fn report_of_run(
+    alloc: Global,
+    scripts: &[Bytes],
+    workers: u16,
+    run: RunRecord,
+    history: &[Entry],
+) -> Result<(RunReport, bool), NoMemory>
+    requires some { 0 < workers }
+    requires few { length scripts.now ≤ 2 ^ 32 }
+    ensures reports { IfOk result (λ made. (state : LocalStateModel) → history.now ≡ state.history → Reports (length scripts.now) run state made.0) }
+    ensures found { IfOk result (λ made. (asked : List Requested) × AskFor scripts.now asked × (made.0.parts.items ≡ parts_from workers 0 asked)
+        × (IsTrue made.1 ↔ AreAnswered workers made.0.stopped.items made.0.ends.items 0 asked made.0.replies.items)) }
+{
     let RunRecord {
         clients,
         skipped,
         stopped,
     } = run;
     let (replies, ends) = gather(alloc, scripts.len(), clients)?;
-    let history = copy_of(alloc, state.history())?;
+    let history = copy_of(alloc, history)?;
     let (parts, are_answered) = replay_all(alloc, scripts, workers, &stopped, &ends, &replies)?;
     let report = RunReport {
         parts,
@@ -39,13 +66,7 @@ pub(crate) fn judge(
         skipped,
         stopped,
     };
-    if !are_answered {
-        return Err(LocalFault::Audit(report));
-    }
-    if !audit(alloc, &report)? {
-        return Err(LocalFault::Audit(report));
-    }
-    Ok((report, state))
+    Ok((report, are_answered))
 }
 
 /// A history in memory of its own.

@@ -14,7 +14,7 @@ use std::thread;
 const TRIES: u32 = 1_000;
 
 /// Why the steps did not come to their end.
-#[derive(Clone, Copy, Debug, PartialEq, Eq)]
+#[derive(Clone, Copy)]
 pub(crate) enum MoverFault {
     NoMemory,
     /// Another thread ended the run.

@@ -5,12 +5,10 @@ use std::alloc::AllocFailed;
 use thiserror::Error;
 
 /// Why scripts are not read.
-#[derive(Clone, Copy, Debug, PartialEq, Eq, Drop, Error)]
+#[derive(Clone, Copy)]
 pub(crate) enum ReadFault {
-    #[error("out of memory")]
     NoMemory,
     /// The lowest line that does not fit, from 1.
-    #[error("bad line {0}")]
     BadLine(u64),
 }
 
