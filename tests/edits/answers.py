@@ -25,7 +25,7 @@ use Rattle.std.proofs.lemmas.Grind.{common_steps as usual_steps}
 # The goals of the function, by the name that a file of answers has for them.
 GOALS = re.compile(r"^use Rattle\.[\w.+]+\.Goals as (\w+)\n", re.M)
 # An answer, up to what stands behind it.
-ANSWER = re.compile(r"^pub (\S+) : (\w+\.\1)\n\1\b.*?(?=^(?:pub |abbrev |unfoldable |use |mod |module |--|[^\s{}()\[\]|]+ : )|\Z)", re.M | re.S)
+ANSWER = re.compile(r"^pub (\S+) : (\w+\.\1)\n(?:unfolding [^\n]*\n)?\1\b.*?(?=^(?:pub |abbrev |unfoldable |use |mod |module |--|[^\s{}()\[\]|]+ : )|\Z)", re.M | re.S)
 ATTRIBUTE = re.compile(r"^ *#\[tactic\([^\n]*\n", re.M)
 
 
@@ -97,6 +97,7 @@ def are_refused(answer, goal, function, by_tactics):
     """Whether the answers to the goal were refused, by what a check said: those of the tactics, or the one that it has."""
     own = faults_of(answer, function)
     if by_tactics:
-        wanted = [f"`{goal}{ending}`: `{body.split()[0]}`" for ending, body in TACTICS.items()]
-        return answer.ended and all(any(it.startswith(begin) for it in own) for begin in wanted)
+        # What a tactic says that found no proof, and one that gave up.
+        wanted = [re.compile(rf"`{re.escape(goal + ending)}`: (?:`{body.split()[0]}`|give the call less to do)") for ending, body in TACTICS.items()]
+        return answer.ended and all(any(begin.match(it) for it in own) for begin in wanted)
     return answer.ended and any(it.startswith(f"`{goal}`: ") and not verdicts.MISSING.search(it) for it in own)

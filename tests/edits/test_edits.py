@@ -262,13 +262,14 @@ abbrev pub invariant-loop : goal.invariant-loop
 invariant-loop l = l.count ≤ 9
 
 pub returns-in-Err : goal.returns-in-Err
+unfolding doubled
 returns-in-Err c = twice 4
 """
 
     def test_other_answers_give_way_to_holes(self):
         left = self.TEXT.replace("c = record {\n  first = refl;\n}\n", "c = ?\n")
         self.assertEqual(answers.with_holes(self.TEXT, "returns-in-Err"), left)
-        self.assertEqual(answers.with_holes(self.TEXT, "returns-in-Ok"), self.TEXT.replace("c = twice 4\n", "c = ?\n\n"))
+        self.assertEqual(answers.with_holes(self.TEXT, "returns-in-Ok"), self.TEXT.replace("unfolding doubled\nreturns-in-Err c = twice 4\n", "returns-in-Err c = ?\n\n"))
 
     def test_an_answered_goal_and_both_tactics(self):
         at = "proofs/f/Answers.antt:1:1: error: `returns"
@@ -277,6 +278,7 @@ returns-in-Err c = twice 4
             (f"{at}`: `once` is not in scope", False, False),
             (f"{at}-in-Ok`: the two types differ", False, False),
             (f"{at}`: `search`: no proof of `0 ≡ 1`\n{at}-by-grind`: `grind`: the goal does not follow", True, True),
+            (f"{at}`: `search`: no proof of `0 ≡ 1`\n{at}-by-grind`: give the call less to do", True, True),
             (f"{at}`: `search`: no proof of `0 ≡ 1`", True, False),
             (f"{at}-by-grind`: `grind`: the goal does not follow", True, False),
             (f"{at}`: `once` is not in scope\n{at}-by-grind`: `once` is not in scope", True, False),
