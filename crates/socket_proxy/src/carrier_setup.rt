@@ -9,6 +9,7 @@ use crate::client_room::ClientRoom;
 use crate::run::Proxy;
 use crate::setup::{clone_registries, clone_registry};
 use crate::shared::Shared;
+use event_log::ErrorStream;
 use mio::Registry;
 use mio::net::TcpListener;
 use node_dial::{Connector, Credentials, LookUps, SharedLookUps, SocketDial};
@@ -64,25 +65,37 @@ pub(crate) fn carrier_setup<'a>(
         credentials,
         log,
     } = proxy;
+    let (connecting, look_ups) = connector_setup(alloc, shared, &poller, credentials)?;
+    let room = ClientRoom::new(descriptors);
+    let acceptor = acceptor(listener, shared, &poller, clients, room)?;
+    let accept_loop = accept_loop(alloc, acceptor, poller, pollers)?;
     let nodes = seed_table(alloc, host, port)?;
-    let look_ups = LookUps::new(alloc, clone_registry(&poller)?)?;
-    let connecting = connector_setup(alloc, shared, &poller, &look_ups, credentials)?;
-    let reporter = Reporter::new(alloc, log, shared.reports(alloc)?)?;
-    let acceptor = acceptor(
-        listener,
-        shared,
-        &poller,
-        clients,
-        ClientRoom::new(descriptors),
-    )?;
-    let registries = clone_registries(alloc, pollers)?;
     Ok(CarrierSetup {
         nodes,
-        accept_loop: AcceptLoop::new(acceptor, poller, registries),
+        accept_loop,
         connecting,
         look_ups,
-        reporter,
+        reporter: reporter(alloc, log, shared)?,
     })
+}
+
+fn accept_loop(
+    alloc: Global,
+    acceptor: Acceptor,
+    poller: Poller,
+    pollers: &[Poller],
+) -> Result<AcceptLoop, WireRunFault> {
+    let registries = clone_registries(alloc, pollers)?;
+    Ok(AcceptLoop::new(acceptor, poller, registries))
+}
+
+fn reporter<'a>(
+    alloc: Global,
+    log: &'a ErrorStream,
+    shared: &Shared,
+) -> Result<Reporter<'a>, NoMemory> {
+    let reports = shared.reports(alloc)?;
+    Reporter::new(alloc, log, reports)
 }
 
 /// The table of the nodes that are known at the start: the seed.
@@ -96,14 +109,30 @@ fn seed_table(alloc: Global, host: &[u8], port: u16) -> Result<NodeTable, NoMemo
     }
 }
 
+/// What connections are made with, and the look-ups of the hosts' names.
 fn connector_setup(
     alloc: Global,
     shared: &Shared,
     poller: &Poller,
-    look_ups: &SharedLookUps,
     credentials: Option<Credentials>,
-) -> Result<ConnectorSetup, WireRunFault> {
+) -> Result<(ConnectorSetup, SharedLookUps), WireRunFault> {
     let credentials = share(alloc, credentials)?;
+    let look_ups = look_ups(alloc, poller)?;
+    let connecting = connector_with(shared, poller, &look_ups, credentials)?;
+    Ok((connecting, look_ups))
+}
+
+fn look_ups(alloc: Global, poller: &Poller) -> Result<SharedLookUps, WireRunFault> {
+    let registry = clone_registry(poller)?;
+    Ok(LookUps::new(alloc, registry)?)
+}
+
+fn connector_with(
+    shared: &Shared,
+    poller: &Poller,
+    look_ups: &SharedLookUps,
+    credentials: Option<Arc<Credentials, Global>>,
+) -> Result<ConnectorSetup, WireRunFault> {
     let registry = clone_registry(poller)?;
     let ready = Arc::try_clone(&shared.carrier.ready)?;
     match look_ups.clone() {

@@ -58,6 +58,7 @@ fn serve_clients<J: Naming, R: Wait + Clock + RandomSource + AllocGlobal>(
     setup: SocketWorkerSetup<J>,
     shared: &Shared,
 ) -> Option<WireRunFault> {
+    let handle = shared.workers.get(usize::from(setup.worker))?;
     let WorkerSetup {
         worker,
         workers,
@@ -68,7 +69,6 @@ fn serve_clients<J: Naming, R: Wait + Clock + RandomSource + AllocGlobal>(
         view,
         poller,
     } = setup;
-    let handle = shared.workers.get(usize::from(worker))?;
     let ends = WorkerEnds {
         worker,
         workers,
