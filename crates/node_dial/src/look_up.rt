@@ -29,6 +29,16 @@ struct Signal {
 }
 
 impl Signal {
+    /// The end has not come. The thread that polls by this registry is woken then.
+    fn new(alloc: Global, registry: &Registry) -> io::Result<Arc<Signal, Global>> {
+        let waker = Waker::new(registry, WAKER)?;
+        let signal = Signal {
+            ended: AtomicBool::new(false),
+            waker,
+        };
+        Ok(Arc::new(alloc, signal)?)
+    }
+
     fn set(&self) {
         self.ended.store(true, Ordering::SeqCst);
         let _ = self.waker.wake();
@@ -47,15 +57,9 @@ impl LookUp {
     where
         R: Threads + Net<Listener = TcpListener, Stream = TcpStream> + Copy + Send + 'static,
     {
-        let name = String::from_str(alloc, host)?;
-        let signal = Arc::new(
-            alloc,
-            Signal {
-                ended: AtomicBool::new(false),
-                waker: Waker::new(registry, WAKER)?,
-            },
-        )?;
+        let signal = Signal::new(alloc, registry)?;
         let set_at_end = Arc::try_clone(&signal)?;
+        let name = String::from_str(alloc, host)?;
         let runtime = *rt;
         let thread = thread::spawn(rt, move || -> io::Result<Vec<SocketAddr>> {
             let found = addresses_of(&runtime, alloc, name.as_str(), port);
