@@ -32,7 +32,7 @@ from cluster import Cluster, Proxy, Room, Server, end
 from harness import CASES, Failed, Slow
 
 # How often a case is run before what it took counts as a fault.
-TRIES = 5
+TRIES = 8
 # How much of what was wrong with a case is said once more at the end.
 MOST_SAID = 200
 
