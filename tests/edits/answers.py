@@ -15,8 +15,10 @@ import edits
 import twins
 import verdicts
 
-# What the prover tries on a goal without an answer, by the endings of the answers' names.
+# What the prover tries on a goal without an answer, by the endings of the answers' names. Where a function names lemmas, it tries
+# them too.
 TACTICS = {"": "search usual_rules", "-by-grind": "grind (usual_arith, usual_steps)"}
+BY_LEMMAS = "-by-lemmas"
 
 USES = """\
 use Rattle.std.proofs.Common.{rules as usual_rules, arith as usual_arith}
@@ -27,14 +29,18 @@ GOALS = re.compile(r"^use Rattle\.[\w.+]+\.Goals as (\w+)\n", re.M)
 # An answer, up to what stands behind it.
 ANSWER = re.compile(r"^pub (\S+) : (\w+\.\1)\n(?:unfolding [^\n]*\n)?\1\b.*?(?=^(?:pub |abbrev |unfoldable |use |mod |module |--|[^\s{}()\[\]|]+ : )|\Z)", re.M | re.S)
 ATTRIBUTE = re.compile(r"^ *#\[tactic\([^\n]*\n", re.M)
+# The lists of an attribute, and what stands in one.
+LISTS = re.compile(r"\b(using|unfolding)\(([^)]*)\)")
+PATH = re.compile(r"([\w:]+)::(\w+)")
 
 
 @dataclass
 class Answered:
-    """The texts of a round for an edit that counts by one goal, and whether the tactics answer that goal."""
+    """The texts of a round for an edit that counts by one goal, and the tactics that answer that goal, by the endings of their names:
+    none where it has an answer."""
 
     texts: dict
-    by_tactics: bool
+    tactics: dict
 
 
 def file_of(function):
@@ -47,14 +53,29 @@ def with_holes(text, kept):
     return ANSWER.sub(lambda it: it[0] if it[1] == kept else f"pub {it[1]} : {it[2]}\n{it[1]} c = ?\n\n", text)
 
 
-def with_tactics(text, goal, function, crate):
-    """The text of a function's answers with those of the tactics to a goal."""
+def named_in(attributes, word, crate):
+    """The lemmas or definitions in an attribute's list of this word, by the names that they get in a file of answers, each with the
+    line that imports it."""
+    paths = [path for lists in LISTS.finditer(attributes) if lists[1] == word for path in PATH.finditer(lists[2])]
+    modules = [re.sub(r"^crate\b", crate.name, path[1]).replace("::", ".") for path in paths]
+    return {f"{word}_{n}": f"use Rattle.{module}.{{{path[2]} as {word}_{n}}}\n" for n, (module, path) in enumerate(zip(modules, paths))}
+
+
+def tactics_of(lemmas):
+    """The tactics that the prover tries on a goal of a function that names these lemmas."""
+    return TACTICS | ({BY_LEMMAS: f"grind (usual_arith, {', '.join(lemmas)})"} if lemmas else {})
+
+
+def with_tactics(text, goal, function, crate, attributes):
+    """The text of a function's answers with those of the tactics to a goal, and these tactics."""
     known, uses = GOALS.search(text), USES
     if known is None:
         uses += f"use Rattle.{crate.name}.proofs.{function.replace('::', '.')}.Goals as goal\n"
-    place = f"{known[1] if known else 'goal'}.{goal}"
-    parts = [f"\npub {goal}{ending} : {place}\n{goal}{ending} c = {body}\n" for ending, body in TACTICS.items()]
-    return "".join([uses, text.rstrip("\n") + "\n", *parts])
+    lemmas, opened = (named_in(attributes, word, crate) for word in ("using", "unfolding"))
+    place, opening = f"{known[1] if known else 'goal'}.{goal}", f"unfolding {' '.join(opened)}\n" if opened else ""
+    tactics = tactics_of(lemmas)
+    parts = [f"\npub {goal}{ending} : {place}\n{opening}{goal}{ending} c = {body}\n" for ending, body in tactics.items()]
+    return "".join([uses, *lemmas.values(), *opened.values(), text.rstrip("\n") + "\n", *parts]), tactics
 
 
 def head_of(edit, function, text, crate):
@@ -76,16 +97,12 @@ def answered(edit, function, texts, crate):
         return None
     begin = twins.begin_of(texts[source], head)
     attributes = texts[source][begin : head.start()]
-    by_tactics = edit.open not in {it[1] for it in ANSWER.finditer(text)}
-    if by_tactics and ATTRIBUTE.search(attributes):
-        return None  # its tactics have lemmas or definitions that the function names
-    text = with_holes(text, edit.open)
+    has_answer = edit.open in {it[1] for it in ANSWER.finditer(text)}
+    text, tactics = with_holes(text, edit.open), {}
+    if not has_answer:
+        text, tactics = with_tactics(text, edit.open, function, crate, attributes)
     none = ATTRIBUTE.sub("", attributes) + f"{head[1]}#[tactic(none)]\n"
-    made = {
-        file: with_tactics(text, edit.open, function, crate) if by_tactics else text,
-        source: texts[source][:begin] + none + texts[source][head.start() :],
-    }
-    return Answered(made, by_tactics)
+    return Answered({file: text, source: texts[source][:begin] + none + texts[source][head.start() :]}, tactics)
 
 
 def faults_of(answer, function):
@@ -93,11 +110,11 @@ def faults_of(answer, function):
     return [it.text for it in answer.faults if it.file == file_of(function)]
 
 
-def are_refused(answer, goal, function, by_tactics):
+def are_refused(answer, goal, function, tactics):
     """Whether the answers to the goal were refused, by what a check said: those of the tactics, or the one that it has."""
     own = faults_of(answer, function)
-    if by_tactics:
+    if tactics:
         # What a tactic says that found no proof, and one that gave up.
-        wanted = [re.compile(rf"`{re.escape(goal + ending)}`: (?:`{body.split()[0]}`|give the call less to do)") for ending, body in TACTICS.items()]
+        wanted = [re.compile(rf"`{re.escape(goal + ending)}`: (?:`{body.split()[0]}`|give the call less to do)") for ending, body in tactics.items()]
         return answer.ended and all(any(begin.match(it) for it in own) for begin in wanted)
     return answer.ended and any(it.startswith(f"`{goal}`: ") and not verdicts.MISSING.search(it) for it in own)

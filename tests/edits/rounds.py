@@ -173,7 +173,7 @@ class Round:
     def control(self, it, function, crate):
         """The control beside a twin: the function as it stands, or what it has to show of the goal by which the twin counts. None where
         no file was copied that could be copied wrongly, or none that answers that goal: `rt ci` proved it so."""
-        if it.answered and it.answered.by_tactics or not twins.proofs_of(crate.folder, crate.name, function, function):
+        if it.answered and it.answered.tactics or not twins.proofs_of(crate.folder, crate.name, function, function):
             return None
         key = function, it.answered and it.edit.open
         if key not in self.controls:
@@ -234,7 +234,7 @@ def judged_in_copies(answer, crate, it, made):
 def judged_by_goal(answer, crate, it):
     """What came of an edit that counts by the goal that it names, or None where it is to be tried again without that."""
     (function,), (stands,) = it.functions, it.stands_in
-    is_refused = answers.are_refused(answer, it.edit.open, stands, it.answered.by_tactics)
+    is_refused = answers.are_refused(answer, it.edit.open, stands, it.answered.tactics)
     if is_refused and (stands == function or is_in_order(answer, crate, it.control, by_goal=True)):
         return Tried(it.edit.name, True, f"refused by {function}: `{it.edit.open}`")
     it.may_name, it.is_misnamed = False, True
@@ -291,9 +291,33 @@ def try_all(crate, crates, where, from_folder, names):
 
 
 def open_without_edits(crate, crates, where, from_folder, names):
-    """The functions of the folder's edits that are not proved among stubs as they stand: what is refused in one of these would say nothing."""
+    """The functions of the folder's edits that are not proved among stubs as they stand, and the goals by which edits count that none of
+    the tactics closes that stand in their place: what is refused there would say nothing."""
     waiting, _ = read_all(crate, from_folder, names)
     functions = {name for it in waiting for name in it.functions}
     said, _ = checks.check(crate, crates, where, stubs.stubbed({}, crate, names, functions), sorted(functions))
     answer = verdicts.read(crate.name, said)
-    return [name for name in sorted(functions) if verdicts.verdict_of(answer, name)[0] is not Verdict.PROVED]
+    left = [name for name in sorted(functions) if verdicts.verdict_of(answer, name)[0] is not Verdict.PROVED]
+    goals = {(*it.functions, it.edit.open): it.edit for it in waiting if it.may_name}
+    while goals:
+        left += not_closed_by_tactics(crate, crates, where, goals, names)
+    return left
+
+
+def not_closed_by_tactics(crate, crates, where, goals, names):
+    """Takes a goal of each function, and gives those of them that none of the tactics closes which are tried in place of an answer."""
+    texts, tried = {}, {}
+    for (function, goal), edit in [*goals.items()]:
+        if function not in tried:
+            source = edit.pairs[0].file
+            texts.setdefault(source, (crate.folder / source).read_text(encoding="utf-8"))
+            made = answers.answered(edit, function, texts, crate)
+            if made and made.tactics:
+                texts |= made.texts
+                tried[function] = goal, made.tactics
+            del goals[function, goal]
+    if not tried:
+        return []
+    said, _ = checks.check(crate, crates, where, stubs.stubbed(texts, crate, names, {*tried}), sorted(tried))
+    answer = verdicts.read(crate.name, said)
+    return [f"{function}: `{goal}`" for function, (goal, tactics) in tried.items() if function not in answer.functions or answers.are_refused(answer, goal, function, tactics)]

@@ -273,18 +273,34 @@ returns-in-Err c = twice 4
 
     def test_an_answered_goal_and_both_tactics(self):
         at = "proofs/f/Answers.antt:1:1: error: `returns"
-        for said, by_tactics, counts in {
-            (f"{at}`: the two types differ", False, True),
-            (f"{at}`: `once` is not in scope", False, False),
-            (f"{at}-in-Ok`: the two types differ", False, False),
-            (f"{at}`: `search`: no proof of `0 ≡ 1`\n{at}-by-grind`: `grind`: the goal does not follow", True, True),
-            (f"{at}`: `search`: no proof of `0 ≡ 1`\n{at}-by-grind`: give the call less to do", True, True),
-            (f"{at}`: `search`: no proof of `0 ≡ 1`", True, False),
-            (f"{at}-by-grind`: `grind`: the goal does not follow", True, False),
-            (f"{at}`: `once` is not in scope\n{at}-by-grind`: `once` is not in scope", True, False),
-        }:
+        both, three = answers.tactics_of([]), answers.tactics_of(["using_0"])
+        searched, ground = f"{at}`: `search`: no proof of `0 ≡ 1`", f"{at}-by-grind`: `grind`: the goal does not follow"
+        for said, tactics, counts in [
+            (f"{at}`: the two types differ", {}, True),
+            (f"{at}`: `once` is not in scope", {}, False),
+            (f"{at}-in-Ok`: the two types differ", {}, False),
+            (f"{searched}\n{ground}", both, True),
+            (f"{searched}\n{at}-by-grind`: give the call less to do", both, True),
+            (searched, both, False),
+            (ground, both, False),
+            (f"{at}`: `once` is not in scope\n{at}-by-grind`: `once` is not in scope", both, False),
+            (f"{searched}\n{ground}", three, False),
+            (f"{searched}\n{ground}\n{at}-by-lemmas`: `grind`: the goal does not follow", three, True),
+        ]:
             answer = verdicts.read("sample", f"{said}\nfn sample::f: not proved\nonly=1 holes=0\n")
-            self.assertEqual(answers.are_refused(answer, "returns", "f", by_tactics), counts, said)
+            self.assertEqual(answers.are_refused(answer, "returns", "f", tactics), counts, said)
+
+    def test_what_a_function_names_for_its_tactics(self):
+        attributes = "    #[tactic(auto, using(crate::proofs::Runs::longest, crate::proofs::Runs::shifted), unfolding(wire::specs::Lines::spelled))]\n"
+        crate = checks.Crate("sample", Path("sample"), [], [])
+        text, tactics = answers.with_tactics("", "returns", "f", crate, attributes)
+        self.assertEqual(tactics, answers.TACTICS | {"-by-lemmas": "grind (usual_arith, using_0, using_1)"})
+        for line in (
+            "use Rattle.sample.proofs.Runs.{shifted as using_1}\n",
+            "use Rattle.wire.specs.Lines.{spelled as unfolding_0}\n",
+            "pub returns-by-lemmas : goal.returns\nunfolding unfolding_0\nreturns-by-lemmas c = grind (usual_arith, using_0, using_1)\n",
+        ):
+            self.assertIn(line, text)
 
 
 class Copies(unittest.TestCase):
