@@ -236,6 +236,9 @@ tails xs rest more x y e f = cc
 pub some-request : (xs ys rest : List LinkRequest) (x : LinkRequest) → ys ≡ xs → xs ≡ x ∷ rest → ys ≢ []
 some-request xs ys rest x e f g = let none : xs ≡ [] = sym e ∙ g in cc
 
+pub taken-first : (xs ys more rest : List LinkRequest) (x y : LinkRequest) → ys ≡ xs → ys ≡ x ∷ more → xs ≡ y ∷ rest → x ≡ y
+taken-first xs ys more rest x y e f g = let same : x ∷ more ≡ y ∷ rest = sym f ∙ e ∙ g in cc
+
 module _ (l l1 l2 l3 : LinkModel) (flag : Bool) (b : Kept) (e1 : l1 ≡ record l { room = l1.room }) (e2 : l2 ≡ record l1 { requests = l2.requests; asking = flag }) (e3 : l3 ≡ keeps l2 b) where
   pub done-shown : (h : List EntryModel) → shown h l3 ≡ replied (record (shown h l) { requests = l2.requests; asking = flag }) (shown_back h b)
   done-shown h =

@@ -6,7 +6,7 @@ use std::alloc::{AllocError, AllocFailed};
 use thiserror::Error;
 
 /// Why an event did not happen. The world is as before it.
-#[derive(Clone, Copy, Debug, PartialEq, Eq, Drop, Error)]
+#[derive(Clone, Copy, Debug, Drop, Error)]
 pub enum WorldFault {
     #[error("out of memory")]
     NoMemory,
@@ -16,7 +16,7 @@ pub enum WorldFault {
 }
 
 /// Which of the events was refused, and why. Those before it happened.
-#[derive(Clone, Copy, Debug, PartialEq, Eq, Drop, Error)]
+#[derive(Clone, Copy, Debug, Drop, Error)]
 #[error("event {number}: {why}")]
 pub struct RunFault {
     /// From 1.

@@ -138,14 +138,15 @@ impl Link {
         self.requests.first()
     }
 
-    /// Takes the first request. What comes after it meets the flag so.
-    pub(crate) fn take_request(&mut self, asking: bool) -> LinkRequest
+    /// Takes the first request. What comes after ASKING meets the flag.
+    pub(crate) fn take_request(&mut self) -> LinkRequest
         requires { self.old.requests ≢ [] }
         ensures first { self.old.requests ≡ result ∷ self.new.requests }
-        ensures rest { self.new ≡ record self.old { requests = self.new.requests; asking = asking } }
+        ensures rest { self.new ≡ record self.old { requests = self.new.requests; asking = sets_flag result } }
     {
-        self.asking = asking;
-        self.requests.remove(0)
+        let request = self.requests.remove(0);
+        self.asking = sets_flag(&request);
+        request
     }
 
     /// Makes room for so many replies.

@@ -144,7 +144,7 @@ impl Links {
         }
         if let Some((ticket, place)) = link.first_entry() {
             let reply = self.history[place].reply.copy(self.alloc)?;
-            link.take_back();
+            drop(link.take_back());
             return Ok(Some((ticket, Told::Reply(reply))));
         }
         Ok(link.take_back().refusal())
@@ -167,7 +167,7 @@ impl Links {
     {
         let link = &mut self.links[at];
         link.reserve(1)?;
-        link.take_request(true);
+        drop(link.take_request());
         link.keep(Kept::Welcome);
         Ok(())
     }
@@ -190,7 +190,7 @@ impl Links {
         link.reserve(parts.len())?;
         self.history.reserve(parts.len())?;
         let tolds = cluster.serve_run(link.node(), link.asking(), &parts, verdict)?;
-        match link.take_request(false) {
+        match link.take_request() {
             LinkRequest::Asking => Ok(()),
             LinkRequest::Runs(tickets) => {
                 let tickets = tickets.as_slice();

@@ -132,7 +132,7 @@ impl Machine {
         };
         let mut pairs = unsent(self.alloc, self.ups[first].tickets.as_slice())?;
         self.downs.append(&mut pairs)?;
-        self.ups.remove(first);
+        drop(self.ups.remove(first));
         Ok(())
     }
 
@@ -214,13 +214,13 @@ impl Machine {
         let Some(end) = arrival.command.end() else {
             return Err(WorldFault::NotNow);
         };
+        self.answers.reserve(1)?;
         let answer = Answer {
             ticket: arrival.command.ticket(),
             ended: end.copy(self.alloc)?,
             arrived: arrival.arrived,
             answered: self.moment,
         };
-        self.answers.reserve(1)?;
         self.commands.answered(client, place);
         self.answers.push_reserved(answer);
         Ok(())
@@ -236,7 +236,7 @@ impl Machine {
         if let Err(fault) = self.links.carry(link as usize, &self.ups[first]) {
             return Err(fault);
         }
-        self.ups.remove(first);
+        drop(self.ups.remove(first));
         Ok(())
     }
 }

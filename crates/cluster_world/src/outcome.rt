@@ -15,7 +15,7 @@ pub struct Outcome {
 }
 
 /// A write failed; how much went out is not known.
-#[derive(Clone, Copy, Debug, PartialEq, Eq)]
+#[derive(Clone, Copy)]
 pub struct WriteFailed;
 
 impl Outcome {

@@ -21,7 +21,7 @@ use std::io::{Read, Write};
 use thiserror::Error;
 
 /// Why a run of `simulate` says nothing.
-#[derive(Clone, Copy, Debug, PartialEq, Eq, Drop, Error)]
+#[derive(Clone, Copy, Debug, Drop, Error)]
 pub enum SimulateFault {
     /// A growth was refused before or after the events.
     #[error("no memory")]

@@ -1,4 +1,4 @@
-use Rattle.std.proofs.Common.{rules, ◌≡◌, ℕ, Bool, ◌<◌, List, ◌∷◌, length, Some, Ok, Err, refl, sym, ap, ◌∙◌, subst, arith}
+use Rattle.std.proofs.Common.{rules, ◌≡◌, ℕ, Bool, ◌<◌, List, ◌∷◌, length, Some, Ok, Err, false, refl, sym, ap, ◌∙◌, subst, arith}
 use Rattle.std.specs.Prelude.{slice_get, slice_set, All, Result}
 use Rattle.std.specs.Vec.{vec_len}
 use Rattle.std.proofs.lemmas.List.Elements.{All-set}
@@ -12,6 +12,7 @@ use Rattle.world_laws.specs.declared.state.LinkRequest.TheVariants.{Asking, Runs
 use Rattle.cluster_world.specs.declared.link.Kept.{Kept}
 use Rattle.cluster_world.specs.Kept.{LinkModel, IsBelow, KeepsBelow, shown, served_in, NotesAll}
 use Rattle.cluster_world.specs.Links.{linked, BeginsRun, LinkExecutes}
+use Rattle.cluster_world.specs.Rests.{sets_flag}
 use Rattle.cluster_world.specs.Fault.{of_serve}
 use Rattle.cluster_world.specs.declared.fault.WorldFault.{WorldFault}
 use Rattle.cluster_world.specs.declared.fault.WorldFault.TheVariants.{NoMemory}
@@ -147,5 +148,6 @@ returns-in-Runs c =
     let many : length c.in_ok-tolds.tolds.items ≡ length c.args.parts.items = as-many (deed_for c.args.cluster.now c.reserve.new.self.node c.reserve.new.self.asking c.args.parts.items c.args.verdict) c.args.cluster.now c.serve_run.new.self c.reserve.new.self.node c.args.parts.items c.in_ok-tolds.tolds.items does.1 in
     let notes : NotesAll h c.take_request.new.self (served_in c.in-Runs.tickets c.args.parts.items c.in_ok-tolds.tolds.items) c.args.moment c.note_all.new.history.items c.note_all.new.link =
     subst (λ (p : List EntryModel × List Ticket). NotesAll p.0 c.take_request.new.self (served_in p.1 c.args.parts.items c.in_ok-tolds.tolds.items) c.args.moment c.note_all.new.history.items c.note_all.new.link) (λ i. (c.in_ok-reserve-2.ensures.items i, c.as_slice-tickets.ensures i)) c.note_all.ensures in
+    let after : c.take_request.new.self ≡ record c.reserve.new.self { requests = c.take_request.new.self.requests; asking = false } = c.take_request.ensures.rest ∙ (λ i. record c.reserve.new.self { requests = c.take_request.new.self.requests; asking = sets_flag (c.in-Runs.is i) }) in
     served ls h c.args.self.now c.self.view_is c.args.at l at c.args.cluster.now c.serve_run.new.self (tt {0}) c.note_all.new.history.items c.in-Runs.tickets c.args.parts.items c.in_ok-tolds.tolds.items c.args.verdict c.args.moment c.reserve.new.self c.take_request.new.self c.note_all.new.link
-    c.self.invariant (c.take_request.ensures.first ∙ ap (λ (r : LinkRequest). r ∷ c.take_request.new.self.requests) c.in-Runs.is) c.in_ok-reserve.ensures.same c.take_request.ensures.rest notes does
+    c.self.invariant (c.take_request.ensures.first ∙ ap (λ (r : LinkRequest). r ∷ c.take_request.new.self.requests) c.in-Runs.is) c.in_ok-reserve.ensures.same after notes does

@@ -66,18 +66,19 @@ could w client i c ended its stage =
       ),
     )
 
-pub returns-in_err-copy : goal.returns-in_err-copy
-returns-in_err-copy c =
-    let w : WorldModel = state_of c.args.self.now in
-    let is : c.from_residual.result ≡ Err NoMemory = search rules in
-    no-memory w w (event.Answer c.args.client) c.from_residual.result is (could w c.args.client c.in-Some.place c.at-arrival.result.now c.in-Some-end.end.now (sym c.in-Some.ensures, c.at-arrival.ensures) c.in-Some-end.ensures.progress) refl
-
 pub returns-in_err-reserve : goal.returns-in_err-reserve
 returns-in_err-reserve c =
     let w : WorldModel = state_of c.args.self.now in
-    let is : c.from_residual-in_err-reserve.result ≡ Err NoMemory = search rules in
-    no-memory w (record w { answers = c.reserve.new.self.items }) (event.Answer c.args.client) c.from_residual-in_err-reserve.result is
+    let is : c.from_residual.result ≡ Err NoMemory = search rules in
+    no-memory w (record w { answers = c.reserve.new.self.items }) (event.Answer c.args.client) c.from_residual.result is
     (could w c.args.client c.in-Some.place c.at-arrival.result.now c.in-Some-end.end.now (sym c.in-Some.ensures, c.at-arrival.ensures) c.in-Some-end.ensures.progress) (λ i. record w { answers = c.in_err-reserve.ensures.items i })
+
+pub returns-in_err-copy : goal.returns-in_err-copy
+returns-in_err-copy c =
+    let w : WorldModel = state_of c.args.self.now in
+    let is : c.from_residual-in_err-copy.result ≡ Err NoMemory = search rules in
+    no-memory w (record w { answers = c.reserve.new.self.items }) (event.Answer c.args.client) c.from_residual-in_err-copy.result is
+    (could w c.args.client c.in-Some.place c.at-arrival.result.now c.in-Some-end.end.now (sym c.in-Some.ensures, c.at-arrival.ensures) c.in-Some-end.ensures.progress) (λ i. record w { answers = c.in_ok-reserve.ensures.items i })
 
 pub answered-requires : goal.answered-requires
 answered-requires c = sym c.in-Some.ensures
