@@ -3,7 +3,7 @@
 ghost use Rattle.std.specs.Prelude.{◌≡◌, ◌<◌, ◌≤◌};
 ghost use Rattle.proxy_lanes.specs.Opened.{book_of};
 
-use super::carrier_thread::ClientCarrier;
+use super::carrier_thread::{ClientCarrier, Turning};
 use super::client_queue::ClientQueue;
 use super::stop::{Signals, StopGate};
 use super::tasks::{ThreadTask, run_worker_tasks};
@@ -11,14 +11,48 @@ use super::worker_thread::{ScriptWorker, ScriptWorkers, script_worker};
 use crate::record::RunRecord;
 use local_cluster::{LockedCluster, MoveStep, node_table};
 use node_link::RunPort;
-use proxy_lanes::{Naming, Opened, WorkerEnds, lanes};
+use proxy_lanes::{CarrierEnds, Naming, Opened, Publisher, WorkerEnds, lanes};
 use proxy_runtime::{Host, ThreadsFault};
 use proxy_turns::{Carrier, Dial, Gate, Newcomer, Script};
 use resp_wire::{Bytes, NoMemory};
 use std::alloc::Global;
+use std::marker::Brand;
+use std::sync::Wait;
 
 /// Runs the scripts to their end over connections of the dial while the slots move, and answers what the threads hand back.
-pub(crate) fn run_all<J, C, D, P, R, G>(
+pub(crate) fn run_all<C, D, P, R, G>(
+    rt: &R,
+    alloc: Global,
+    cluster: &C,
+    dial: D,
+    scripts: &[Bytes],
+    moves: &[MoveStep],
+    workers: u16,
+    gate: &G,
+) -> Result<RunRecord, ThreadsFault>
+where
+    C: LockedCluster,
+    D: Dial<Port = P> + Drop,
+    P: RunPort + Drop,
+    R: Host,
+    G: Gate + Sync,
+    requires workers { (0 < workers) × (workers ≤ 64) }
+{
+    run_named::<Brand, C, D, P, R, G>(
+        rt,
+        alloc,
+        cluster,
+        dial,
+        scripts,
+        moves,
+        workers,
+        gate,
+        Opened::new(),
+    )
+}
+
+/// Runs them with lanes of this name.
+fn run_named<J, C, D, P, R, G>(
     rt: &R,
     alloc: Global,
     cluster: &C,
@@ -40,13 +74,36 @@ where
     requires workers { (0 < workers) × (workers ≤ 64) }
 {
     let nodes = node_table(alloc)?;
-    let queues = queue_clients(alloc, scripts, workers)?;
-    let (ends, carriers) = lanes::<Newcomer<Script, J>, J, &R>(alloc, rt, opened, workers)?;
-    let tasks = tasks_of(alloc, ends, &queues)?;
+    let RunLanes {
+        tasks,
+        queues,
+        ends,
+    } = run_lanes::<J, R>(rt, alloc, scripts, workers, opened)?;
     let carrier = ClientCarrier {
-        carrier: Carrier::new(alloc, carriers, dial, nodes),
+        carrier: Carrier::new(alloc, ends, dial, nodes),
         queues,
     };
+    run_tasks_beside(rt, alloc, tasks, carrier, cluster, moves, workers, gate)
+}
+
+/// Runs the tasks of so many workers and of the mover beside the carrier.
+fn run_tasks_beside<J, T, C, R, G>(
+    rt: &R,
+    alloc: Global,
+    tasks: Vec<ThreadTask<ScriptWorker<J>>>,
+    carrier: T,
+    cluster: &C,
+    moves: &[MoveStep],
+    workers: u16,
+    gate: &G,
+) -> Result<RunRecord, ThreadsFault>
+where
+    J: Naming + Send + Sync,
+    T: Turning + Drop,
+    C: LockedCluster,
+    R: Host,
+    G: Gate + Sync,
+{
     let signals = &Signals::new(u64::from(workers) + 1);
     let gate = &StopGate { gate, signals };
     run_worker_tasks(
@@ -59,6 +116,33 @@ where
         moves,
         gate,
     )
+}
+
+/// The workers' tasks and last the mover's, and what the carrier is made of: its ends, and the clients for each worker.
+struct RunLanes<J: Naming, E> {
+    tasks: Vec<ThreadTask<ScriptWorker<J>>>,
+    queues: Vec<ClientQueue<Script, J>>,
+    ends: E,
+}
+
+fn run_lanes<'b, J: Naming, R: Wait>(
+    rt: &'b R,
+    alloc: Global,
+    scripts: &[Bytes],
+    workers: u16,
+    opened: Opened,
+) -> Result<RunLanes<J, CarrierEnds<Newcomer<Script, J>, Publisher<J, &'b R>>>, NoMemory>
+    requires name { book_of opened ≡ J.book }
+    requires workers { (0 < workers) × (workers ≤ 64) }
+{
+    let queues = queue_clients(alloc, scripts, workers)?;
+    let (worker_ends, ends) = lanes::<Newcomer<Script, J>, J, &R>(alloc, rt, opened, workers)?;
+    let tasks = tasks_of(alloc, worker_ends, &queues)?;
+    Ok(RunLanes {
+        tasks,
+        queues,
+        ends,
+    })
 }
 
 // The clients of each worker, client c being on worker c modulo the workers.

@@ -10,12 +10,10 @@ use crate::local_fault::LocalFault;
 use crate::record::RunRecord;
 use cluster_world::RunReport;
 use local_cluster::{LocalDial, LocalState, LockedCluster, MoveStep};
-use proxy_lanes::Opened;
 use proxy_runtime::{Host, ThreadsFault};
 use proxy_turns::Gate;
 use resp_wire::Bytes;
 use std::alloc::Global;
-use std::marker::Brand;
 
 /// Runs one client for each script, on worker c modulo the workers for client c, while the slots move as the steps say. Each
 /// worker and the mover run in threads of their own, all joined when this returns, and the carrier in the caller's. A step
@@ -39,17 +37,7 @@ where
     ensures { RunOutcome scripts.now workers (C.gives_up cluster) result }
 {
     let dial = LocalDial::new(alloc, rt, cluster.shared());
-    let ran = run_all::<Brand, C, _, _, R, G>(
-        rt,
-        alloc,
-        &cluster,
-        dial,
-        scripts,
-        moves,
-        workers,
-        gate,
-        Opened::new(),
-    );
+    let ran = run_all(rt, alloc, &cluster, dial, scripts, moves, workers, gate);
     finish(alloc, cluster, scripts, workers, ran)
 }
 
@@ -73,17 +61,7 @@ where
     ensures { RunOutcome scripts.now workers (C.gives_up cluster) result }
 {
     let dial = FusedDial::new(LocalDial::new(alloc, rt, cluster.shared()), calls);
-    let ran = run_all::<Brand, C, _, _, R, G>(
-        rt,
-        alloc,
-        &cluster,
-        dial,
-        scripts,
-        moves,
-        workers,
-        gate,
-        Opened::new(),
-    );
+    let ran = run_all(rt, alloc, &cluster, dial, scripts, moves, workers, gate);
     finish(alloc, cluster, scripts, workers, ran)
 }
 

@@ -35,7 +35,7 @@ impl<T: Drop> From<AllocFailed<T>> for ReadFault {
 }
 
 /// Why a run of scripts says nothing.
-#[derive(Clone, Copy, Debug, PartialEq, Eq, Drop, Error)]
+#[derive(Clone, Copy, Debug, Drop, Error)]
 pub enum ScriptsFault {
     /// A growth was refused before, in or after the run.
     #[error("no memory")]
