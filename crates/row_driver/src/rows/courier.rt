@@ -4,6 +4,7 @@ ghost use Rattle.std.specs.Prelude.{◌≡◌, ⊤};
 
 use crate::rows::held::{Object, put};
 use command_future::{self, Command, OneCommand, Posting, Want};
+use futures::Future;
 use futures::executor::block_on;
 use futures::test::MockTask;
 use key_split::{Batch, Ticket, Told};
@@ -124,16 +125,28 @@ fn carry<R: Wait + RandomSource + AllocGlobal>(rt: &R, courier: &mut Courier, li
     }
 }
 
-/// Polls a command once: whether it is pending, and whether its task was woken.
+/// Polls a command once.
 fn poll_once<R: Wait + RandomSource + AllocGlobal>(rt: &R, courier: &mut Courier, line: &mut Line) {
-    let Some((ticket, part)) = line.read() else {
-        return;
-    };
-    let Ok(task) = MockTask::new(rt) else {
-        return line.refuse(CallFault::NoMemory);
-    };
-    let mut future = OneCommand::new(Command::new(ticket, part), courier);
-    let pending = task.poll(&mut future).is_pending();
-    line.say(if pending { "pending" } else { "ready" });
-    line.say(if task.is_woken() { "woken" } else { "still" });
+    if let Some((ticket, part)) = line.read() {
+        let mut future = OneCommand::new(Command::new(ticket, part), courier);
+        show_poll(rt, &mut future, line);
+    }
+}
+
+/// Polls a future: whether it is pending, and whether its task was woken.
+fn show_poll<R, F>(rt: &R, future: &mut F, line: &mut Line)
+where
+    R: RandomSource + AllocGlobal,
+    F: Future,
+    F::Output: Drop,
+    requires { F.can_poll future.old }
+{
+    match MockTask::new(rt) {
+        Ok(task) => {
+            let pending = task.poll(future).is_pending();
+            line.say(if pending { "pending" } else { "ready" });
+            line.say(if task.is_woken() { "woken" } else { "still" });
+        }
+        Err(_) => line.refuse(CallFault::NoMemory),
+    }
 }

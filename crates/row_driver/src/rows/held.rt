@@ -67,6 +67,11 @@ pub fn put<T: Drop>(place: &mut T, value: T, line: &mut Line) {
     line.done();
 }
 
+/// Whether it was done. What came of it goes here, behind type parameters, since each is then dropped by one call.
+pub fn is_done<T: Drop, E: Drop>(outcome: Result<T, E>) -> bool {
+    outcome.is_ok()
+}
+
 /// Keeps one more.
 pub fn keep<T: Drop>(kept: &mut Vec<T>, value: T, line: &mut Line) {
     match kept.push(value) {

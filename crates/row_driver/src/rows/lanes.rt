@@ -1,5 +1,6 @@
 //! The lanes between two workers and the carrier, and the map that the carrier publishes, in one thread.
 
+use crate::rows::held::is_done;
 use crate::rows::maps::{range_in, slot_in};
 use key_split::{Batch, Run, Ticket, Told};
 use proxy_lanes::{CarrierEnds, Front, MapView, Naming, Outlet, Publisher, WorkerEnds};
@@ -163,7 +164,7 @@ fn hand<M: Drop>(carrier: &mut CarrierEnds<u32, M>, line: &mut Line) {
     if usize::from(worker) >= carrier.workers() {
         return line.refuse(CallFault::NotMade);
     }
-    let is_handed = carrier.hand(worker, u32::from(client)).is_ok();
+    let is_handed = is_done(carrier.hand(worker, u32::from(client)));
     line.say(if is_handed { "ok" } else { "back" });
 }
 

@@ -225,7 +225,7 @@ fn show_written(table: &NodeTable, line: &mut Line) {
 }
 
 /// What a node writes.
-fn written(alloc: Global, told: &Told, table: &NodeTable) -> Result<Value, CallFault> {
+pub fn written(alloc: Global, told: &Told, table: &NodeTable) -> Result<Value, CallFault> {
     match told {
         Told::Reply(_) | Told::TryAgain | Told::ClusterDown => {}
         Told::Moved(_, node) | Told::Ask(_, node) => {

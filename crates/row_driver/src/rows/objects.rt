@@ -11,6 +11,7 @@ use crate::rows::wire::call_of_value;
 use crate::rows::{commands, local, nodes, slots};
 use cluster_world::RunReport;
 use command_future::Command;
+use key_split::{Ended, Part};
 use local_cluster::LocalState;
 use node_model::{Cluster, Store};
 use proxy_lanes::Naming;
@@ -90,8 +91,8 @@ impl Object for RowObjects {
             "value" => call_of_value(&mut self.value, line),
             "slot" => slots::call(line),
             "plan" => self.plans.call(line),
-            "part" => plans::call_of_part(line),
-            "end" => plans::call_of_end(line),
+            "part" => plans::call_of_one::<Part>(line),
+            "end" => plans::call_of_one::<Ended>(line),
             "table" => self.maps.table.call(line),
             "map" => self.maps.map(&self.value, line),
             "copy" => self.maps.copy(line),

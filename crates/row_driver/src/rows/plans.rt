@@ -6,7 +6,7 @@ ghost use Rattle.key_split.specs.Join.{CanBeJoined};
 use crate::rows::held::keep;
 use key_split::{Ended, Joining, Name, Part, PlanFault, Planned, join, plan, refusal};
 use resp_wire::{Bytes, NoMemory, Value};
-use row_words::{CallFault, Line};
+use row_words::{CallFault, Line, Shown, Word};
 use std::alloc::Global;
 
 #[derive(Drop)]
@@ -40,13 +40,9 @@ impl PlanObjects {
     /// Keeps the words of a request, and shows what they are planned as.
     fn plan(&mut self, line: &mut Line) {
         self.ends.clear();
-        match copies(line.alloc, line.rest()) {
-            Ok(words) => self.words = words,
-            Err(_) => return line.refuse(CallFault::NoMemory),
-        }
-        match planned(line.alloc, &self.words) {
-            Ok(planned) => show_plan(&planned, line),
-            Err(fault) => line.answer.debug(&fault),
+        match copy_all(line.alloc, line.rest(), &mut self.words) {
+            Ok(()) => show_planned(&self.words, line),
+            Err(fault) => line.refuse(fault),
         }
     }
 
@@ -58,28 +54,51 @@ impl PlanObjects {
     }
 }
 
-/// A part by itself.
-pub fn call_of_part(line: &mut Line) {
-    match line.call() {
-        "copy" => copy_part(line),
-        _ => line.refuse(CallFault::NoSuchCall),
+/// What has a copy.
+pub trait Copied: Sized {
+    fn copied(&self, alloc: Global) -> Result<Self, NoMemory>;
+}
+
+impl Copied for Part {
+    fn copied(&self, alloc: Global) -> Result<Part, NoMemory> {
+        self.copy(alloc)
     }
 }
 
-/// An end by itself.
-pub fn call_of_end(line: &mut Line) {
-    match line.call() {
-        "copy" => copy_end(line),
-        _ => line.refuse(CallFault::NoSuchCall),
+impl Copied for Ended {
+    fn copied(&self, alloc: Global) -> Result<Ended, NoMemory> {
+        self.copy(alloc)
     }
 }
 
-fn copies(alloc: Global, words: &[Bytes]) -> Result<Vec<Bytes>, CallFault> {
-    let mut copies = Vec::with_capacity(alloc, words.len())?;
+/// A part or an end by itself: a copy of it, and whether it is the same.
+pub fn call_of_one<T: Word + Copied + PartialEq + Shown + Drop>(line: &mut Line) {
+    if line.call() != "copy" {
+        return line.refuse(CallFault::NoSuchCall);
+    }
+    if let Some(one) = line.read::<T>() {
+        match one.copied(line.alloc) {
+            Ok(copy) => line.show((copy == one, copy)),
+            Err(fault) => line.answer.debug(&fault),
+        }
+    }
+}
+
+/// Puts copies of these words in the place of others.
+fn copy_all(alloc: Global, words: &[Bytes], copies: &mut Vec<Bytes>) -> Result<(), CallFault> {
+    copies.clear();
     for word in words {
         copies.push(word.copy(alloc)?)?;
     }
-    Ok(copies)
+    Ok(())
+}
+
+/// What the words of a request are planned as.
+fn show_planned(words: &[Bytes], line: &mut Line) {
+    match planned(line.alloc, words) {
+        Ok(planned) => show_plan(&planned, line),
+        Err(fault) => line.answer.debug(&fault),
+    }
 }
 
 fn planned(alloc: Global, words: &[Bytes]) -> Result<Planned, PlanFault>
@@ -169,30 +188,6 @@ fn show_alike(words: &[Bytes], line: &mut Line) {
 
 fn are_alike(parts: &[Part], one: usize, other: usize) -> Option<bool> {
     Some(parts.get(one)? == parts.get(other)?)
-}
-
-/// A copy of a part, and whether it is the same.
-fn copy_part(line: &mut Line) {
-    if let Some(part) = line.read::<Part>() {
-        line.show(part_copied(line.alloc, &part));
-    }
-}
-
-fn part_copied(alloc: Global, part: &Part) -> Result<(bool, Part), NoMemory> {
-    let copy = part.copy(alloc)?;
-    Ok((copy == *part, copy))
-}
-
-/// A copy of an end, and whether it is the same.
-fn copy_end(line: &mut Line) {
-    if let Some(end) = line.read::<Ended>() {
-        line.show(end_copied(line.alloc, &end));
-    }
-}
-
-fn end_copied(alloc: Global, end: &Ended) -> Result<(bool, Ended), NoMemory> {
-    let copy = end.copy(alloc)?;
-    Ok((copy == *end, copy))
 }
 
 fn show_name(line: &mut Line) {

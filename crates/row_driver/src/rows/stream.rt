@@ -70,24 +70,18 @@ impl MemoryStream {
         self.writes
     }
 
-    /// Whether this read would have to wait.
-    fn read_must_wait(&mut self) -> bool {
-        self.read_waited = self.waits && !self.read_waited;
-        self.read_waited
-    }
-
-    /// Whether this write would have to wait.
-    fn write_must_wait(&mut self) -> bool {
-        self.write_waited = self.waits && !self.write_waited;
-        self.write_waited
-    }
-
     /// Keeps what was written, or nothing of it.
     fn keep(&mut self, first: &[u8], second: &[u8]) -> Result<(), AllocError> {
         self.taken.reserve(first.len() + second.len())?;
         self.taken.extend_from_slice(first)?;
         self.taken.extend_from_slice(second)
     }
+}
+
+/// Whether a call would have to wait: each second one, where any does. It notes whether it did.
+fn must_wait(waits: bool, waited: &mut bool) -> bool {
+    *waited = waits && !*waited;
+    *waited
 }
 
 impl Stream for MemoryStream {
@@ -102,7 +96,7 @@ impl Stream for MemoryStream {
 
     fn read(&mut self, buffer: &mut [u8]) -> Flow {
         self.reads = self.reads.saturating_add(1);
-        if self.read_must_wait() {
+        if must_wait(self.waits, &mut self.read_waited) {
             return Flow::Nothing;
         }
         let left = self.coming.len().saturating_sub(self.given);
@@ -117,7 +111,7 @@ impl Stream for MemoryStream {
 
     fn write(&mut self, first: &[u8], second: &[u8]) -> Flow {
         self.writes = self.writes.saturating_add(1);
-        if self.write_must_wait() {
+        if must_wait(self.waits, &mut self.write_waited) {
             return Flow::Nothing;
         }
         let most = self.at_once.min(self.room);

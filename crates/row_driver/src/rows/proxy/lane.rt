@@ -1,6 +1,6 @@
 //! `lane`: a worker's ends without a worker.
 
-use crate::rows::held::Held;
+use crate::rows::held::{Held, is_done};
 use crate::rows::lanes::show_node;
 use crate::rows::proxy::memory::MemoryEnds;
 use key_split::{Batch, Run};
@@ -57,7 +57,7 @@ fn post_one(outlet: &mut Outlet<Run>, line: &mut Line) {
 }
 
 fn post(outlet: &mut Outlet<Run>, run: Run, line: &mut Line) {
-    let posted = outlet.post(run).is_ok();
+    let posted = is_done(outlet.post(run));
     line.say(if posted { "ok" } else { "full" });
 }
 
@@ -84,8 +84,9 @@ fn put_behind(held: &mut Held<Run>, batch: Batch, line: &mut Line) {
     if !run.takes(&batch) {
         return line.say("apart");
     }
-    match run.push(batch) {
-        Ok(()) => line.done(),
-        Err(_) => line.refuse(CallFault::NoMemory),
+    if is_done(run.push(batch)) {
+        line.done();
+    } else {
+        line.refuse(CallFault::NoMemory);
     }
 }

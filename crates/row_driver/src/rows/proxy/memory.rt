@@ -1,5 +1,6 @@
 //! Workers and a carrier of the proxy, between clients and nodes in memory.
 
+use crate::rows::held::is_done;
 use crate::rows::made::MadeOf;
 use crate::rows::proxy::client::SharedClient;
 use crate::rows::proxy::dial::MemoryDial;
@@ -11,6 +12,7 @@ use proxy_lanes::{CarrierEnds, Naming, Publisher, WorkerEnds};
 use proxy_turns::{Carrier, Newcomer, Worker};
 use resp_wire::NoMemory;
 use row_words::CallFault;
+use slot_map::NodeTable;
 use std::alloc::Global;
 use std::sync::Wait;
 
@@ -60,12 +62,22 @@ pub fn newcomer_to<J: Naming, R: Wait + Drop>(
         port,
         front: None,
     };
-    Ok(ends.hand(worker, newcomer).is_ok())
+    Ok(is_done(ends.hand(worker, newcomer)))
 }
 
 impl<'g, J: Naming> MadeOf<(MemoryEnds<J>, &'g Open)> for MemoryWorker<'g, J> {
     fn made_of(alloc: Global, (own, gate): (MemoryEnds<J>, &'g Open)) -> MemoryWorker<'g, J> {
         Worker::new(alloc, own, gate, None)
+    }
+}
+
+impl<J: Naming, R: Wait + Drop> MadeOf<(MemoryCarrierEnds<J, R>, MemoryDial, NodeTable)>
+    for MemoryCarrier<J, R> {
+    fn made_of(
+        alloc: Global,
+        (ends, dial, known): (MemoryCarrierEnds<J, R>, MemoryDial, NodeTable),
+    ) -> MemoryCarrier<J, R> {
+        Carrier::new(alloc, ends, dial, known)
     }
 }
 

@@ -1,5 +1,6 @@
 //! Three nodes in memory, whose slots move.
 
+use crate::rows::maps::written;
 use key_split::{Batch, Told};
 use node_model::{Cluster, MoveFault, Verdict};
 use resp_wire::{Bytes, NoMemory, Value, write_value};
@@ -109,13 +110,14 @@ impl Nodes {
         if !self.refuses {
             return Verdict::Plain;
         }
-        match (self.served % 41, self.served % 67, self.served % 97) {
-            (0, _, _) => Verdict::TryAgain,
-            (_, 0, _) => Verdict::ClusterDown,
-            (_, _, 0) => match NodeId::new((node.number() + 1) % 3) {
-                Some(other) => Verdict::Moved(other),
-                None => Verdict::Plain,
-            },
+        if self.served % 41 == 0 {
+            return Verdict::TryAgain;
+        }
+        if self.served % 67 == 0 {
+            return Verdict::ClusterDown;
+        }
+        match NodeId::new((node.number() + 1) % 3) {
+            Some(other) if self.served % 97 == 0 => Verdict::Moved(other),
             _ => Verdict::Plain,
         }
     }
@@ -134,27 +136,16 @@ impl Nodes {
 
     fn write_told(&self, told: &Told, out: &mut Vec<u8>) -> Result<(), NoMemory> {
         match told {
-            Told::Reply(value) => write_value(out, value)?,
-            Told::Moved(slot, node) => self.write_redirect(b"-MOVED ", *slot, *node, out)?,
-            Told::Ask(slot, node) => self.write_redirect(b"-ASK ", *slot, *node, out)?,
-            Told::TryAgain => out.extend_from_slice(b"-TRYAGAIN not all keys are here\r\n")?,
-            _ => out.extend_from_slice(b"-CLUSTERDOWN not served\r\n")?,
+            Told::Reply(value) => write_value(out, value),
+            _ => self.write_refusal(told, out),
         }
-        Ok(())
     }
 
-    fn write_redirect(
-        &self,
-        word: &[u8],
-        slot: Slot,
-        node: NodeId,
-        out: &mut Vec<u8>,
-    ) -> Result<(), NoMemory> {
-        let port = FIRST_PORT + u16::from(node.number());
-        let text = format!(in self.alloc; "{} 127.0.0.1:{}\r\n", slot.number(), port)?;
-        out.extend_from_slice(word)?;
-        out.extend_from_slice(text.as_bytes())?;
-        Ok(())
+    fn write_refusal(&self, told: &Told, out: &mut Vec<u8>) -> Result<(), NoMemory> {
+        match written(self.alloc, told, &self.table) {
+            Ok(value) => write_value(out, &value),
+            Err(_) => Err(NoMemory),
+        }
     }
 
     /// What CLUSTER SLOTS says.

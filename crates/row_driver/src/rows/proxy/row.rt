@@ -3,19 +3,24 @@
 ghost use Rattle.std.specs.Prelude.{◌≡◌};
 ghost use Rattle.proxy_lanes.specs.Opened.{book_of};
 
+use crate::rows::made::MadeOf;
 use crate::rows::proxy::client::SharedClient;
 use crate::rows::proxy::clients::Clients;
+use crate::rows::proxy::dial::MemoryDial;
 use crate::rows::proxy::gate::Open;
 use crate::rows::proxy::lane::Lane;
-use crate::rows::proxy::memory::{MemoryCarrierEnds, MemoryEnds, MemoryWorker, workers_for};
+use crate::rows::proxy::memory::{
+    MemoryCarrier, MemoryCarrierEnds, MemoryEnds, MemoryWorker, workers_for,
+};
 use crate::rows::proxy::nodes::SharedNodes;
 use crate::rows::proxy::objects::TurnObjects;
 use crate::rows::proxy::outside::Outside;
 use crate::rows::proxy::turned::{Hands, Turned, Turns};
 use proxy_lanes::{Naming, Opened, lanes};
-use proxy_turns::{Carrier, Newcomer};
+use proxy_turns::Newcomer;
 use row_words::{CallFault, Objects, Rows};
-use std::alloc::{AllocGlobal, Global};
+use slot_map::NodeTable;
+use std::alloc::AllocGlobal;
 use std::io::{self, BufRead, Write};
 use std::marker::Brand;
 use std::random::RandomSource;
@@ -54,17 +59,32 @@ where
         return Ok(false);
     };
     match lanes::<Newcomer<SharedClient, J>, J, R>(rt.alloc(), rt, opened, LANES) {
-        Ok((ends, carrier)) => row_over(rt, outside, ends, carrier, others, rows),
+        Ok((ends, carrier)) => {
+            let gate = Open;
+            row_over::<
+                J,
+                R,
+                B,
+                W,
+                O,
+                MemoryCarrierEnds<J, R>,
+                MemoryWorker<'_, J>,
+                MemoryCarrier<J, R>,
+            >(rt, &gate, outside, ends, carrier, others, rows)
+        }
         Err(_) => Ok(false),
     }
 }
 
 /// A row with a worker for each of these ends but the last, and a carrier that knows the seed alone.
-fn row_over<J, R, B, W, O>(
+// The types of workers and carriers are parameters from here on, since a value of such a type is moved and dropped by one
+// call each.
+fn row_over<'g, J, R, B, W, O, E, T, C>(
     rt: R,
+    gate: &'g Open,
     outside: Outside,
     mut ends: Vec<MemoryEnds<J>>,
-    carrier: MemoryCarrierEnds<J, R>,
+    carrier: E,
     others: O,
     rows: &mut Rows<B, W>,
 ) -> io::Result<bool>
@@ -74,15 +94,16 @@ where
     B: BufRead,
     W: Write,
     O: Objects + Drop,
+    E: Drop,
+    T: Turned + MadeOf<(MemoryEnds<J>, &'g Open)> + Drop,
+    C: Hands + MadeOf<(E, MemoryDial, NodeTable)> + Drop,
 {
-    let carrier = Carrier::new(rt.alloc(), carrier, outside.dial, outside.known);
+    let carrier = C::made_of(rt.alloc(), (carrier, outside.dial, outside.known));
     let lane = Lane::new(ends.pop());
-    let gate = Open;
-    let workers = workers_for::<MemoryEnds<J>, MemoryWorker<'_, J>>(rt.alloc(), ends, &gate);
+    let workers = workers_for::<MemoryEnds<J>, T>(rt.alloc(), ends, gate);
     row_with(rt, outside.nodes, workers, carrier, lane, others, rows)
 }
 
-// The types of workers and carriers are parameters here, since a value of such a type is dropped by one call.
 fn row_with<J, R, B, W, T, C, O>(
     rt: R,
     nodes: SharedNodes,

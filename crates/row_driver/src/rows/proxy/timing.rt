@@ -4,47 +4,39 @@ use crate::rows::proxy::turned::{Hands, Turned, Turns};
 use row_words::{CallFault, Line};
 use std::time::{Clock, Instant};
 
-/// Who is turned.
-#[derive(Clone, Copy)]
-enum Who {
-    Worker,
-    Carrier,
-}
-
 /// Answers how many nanoseconds a turn took of so many, or `moved` where one of them moved something.
 pub fn call<R: Clock, W: Turned, C: Hands>(rt: &R, turned: &mut Turns<W, C>, line: &mut Line) {
-    let Some(who) = who_in(line) else {
-        return line.refuse(CallFault::NoSuchCall);
-    };
-    let Some(count) = line.read() else {
+    match line.call() {
+        "worker" => match turned.workers.get_mut(0) {
+            Some(worker) => show_spent(rt, worker, line),
+            None => line.refuse(CallFault::BadNumber),
+        },
+        "carrier" => show_spent(rt, turned.carrier.get_mut(), line),
+        _ => line.refuse(CallFault::NoSuchCall),
+    }
+}
+
+fn show_spent<R: Clock, T: Turned>(rt: &R, turned: &mut T, line: &mut Line) {
+    let Some(count) = line.read::<u64>() else {
         return;
     };
-    match nanoseconds_of(rt, turned, who, count) {
+    match nanoseconds_of(rt, turned, count) {
         Ok(Some(spent)) => line.show(spent / count.max(1)),
         Ok(None) => line.say("moved"),
         Err(fault) => line.refuse(fault),
     }
 }
 
-fn who_in(line: &Line) -> Option<Who> {
-    match line.call() {
-        "worker" => Some(Who::Worker),
-        "carrier" => Some(Who::Carrier),
-        _ => None,
-    }
-}
-
 /// How long so many turns took, or None where one of them moved something.
-fn nanoseconds_of<R: Clock, W: Turned, C: Hands>(
+fn nanoseconds_of<R: Clock, T: Turned>(
     rt: &R,
-    turned: &mut Turns<W, C>,
-    who: Who,
+    turned: &mut T,
     count: u64,
 ) -> Result<Option<u64>, CallFault> {
     let Ok(start) = Instant::now(rt) else {
         return Err(CallFault::NotNow);
     };
-    if turn(turned, who, count)? {
+    if turn(turned, count)? {
         return Ok(None);
     }
     match start.elapsed(rt) {
@@ -54,17 +46,10 @@ fn nanoseconds_of<R: Clock, W: Turned, C: Hands>(
 }
 
 /// So many turns. True where one of them moved something.
-fn turn<W: Turned, C: Hands>(
-    turned: &mut Turns<W, C>,
-    who: Who,
-    count: u64,
-) -> Result<bool, CallFault> {
+fn turn<T: Turned>(turned: &mut T, count: u64) -> Result<bool, CallFault> {
     let mut moved = false;
     for _ in 0..count {
-        moved |= match who {
-            Who::Worker => turned.turn_worker(0)?,
-            Who::Carrier => turned.turn_carrier()?,
-        };
+        moved |= turned.turn()?;
     }
     Ok(moved)
 }

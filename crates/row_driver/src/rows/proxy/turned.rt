@@ -20,7 +20,7 @@ pub trait Hands: Turned {
 /// Workers and a carrier.
 #[derive(Drop)]
 pub struct Turns<W, C> {
-    workers: Vec<W>,
+    pub workers: Vec<W>,
     pub carrier: RefCell<C>,
 }
 
@@ -51,10 +51,10 @@ impl<W: Turned, C: Hands> Turns<W, C> {
     }
 
     /// One turn of each worker.
-    fn turn_workers(&mut self) -> Result<bool, NoMemory> {
+    fn turn_workers(&mut self) -> Result<bool, CallFault> {
         let mut moved = false;
-        for worker in self.workers.iter_mut() {
-            moved |= worker.turn()?;
+        for worker in 0..self.workers.len() {
+            moved |= self.turn_worker(worker)?;
         }
         Ok(moved)
     }
