@@ -16,7 +16,7 @@ use std::marker::Model;
 const FOLLOWED: u8 = 16;
 
 /// Whether a command goes on after it was told something.
-#[derive(Clone, Copy, Debug, PartialEq, Eq)]
+#[derive(Clone, Copy)]
 pub enum Step {
     Again,
     Done,

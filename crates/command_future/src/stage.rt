@@ -6,7 +6,7 @@ use key_split::Ended;
 use slot_map::NodeId;
 
 /// What a command wants next.
-#[derive(Clone, Copy, Debug, PartialEq, Eq)]
+#[derive(Clone, Copy)]
 pub enum Want {
     /// To be posted, after ASKING or not, at the named node or at any.
     Post(bool, Option<NodeId>),

@@ -14,7 +14,7 @@ use store_answer::reply_on_empty;
 use thiserror::Error;
 
 /// Why a run of `one` ends before its time.
-#[derive(Clone, Copy, Debug, PartialEq, Eq, Error)]
+#[derive(Clone, Copy, Debug, Error)]
 pub enum OneFault {
     /// A growth was refused.
     #[error("no memory")]

@@ -10,7 +10,7 @@ use std::alloc::Global;
 use std::marker::Model;
 
 /// When SET writes.
-#[derive(Clone, Copy, Debug, PartialEq, Eq)]
+#[derive(Clone, Copy, PartialEq, Eq)]
 pub enum Mode {
     Always,
     /// NX
@@ -20,7 +20,7 @@ pub enum Mode {
 }
 
 /// What is done at the keys of a part, by the Redis command of that name.
-#[derive(Clone, Copy, Debug, PartialEq, Eq)]
+#[derive(Clone, Copy, PartialEq, Eq)]
 pub enum Op {
     Get,
     Set(Mode),
@@ -52,7 +52,7 @@ pub type Pair = (Bytes, Bytes);
 
 /// An operation with its keys, all of one slot, and their values where it has them. Further keys are there only where the operation
 /// takes a group.
-#[derive(Debug, Drop)]
+#[derive(Drop)]
 pub struct Part {
     op: Op,
     key: Bytes,
@@ -194,7 +194,7 @@ impl Eq for Part {
 }
 
 /// The parts of a request, in order.
-#[derive(Debug, Drop)]
+#[derive(Drop)]
 pub struct Parts {
     items: Vec<Part>,
 }

@@ -9,7 +9,7 @@ use std::marker::Model;
 use thiserror::Error;
 
 /// For each item of a reply the number of the part whose next item it is.
-#[derive(Debug, Drop)]
+#[derive(Drop)]
 pub struct Places {
     numbers: Vec<u32>,
 }
@@ -37,7 +37,7 @@ impl Places {
 }
 
 /// How the replies of the parts become one.
-#[derive(Debug, Drop)]
+#[derive(Drop)]
 pub enum Joining {
     /// The one part's reply.
     One,
@@ -61,7 +61,7 @@ pub enum Planned {
 
 /// Why a request is not planned. The faults other than NoMemory are found in this order, and
 /// before any memory is asked for.
-#[derive(Clone, Copy, Debug, PartialEq, Eq, Error)]
+#[derive(Clone, Copy, Debug, Error)]
 pub enum PlanFault {
     #[error("a growth was refused")]
     NoMemory,

@@ -9,7 +9,7 @@ use slot_map::NodeId;
 use std::alloc::Global;
 
 /// Which part of which client of which worker.
-#[derive(Clone, Copy, Debug)]
+#[derive(Clone, Copy)]
 pub struct Ticket {
     pub worker: u16,
     pub client: u32,

@@ -9,7 +9,7 @@ const FIRST_PAUSE: u64 = 50;
 const LONGEST_PAUSE: u64 = 250;
 
 /// When a node is asked next, and how long the pause after that is, in milliseconds.
-#[derive(Clone, Copy, Debug, PartialEq, Eq)]
+#[derive(Clone, Copy)]
 pub(crate) struct AskSchedule {
     next: u64,
     pause: u64,

@@ -22,7 +22,7 @@ use std::mem;
 use thiserror::Error;
 
 /// Why a link refused. After each but NoMemory the link has failed, and refuses for the same reason from then on.
-#[derive(Clone, Copy, Debug, PartialEq, Eq, Drop, Error)]
+#[derive(Clone, Copy, Debug, Drop, Error)]
 pub enum LinkFault {
     /// Nothing was sent, and a value that came is kept for the next call.
     #[error("out of memory")]
@@ -45,7 +45,7 @@ pub enum Got {
 }
 
 /// What the sender of a request waits for.
-#[derive(Clone, Copy, Debug, PartialEq, Eq)]
+#[derive(Clone, Copy)]
 pub enum Due {
     /// The reply to ASKING, which says nothing.
     Asking,
@@ -56,7 +56,7 @@ pub enum Due {
 }
 
 /// Why nothing more goes over a link.
-#[derive(Clone, Copy, Debug, PartialEq, Eq)]
+#[derive(Clone, Copy)]
 pub enum Failure {
     PortFailed,
     Stray,

@@ -5,7 +5,7 @@ ghost use Rattle.node_link.specs.declared.stream.Flow.{Flow};
 ghost use Rattle.node_link.specs.Stream.{ReadOutcome, WriteOutcome};
 
 /// What one call on a stream moved.
-#[derive(Clone, Copy, Debug, PartialEq, Eq)]
+#[derive(Clone, Copy, PartialEq, Eq)]
 pub enum Flow {
     /// So many bytes.
     Bytes(usize),

@@ -7,7 +7,7 @@ use key_split::same_letters;
 use resp_wire::Bytes;
 
 /// What a request asks of a node.
-#[derive(Clone, Copy, Debug, PartialEq, Eq)]
+#[derive(Clone, Copy)]
 pub enum Call {
     /// ASKING: the next request follows an ASK.
     Asking,

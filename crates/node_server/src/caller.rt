@@ -6,7 +6,7 @@ use key_split::{Batch, Part, Ticket};
 use slot_map::NodeId;
 
 /// A connection to a node, as far as the node's answers depend on it.
-#[derive(Clone, Copy, Debug)]
+#[derive(Clone, Copy)]
 pub struct Caller {
     /// The node that is asked.
     pub node: NodeId,

@@ -15,7 +15,7 @@ const ANSWERS_PER_TURN: usize = 1024;
 const LAST_PIECES: usize = 16;
 
 /// How a turn ended.
-#[derive(Clone, Copy, Debug, PartialEq, Eq)]
+#[derive(Clone, Copy, PartialEq, Eq)]
 pub(crate) enum TurnOutcome {
     /// More can be done at once.
     Again,

@@ -10,7 +10,7 @@ use resp_wire::is_one_line;
 use std::fmt;
 
 /// A host and a port of it.
-#[derive(Clone, Copy, Debug, PartialEq, Eq)]
+#[derive(Clone, Copy, Debug)]
 pub struct Address<'a> {
     pub host: &'a str,
     pub port: u16,

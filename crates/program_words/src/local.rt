@@ -10,7 +10,7 @@ use clap::{Arg, ArgAction, ArgMatches, Command};
 use std::alloc::{AllocError, Global};
 
 /// How many workers serve the clients of the scripts.
-#[derive(Clone, Copy, Debug, PartialEq, Eq)]
+#[derive(Clone, Copy)]
 pub struct Playing {
     pub workers: u16,
     pub ghost in_range: { (0 < workers) × (workers ≤ 64) },

@@ -10,7 +10,7 @@ use clap::{Arg, ArgAction, ArgMatches, Command};
 use std::alloc::{AllocError, Global};
 
 /// Where the proxy listens, a node of its cluster, and how many workers it has.
-#[derive(Clone, Copy, Debug, PartialEq, Eq)]
+#[derive(Clone, Copy)]
 pub struct Serving<'a> {
     pub listen: Address<'a>,
     pub seed: Address<'a>,

@@ -7,7 +7,7 @@ use std::sync::Wait;
 use std::thread::{self, Builder, JoinHandle, Threads};
 
 /// Why the threads of a run were ended.
-#[derive(Clone, Copy, Debug)]
+#[derive(Clone, Copy)]
 pub enum ThreadsFault {
     /// A growth was refused.
     NoMemory,

@@ -4,7 +4,7 @@ ghost use Rattle.std.specs.Prelude.{◌≡◌};
 ghost use Rattle.proxy_turns.specs.Backend.{is_backend_move};
 
 /// What one step at a backend did.
-#[derive(Clone, Copy, Debug, PartialEq, Eq)]
+#[derive(Clone, Copy)]
 pub enum BackendStep {
     /// There was nothing to do.
     Idle,

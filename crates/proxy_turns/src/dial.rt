@@ -9,7 +9,7 @@ use slot_map::NodeId;
 use thiserror::Error;
 
 /// Why no connection was given.
-#[derive(Clone, Copy, Debug, PartialEq, Eq, Drop, Error)]
+#[derive(Clone, Copy, Debug, Drop, Error)]
 pub enum DialFault {
     /// The node was not dialled.
     #[error("out of memory")]

@@ -10,7 +10,7 @@ use resp_wire::NoMemory;
 use session_order::SessionFault;
 
 /// What a client's turn came to.
-#[derive(Clone, Copy, Debug, PartialEq, Eq)]
+#[derive(Clone, Copy)]
 pub(crate) struct Turned {
     pub(crate) moved: bool,
     /// Nothing is left to do for the client.
@@ -18,7 +18,7 @@ pub(crate) struct Turned {
 }
 
 /// What became of a command that may have ended.
-#[derive(Clone, Copy, Debug, PartialEq, Eq)]
+#[derive(Clone, Copy)]
 pub(crate) enum Finish {
     /// It has ended, and its session knows. With the ticket of the next that is out for its slot.
     Ended(Option<Ticket>),
@@ -27,7 +27,7 @@ pub(crate) enum Finish {
 }
 
 /// What a posted command has to do.
-#[derive(Clone, Copy, Debug, PartialEq, Eq)]
+#[derive(Clone, Copy)]
 pub(crate) enum NextStep {
     /// Nothing: it awaits its answer, or its turn has not come.
     Rest,
@@ -38,7 +38,7 @@ pub(crate) enum NextStep {
 }
 
 /// What became of a command that may have been refused.
-#[derive(Clone, Copy, Debug, PartialEq, Eq)]
+#[derive(Clone, Copy)]
 pub(crate) enum Settled {
     /// It was posted again.
     Posted,

@@ -1,7 +1,7 @@
 //! What a worker gives back.
 
 /// Why a worker came to its end.
-#[derive(Clone, Copy, Debug, PartialEq, Eq)]
+#[derive(Clone, Copy)]
 pub enum WorkerOutcome {
     /// All its clients came and were served.
     Served,

@@ -24,7 +24,7 @@ const MOST_EXPECTED_BYTES: usize = 262_144;
 /// Bytes that come in at the back and go off at the front. The room of those that went is used again once it is more than
 /// half of the buffer, so that each byte is moved a bounded number of times. A large buffer that is empty is given back. The
 /// next one then gets as much room at once, and less where fewer bytes come.
-#[derive(Debug, Drop)]
+#[derive(Drop)]
 pub struct ByteQueue {
     bytes: Vec<u8>,
     /// Where those that are left begin.

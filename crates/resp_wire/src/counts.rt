@@ -10,7 +10,7 @@ use std::marker::Model;
 const MOST: usize = 9;
 
 /// The counts of the open arrays, the outermost first.
-#[derive(Debug, Drop)]
+#[derive(Drop)]
 pub(crate) struct Counts {
     counts: [usize; MOST],
     len: usize,

@@ -4,7 +4,7 @@ use std::alloc::{AllocError, AllocFailed};
 use thiserror::Error;
 
 /// A growth was refused.
-#[derive(Clone, Copy, Debug, PartialEq, Eq, Drop, Error)]
+#[derive(Clone, Copy, Debug, Drop, Error)]
 #[error("out of memory")]
 pub struct NoMemory;
 
@@ -21,7 +21,7 @@ impl<T: Drop> From<AllocFailed<T>> for NoMemory {
 }
 
 /// Why a value cannot be read.
-#[derive(Clone, Copy, Debug, PartialEq, Eq, Drop, Error)]
+#[derive(Clone, Copy, Debug, Drop, Error)]
 pub enum WireFault {
     #[error("out of memory")]
     NoMemory,

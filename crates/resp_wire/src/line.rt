@@ -14,7 +14,7 @@ const CR: u8 = b'\r';
 const LF: u8 = b'\n';
 
 /// The kind of a value, which its first byte tells.
-#[derive(Clone, Copy, Debug, Drop)]
+#[derive(Clone, Copy, Drop)]
 pub(crate) enum Kind {
     Simple,
     Error,

@@ -10,7 +10,7 @@ use crate::line::unfinished;
 use crate::scan::scan;
 
 /// How far bytes were read that come in pieces.
-#[derive(Debug, Drop)]
+#[derive(Drop)]
 pub(crate) struct Place {
     /// Where the next item begins.
     position: usize,

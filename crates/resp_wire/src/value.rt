@@ -13,7 +13,7 @@ use std::marker::Model;
 
 /// A value of the protocol.
 #[cycle(value)]
-#[derive(Debug, Drop)]
+#[derive(Drop)]
 pub enum Value {
     Simple(Line),
     Error(Line),
@@ -26,7 +26,7 @@ pub enum Value {
 
 /// The items of an array.
 #[cycle(value)]
-#[derive(Debug, Drop)]
+#[derive(Drop)]
 pub struct Values {
     items: Vec<Value>,
 }

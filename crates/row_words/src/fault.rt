@@ -4,7 +4,7 @@ use resp_wire::NoMemory;
 use std::alloc::{AllocError, AllocFailed};
 
 /// Why a call is not made. But for NoMemory the line is wrong: it says no call that can be made.
-#[derive(Clone, Copy, Debug, PartialEq, Eq, Drop)]
+#[derive(Clone, Copy, Debug, Drop)]
 pub enum CallFault {
     NoMemory,
     /// A quote is not closed, or behind a backslash stands what may not stand there.

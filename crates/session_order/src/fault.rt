@@ -4,7 +4,7 @@ use resp_wire::WireFault;
 use thiserror::Error;
 
 /// Why a session refused. After `Wire` and `NotRequest` it reads no more, and answers the same.
-#[derive(Clone, Copy, Debug, PartialEq, Eq, Drop, Error)]
+#[derive(Clone, Copy, Debug, Drop, Error)]
 pub enum SessionFault {
     /// Nothing has changed.
     #[error("out of memory")]

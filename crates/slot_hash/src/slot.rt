@@ -11,7 +11,7 @@ use std::marker::Model;
 pub const SLOT_COUNT: u16 = 16384;
 
 /// A hash slot, by its number.
-#[derive(Clone, Copy, Debug, PartialEq, Eq, PartialOrd, Ord, Hash)]
+#[derive(Clone, Copy, PartialEq, Eq, PartialOrd, Ord, Hash)]
 pub struct Slot {
     number: u16,
 }

@@ -38,7 +38,7 @@ impl<'a> Address<'a> {
 }
 
 /// An endpoint that is kept.
-#[derive(Debug, Drop)]
+#[derive(Drop)]
 pub(crate) struct Listener {
     host: Bytes,
     port: u16,

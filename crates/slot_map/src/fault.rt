@@ -5,7 +5,7 @@ use std::alloc::AllocFailed;
 use thiserror::Error;
 
 /// Why a node or a reply to CLUSTER SLOTS is refused. The table is then as it was.
-#[derive(Clone, Copy, Debug, PartialEq, Eq, Drop, Error)]
+#[derive(Clone, Copy, Debug, Drop, Error)]
 pub enum MapFault {
     #[error("out of memory")]
     NoMemory,

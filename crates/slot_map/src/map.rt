@@ -11,7 +11,7 @@ use std::alloc::Global;
 use std::marker::Model;
 
 /// Which node each slot lives on.
-#[derive(Debug, Drop)]
+#[derive(Drop)]
 pub struct SlotMap {
     nodes: Vec<Option<NodeId>>,
 }

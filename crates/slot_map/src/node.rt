@@ -8,7 +8,7 @@ use std::marker::Model;
 pub const NODE_LIMIT: usize = 64;
 
 /// A node, by its number in the table.
-#[derive(Clone, Copy, Debug, PartialEq, Eq, PartialOrd, Ord, Hash)]
+#[derive(Clone, Copy, PartialEq, Eq, PartialOrd, Ord, Hash)]
 pub struct NodeId {
     number: u8,
 }

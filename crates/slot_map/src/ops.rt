@@ -7,7 +7,7 @@ use slot_hash::Slot;
 use std::marker::Model;
 
 /// A change of the map.
-#[derive(Clone, Copy, Debug, PartialEq, Eq)]
+#[derive(Clone, Copy)]
 pub enum MapOp {
     /// The slots from the first to the last, both included, live on the node. A range whose first slot is past its last
     /// covers nothing.
@@ -17,7 +17,7 @@ pub enum MapOp {
 }
 
 /// Changes of the map, in order.
-#[derive(Debug, Drop)]
+#[derive(Drop)]
 pub struct MapOps {
     items: Vec<MapOp>,
 }

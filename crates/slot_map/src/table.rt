@@ -12,7 +12,7 @@ use std::alloc::Global;
 use std::marker::Model;
 
 /// The nodes that are known, in the order of their numbers. No CR or LF stands in a host.
-#[derive(Debug, Drop)]
+#[derive(Drop)]
 pub struct NodeTable {
     alloc: Global,
     nodes: Vec<Listener>,

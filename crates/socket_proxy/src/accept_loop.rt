@@ -36,7 +36,7 @@ pub(crate) enum AcceptOutcome {
 }
 
 /// How much moved in some turns of the carrier.
-#[derive(Clone, Copy, PartialEq, Eq)]
+#[derive(Clone, Copy)]
 pub(crate) enum Activity {
     Idle,
     Active,

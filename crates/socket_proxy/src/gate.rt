@@ -13,7 +13,7 @@ const TURNS_PER_POLL: u32 = 4;
 const ENDS: u64 = 256;
 
 /// How many batches a worker has posted, and how many of its parts have ended.
-#[derive(Clone, Copy, PartialEq, Eq)]
+#[derive(Clone, Copy)]
 struct WorkCount {
     posted: u64,
     ended: u64,

@@ -15,7 +15,7 @@ pub struct Arrival {
 }
 
 /// A run in a lane: commands of one client for one slot, in order; their parts stand with the commands.
-#[derive(Debug, Drop)]
+#[derive(Drop)]
 pub struct Posted {
     pub tickets: Tickets,
     pub node: NodeId,
@@ -24,7 +24,7 @@ pub struct Posted {
 }
 
 /// What a link carries to its node.
-#[derive(Debug, Drop)]
+#[derive(Drop)]
 pub enum LinkRequest {
     Asking,
     /// The commands of these tickets, all or none of them: one alone, or several between MULTI and EXEC.
