@@ -19,6 +19,8 @@ import verdicts
 # them too.
 TACTICS = {"": "search usual_rules", "-by-grind": "grind (usual_arith, usual_steps)"}
 BY_LEMMAS = "-by-lemmas"
+# What is refused beside the answer of a control.
+NOT_TRIED = "not-tried"
 
 USES = """\
 use Rattle.std.proofs.Common.{rules as usual_rules, arith as usual_arith}
@@ -105,9 +107,18 @@ def answered(edit, function, texts, crate):
     return Answered({file: text, source: texts[source][:begin] + none + texts[source][head.start() :]}, tactics)
 
 
+def for_control(edit, function, texts, crate):
+    """The texts for a control that has to show the goal of an edit. A declaration that is refused stands beside its answer: where nothing
+    of a function is refused and a goal has no answer, a check goes on to look for what it could offer, for longer than it took before."""
+    made, file = answered(edit, function, texts, crate).texts, file_of(function)
+    place = f"{GOALS.search(made[file])[1]}.{edit.open}"
+    return made | {file: made[file].rstrip("\n") + f"\n\npub {NOT_TRIED} : {place}\n{NOT_TRIED} = tt\n"}
+
+
 def faults_of(answer, function):
     """What a check said against the answers of a function."""
-    return [it.text for it in answer.faults if it.file == file_of(function)]
+    own = [it.text for it in answer.faults if it.file == file_of(function)]
+    return [it for it in own if not it.startswith(f"`{NOT_TRIED}`: ")]
 
 
 def are_refused(answer, goal, function, tactics):

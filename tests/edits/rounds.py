@@ -180,7 +180,7 @@ class Round:
             made = twins.control_of(it.edit, function, self.texts, crate, len(self.controls))
             self.controls[key], self.texts = made.name, self.texts | made.texts
             if it.answered:
-                self.texts |= answers.answered(it.edit, made.name, self.texts, crate).texts
+                self.texts |= answers.for_control(it.edit, made.name, self.texts, crate)
         return self.controls[key]
 
     def asked(self):
