@@ -115,6 +115,15 @@ def for_control(edit, function, texts, crate):
     return made | {file: made[file].rstrip("\n") + f"\n\npub {NOT_TRIED} : {place}\n{NOT_TRIED} = tt\n"}
 
 
+def of_closures(it, names):
+    """Texts of answers for the closures of an edit's function, for the same reason: where no tactic is tried on the function's goals, none
+    is tried on theirs."""
+    (function,), last = it.functions, it.stands_in[0].split("::")[-1]
+    inside = [name for name in names if name != function and "+" not in name and verdicts.is_own(function, name)]
+    closures = [name.replace(f"::{function.split('::')[-1]}::", f"::{last}::", 1) for name in inside]
+    return {file_of(name): f"pub {NOT_TRIED} : Type 0\n{NOT_TRIED} = tt\n" for name in closures}
+
+
 def faults_of(answer, function):
     """What a check said against the answers of a function."""
     own = [it.text for it in answer.faults if it.file == file_of(function)]

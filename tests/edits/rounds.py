@@ -193,7 +193,8 @@ class Round:
         if any(it.alone for it in self.taken):
             return stubs.Stubs(self.texts)
         kept = self.asked().union(*(it.touched for it in self.taken if it.stands_in == it.functions))
-        return stubs.stubbed(self.texts, crate, names, kept)
+        closures = {file: text for it in self.taken if it.answered for file, text in answers.of_closures(it, names).items()}
+        return stubs.stubbed(self.texts | closures, crate, names, kept)
 
 
 def control_key(it):

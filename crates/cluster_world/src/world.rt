@@ -17,10 +17,16 @@ use world_laws::{Answer, Entry, Event};
 
 /// The core of the proxy with its nodes: commands, lanes, links, what was executed, and what was answered. It can be made by
 /// events alone.
-#[derive(Drop)]
 pub struct World {
     machine: Machine,
     nodes: u8,
+}
+
+impl Drop for World {
+    fn drop(self) {
+        let World { machine, nodes: _ } = self;
+        drop(machine);
+    }
 }
 
 impl Model for World {

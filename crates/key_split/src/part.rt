@@ -52,13 +52,27 @@ pub type Pair = (Bytes, Bytes);
 
 /// An operation with its keys, all of one slot, and their values where it has them. Further keys are there only where the operation
 /// takes a group.
-#[derive(Drop)]
 pub struct Part {
     op: Op,
     key: Bytes,
     arg: Bytes,
     rest: Vec<Pair>,
     slot: Slot,
+}
+
+impl Drop for Part {
+    fn drop(self) {
+        let Part {
+            op: _,
+            key,
+            arg,
+            rest,
+            slot: _,
+        } = self;
+        drop(key);
+        drop(arg);
+        drop(rest);
+    }
 }
 
 impl Model for Part {

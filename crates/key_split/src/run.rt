@@ -8,10 +8,17 @@ use std::alloc::Global;
 use std::marker::Model;
 
 /// One client's commands for one slot, which travel to a node together. Where there are several, none of them asks.
-#[derive(Drop)]
 pub struct Run {
     first: Batch,
     later: Vec<Batch>,
+}
+
+impl Drop for Run {
+    fn drop(self) {
+        let Run { first, later } = self;
+        drop(first);
+        drop(later);
+    }
 }
 
 impl Model for Run {
@@ -82,7 +89,8 @@ impl Run {
         ensures first { result.0 ≡ self.first }
         ensures later { result.1.items ≡ self.later }
     {
-        (self.first, self.later)
+        let Run { first, later } = self;
+        (first, later)
     }
 }
 

@@ -20,11 +20,22 @@ use std::sync::{Mutex, Wait};
 
 /// The state of a cluster behind a lock, which threads share. Node k is listed at 127.0.0.1, port 7001 + k. Contracts see it as
 /// the number of its nodes; of the state each hold of the lock knows that it is sound.
-#[derive(Drop)]
 pub struct LocalCluster {
     nodes: u8,
     table: NodeTable,
     state: Mutex<LocalState>,
+}
+
+impl Drop for LocalCluster {
+    fn drop(self) {
+        let LocalCluster {
+            nodes: _,
+            table,
+            state,
+        } = self;
+        drop(table);
+        drop(state);
+    }
 }
 
 impl Model for LocalCluster {
@@ -96,7 +107,11 @@ impl LocalCluster {
     pub fn into_state(self) -> LocalState
         ensures { IsSound result }
     {
-        let LocalCluster { state, .. } = self;
+        let LocalCluster {
+            nodes: _,
+            table: _,
+            state,
+        } = self;
         let state = state.into_inner();
         let _sound = state.cluster();
         state

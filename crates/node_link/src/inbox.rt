@@ -15,7 +15,6 @@ use std::marker::Model;
 const CHUNK: usize = 16 * 1024;
 
 /// Bytes that were read, as they come and as a reader holds them.
-#[derive(Drop)]
 pub struct Inbox {
     reader: Reader,
     chunk: Vec<u8>,
@@ -23,6 +22,19 @@ pub struct Inbox {
     filled: usize,
     /// The reader has no whole value in what it was fed.
     is_short: bool,
+}
+
+impl Drop for Inbox {
+    fn drop(self) {
+        let Inbox {
+            reader,
+            chunk,
+            filled: _,
+            is_short: _,
+        } = self;
+        drop(reader);
+        drop(chunk);
+    }
 }
 
 impl Model for Inbox {

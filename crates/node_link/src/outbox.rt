@@ -31,12 +31,22 @@ pub enum Urgency {
 }
 
 /// Bytes that wait to be written, and behind them those of a request that is being spelled.
-#[derive(Drop)]
 pub struct Outbox {
     alloc: Global,
     pieces: Pieces,
     /// How many reads came since the last request was spelled.
     quiet_reads: u32,
+}
+
+impl Drop for Outbox {
+    fn drop(self) {
+        let Outbox {
+            alloc: _,
+            pieces,
+            quiet_reads: _,
+        } = self;
+        drop(pieces);
+    }
 }
 
 impl Model for Outbox {

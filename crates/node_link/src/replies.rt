@@ -26,7 +26,6 @@ pub enum Awaited {
 }
 
 /// The replies that are awaited, and those that came and were not given yet.
-#[derive(Drop)]
 pub struct Replies {
     alloc: Global,
     awaited: VecDeque<Awaited>,
@@ -34,6 +33,20 @@ pub struct Replies {
     came: Vec<Value>,
     /// What a block's replies tell and was not given yet, the last first.
     told: Vec<Value>,
+}
+
+impl Drop for Replies {
+    fn drop(self) {
+        let Replies {
+            alloc: _,
+            awaited,
+            came,
+            told,
+        } = self;
+        drop(awaited);
+        drop(came);
+        drop(told);
+    }
 }
 
 impl Model for Replies {

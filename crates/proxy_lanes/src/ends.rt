@@ -26,10 +26,17 @@ pub struct WorkerEnds<H: Drop, J: Naming> {
 }
 
 /// The other ends, by worker, and the map's writer.
-#[derive(Drop)]
 pub struct CarrierEnds<H: Drop, M: Drop> {
     lanes: Vec<LaneEnds<H>>,
     pub map: M,
+}
+
+impl<H: Drop, M: Drop> Drop for CarrierEnds<H, M> {
+    fn drop(self) {
+        let CarrierEnds { lanes, map } = self;
+        drop(lanes);
+        drop(map);
+    }
 }
 
 impl<H: Drop, M: Drop> CarrierEnds<H, M> {

@@ -13,10 +13,17 @@ pub struct NotEntered;
 
 /// One worker's view of the map. Contracts see it as the operations that it knows: those of its last answer, or of a
 /// longer front that it learnt since.
-#[derive(Drop)]
 pub struct MapView<J: Naming> {
     table: ReadHandle<Table<J>>,
     known: Front<J>,
+}
+
+impl<J: Naming> Drop for MapView<J> {
+    fn drop(self) {
+        let MapView { table, known } = self;
+        drop(table);
+        drop(known);
+    }
 }
 
 impl<J: Naming> Model for MapView<J> {

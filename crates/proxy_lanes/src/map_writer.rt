@@ -11,12 +11,25 @@ use std::marker::Model;
 use std::sync::Wait;
 
 /// Publishes lists of operations, by the copies `T` of the map. Contracts see it as all operations that it published.
-#[derive(Drop)]
 pub struct MapWriter<J: Naming, T: ShowsOps + Drop> {
     alloc: Global,
     tables: T,
     history: History<J>,
     front: Front<J>,
+}
+
+impl<J: Naming, T: ShowsOps + Drop> Drop for MapWriter<J, T> {
+    fn drop(self) {
+        let MapWriter {
+            alloc: _,
+            tables,
+            history,
+            front,
+        } = self;
+        drop(tables);
+        drop(history);
+        drop(front);
+    }
 }
 
 /// The writer of a map whose readers it may wait for.

@@ -21,8 +21,7 @@ const REPLIES_PER_TURN: u32 = 64;
 const RUNS_PER_TURN: u32 = 16;
 
 /// Carries runs from the workers' lanes to the nodes, and what the nodes reply back, and renews the slot map.
-#[derive(Drop)]
-pub struct Carrier<H: Drop, M: Drop, D, P> {
+pub struct Carrier<H: Drop, M: Drop, D: Drop, P: Drop> {
     alloc: Global,
     ends: CarrierEnds<H, M>,
     dial: D,
@@ -33,6 +32,26 @@ pub struct Carrier<H: Drop, M: Drop, D, P> {
     seed_to_dial: bool,
     /// The node that is dialled next after a loss where no link is open.
     next_dialled: u8,
+}
+
+impl<H: Drop, M: Drop, D: Drop, P: Drop> Drop for Carrier<H, M, D, P> {
+    fn drop(self) {
+        let Carrier {
+            alloc: _,
+            ends,
+            dial,
+            nodes,
+            pending_runs,
+            backends,
+            seed_to_dial: _,
+            next_dialled: _,
+        } = self;
+        drop(ends);
+        drop(dial);
+        drop(nodes);
+        drop(pending_runs);
+        drop(backends);
+    }
 }
 
 // The node of this number, or the seed.
@@ -51,7 +70,7 @@ fn place_of(node: NodeId) -> usize
     node.number() as usize
 }
 
-impl<H: Drop, M: Drop, D, P> Carrier<H, M, D, P> {
+impl<H: Drop, M: Drop, D: Drop, P: Drop> Carrier<H, M, D, P> {
     ghost use Rattle.std.specs.Borrow.{Lends, sem};
     ghost use Rattle.proxy_lanes.specs.contracts.ends.CarrierEnds.{the_row as ends_row};
     ghost use Rattle.proxy_turns.specs.contracts.carrier.Carrier.{the_row as carrier_row};

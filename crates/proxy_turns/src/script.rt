@@ -13,7 +13,6 @@ use std::marker::Model;
 
 /// A client whose bytes are in memory, and which keeps what it is given. It is gone as soon as it holds every reply that is
 /// owed to its requests up to QUIT or the first fault, with that fault's error line.
-#[derive(Drop)]
 pub struct Script {
     alloc: Global,
     client: u32,
@@ -23,6 +22,23 @@ pub struct Script {
     ends: Vec<(Ticket, Ended)>,
     // How many replies are owed, once that was counted.
     owed: Option<u64>,
+}
+
+impl Drop for Script {
+    fn drop(self) {
+        let Script {
+            alloc: _,
+            client: _,
+            bytes,
+            pulled: _,
+            replies,
+            ends,
+            owed: _,
+        } = self;
+        drop(bytes);
+        drop(replies);
+        drop(ends);
+    }
 }
 
 impl Model for Script {
@@ -71,7 +87,16 @@ impl Script {
         ensures replies { result.1 ≡ self.pushed }
         ensures ends { result.2.items ≡ self.noted }
     {
-        (self.client, self.replies.into_bytes(), self.ends)
+        let Script {
+            alloc: _,
+            client,
+            bytes: _,
+            pulled: _,
+            replies,
+            ends,
+            owed: _,
+        } = self;
+        (client, replies.into_bytes(), ends)
     }
 
     // Whether it holds every reply that is owed.

@@ -20,11 +20,21 @@ use resp_wire::NoMemory;
 use std::alloc::Global;
 
 /// A worker over its ends of the lanes, which is to take so many new clients.
-#[derive(Drop)]
 pub struct Worker<'g, C: ClientPort + Drop, J: Naming, G: Gate> {
     gate: &'g G,
     state: WorkerState<C, J>,
     over: bool,
+}
+
+impl<'g, C: ClientPort + Drop, J: Naming, G: Gate> Drop for Worker<'g, C, J, G> {
+    fn drop(self) {
+        let Worker {
+            gate: _,
+            state,
+            over: _,
+        } = self;
+        drop(state);
+    }
 }
 
 impl<'g, C: ClientPort + Drop, J: Naming, G: Gate> Worker<'g, C, J, G> {

@@ -15,7 +15,6 @@ use std::alloc::Global;
 use std::marker::Model;
 
 /// Reads values from a stream that comes in pieces.
-#[derive(Drop)]
 pub struct Reader {
     limits: Limits,
     unread: Unread,
@@ -23,6 +22,18 @@ pub struct Reader {
     place: Place,
     /// The fault that was found, and is answered from then on.
     fault: Option<WireFault>,
+}
+
+impl Drop for Reader {
+    fn drop(self) {
+        let Reader {
+            limits: _,
+            unread,
+            place: _,
+            fault: _,
+        } = self;
+        drop(unread);
+    }
 }
 
 impl Model for Reader {

@@ -21,7 +21,6 @@ use std::marker::Model;
 const MAX_UNANSWERED: usize = 1024;
 
 /// A client's session.
-#[derive(Drop)]
 pub struct Session {
     alloc: Global,
     worker: u16,
@@ -31,6 +30,25 @@ pub struct Session {
     queue: Queue,
     ends: VecDeque<Ended>,
     closing: Closing,
+}
+
+impl Drop for Session {
+    fn drop(self) {
+        let Session {
+            alloc: _,
+            worker: _,
+            client: _,
+            reader,
+            requests,
+            queue,
+            ends,
+            closing: _,
+        } = self;
+        drop(reader);
+        drop(requests);
+        drop(queue);
+        drop(ends);
+    }
 }
 
 impl Model for Session {

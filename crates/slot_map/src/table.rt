@@ -12,10 +12,16 @@ use std::alloc::Global;
 use std::marker::Model;
 
 /// The nodes that are known, in the order of their numbers. No CR or LF stands in a host.
-#[derive(Drop)]
 pub struct NodeTable {
     alloc: Global,
     nodes: Vec<Listener>,
+}
+
+impl Drop for NodeTable {
+    fn drop(self) {
+        let NodeTable { alloc: _, nodes } = self;
+        drop(nodes);
+    }
 }
 
 impl Model for NodeTable {

@@ -77,10 +77,12 @@ impl<'g, C: ClientPort + Drop, J: Naming, R: Wait + Drop, G: Gate> Play<'g, C, J
     ) -> Result<Self, NoMemory>
         ensures { IfOk result (λ play. play_model play ≡ new_play clients worker_ends.items (lanes_of carrier_ends) carrier_ends.map seeds cluster nodes) }
     {
+        let carrier = Carrier::new(alloc, carrier_ends, PlayDial::new(alloc), seeds);
+        let workers = workers_over(alloc, gate, clients, worker_ends)?;
         Ok(Play {
             alloc,
-            workers: workers_over(alloc, gate, clients, worker_ends)?,
-            carrier: Carrier::new(alloc, carrier_ends, PlayDial::new(alloc), seeds),
+            workers,
+            carrier,
             cluster,
             nodes,
         })
