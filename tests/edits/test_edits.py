@@ -243,6 +243,21 @@ class Controls(unittest.TestCase):
             self.assertEqual(tried is not None and tried.refused, counts, said)
             self.assertEqual(it.in_place, not counts, said)
 
+    def test_what_is_refused_beside_the_answer_of_a_control(self):
+        at = "proofs/f_control/Answers.antt:9:1: error: "
+        for said, counts in {
+            f"{at}`{answers.NOT_TRIED}`: expected type `goal.returns`": True,
+            f"{at}`returns`: the two types differ\n{at}`{answers.NOT_TRIED}`: expected type `goal.returns`": False,
+        }.items():
+            answer = verdicts.read("sample", f"{said}\nfn sample::f_control: not proved\nonly=1 holes=0\n")
+            crate = checks.Crate("sample", Path(), [], [])
+            self.assertEqual(rounds.is_in_order(answer, crate, "f_control", by_goal=True), counts, said)
+
+    def test_closures_of_a_twin(self):
+        it = rounds.Waiting(edits.Edit("wrong"), ["a::S::f"], stands_in=["a::S::f_twin_2"])
+        names = {"a::S::f", "a::S::g", "a::fn::S::f::all", "a::fn::S::f::all+FnMut::call_mut", "a::fn::S::g::any"}
+        self.assertEqual([*answers.of_closures(it, names)], ["proofs/a/fn/S/f_twin_2/all/Answers.antt"])
+
 
 class Answers(unittest.TestCase):
     """An edit counts by the goal that it names: the other answers of its function give way to holes."""

@@ -83,13 +83,20 @@ impl History for GhostHistory {
         asking: bool,
     ) -> Result<Told, ServeFault> {
         let told = cluster.serve(batch.node, asking, &batch.part, Verdict::Plain)?;
-        let command = Log::new().and(&batch.part, &told);
-        self.told = self.told.and(&batch.ticket, &command);
+        self.note(batch, &told);
         Ok(told)
     }
 }
 
 impl GhostHistory {
+    /// Notes what a command was told.
+    fn note(&mut self, batch: &Batch, told: &Told)
+        ensures { ⟦<GhostHistory as History>⟧.entries self.new ≡ history_after (⟦<GhostHistory as History>⟧.entries self.old) batch.now told.now }
+    {
+        let command = Log::new().and(&batch.part, told);
+        self.told = self.told.and(&batch.ticket, &command);
+    }
+
     /// Notes what the commands of a run were told.
     pub(crate) fn note_run(&mut self, ticket: Ticket, parts: &[Part], tolds: &[Told])
         ensures { ⟦<GhostHistory as History>⟧.entries self.new ≡ history_after_run (⟦<GhostHistory as History>⟧.entries self.old) ticket (zip parts.now tolds.now) }
