@@ -22,6 +22,7 @@ pub struct World {
     nodes: u8,
 }
 
+// By hand, so that the crates above prove one call.
 impl Drop for World {
     fn drop(self) {
         let World { machine, nodes: _ } = self;

@@ -60,6 +60,7 @@ pub struct Part {
     slot: Slot,
 }
 
+// By hand, so that the crates above prove one call.
 impl Drop for Part {
     fn drop(self) {
         let Part {

@@ -13,6 +13,7 @@ pub struct Run {
     later: Vec<Batch>,
 }
 
+// By hand, so that the crates above prove one call.
 impl Drop for Run {
     fn drop(self) {
         let Run { first, later } = self;

@@ -26,6 +26,7 @@ pub struct LocalCluster {
     state: Mutex<LocalState>,
 }
 
+// By hand, so that the crates above prove one call.
 impl Drop for LocalCluster {
     fn drop(self) {
         let LocalCluster {

@@ -24,6 +24,7 @@ pub struct Inbox {
     is_short: bool,
 }
 
+// By hand, so that the crates above prove one call.
 impl Drop for Inbox {
     fn drop(self) {
         let Inbox {

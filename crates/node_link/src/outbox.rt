@@ -38,6 +38,7 @@ pub struct Outbox {
     quiet_reads: u32,
 }
 
+// By hand, so that the crates above prove one call.
 impl Drop for Outbox {
     fn drop(self) {
         let Outbox {

@@ -35,6 +35,7 @@ pub struct Replies {
     told: Vec<Value>,
 }
 
+// By hand, so that the crates above prove one call.
 impl Drop for Replies {
     fn drop(self) {
         let Replies {

@@ -31,6 +31,7 @@ pub struct CarrierEnds<H: Drop, M: Drop> {
     pub map: M,
 }
 
+// By hand, so that the crates above prove one call.
 impl<H: Drop, M: Drop> Drop for CarrierEnds<H, M> {
     fn drop(self) {
         let CarrierEnds { lanes, map } = self;

@@ -18,6 +18,7 @@ pub struct MapView<J: Naming> {
     known: Front<J>,
 }
 
+// By hand, so that the crates above prove one call.
 impl<J: Naming> Drop for MapView<J> {
     fn drop(self) {
         let MapView { table, known } = self;

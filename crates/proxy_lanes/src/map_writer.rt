@@ -18,6 +18,7 @@ pub struct MapWriter<J: Naming, T: ShowsOps + Drop> {
     front: Front<J>,
 }
 
+// By hand, so that the crates above prove one call.
 impl<J: Naming, T: ShowsOps + Drop> Drop for MapWriter<J, T> {
     fn drop(self) {
         let MapWriter {

@@ -34,6 +34,7 @@ pub struct Carrier<H: Drop, M: Drop, D: Drop, P: Drop> {
     next_dialled: u8,
 }
 
+// By hand, so that the crates above prove one call.
 impl<H: Drop, M: Drop, D: Drop, P: Drop> Drop for Carrier<H, M, D, P> {
     fn drop(self) {
         let Carrier {

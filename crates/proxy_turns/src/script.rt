@@ -24,6 +24,7 @@ pub struct Script {
     owed: Option<u64>,
 }
 
+// By hand, so that the crates above prove one call.
 impl Drop for Script {
     fn drop(self) {
         let Script {

@@ -26,6 +26,7 @@ pub struct Worker<'g, C: ClientPort + Drop, J: Naming, G: Gate> {
     over: bool,
 }
 
+// By hand, so that the crates above prove one call.
 impl<'g, C: ClientPort + Drop, J: Naming, G: Gate> Drop for Worker<'g, C, J, G> {
     fn drop(self) {
         let Worker {

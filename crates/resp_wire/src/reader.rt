@@ -24,6 +24,7 @@ pub struct Reader {
     fault: Option<WireFault>,
 }
 
+// By hand, so that the crates above prove one call.
 impl Drop for Reader {
     fn drop(self) {
         let Reader {

@@ -32,6 +32,7 @@ pub struct Session {
     closing: Closing,
 }
 
+// By hand, so that the crates above prove one call.
 impl Drop for Session {
     fn drop(self) {
         let Session {

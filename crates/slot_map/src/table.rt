@@ -17,6 +17,7 @@ pub struct NodeTable {
     nodes: Vec<Listener>,
 }
 
+// By hand, so that the crates above prove one call.
 impl Drop for NodeTable {
     fn drop(self) {
         let NodeTable { alloc: _, nodes } = self;
