@@ -108,8 +108,8 @@ def answered(edit, function, texts, crate):
 
 
 def for_control(edit, function, texts, crate):
-    """The texts for a control that has to show the goal of an edit. A declaration that is refused stands beside its answer: where nothing
-    of a function is refused and a goal has no answer, a check goes on to look for what it could offer, for longer than it took before."""
+    """The texts for a control that has to show the goal of an edit. A declaration that is refused stands beside its answer: where a
+    goal of a function has no answer and nothing of the function is refused, a check ends by looking for what it could offer."""
     made, file = answered(edit, function, texts, crate).texts, file_of(function)
     place = f"{GOALS.search(made[file])[1]}.{edit.open}"
     return made | {file: made[file].rstrip("\n") + f"\n\npub {NOT_TRIED} : {place}\n{NOT_TRIED} = tt\n"}
