@@ -99,11 +99,11 @@ impl PendingRun {
         ensures map { ends.new.map ≡ ends.old.map }
     {
         match ends.take(worker) {
-            Some(run) => {
-                self.run = Some(run);
+            None => false,
+            taken => {
+                self.run = taken;
                 true
             }
-            None => false,
         }
     }
 
