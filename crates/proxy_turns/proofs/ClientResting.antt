@@ -1,5 +1,5 @@
 -- A client whose turn moved nothing is at rest.
-use Rattle.std.proofs.Common.{◌≡◌, ◌≢◌, ◌∙◌, ◌||◌, ◌<◌, ◌≤◌, ◌+◌, ◌-◌, ◌^◌, ◌++◌, ◌∷◌, [], ℕ, zero, suc, Bool, true, false, List, Option, Some, None, Result, Ok, Err, inl, inr, refl, sym, ap, subst, not, arith, drop, take, length, nat_lt, is_some}
+use Rattle.std.proofs.Common.{◌≡◌, ◌≢◌, ◌∙◌, ◌||◌, ◌<◌, ◌≤◌, ◌-◌, ◌^◌, ◌∷◌, [], ℕ, zero, suc, Bool, true, false, List, Some, Result, Ok, Err, inl, inr, refl, sym, ap, subst, not, arith, drop, take, length, nat_lt}
 use Rattle.std.specs.Prelude.{◌⊎◌, ◌↔◌}
 use Rattle.std.proofs.lemmas.Bool.{false≢true}
 use Rattle.std.proofs.lemmas.Bool.Decides.{nat_tests}
@@ -8,15 +8,15 @@ use Rattle.key_split.specs.Runs.{RunModel}
 use Rattle.command_future.specs.declared.stage.Stage.{Stage}
 use Rattle.command_future.specs.declared.stage.Stage.TheVariants.{Wants, WantsAsking, Awaits, Over}
 use Rattle.command_future.specs.declared.stage.Want.TheVariants.{Await, Finished}
-use Rattle.command_future.specs.CommandModel.{CommandModel, WantsPost, want_at}
+use Rattle.command_future.specs.CommandModel.{WantsPost, want_at}
 use Rattle.session_order.specs.declared.closing.Closing.{Closing}
 use Rattle.session_order.specs.declared.closing.Closing.TheVariants.{Open, Quit, Faulted}
 use Rattle.session_order.specs.declared.fault.SessionFault.{SessionFault}
 use Rattle.session_order.specs.declared.fault.SessionFault.TheVariants as fault
 use Rattle.session_order.specs.RequestReaderModel.{IsDry}
 use Rattle.session_order.specs.SessionModel.{SessionModel}
-use Rattle.session_order.specs.Replies.{DrainOutcome, drained, output, parts_of}
-use Rattle.session_order.specs.Steps.{FeedOutcome, FaultedBy, IsNotFaulted, MayRead, ReadOutcome, ReadyOutcome, fed, with_incoming}
+use Rattle.session_order.specs.Replies.{DrainOutcome, output, parts_of}
+use Rattle.session_order.specs.Steps.{FeedOutcome, FaultedBy, IsNotFaulted, MayRead, ReadOutcome, fed, with_incoming}
 use Rattle.session_order.specs.Turn.{MayPost, NextPlace}
 use Rattle.proxy_lanes.specs.declared.ring.Outlet.{Outlet}
 use Rattle.proxy_lanes.specs.Lane.{Posts, free_places, posted}

@@ -1,7 +1,7 @@
 -- What happens to one client in a worker's turn, at the lane into which the worker posts, and at its view of the slot
 -- map.
 -- A turn is a list of events, and moved exactly where one of them is a move. Nothing says that a turn makes any.
-use Rattle.std.specs.Prelude.{◌*◌, ◌||◌, ◌≡◌, ◌≢◌, ◌≤◌, ◌↔◌, ◌++◌, ◌∷◌, [], ℕ, List, Bool, true, false, IsTrue, Option, Some, None, Result, Ok, Err, length, drop, map, nat_lt}
+use Rattle.std.specs.Prelude.{◌*◌, ◌||◌, ◌≡◌, ◌≢◌, ◌≤◌, ◌↔◌, ◌++◌, ◌∷◌, [], ℕ, List, Bool, true, false, IsTrue, Option, Some, Result, Ok, Err, length, drop, map, nat_lt}
 use Rattle.std.specs.List.{FoldsTo, list_all, list_any}
 use Rattle.std.specs.FinMap.{get, remove}
 use Rattle.slot_hash.specs.Slot.{slot_of}

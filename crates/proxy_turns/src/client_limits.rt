@@ -20,3 +20,5 @@ pub(crate) const MAX_SENT: usize = 64;
 pub(crate) const MAX_RUN: usize = 64;
 /// Once the words of those that go out together have so many bytes, no more go with them.
 pub(crate) const MAX_RUN_WORDS: usize = 64 * 1024;
+/// A list of commands with room for more is given back where it is empty.
+pub(crate) const KEPT_COMMANDS: usize = 4;

@@ -10,6 +10,7 @@ ghost use Rattle.proxy_lanes.specs.declared.map_view.NotEntered.{NotEntered};
 ghost use Rattle.proxy_turns.specs.ClientRest.{HasNoPlace, IfStill};
 ghost use Rattle.proxy_turns.specs.Commands.{AreOneRun, GoesTo, GoesWith, Looks, PostOutcome, PostsAtResult, PostsFreshResult, PostsRun, WantsPostAt, commanded, in_table, node_looked_up, run_of, with_posted};
 
+use crate::client_limits::KEPT_COMMANDS;
 use command_future::{Command, Want};
 use key_split::{Batch, Run};
 use proxy_lanes::{MapView, Naming, Outlet};
@@ -18,7 +19,6 @@ use slot_hash::Slot;
 use slot_map::NodeId;
 use std::alloc::{AllocFailed, Global};
 use std::collections::HashMap;
-use std::mem;
 
 // Posts the commands that were not posted yet, and puts them among the others. True where they were posted.
 pub(super) fn post_all<J: Naming>(
@@ -43,8 +43,18 @@ pub(super) fn post_all<J: Naming>(
     if !post_run(outlet, run) {
         return Ok(false);
     }
-    keep_posted(mem::replace(fresh, Vec::new(alloc)), posted, node);
+    keep_posted(fresh, posted, node);
+    free_large(fresh);
     Ok(true)
+}
+
+// Frees the room of an empty list where it is for many commands.
+fn free_large(commands: &mut Vec<Command>)
+    ensures { commands.new.items ≡ commands.old.items }
+{
+    if commands.is_empty() && commands.capacity() > KEPT_COMMANDS {
+        commands.shrink_to_fit();
+    }
 }
 
 // The commands, on their way to this node together.
@@ -73,13 +83,14 @@ fn push_to(run: &mut Run, batch: Batch) -> Result<(), NoMemory>
     }
 }
 
-// Puts the commands, which were posted at this node, among the others. There is room for them.
-fn keep_posted(commands: Vec<Command>, posted: &mut HashMap<u64, Command>, node: NodeId)
-    requires room { length commands.items ≤ spare posted.old }
-    requires may { All (λ c. MayPostTo c.stage node) commands.items }
-    ensures { in_table posted.new.entries ≡ with_posted (in_table posted.old.entries) commands.items }
+// Puts the commands, which were posted at this node, among the others. There is room for them. Their list is used again.
+fn keep_posted(commands: &mut Vec<Command>, posted: &mut HashMap<u64, Command>, node: NodeId)
+    requires room { length commands.old.items ≤ spare posted.old }
+    requires may { All (λ c. MayPostTo c.stage node) commands.old.items }
+    ensures none { commands.new.items ≡ [] }
+    ensures posted { in_table posted.new.entries ≡ with_posted (in_table posted.old.entries) commands.old.items }
 {
-    for command in commands {
+    for command in commands.drain(..) {
         keep_one(command, posted, node);
     }
 }

@@ -1,7 +1,5 @@
-use Rattle.std.proofs.Common.{◌≡◌, ◌∙◌, ◌∷◌, [], List, Err, ap, inl, refl, rules, subst, sym}
-use Rattle.std.specs.Prelude.{All}
-use Rattle.command_future.specs.CommandModel.{CommandModel, MayPostTo}
-use Rattle.proxy_turns.specs.Commands.{AreOneRun, in_table, with_posted}
+use Rattle.std.proofs.Common.{◌≡◌, ◌∙◌, Err, inl, refl, rules, subst, sym}
+use Rattle.proxy_turns.specs.Commands.{AreOneRun}
 use Rattle.proxy_turns.proofs.Tables.{same_look-ups}
 use Rattle.proxy_turns.proofs.Posting.{front_item, may_all, none_back, none_made, posts_all, same_commands}
 use Rattle.proxy_turns.proofs.commands.posting.post_all.Goals as goal
@@ -32,12 +30,12 @@ returns-then-not-post_run-clause-posts g c =
 
 pub keep_posted-requires-clause-may : goal.keep_posted-requires-clause-may
 keep_posted-requires-clause-may g c =
-    subst (All (λ (d : CommandModel). MayPostTo d.stage c.in-Some.node)) (ap (λ v. v.items) (sym c.replace.ensures.value)) (may_all c.args.fresh.now.items c.in-Some.node c.requires)
+    may_all c.args.fresh.now.items c.in-Some.node c.requires
 
 pub returns-clause-posts : goal.returns-clause-posts
 returns-clause-posts g c =
     let same = same_look-ups c.args.posted.now.entries c.reserve.new.self.entries c.reserve.ensures.entries.2 in
     let whole = sym c.as_slice.ensures.value ∙ front_item c.as_slice.result.now c.first-item.result c.in-len1-up.len_at_least c.first-item.is in
     posts_all c.args.fresh.now.items c.first-item.result _ whole c.args.posted.now.entries c.reserve.new.self.entries same c.args.outlet.now c.post_run.new.outlet c.args.view.now c.aim.new.view c.in-Some.node c.in-Some.ensures.aims
-    c.in_ok-run.run' c.in_ok-run.ensures (rw c.if-not-post_run.false at c.post_run.ensures) c.replace.new.dest.items (ap (λ v. v.items) c.replace.ensures.after ∙ c.new.ensures.items) c.keep_posted.new.posted.entries
-    (c.keep_posted.ensures ∙ ap (λ v. with_posted (in_table c.reserve.new.self.entries) v.items) c.replace.ensures.value)
+    c.in_ok-run.run' c.in_ok-run.ensures (rw c.if-not-post_run.false at c.post_run.ensures) c.free_large.new.commands.items (c.free_large.ensures ∙ c.keep_posted.ensures.none) c.keep_posted.new.posted.entries
+    c.keep_posted.ensures.posted
