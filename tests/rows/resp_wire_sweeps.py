@@ -135,7 +135,7 @@ def long_texts_in_small_pieces():
     return [
         read_in_pieces("many_small_bulks_byte_by_byte", array, 1, items),
         read_in_pieces("large_bulk_in_pieces_of_seven", b"$%d\r\n" % BULK + bulk + b"\r\n", 7, f"bulk {bulk.decode()}"),
-        read_in_pieces("longest_line_byte_by_byte", b"+" + line + b"\r\n", 1, f"simple {line.decode()}", times=10),
+        read_in_pieces("longest_line_byte_by_byte", b"+" + line + b"\r\n", 1, f"simple {line.decode()}", times=100),
     ]
 
 
