@@ -2,6 +2,7 @@
 
 import argparse
 import os
+import resource
 import shutil
 import signal
 import statistics
@@ -116,6 +117,14 @@ def idle_percent(target):
     return 100 * spent / IDLE_SECONDS
 
 
+def silent_clients(target, count):
+    """So many clients that ask once, and then say nothing."""
+    clients = [Client(target.port) for _ in range(count)]
+    for client in clients:
+        client.ask("GET", "key:000000000000")
+    return clients
+
+
 def start_nutcracker(room):
     servers = [Server(room, f"nutcracker{number}") for number in range(3)]
     port, stats = free_ports(2)
@@ -223,12 +232,13 @@ def print_calls(folder, targets, only):
         print(f"| {row.name} | " + " | ".join(shares) + " |")
 
 
-def print_machine(rounds, seconds, load):
+def print_machine(rounds, seconds, load, silent):
     with open("/proc/cpuinfo", encoding="utf-8") as info:
         model = next((line.split(":")[1].strip() for line in info if line.startswith("model name")), "unknown processor")
     server = subprocess.run(["redis-server", "--version"], capture_output=True, text=True, check=True).stdout.partition("v=")[2].split()[0]
     print(f"{os.cpu_count()} processors ({model}), Linux {os.uname().release}, redis-server {server}, load average before the run {load:.1f}.")
-    print(f"Medians of {rounds} rounds of about {seconds:g} seconds, {CLIENTS} clients, one thread of redis-benchmark.\n")
+    beside = f", beside {silent:,} clients of each that say nothing" if silent else ""
+    print(f"Medians of {rounds} rounds of about {seconds:g} seconds, {CLIENTS} clients{beside}, one thread of redis-benchmark.\n")
 
 
 def print_rates(table, names):
@@ -261,9 +271,13 @@ def main(folder, program, *words):
     parser.add_argument("--quick", action="store_true")
     parser.add_argument("--only", default="")
     parser.add_argument("--calls", action="store_true")
+    parser.add_argument("--silent", type=int, default=0)
     asked = parser.parse_args(words)
     rounds, seconds = (2, 0.3) if asked.quick else (5, 1.0)
     load, room = os.getloadavg()[0], Room(folder)
+    if asked.silent:
+        most = resource.getrlimit(resource.RLIMIT_NOFILE)[1]
+        resource.setrlimit(resource.RLIMIT_NOFILE, (most, most))
     try:
         targets = start_targets(room, program)
         if asked.calls:
@@ -271,6 +285,7 @@ def main(folder, program, *words):
             return
         names, table, filled = [it.name for it in targets], [], None
         idle = [idle_percent(it) for it in targets]
+        silent = [silent_clients(it, asked.silent) for it in targets]
         for row in rows():
             if asked.only not in row.name:
                 continue
@@ -279,9 +294,11 @@ def main(folder, program, *words):
                 for target in targets:
                     target.fill(row)
             table.append(measure_row(targets, row, rounds, seconds))
-        print_machine(rounds, seconds, load)
+        print_machine(rounds, seconds, load, asked.silent)
         print_rates(table, names)
         print_processor(table, names)
+        for client in (it for clients in silent for it in clients):
+            client.close()
         time.sleep(2)
         print_memory(targets, idle)
     finally:

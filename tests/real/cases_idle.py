@@ -1,5 +1,6 @@
 """What an idle proxy costs, and how fast it wakes."""
 
+import resource
 import socket
 import statistics
 import struct
@@ -15,6 +16,8 @@ SECONDS = 4.0
 MOST_PERCENT, MOST_COMMANDS = 2.0, 5
 # Microseconds that a GET after a pause may take, and on a slow machine so many times what one server takes.
 MOST_WAITED, MOST_TIMES = 20_000, 40
+# So many silent clients, where the machine allows them, and how many times as long another's requests may take beside them.
+SILENT, MOST_LONGER = 2000, 2
 # In mebibytes: what may stay after clients with big values have left.
 MOST_KEPT = 32
 # Bytes of a large value, and how many there are, on a slow machine half of them; and in mebibytes what may stay after clients that
@@ -66,6 +69,31 @@ def a_client_alone_that_falls_silent_costs_nothing(world):
     most = max(MOST_PERCENT, percent_of_commands(world.proxy, MOST_COMMANDS))
     note = f"{percent:.3f} % of a core once one client fell silent, of {most:.1f}"
     check_time(percent < most, note)
+    return note
+
+
+@case
+def silent_clients_cost_others_little(world):
+    """A client's requests beside thousands of clients that asked once and then say nothing. Each of these is answered again."""
+
+    def taken(client):
+        began = time.perf_counter()
+        for _ in range(300):
+            client.ask("GET", "a")
+        return time.perf_counter() - began
+
+    with world.client() as client:
+        client.ask("SET", "a", "1")
+        alone = min(taken(client) for _ in range(3))
+        silent = [world.client() for _ in range(min(SILENT, resource.getrlimit(resource.RLIMIT_NOFILE)[0] // 4))]
+        for it in silent:
+            check_same(it.ask("GET", "a"), b"$1\r\n1\r\n", "GET of a client that will be silent")
+        beside = min(taken(client) for _ in range(3))
+        for it in silent:
+            check_same(it.ask("GET", "a"), b"$1\r\n1\r\n", "GET of a client that was silent")
+            it.close()
+    note = f"300 GETs in {1000 * alone:.1f} ms alone, in {1000 * beside:.1f} beside {len(silent):,} silent clients"
+    check_time(beside < MOST_LONGER * alone, note)
     return note
 
 

@@ -40,6 +40,11 @@ impl PolledSocket {
         self.socket.has_ended()
     }
 
+    /// Its entry in the ready set of its thread (`ReadySet::may_read`), where it has one.
+    pub fn watched(&self) -> Option<usize> {
+        self.registration.at()
+    }
+
     /// Why the connection failed or ended.
     pub fn reason(&self) -> io::Error {
         if let Some(error) = self.socket.reason() {

@@ -11,7 +11,7 @@ use std::sync::atomic::{AtomicBool, AtomicU64, Ordering};
 use std::time::Clock;
 
 /// How many sockets of a thread have an entry. Those beyond are tried at each turn.
-const SOCKETS: usize = 4096;
+const SOCKETS: usize = 16_384;
 
 /// What is known of one socket.
 #[derive(Drop)]
@@ -146,6 +146,14 @@ impl ReadySet {
         self.read_time.load(Ordering::Relaxed)
     }
 
+    /// Whether a read of the socket of this entry may give something.
+    pub fn may_read(&self, at: usize) -> bool {
+        match self.sockets.get(at) {
+            Some(entry) => entry.readable.load(Ordering::SeqCst),
+            None => true,
+        }
+    }
+
     /// Notes that the socket of this entry gave bytes.
     fn note_reader(&self, at: u64) {
         let before = self.reader.load(Ordering::Relaxed);
@@ -200,14 +208,19 @@ impl Registration {
         socket.watch(registry, self.token())
     }
 
+    /// The entry, where there is one.
+    pub(crate) fn at(&self) -> Option<usize> {
+        self.at
+    }
+
     pub fn token(&self) -> Token {
         Token(self.at.unwrap_or(SOCKETS))
     }
 
     /// Whether a read may give something.
     pub fn may_read(&self) -> bool {
-        match self.entry() {
-            Some(entry) => entry.readable.load(Ordering::SeqCst),
+        match self.at {
+            Some(at) => self.ready.may_read(at),
             None => true,
         }
     }

@@ -12,7 +12,7 @@ use Rattle.session_order.specs.Steps.{IsNotFaulted, MayRead}
 use Rattle.proxy_lanes.specs.declared.ring.Outlet.{Outlet}
 use Rattle.proxy_lanes.specs.Lane.{posted, free_places}
 use Rattle.proxy_turns.specs.declared.turned.Turned.{Turned}
-use Rattle.proxy_turns.specs.ClientModel.{ClientModel}
+use Rattle.proxy_turns.specs.ClientModel.{ClientModel, IsDone}
 
 -- what a call leaves where it moved nothing
 abbrev pub IfStill : Result Bool NoMemory → Type 0 → Type 0
@@ -148,3 +148,9 @@ module _ {C : Type 0} where
     pub read : HasNoneToRead client
     pub begun : HasNoneToBegin client
     pub drained : HasNoneToDrain client
+
+  -- Only its port can give the client something to do, which gave nothing when it was last asked.
+  pub record IsAsleep (gives_none : C → Type 0) (client : ClientModel C) : Type 0 where
+    pub idle : IsIdle client
+    pub pulled : HasNoneToPull gives_none client
+    pub undone : IsDone client → ⊥

@@ -4,6 +4,7 @@ pub mod Pause
 pub mod ClientModel
 pub mod ClientTurn
 pub mod ClientRest
+pub mod ClientState
 pub mod WorkerModel
 pub mod ClientTable
 pub mod DueCommands

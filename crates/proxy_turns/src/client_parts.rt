@@ -176,6 +176,11 @@ impl<C: ClientPort + Drop> ClientParts<C> {
         self.unpushed.len().saturating_add(self.replies.held())
     }
 
+    /// The number by which a gate has news of its port, where it has one now.
+    pub(crate) fn watched(&self) -> Option<usize> {
+        self.port.watched()
+    }
+
     /// Forgets how much was pulled, where all is answered and no request may be left to read. True where the client was held back
     /// and is no longer.
     pub(crate) fn forget_asked(&mut self, was_held_back: bool, worked: bool) -> bool
@@ -193,8 +198,8 @@ impl<C: ClientPort + Drop> ClientParts<C> {
         was_held_back
     }
 
-    // Whether it has all its bytes, and no command of it is left.
-    fn is_answered(&self) -> bool
+    /// Whether it has all its bytes, and no command of it is left.
+    pub(crate) fn is_answered(&self) -> bool
         ensures { IsTrue result ↔ IsAnswered self.now }
     {
         self.unpushed.is_empty() && self.commands.is_empty()

@@ -1,8 +1,10 @@
 //! One client of a worker.
 
 ghost use Rattle.std.specs.Prelude.{◌≡◌, ◌↔◌, [], IsTrue, false, true};
+ghost use Rattle.proxy_turns.specs.ClientState.{is_idle_by, rest_after};
 
 use crate::client_parts::ClientParts;
+use crate::gate::Gate;
 use crate::port::ClientPort;
 use crate::shared_room::SharedRoom;
 use crate::turned::{Finish, NextStep, Settled, Turned};
@@ -13,21 +15,31 @@ use std::alloc::Global;
 use std::marker::Model;
 use std::mem;
 
+/// What a client's last turn left.
+#[derive(Clone, Copy)]
+enum Rest {
+    /// Its next turn may move something.
+    Awake,
+    /// Its turns move nothing until bytes are pulled or a command ends.
+    Idle,
+    /// They move nothing until the gate has news of its port, which has this number there.
+    Asleep(usize),
+}
+
 /// One client of a worker.
 #[derive(Drop)]
 pub(crate) struct ClientState<C: ClientPort + Drop> {
+    // In front: of a client that sleeps nothing else is read.
+    rest: Rest,
     parts: ClientParts<C>,
-    // Its turns move nothing until bytes are pulled or a command ends.
-    is_idle: bool,
 }
 
 impl<C: ClientPort + Drop> Model for ClientState<C> {
-    ghost use Rattle.std.specs.Prelude.{◌≡◌, true};
     ghost use Rattle.std.specs.Coded.{codes};
     ghost use Rattle.std.specs.FinMap as map;
     ghost use Rattle.resp_wire.specs.Stored.{coded_data};
     ghost use Rattle.proxy_turns.specs.ClientModel.{ClientModel};
-    ghost use Rattle.proxy_turns.specs.ClientRest.{IsIdle};
+    ghost use Rattle.proxy_turns.specs.ClientState.{RestsBy};
 
     ghost Value = { ClientModel C };
 
@@ -35,7 +47,7 @@ impl<C: ClientPort + Drop> Model for ClientState<C> {
 
     ghost view = { λ c. c.parts };
 
-    ghost invariant = { λ c. c.is_idle ≡ true → IsIdle c.parts };
+    ghost invariant = { λ c. RestsBy C.gives_none c.rest c.parts };
 }
 
 impl<C: ClientPort + Drop> ClientState<C> {
@@ -43,7 +55,7 @@ impl<C: ClientPort + Drop> ClientState<C> {
     ghost use Rattle.proxy_turns.specs.Commands.{Hears};
     ghost use Rattle.proxy_turns.specs.DueCommands.{IsSettled, IsToSettle, NextStepOf};
     ghost use Rattle.proxy_turns.specs.ClientModel.{IsDone, new_client};
-    ghost use Rattle.proxy_turns.specs.ClientRest.{IfStill, IfTurnedStill, IsClientAtRest};
+    ghost use Rattle.proxy_turns.specs.ClientRest.{HasNoneToPull, IfStill, IfTurnedStill, IsAsleep, IsClientAtRest};
     ghost use Rattle.proxy_turns.specs.ClientTurn.{ClientContext, ClientTurns, FinishOutcome, SettleOutcome, TurnOutcome};
 
     pub(crate) fn new(
@@ -56,24 +68,57 @@ impl<C: ClientPort + Drop> ClientState<C> {
         ensures { result ≡ new_client worker number limits port }
     {
         ClientState {
+            rest: Rest::Awake,
             parts: ClientParts::new(alloc, worker, number, limits, port),
-            is_idle: false,
         }
     }
 
     /// What a worker does for this client in a turn, beside what became of its commands.
-    pub(crate) fn turn<J: Naming>(
+    pub(crate) fn turn<J: Naming, G: Gate>(
         &mut self,
         outlet: &mut Outlet<Run>,
         view: &mut MapView<J>,
         room: &mut SharedRoom,
+        gate: &G,
     ) -> Result<Turned, NoMemory>
         ensures turns { TurnOutcome C.moves (record { client = self.old; outlet = outlet.old; view = view.old }) result (record { client = self.new; outlet = outlet.new; view = view.new }) }
         ensures rests { IfTurnedStill result (IsClientAtRest C.gives_none C.takes_none self.new outlet.new) }
     {
+        if self.sleeps_on(gate) {
+            return Ok(Turned::still());
+        }
         let moved = self.pull_and_work(outlet, view, room)?;
         let done = self.is_done();
+        self.fall_asleep(moved, done);
         Ok(Turned { moved, done })
+    }
+
+    // Whether it sleeps, and the gate has no news of its port.
+    fn sleeps_on<G: Gate>(&self, gate: &G) -> bool
+        ensures { result ≡ true → IsAsleep C.gives_none self.now }
+    {
+        match self.rest {
+            Rest::Asleep(port) => !gate.has_news(port),
+            Rest::Awake => false,
+            Rest::Idle => false,
+        }
+    }
+
+    // After a turn that moved nothing it sleeps, where it is idle and not done, all is answered, and its port is watched.
+    fn fall_asleep(&mut self, moved: bool, done: bool)
+        requires pulled { moved ≡ false → HasNoneToPull C.gives_none self.old }
+        requires undone { done ≡ false → IsDone self.old → ⊥ }
+        ensures { self.new ≡ self.old }
+    {
+        let Rest::Idle = self.rest else {
+            return;
+        };
+        if moved || done || !self.parts.is_answered() {
+            return;
+        }
+        if let Some(port) = self.parts.watched() {
+            self.rest = Rest::Asleep(port);
+        }
     }
 
     // Pulls bytes, and does what there is to do. Of an idle client nothing more is asked where none came.
@@ -86,19 +131,19 @@ impl<C: ClientPort + Drop> ClientState<C> {
         ensures turns { ClientTurns C.moves (record { client = self.old; outlet = outlet.old; view = view.old }) result (record { client = self.new; outlet = outlet.new; view = view.new }) }
         ensures rests { IfStill result (IsClientAtRest C.gives_none C.takes_none self.new outlet.new) }
     {
-        let was_idle = mem::replace(&mut self.is_idle, false);
+        let was_idle = is_idle(mem::replace(&mut self.rest, Rest::Awake));
         room.count(self.parts.held());
         let is_held_back = self.parts.is_held_back(room.is_crowded());
         let pulled = self.parts.pull(&mut room.piece, is_held_back, was_idle)?;
         if stays_idle(was_idle, is_held_back, pulled) {
-            self.is_idle = true;
+            self.rest = Rest::Idle;
             return Ok(false);
         }
         let worked = self.parts.work(outlet, view, room)?;
         let is_asked_again = self.parts.forget_asked(is_held_back, worked);
         let more = self.parts.pull(&mut room.piece, !is_asked_again, false)?;
         let moved = pulled | worked | more;
-        self.is_idle = becomes_idle(moved, self.parts.is_quiet());
+        self.rest = rest_after(becomes_idle(moved, self.parts.is_quiet()));
         Ok(moved)
     }
 
@@ -106,7 +151,7 @@ impl<C: ClientPort + Drop> ClientState<C> {
     pub(crate) fn finish(&mut self, number: u64) -> Result<Finish, NoMemory>
         ensures { FinishOutcome C.moves self.old number result self.new }
     {
-        self.is_idle = false;
+        self.rest = Rest::Awake;
         self.parts.finish(number)
     }
 
@@ -120,7 +165,7 @@ impl<C: ClientPort + Drop> ClientState<C> {
         ensures settles { SettleOutcome C.moves (record { client = self.old; outlet = outlet.old; view = view.old }) result (record { client = self.new; outlet = outlet.new; view = view.new }) }
         ensures settled { IsSettled result (IsToSettle self.new number) outlet.new }
     {
-        self.is_idle = false;
+        self.rest = Rest::Awake;
         self.parts.repost(number, outlet, view)
     }
 
@@ -129,7 +174,7 @@ impl<C: ClientPort + Drop> ClientState<C> {
         ensures heard { Hears self.old.commands ticket told result self.new.commands }
         ensures kept { self.new ≡ record self.old { commands = self.new.commands } }
     {
-        self.is_idle = false;
+        self.rest = Rest::Awake;
         self.parts.hear(ticket, told)
     }
 
@@ -150,9 +195,25 @@ impl<C: ClientPort + Drop> ClientState<C> {
     pub(crate) fn into_port(self) -> C
         ensures { result ≡ self.port }
     {
-        let ClientState { parts, is_idle: _ } = self;
+        let ClientState { rest: _, parts } = self;
         parts.into_port()
     }
+}
+
+fn is_idle(rest: Rest) -> bool
+    ensures { result ≡ is_idle_by rest }
+{
+    match rest {
+        Rest::Awake => false,
+        Rest::Idle => true,
+        Rest::Asleep(_) => true,
+    }
+}
+
+fn rest_after(is_idle: bool) -> Rest
+    ensures { result ≡ rest_after is_idle }
+{
+    if is_idle { Rest::Idle } else { Rest::Awake }
 }
 
 // Whether a client that was idle goes on to be. One that is held back is looked at again.

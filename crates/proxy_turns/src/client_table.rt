@@ -9,6 +9,7 @@ ghost use Rattle.proxy_turns.specs.ClientTable.{AtClient, AtPlace, ClientFinishe
 ghost use Rattle.proxy_turns.specs.WorkerModel.{Tells, clients_in};
 
 use crate::client_state::ClientState;
+use crate::gate::Gate;
 use crate::port::ClientPort;
 use crate::shared_room::SharedRoom;
 use crate::turned::{Finish, NextStep, Settled, Turned};
@@ -36,12 +37,13 @@ pub(crate) fn tell_client<C: ClientPort + Drop>(
 }
 
 /// Gives the client at this place its turn.
-pub(crate) fn turn_at<C: ClientPort + Drop, J: Naming>(
+pub(crate) fn turn_at<C: ClientPort + Drop, J: Naming, G: Gate>(
     clients: &mut ClientTable<C>,
     place: usize,
     outlet: &mut Outlet<Run>,
     view: &mut MapView<J>,
     room: &mut SharedRoom,
+    gate: &G,
 ) -> Result<Turned, NoMemory>
     ensures serves { AtPlace clients.old.entries place (record { clients = clients_in clients.old.entries; outlet = outlet.old; view = view.old })
         (λ old new. TurnOutcome C.moves old result new) (result ≡ Ok (record { moved = false; done = false }))
@@ -50,12 +52,9 @@ pub(crate) fn turn_at<C: ClientPort + Drop, J: Naming>(
     ensures len { length clients.new.entries ≡ length clients.old.entries }
 {
     let Some(client) = clients.get_index_mut(place) else {
-        return Ok(Turned {
-            moved: false,
-            done: false,
-        });
+        return Ok(Turned::still());
     };
-    client.turn(outlet, view, room)
+    client.turn(outlet, view, room, gate)
 }
 
 /// Ends the command of this ticket, where it has an end.

@@ -14,6 +14,12 @@ pub trait Gate {
     fn pass(&self, worker: u16, answered: u64) -> bool
         ensures asked { says self.now worker answered result };
 
+    /// Whether the client's port of this number (`ClientPort::watched`) may give bytes, or be gone. Asked before each turn of a client
+    /// for which there is nothing else to do: it has none where this says no.
+    fn has_news(&self, _port: usize) -> bool {
+        true
+    }
+
     /// So many batches the worker has posted so far. Told after each turn that was not its last.
     fn posted(&self, _count: u64) {}
 

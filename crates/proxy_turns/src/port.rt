@@ -21,6 +21,11 @@ pub trait ClientPort {
     /// Its last push took nothing.
     ghost takes_none: { Self → Type 0 } = { λ _. ⊤ };
 
+    /// The number by which the worker's gate has news of it. `None` where it wants to be asked at each turn.
+    fn watched(&self) -> Option<usize> {
+        None
+    }
+
     /// Told before each pull: whether more may be pushed. One that has ended its sending is not gone while that is so.
     fn owes(&self, _more: bool) {}
 

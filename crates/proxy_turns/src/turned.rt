@@ -1,6 +1,6 @@
 //! What a client's turn, or a step of one of its commands, came to.
 
-ghost use Rattle.std.specs.Prelude.{◌≡◌, ◌↔◌, IsTrue};
+ghost use Rattle.std.specs.Prelude.{◌≡◌, ◌↔◌, IsTrue, false};
 ghost use Rattle.proxy_turns.specs.ClientModel.{read_answer};
 ghost use Rattle.proxy_turns.specs.ClientTurn.{is_settled};
 
@@ -15,6 +15,18 @@ pub(crate) struct Turned {
     pub(crate) moved: bool,
     /// Nothing is left to do for the client.
     pub(crate) done: bool,
+}
+
+impl Turned {
+    /// Of a turn that moved nothing, of a client that is not done.
+    pub(crate) fn still() -> Turned
+        ensures { result ≡ record { moved = false; done = false } }
+    {
+        Turned {
+            moved: false,
+            done: false,
+        }
+    }
 }
 
 /// What became of a command that may have ended.

@@ -108,7 +108,7 @@ impl<C: ClientPort + Drop, J: Naming> WorkerState<C, J> {
         let came = self.admit_all()?;
         let told = self.take_told(gate)?;
         let settled = self.settle_due(gate)?;
-        let served = self.serve_clients()?;
+        let served = self.serve_clients(gate)?;
         Ok(came | told | settled | served)
     }
 
@@ -319,7 +319,7 @@ impl<C: ClientPort + Drop, J: Naming> WorkerState<C, J> {
     }
 
     // Gives each client its turn, and lets it go where it is done.
-    fn serve_clients(&mut self) -> Result<bool, NoMemory>
+    fn serve_clients<G: Gate>(&mut self, gate: &G) -> Result<bool, NoMemory>
         ensures serves { ServesClients C.moves (state_model self.old) result (state_model self.new) }
         ensures rest { IfStill result (AreClientsAtRest C.gives_none C.takes_none (state_model self.new)) }
     {
@@ -328,18 +328,18 @@ impl<C: ClientPort + Drop, J: Naming> WorkerState<C, J> {
         self.room.begin_round();
         let count = self.clients.len();
         for step in 0..count {
-            moved |= self.serve_client_at(round.place(step, count))?;
+            moved |= self.serve_client_at(round.place(step, count), gate)?;
         }
         Ok(moved)
     }
 
     // Gives the client at this place its turn, and lets it go where it is done.
-    fn serve_client_at(&mut self, place: usize) -> Result<bool, NoMemory>
+    fn serve_client_at<G: Gate>(&mut self, place: usize, gate: &G) -> Result<bool, NoMemory>
         ensures serves { ServesClients C.moves (state_model self.old) result (state_model self.new) }
         ensures rests { IfStill result (IsStillAt C.gives_none C.takes_none self.old.clients.entries place self.new.outlet self.new.clients.entries) }
     {
         let posted = self.outlet.posted();
-        let turned = self.turn_client_at(place)?;
+        let turned = self.turn_client_at(place, gate)?;
         self.round.had_turn(place, self.outlet.posted() > posted);
         if !turned.done {
             return Ok(turned.moved);
@@ -348,7 +348,7 @@ impl<C: ClientPort + Drop, J: Naming> WorkerState<C, J> {
         Ok(turned.moved | left)
     }
 
-    fn turn_client_at(&mut self, place: usize) -> Result<Turned, NoMemory>
+    fn turn_client_at<G: Gate>(&mut self, place: usize, gate: &G) -> Result<Turned, NoMemory>
         ensures turns { TurnsClient C.moves (state_model self.old) (turned_in result) (state_model self.new) }
         ensures turned { IfOk result (λ turned. IsTurnedAt C.gives_none C.takes_none self.old.clients.entries place turned self.new.outlet self.new.clients.entries) }
         ensures len { length self.new.clients.entries ≡ length self.old.clients.entries }
@@ -359,6 +359,7 @@ impl<C: ClientPort + Drop, J: Naming> WorkerState<C, J> {
             &mut self.outlet,
             &mut self.view,
             &mut self.room,
+            gate,
         )
     }
 

@@ -77,6 +77,13 @@ impl ClientPort for SocketClient {
     // The system does not tell which bytes the client got or gave.
     ghost moves = { λ _ _ _ _ _. Unit {0} };
 
+    fn watched(&self) -> Option<usize> {
+        if self.is_owed.get() || self.request.is_begun() {
+            return None;
+        }
+        self.socket.as_ref()?.watched()
+    }
+
     fn owes(&self, more: bool) {
         self.is_owed.set(more);
     }

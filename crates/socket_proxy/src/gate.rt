@@ -160,6 +160,10 @@ impl<R: Clock> Gate for SocketGate<'_, R> {
         true
     }
 
+    fn has_news(&self, port: usize) -> bool {
+        self.handle.ready.may_read(port)
+    }
+
     fn posted(&self, count: u64) {
         let ended = self.count.get().ended;
         self.count.set(WorkCount {

@@ -167,6 +167,11 @@ impl UnfinishedRequest {
         }
     }
 
+    /// Whether bytes of it came.
+    pub(crate) fn is_begun(&self) -> bool {
+        self.bytes.get() > 0
+    }
+
     /// How many bytes are held of it, and that it is refused, where it is.
     pub(crate) fn refused(&self) -> Option<u64> {
         match &self.held {

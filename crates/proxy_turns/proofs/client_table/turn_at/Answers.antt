@@ -1,6 +1,7 @@
-use Rattle.std.proofs.Common.{◌∙◌, ap, sym, refl, inl, inr}
+use Rattle.std.proofs.Common.{◌∙◌, ap, sym, refl, inl, inr, Ok}
 use Rattle.std.specs.Option.{option_copied_mut}
 use Rattle.indexmap.proofs.CallerLemmas.{index_map_len-with_value_at}
+use Rattle.proxy_turns.specs.declared.turned.Turned.{Turned}
 use Rattle.proxy_turns.proofs.Tables.{none_at, none_some, wrote_at}
 use Rattle.proxy_turns.proofs.Rounds.{turned_at}
 use Rattle.std.proofs.lemmas.Bool.{false≢true}
@@ -8,7 +9,7 @@ use Rattle.proxy_turns.proofs.client_table.turn_at.Goals as goal
 
 pub returns-in_default-clause-serves : goal.returns-in_default-clause-serves
 returns-in_default-clause-serves g c =
-    inl (refl, refl, none_at c.args.clients.now.entries c.args.place (sym c.get_index_mut.ensures.value ∙ ap option_copied_mut c.in_default.is))
+    inl (ap Ok c.still.ensures, refl, none_at c.args.clients.now.entries c.args.place (sym c.get_index_mut.ensures.value ∙ ap option_copied_mut c.in_default.is))
 
 pub returns-in_default-clause-len : goal.returns-in_default-clause-len
 returns-in_default-clause-len g c = refl
@@ -28,7 +29,7 @@ returns-in_default-clause-turned g c =
     record {
       others = λ other apart. refl;
       rests = λ still entry at. absurd (none_some entry (sym none ∙ at));
-      done = λ is. absurd (false≢true is);
+      done = λ is. absurd (false≢true (sym (ap (λ (turned : Turned). turned.done) c.still.ensures) ∙ is));
       undone = λ is entry at. absurd (none_some entry (sym none ∙ at));
     }
 
