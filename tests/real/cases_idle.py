@@ -17,7 +17,7 @@ MOST_PERCENT, MOST_COMMANDS = 2.0, 5
 # Microseconds that a GET after a pause may take, and on a slow machine so many times what one server takes.
 MOST_WAITED, MOST_TIMES = 20_000, 40
 # So many silent clients, where the machine allows them, and how many times as long another's requests may take beside them.
-SILENT, MOST_LONGER = 2000, 2
+SILENT, MOST_LONGER = 4000, 3
 # In mebibytes: what may stay after clients with big values have left.
 MOST_KEPT = 32
 # Bytes of a large value, and how many there are, on a slow machine half of them; and in mebibytes what may stay after clients that
