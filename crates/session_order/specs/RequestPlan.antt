@@ -1,6 +1,6 @@
 -- The step that a plan makes.
 -- Only private functions cite it.
-use Rattle.std.specs.Prelude.{◌≡◌, ℕ, Result, Ok, Err, length}
+use Rattle.std.specs.Prelude.{◌≡◌, Result, Ok, Err, length}
 use Rattle.key_split.specs.declared.planned.Planned.{Planned}
 use Rattle.key_split.specs.declared.planned.Planned.TheVariants as planned
 use Rattle.key_split.specs.declared.planned.PlanFault.{PlanFault}
@@ -23,8 +23,3 @@ abbrev pub CanJoinPlan : RequestPlan → Type 0
 CanJoinPlan (Reply value) = Unit {0}
 CanJoinPlan (Close value) = Unit {0}
 CanJoinPlan (Parts how parts) = CanJoin how (length parts)
-
-abbrev pub parts_added : RequestPlan → ℕ
-parts_added (Reply value) = 0
-parts_added (Close value) = 0
-parts_added (Parts how parts) = length parts

@@ -205,8 +205,7 @@ fn write_joined(
     if let (Joining::One, Some(Ended::Answered(value))) = (how, ends.get(from)) {
         return write_answer(value, least, out);
     }
-    let value = join_ends(alloc, how, ends, from, count)?;
-    write_value(out, &value)?;
+    write_made(out, join_ends(alloc, how, ends, from, count)?)?;
     Ok(None)
 }
 
@@ -291,6 +290,14 @@ fn write_line(alloc: Global, out: &mut Vec<u8>) -> Result<(), NoMemory>
     ensures ok { OnOk result (out.new.items ≡ out.old.items ++ bytes_of (lines_owed true)) }
     ensures err { OnErr result (out.new.items ≡ out.old.items) }
 {
-    let line = protocol_error(alloc)?;
-    write_value(out, &line)
+    write_made(out, protocol_error(alloc)?)
+}
+
+#[tactic(auto, unfolding(crate::specs::Replies::spelling))]
+// Writes a value that was made to be written.
+fn write_made(out: &mut Vec<u8>, value: Value) -> Result<(), NoMemory>
+    ensures ok { OnOk result (out.new.items ≡ out.old.items ++ spelling value) }
+    ensures err { OnErr result (out.new.items ≡ out.old.items) }
+{
+    write_value(out, &value)
 }

@@ -3,7 +3,7 @@
 ghost use Rattle.std.specs.Prelude.{◌≡◌, ◌<◌, IfOk, length, codes, IsTrue};
 ghost use Rattle.resp_wire.specs.Text.{is_one_line};
 ghost use Rattle.session_order.specs.PendingReply.{plan_for, goodbye, protocol_error};
-ghost use Rattle.session_order.specs.RequestPlan.{Makes, CanJoinPlan, parts_added};
+ghost use Rattle.session_order.specs.RequestPlan.{Makes, CanJoinPlan};
 
 use key_split::{Joining, Parts, PlanFault, Planned, error_line, plan, refusal, simple_line};
 use resp_wire::{Bytes, NoMemory, Value};
@@ -16,17 +16,6 @@ pub enum RequestPlan {
     /// The reply to a request that ends the session.
     Close(Value),
     Parts(Joining, Parts),
-}
-
-impl RequestPlan {
-    pub fn parts(&self) -> usize
-        ensures { result ≡ parts_added self.now }
-    {
-        match self {
-            RequestPlan::Parts(_, parts) => parts.as_slice().len(),
-            _ => 0,
-        }
-    }
 }
 
 #[tactic(auto, unfolding(crate::specs::PendingReply::plan_for))]

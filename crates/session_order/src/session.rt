@@ -1,7 +1,8 @@
 //! A client's session.
 
-ghost use Rattle.std.specs.Prelude.{◌≡◌, ◌≢◌, ℕ, List, ◌<◌, ◌≤◌, ◌+◌, ◌++◌, ◌↔◌, [], ◌∷◌, None, IsTrue, IfSome, true, length, drop, take, replicate};
+ghost use Rattle.std.specs.Prelude.{◌≡◌, ◌≢◌, ℕ, List, ◌<◌, ◌≤◌, ◌+◌, ◌++◌, ◌^◌, ◌↔◌, [], ◌∷◌, None, IsTrue, IfSome, OnOk, OnErr, Ok, Err, true, false, length, map, drop, take, replicate};
 ghost use Rattle.std.specs.VecDeque.{deque_len, deque_capacity};
+ghost use Rattle.session_order.specs.declared.queue.PartStage.TheVariants.{Waiting};
 ghost use Rattle.session_order.specs.LettingGo.{one_for};
 
 use crate::closing::{Broken, Closing};
@@ -11,8 +12,8 @@ use crate::queue::Queue;
 use crate::replies::{PendingReply, write_output};
 use crate::request_plan::{RequestPlan, plan_request};
 use crate::request_reader::{NextRequest, RequestReader};
-use key_split::{Ended, Joining, Part, Ticket};
-use resp_wire::{Limits, NoMemory, Words};
+use key_split::{Ended, Joining, Part, Parts, Ticket};
+use resp_wire::{Bytes, Limits, NoMemory, Value, Words};
 use std::alloc::Global;
 use std::collections::VecDeque;
 use std::marker::Model;
@@ -256,7 +257,10 @@ impl Session {
 
 impl Session {
     ghost use Rattle.session_order.specs.Replies.{DrainOutcome, count_of, tail_of};
-    ghost use Rattle.session_order.specs.Steps.{FeedOutcome, ReadOutcome, ReadyOutcome, FollowerOutcome, EndOutcome, IsHandedOut, MayRead, AddOutcome};
+    ghost use Rattle.session_order.specs.Steps.{FeedOutcome, ReadOutcome, ReadyOutcome, FollowerOutcome, EndOutcome, IsHandedOut, MayRead, AddOutcome, added, with_words, broken_by};
+    ghost use Rattle.key_split.specs.Join.{CanJoin};
+    ghost use Rattle.key_split.specs.declared.planned.Planned.TheVariants as planned;
+    ghost use Rattle.session_order.specs.declared.closing.Broken.TheVariants.{NotRequest};
     ghost use Rattle.session_order.specs.LettingGo.{LetsGoOf};
 
     fn take_piece(&mut self, piece: &[u8]) -> Result<usize, SessionFault>
@@ -383,7 +387,6 @@ impl Session {
         keep_lost(&mut self.ends, count);
     }
 
-    #[tactic(auto, using(crate::proofs::Added::parts_of_push, crate::proofs::Added::joinable_push))]
     // Adds what a request's words ask for: its reply or its parts. Where memory runs out the words are put back.
     fn add(&mut self, words: Words) -> Result<bool, SessionFault>
         requires open { MayRead self.old }
@@ -391,37 +394,70 @@ impl Session {
         requires words { 0 < length words }
         ensures { AddOutcome self.old words result self.new }
     {
-        let Ok(step) = plan_request(self.alloc, words.as_slice()) else {
-            self.reader.put_back(words);
-            return Err(SessionFault::NoMemory);
-        };
-        let count = step.parts();
+        match self.add_words(words.as_slice()) {
+            Ok(true) => Ok(true),
+            Ok(false) => Err(SessionFault::NotRequest),
+            Err(_) => {
+                self.reader.put_back(words);
+                Err(SessionFault::NoMemory)
+            }
+        }
+    }
+
+    // Adds what these words ask for. It is false where its parts are more than can be numbered, which is a fault.
+    fn add_words(&mut self, words: &[Bytes]) -> Result<bool, NoMemory>
+        requires open { MayRead self.old }
+        requires words { 0 < length words.now }
+        ensures added { result ≡ Ok true → with_words self.old words.now ≡ Ok self.new }
+        ensures too_many { result ≡ Ok false → (with_words self.old words.now ≡ Err NotRequest) × (self.new ≡ broken_by self.old NotRequest) }
+        ensures err { OnErr result (self.new ≡ self.old) }
+    {
+        match plan_request(self.alloc, words)? {
+            RequestPlan::Reply(value) => {
+                self.add_reply(value)?;
+                Ok(true)
+            }
+            RequestPlan::Close(value) => {
+                self.add_reply(value)?;
+                self.closing = Closing::Quit;
+                Ok(true)
+            }
+            RequestPlan::Parts(how, parts) => self.add_parts(how, parts),
+        }
+    }
+
+    // Adds a reply.
+    fn add_reply(&mut self, value: Value) -> Result<(), NoMemory>
+        requires open { MayRead self.old }
+        ensures ok { OnOk result (self.new ≡ record self.old { requests = self.old.requests ++ PendingReply.Reply value ∷ [] }) }
+        ensures err { OnErr result (self.new ≡ self.old) }
+    {
+        self.requests.push_back(PendingReply::Reply(value))?;
+        Ok(())
+    }
+
+    // Adds a request's parts. It is false where they are more than can be numbered, which is a fault.
+    fn add_parts(&mut self, how: Joining, parts: Parts) -> Result<bool, NoMemory>
+        requires open { MayRead self.old }
+        requires joinable { CanJoin how (length parts) }
+        ensures added { result ≡ Ok true → added self.old (Ok (planned.Parts how parts)) ≡ Ok self.new }
+        ensures too_many { result ≡ Ok false → (added self.old (Ok (planned.Parts how parts)) ≡ Err NotRequest) × (self.new ≡ broken_by self.old NotRequest) }
+        ensures err { OnErr result (self.new ≡ self.old) }
+    {
+        let count = parts.as_slice().len();
         if count as u64 > self.queue.room() {
             self.closing = Closing::Faulted(Broken::NotRequest, true);
-            return Err(SessionFault::NotRequest);
+            return Ok(false);
         }
-        if !make_room(&mut self.requests, &mut self.ends, count) {
-            self.reader.put_back(words);
-            return Err(SessionFault::NoMemory);
-        }
-        match step {
-            RequestPlan::Reply(value) => self
-                .requests
-                .push_back_reserved(PendingReply::Reply(value)),
-            RequestPlan::Close(value) => {
-                self.requests.push_back_reserved(PendingReply::Reply(value));
-                self.closing = Closing::Quit;
-            }
-            RequestPlan::Parts(how, parts) => {
-                if self.queue.add(parts.into_vec()).is_err() {
-                    self.reader.put_back(words);
-                    return Err(SessionFault::NoMemory);
-                }
-                self.requests
-                    .push_back_reserved(PendingReply::Parts(how, count));
-                push_lost(&mut self.ends, count);
-            }
-        }
+        queue_parts(
+            &mut self.requests,
+            &mut self.ends,
+            &mut self.queue,
+            parts.into_vec(),
+        )?;
+        self.requests
+            .push_back_reserved(PendingReply::Parts(how, count));
+        push_lost(&mut self.ends, count);
         Ok(true)
     }
 }
@@ -434,18 +470,24 @@ fn drop_front<T: Drop>(items: &mut VecDeque<T>, n: usize)
     drop(items.drain(..n));
 }
 
-// Makes room for one more request with so many parts.
-fn make_room(
+// Puts a request's parts behind the others, and makes room for the request and for their ends.
+fn queue_parts(
     requests: &mut VecDeque<PendingReply>,
     ends: &mut VecDeque<Ended>,
-    parts: usize,
-) -> bool
+    queue: &mut Queue,
+    parts: Vec<Part>,
+) -> Result<(), NoMemory>
+    requires { queue.old.first + length queue.old.stages + length parts.items ≤ 2 ^ 48 }
     ensures requests { requests.new.items ≡ requests.old.items }
     ensures ends { ends.new.items ≡ ends.old.items }
-    ensures requests_room { result ≡ true → deque_len requests.new < deque_capacity requests.new }
-    ensures ends_room { result ≡ true → deque_len ends.new + parts ≤ deque_capacity ends.new }
+    ensures requests_room { OnOk result (deque_len requests.new < deque_capacity requests.new) }
+    ensures ends_room { OnOk result (deque_len ends.new + length parts.items ≤ deque_capacity ends.new) }
+    ensures ok { OnOk result (queue.new ≡ record queue.old { stages = queue.old.stages ++ map Waiting parts.items }) }
+    ensures err { OnErr result (queue.new ≡ queue.old) }
 {
-    requests.reserve(1).is_ok() && ends.reserve(parts).is_ok()
+    requests.reserve(1)?;
+    ends.reserve(parts.len())?;
+    queue.add(parts)
 }
 
 // Puts places for so many ends behind the others.

@@ -1,8 +1,8 @@
-use Rattle.std.proofs.Common.{◌≤◌, ◌++◌, true, ap, sym, length}
+use Rattle.std.proofs.Common.{◌≤◌, ◌++◌, ◌∙◌, true, ap, sym, length}
 use Rattle.session_order.specs.Replies.{bytes_of, lines_owed}
 use Rattle.session_order.proofs.Draining.{joinable_drop}
 use Rattle.session_order.proofs.Fewer.{few_enough, left_counted, parts_done, line_written}
-use Rattle.session_order.proofs.Tail.{line_behind, no_tail}
+use Rattle.session_order.proofs.Tail.{line_behind, no_tail, still_grown}
 use Rattle.session_order.proofs.replies.write_output.Goals as goal
 
 pub returns-then-len-written-clause-written : goal.returns-then-len-written-clause-written
@@ -43,3 +43,24 @@ returns-clause-still_joinable c = joinable_drop c.args.requests.now.items c.in_o
 pub returns-clause-done : goal.returns-clause-done
 returns-clause-done c =
     let w = c.in_ok-written.ensures.written in parts_done c.in_ok-written.written.requests _ c.args.requests.now.items c.args.queue.now.stages c.args.ends.now.items w.2.in_order c.in_ok-written.ensures.parts
+
+pub returns-then-len-written-clause-grown : goal.returns-then-len-written-clause-grown
+returns-then-len-written-clause-grown c =
+    let so_far = c.in_ok-written.ensures.grown in
+    still_grown c.args.out.now.items _ _ so_far.0 (bytes_of (lines_owed true)) so_far.1 c.in_ok-write_line.ensures.ok
+
+pub returns-then-len-written-clause-ends : goal.returns-then-len-written-clause-ends
+returns-then-len-written-clause-ends c = c.in_ok-written.ensures.ends
+
+pub returns-in_err-write_line-clause-grown : goal.returns-in_err-write_line-clause-grown
+returns-in_err-write_line-clause-grown c =
+    let so_far = c.in_ok-written.ensures.grown in (so_far.0, c.in_err-write_line.ensures.err ∙ so_far.1)
+
+pub returns-in_err-written-clause-grown : goal.returns-in_err-written-clause-grown
+returns-in_err-written-clause-grown c = c.in_err-written.ensures.grown
+
+pub returns-in_err-write_line-clause-ends : goal.returns-in_err-write_line-clause-ends
+returns-in_err-write_line-clause-ends c = c.in_ok-written.ensures.ends
+
+pub returns-clause-grown : goal.returns-clause-grown
+returns-clause-grown c = c.in_ok-written.ensures.grown

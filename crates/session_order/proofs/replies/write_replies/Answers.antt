@@ -16,15 +16,15 @@ loop-i-preserved c =
     let requests = c.args.requests.now.items in
     let stages = c.args.queue.now.stages in
     let ends = c.args.ends.now.items in
-    let below : c.loop-i.i < length requests = grind (arith, common_steps) in
+    let below : c.loop-i.i < length requests = omega (arith, c.args.requests.now.ok.0, c.len-i-end.ensures) in
     let le : c.loop-i.i ≤ (replied requests stages ends).0 = omega (arith, so_far.request_count) in
     let next = c.loop-i.i + 1 in
     let step : next ≡ suc c.loop-i.i = omega arith in
     let more = one_more_replied c.loop-i.i next c.index.result.now requests stages ends c.loop-i.ends.items c.loop-i.parts does.0 c.in-Whole.count step
     (at_place requests c.loop-i.i c.index.result.now below c.index.ensures) le so_far.parts so_far.same c.requires.counted does.1 in
-    let few : length c.loop-i.out.items - length c.args.out.now.items < c.args.most = grind (arith, common_steps, c.if-len-start.false) in
+    let few : length c.loop-i.out.items - length c.args.out.now.items < c.args.most = omega (arith, c.if-len-start.false, c.len.ensures, c.len-start.ensures, c.loop-i.out.ok.0, c.args.out.now.ok.0) in
     record {
-      same = grind (arith, common_steps);
+      same = c.write_reply.ensures.ends ∙ so_far.same;
       bound = more.bound;
       known = all_take is_done c.args.queue.now.stages c.loop-i.parts c.in-Whole.count _ refl so_far.known done;
       counted = more.counted;
@@ -39,7 +39,7 @@ loop-i-preserved c =
 pub returns-then-len-start-clause-written : goal.returns-then-len-start-clause-written
 returns-then-len-start-clause-written c =
     let so_far = c.loop-i.invariant in
-    let enough : c.args.most ≤ length c.loop-i.out.items - length c.args.out.now.items = grind (arith, common_steps, c.if-len-start.true) in
+    let enough : c.args.most ≤ length c.loop-i.out.items - length c.args.out.now.items = omega (arith, c.if-len-start.true, c.len.ensures, c.len-start.ensures, c.loop-i.out.ok.0, c.args.out.now.ok.0) in
     copied_so_far c.args.most c.loop-i.i c.args.requests.now.items c.args.queue.now.stages c.args.ends.now.items c.args.out.now.items _ c.copied.result
     (written_so_far _ _ _ _ _ c.args.queue.now.stages _ _ _ so_far.request_count so_far.written so_far.no_more (λ few. absurd (omega (arith, few, enough))) refl)
     c.copied.ensures.requests c.copied.ensures.tail
@@ -50,7 +50,7 @@ returns-in-Nothing-clause-written c =
     let so_far = c.loop-i.invariant in
     let requests = c.args.requests.now.items in
     let stages = drop c.loop-i.parts c.args.queue.now.stages in
-    let below : c.loop-i.i < length requests = grind (arith, common_steps) in
+    let below : c.loop-i.i < length requests = omega (arith, c.args.requests.now.ok.0, c.len-i-end.ensures) in
     let at = at_place requests c.loop-i.i c.index.result.now below c.index.ensures in
     let none = subst (λ ends. reply_of c.index.result.now stages (drop c.loop-i.parts ends) ≡ None) so_far.same does.0 in
     copied_so_far c.args.most c.loop-i.i requests c.args.queue.now.stages c.args.ends.now.items c.args.out.now.items _ c.copied-in-Nothing.result
@@ -61,8 +61,8 @@ pub returns-clause-written : goal.returns-clause-written
 returns-clause-written c =
     let so_far = c.loop-i.invariant in
     let requests = c.args.requests.now.items in
-    let all : length requests ≤ c.loop-i.i = grind (arith, common_steps) in
-    let end : c.loop-i.i ≡ c.len-2.result = grind (arith, common_steps) in
+    let all : length requests ≤ c.loop-i.i = omega (arith, c.args.requests.now.ok.0, c.len-i-end.ensures) in
+    let end : c.loop-i.i ≡ c.len-2.result = omega (arith, c.len-i-end.ensures, c.len-2.ensures) in
     copied_so_far c.args.most c.len-2.result requests c.args.queue.now.stages c.args.ends.now.items c.args.out.now.items _ c.copied-2.result
     (written_so_far _ _ _ _ _ c.args.queue.now.stages _ _ _ so_far.request_count so_far.written so_far.no_more (λ few. none_left c.loop-i.i requests _ _ all) end)
     c.copied-2.ensures.requests c.copied-2.ensures.tail
@@ -75,14 +75,14 @@ returns-in-Head-clause-written c =
     let requests = c.args.requests.now.items in
     let stages = c.args.queue.now.stages in
     let ends = c.args.ends.now.items in
-    let below : c.loop-i.i < length requests = grind (arith, common_steps) in
+    let below : c.loop-i.i < length requests = omega (arith, c.args.requests.now.ok.0, c.len-i-end.ensures) in
     let le : c.loop-i.i ≤ (replied requests stages ends).0 = omega (arith, so_far.request_count) in
     let next = c.loop-i.i + 1 in
     let step : next ≡ suc c.loop-i.i = omega arith in
     let parts = c.loop-i.parts + c.in-Head.count in
     let more = one_more_replied c.loop-i.i next c.index.result.now requests stages ends c.loop-i.ends.items c.loop-i.parts does.0 c.in-Head.count step
     (at_place requests c.loop-i.i c.index.result.now below c.index.ensures) le so_far.parts so_far.same c.requires.counted does.1 in
-    let few : length c.loop-i.out.items - length c.args.out.now.items < c.args.most = grind (arith, common_steps, c.if-len-start.false) in
+    let few : length c.loop-i.out.items - length c.args.out.now.items < c.args.most = omega (arith, c.if-len-start.false, c.len.ensures, c.len-start.ensures, c.loop-i.out.ok.0, c.args.out.now.ok.0) in
     let left : next + (replied (drop next requests) (drop parts stages) (drop parts ends)).0 ≡ (replied requests stages ends).0 = grind (arith, common_steps) in
     ended_by_tail c.args.most next _ requests stages ends c.args.out.now.items c.loop-i.out.items _ does.2.0 c.in-Head.tail
     (replies (take c.loop-i.i requests) stages ends []) does.0 left so_far.written does.2.1 does.2.2 more.spelled
@@ -96,7 +96,7 @@ returns-in-Head-clause-parts c =
     let requests = c.args.requests.now.items in
     let stages = c.args.queue.now.stages in
     let ends = c.args.ends.now.items in
-    let below : c.loop-i.i < length requests = grind (arith, common_steps) in
+    let below : c.loop-i.i < length requests = omega (arith, c.args.requests.now.ok.0, c.len-i-end.ensures) in
     let le : c.loop-i.i ≤ (replied requests stages ends).0 = omega (arith, so_far.request_count) in
     let next = c.loop-i.i + 1 in
     let step : next ≡ suc c.loop-i.i = omega arith in
@@ -127,7 +127,7 @@ pub write_reply-requires-clause-parts : goal.write_reply-requires-clause-parts
 write_reply-requires-clause-parts c =
     let so_far = c.loop-i.invariant in
     let requests = c.args.requests.now.items in
-    let below : c.loop-i.i < length requests = grind (arith, common_steps) in
+    let below : c.loop-i.i < length requests = omega (arith, c.args.requests.now.ok.0, c.len-i-end.ensures) in
     let places : length c.loop-i.ends.items ≡ length c.args.queue.now.stages = ap length so_far.same ∙ c.requires.places in
     has_parts c.loop-i.i _ _ requests (at_place requests c.loop-i.i _ below c.index.ensures) so_far.joinable
     (omega (arith, so_far.counted, length-drop c.loop-i.parts c.args.queue.now.stages, places))
@@ -135,7 +135,7 @@ write_reply-requires-clause-parts c =
 pub returns-clause-parts : goal.returns-clause-parts
 returns-clause-parts c =
     let requests = c.args.requests.now.items in
-    let end : c.loop-i.i ≡ c.len-2.result = grind (arith, common_steps) in
+    let end : c.loop-i.i ≡ c.len-2.result = omega (arith, c.len-i-end.ensures, c.len-2.ensures) in
     c.copied-2.ensures.parts ∙ c.loop-i.invariant.parts ∙ ap (λ (n : ℕ). parts_of (take n requests)) (end ∙ sym c.copied-2.ensures.requests)
 
 pub returns-then-len-start-clause-grown : goal.returns-then-len-start-clause-grown
@@ -149,3 +149,75 @@ returns-in-Nothing-clause-grown c = (_, (rw c.in-Nothing.is at c.in_ok-count.ens
 
 pub returns-clause-grown : goal.returns-clause-grown
 returns-clause-grown c = (_, c.loop-i.invariant.written)
+
+pub overflow_add-parts : goal.overflow_add-parts
+overflow_add-parts c =
+    let does = rw c.in-Whole.is at c.in_ok-count.ensures.does in
+    let so_far = c.loop-i.invariant in
+    let requests = c.args.requests.now.items in
+    let stages = c.args.queue.now.stages in
+    let ends = c.args.ends.now.items in
+    let below : c.loop-i.i < length requests = omega (arith, c.args.requests.now.ok.0, c.len-i-end.ensures) in
+    let le : c.loop-i.i ≤ (replied requests stages ends).0 = omega (arith, so_far.request_count) in
+    let bound = (one_more_replied c.loop-i.i (suc c.loop-i.i) c.index.result.now requests stages ends c.loop-i.ends.items c.loop-i.parts does.0 c.in-Whole.count refl
+    (at_place requests c.loop-i.i c.index.result.now below c.index.ensures) le so_far.parts so_far.same c.requires.counted does.1).bound in
+    omega (arith, bound, c.requires.places, c.args.ends.now.ok.0, c.args.ends.now.small)
+
+pub write_reply-requires-clause-known : goal.write_reply-requires-clause-known
+write_reply-requires-clause-known c = c.loop-i.invariant.known
+
+pub write_reply-requires-clause-places : goal.write_reply-requires-clause-places
+write_reply-requires-clause-places c = ap length c.loop-i.invariant.same ∙ c.requires.places
+
+pub write_reply-requires-clause-fits : goal.write_reply-requires-clause-fits
+write_reply-requires-clause-fits c =
+    let places : length c.loop-i.ends.items ≡ length c.args.queue.now.stages = ap length c.loop-i.invariant.same ∙ c.requires.places in
+    omega (arith, c.loop-i.invariant.bound, places)
+
+pub returns-then-len-start-clause-parts : goal.returns-then-len-start-clause-parts
+returns-then-len-start-clause-parts c =
+    c.copied.ensures.parts ∙ c.loop-i.invariant.parts ∙ ap (λ (n : ℕ). parts_of (take n c.args.requests.now.items)) (sym c.copied.ensures.requests)
+
+pub returns-in-Nothing-clause-parts : goal.returns-in-Nothing-clause-parts
+returns-in-Nothing-clause-parts c =
+    c.copied-in-Nothing.ensures.parts ∙ c.loop-i.invariant.parts ∙ ap (λ (n : ℕ). parts_of (take n c.args.requests.now.items)) (sym c.copied-in-Nothing.ensures.requests)
+
+pub returns-then-len-start-clause-tail : goal.returns-then-len-start-clause-tail
+returns-then-len-start-clause-tail c = rw c.copied.ensures.tail tt
+
+pub returns-in-Nothing-clause-tail : goal.returns-in-Nothing-clause-tail
+returns-in-Nothing-clause-tail c = rw c.copied-in-Nothing.ensures.tail tt
+
+pub returns-clause-tail : goal.returns-clause-tail
+returns-clause-tail c = rw c.copied-2.ensures.tail tt
+
+pub returns-in-Head-clause-tail : goal.returns-in-Head-clause-tail
+returns-in-Head-clause-tail c = rw c.in-Head.is at c.in_ok-count.ensures.tail
+
+pub returns-in_err-count-clause-ends : goal.returns-in_err-count-clause-ends
+returns-in_err-count-clause-ends c = c.write_reply.ensures.ends ∙ c.loop-i.invariant.same
+
+pub returns-in-Head-clause-ends : goal.returns-in-Head-clause-ends
+returns-in-Head-clause-ends c = c.write_reply.ensures.ends ∙ c.loop-i.invariant.same
+
+pub returns-in-Nothing-clause-ends : goal.returns-in-Nothing-clause-ends
+returns-in-Nothing-clause-ends c = c.write_reply.ensures.ends ∙ c.loop-i.invariant.same
+
+pub returns-then-len-start-clause-ends : goal.returns-then-len-start-clause-ends
+returns-then-len-start-clause-ends c = c.loop-i.invariant.same
+
+pub returns-clause-ends : goal.returns-clause-ends
+returns-clause-ends c = c.loop-i.invariant.same
+
+pub overflow_add-result-in-Head : goal.overflow_add-result-in-Head
+overflow_add-result-in-Head c =
+    let does = rw c.in-Head.is at c.in_ok-count.ensures.does in
+    let so_far = c.loop-i.invariant in
+    let requests = c.args.requests.now.items in
+    let stages = c.args.queue.now.stages in
+    let ends = c.args.ends.now.items in
+    let below : c.loop-i.i < length requests = omega (arith, c.args.requests.now.ok.0, c.len-i-end.ensures) in
+    let le : c.loop-i.i ≤ (replied requests stages ends).0 = omega (arith, so_far.request_count) in
+    let bound = (one_more_replied c.loop-i.i (suc c.loop-i.i) c.index.result.now requests stages ends c.loop-i.ends.items c.loop-i.parts does.0 c.in-Head.count refl
+    (at_place requests c.loop-i.i c.index.result.now below c.index.ensures) le so_far.parts so_far.same c.requires.counted does.1).bound in
+    omega (arith, bound, c.requires.places, c.args.ends.now.ok.0, c.args.ends.now.small)

@@ -14,3 +14,6 @@ returns-in-Some-Out c =
     let at : slice_get stages c.in-Some.place ≡ Some (Out c.in-Some-Out.field-0-0) =
     got stages c.in-Some.place _ c.in-Some-Out.ensures.item.3.0 (c.in-Some-Out.ensures.item.3.1 c.in-Some-Out.field-0.now) ∙ ap Some c.in-Some-Out.field-0-is in
     rw (← c.self.view_is) (λ yes. (c.in-Some-Out.field-0-0, le, ap (slice_get stages) (sym place) ∙ at), λ out. refl)
+
+pub returns-in_default : goal.returns-in_default
+returns-in_default c = rw (← c.self.view_is) (λ yes. absurd (cc), λ out. absurd (c.in_default.ensures out.1))
