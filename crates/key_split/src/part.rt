@@ -3,6 +3,7 @@
 ghost use Rattle.std.specs.Prelude.{◌≡◌, ◌⊎◌, ◌↔◌, All, IsTrue, IfOk, OnOk, OnErr, [], ◌∷◌, ◌++◌};
 ghost use Rattle.slot_hash.specs.Slot.{slot_of};
 ghost use Rattle.key_split.specs.PartModel.{takes_group, HasFitKeys, HasOneSlot};
+ghost use Rattle.key_split.specs.Same.{same_part};
 
 use resp_wire::{Bytes, NoMemory};
 use slot_hash::Slot;
@@ -194,11 +195,14 @@ impl PartialEq for Part {
         ensures value { result ≡ same_part self.now other.now }
         ensures same { IsTrue result ↔ (self.now ≡ other.now) }
     {
-        self.op == other.op
-            && self.key == other.key
-            && self.arg == other.arg
-            && self.rest == other.rest
+        same_part(self, other)
     }
+}
+
+fn same_part(a: &Part, b: &Part) -> bool
+    ensures { result ≡ same_part a.now b.now }
+{
+    a.op == b.op && a.key == b.key && a.arg == b.arg && a.rest == b.rest
 }
 
 impl Eq for Part {

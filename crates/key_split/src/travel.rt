@@ -1,6 +1,7 @@
 //! What travels between a client and the nodes.
 
 ghost use Rattle.std.specs.Prelude.{◌≡◌, IfOk};
+ghost use Rattle.key_split.specs.Same.{same_told};
 
 use crate::part::Part;
 use resp_wire::{NoMemory, Value};
@@ -85,19 +86,25 @@ impl PartialEq for Told {
         ensures value { result ≡ same_told self.now other.now }
         ensures same { IsTrue result ↔ (self.now ≡ other.now) }
     {
-        match (self, other) {
-            (Told::Reply(value), Told::Reply(other)) => value == other,
-            (Told::Moved(slot, node), Told::Moved(other_slot, other_node))
-            | (Told::Ask(slot, node), Told::Ask(other_slot, other_node)) => {
-                slot == other_slot && node == other_node
-            }
-            (Told::TryAgain, Told::TryAgain)
-            | (Told::ClusterDown, Told::ClusterDown)
-            | (Told::Unclear, Told::Unclear)
-            | (Told::Lost, Told::Lost)
-            | (Told::Unsent, Told::Unsent) => true,
-            _ => false,
+        same_told(self, other)
+    }
+}
+
+fn same_told(a: &Told, b: &Told) -> bool
+    ensures { result ≡ same_told a.now b.now }
+{
+    match (a, b) {
+        (Told::Reply(value), Told::Reply(other)) => value == other,
+        (Told::Moved(slot, node), Told::Moved(other_slot, other_node))
+        | (Told::Ask(slot, node), Told::Ask(other_slot, other_node)) => {
+            slot == other_slot && node == other_node
         }
+        (Told::TryAgain, Told::TryAgain)
+        | (Told::ClusterDown, Told::ClusterDown)
+        | (Told::Unclear, Told::Unclear)
+        | (Told::Lost, Told::Lost)
+        | (Told::Unsent, Told::Unsent) => true,
+        _ => false,
     }
 }
 

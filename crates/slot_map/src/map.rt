@@ -35,9 +35,7 @@ impl SlotMap {
         ensures { IfOk result (λ map. MapShows map []) }
     {
         let mut nodes = Vec::with_capacity(alloc, usize::from(SLOT_COUNT))?;
-        for slot in 0..SLOT_COUNT {
-            nodes.push(None)?;
-        }
+        nodes.resize(usize::from(SLOT_COUNT), None)?;
         Ok(SlotMap { nodes })
     }
 

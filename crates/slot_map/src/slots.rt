@@ -1,9 +1,10 @@
 //! The reading of a reply to CLUSTER SLOTS.
 
-ghost use Rattle.std.specs.Prelude.{◌≡◌, ◌<◌, length, map, IsTrue};
+ghost use Rattle.std.specs.Prelude.{◌≡◌, ◌<◌, List, ◌∷◌, length, map, IsTrue};
 ghost use Rattle.resp_wire.specs.Text.{is_one_line};
+ghost use Rattle.resp_wire.specs.Data.{Data};
 ghost use Rattle.resp_wire.specs.Seen.{data_of};
-ghost use Rattle.slot_map.specs.Slots.{endpoint_meant, entry_in, entry_in_items, is_unnamed, located, primary_at, primary_in, range_in, read_entries, read_slots, slot_at, step_from, ReadsAs};
+ghost use Rattle.slot_map.specs.Slots.{endpoint_meant, entry_in, entry_in_items, is_unnamed, located, primary_in, range_in, read_entries, read_slots, slot_at, step_from, ReadsAs};
 ghost use Rattle.slot_map.specs.Passes.{AddsAs, Checks, StepsAs, Tries};
 ghost use Rattle.slot_map.specs.Table.{host_of, Grows, Interns};
 
@@ -159,35 +160,46 @@ fn entry_in_items(items: &Values) -> Option<SlotsEntry<'_>>
     ensures { result ≡ entry_in_items items.now }
 {
     match items.as_slice() {
-        [
-            Value::Integer(first),
-            Value::Integer(last),
-            Value::Array(primary),
-            ..
-        ] => {
-            let primary = primary_in(primary)?;
-            Some(SlotsEntry {
-                first: *first,
-                last: *last,
-                primary,
-            })
-        }
+        [first, last, primary, ..] => entry_of(first, last, primary),
         _ => None,
     }
+}
+
+fn entry_of<'a>(first: &Value, last: &Value, primary: &'a Value) -> Option<SlotsEntry<'a>>
+    ensures { (rest : List Data) → result ≡ entry_in_items (data_of first.now ∷ data_of last.now ∷ data_of primary.now ∷ rest) }
+{
+    let Value::Integer(first) = first else {
+        return None;
+    };
+    let Value::Integer(last) = last else {
+        return None;
+    };
+    let Value::Array(primary) = primary else {
+        return None;
+    };
+    let primary = primary_in(primary)?;
+    Some(SlotsEntry {
+        first: *first,
+        last: *last,
+        primary,
+    })
 }
 
 fn primary_in(items: &Values) -> Option<Primary<'_>>
     ensures { result ≡ primary_in items.now }
 {
     match items.as_slice() {
-        [host, Value::Integer(port), ..] => primary_at(host, *port),
+        [host, port, ..] => primary_of(host, port),
         _ => None,
     }
 }
 
-fn primary_at(host: &Value, port: i64) -> Option<Primary<'_>>
-    ensures { result ≡ primary_at (data_of host.now) port }
+fn primary_of<'a>(host: &'a Value, port: &Value) -> Option<Primary<'a>>
+    ensures { (rest : List Data) → result ≡ primary_in (data_of host.now ∷ data_of port.now ∷ rest) }
 {
+    let Value::Integer(port) = *port else {
+        return None;
+    };
     match host {
         Value::NullBulk => Some(Primary { host: None, port }),
         Value::Bulk(bytes) => {
