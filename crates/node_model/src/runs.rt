@@ -5,7 +5,7 @@ ghost use Rattle.std.specs.List.{list_all};
 ghost use Rattle.std.specs.Str.{bytes_eq};
 ghost use Rattle.key_split.specs.PartModel.{keys_of};
 ghost use Rattle.slot_hash.specs.Slot.{slot_of};
-ghost use Rattle.node_model.specs.Runs.{deed_for, first_key, have_one_key, keys_in, AllTold, HaveOneSlot, ServesAll};
+ghost use Rattle.node_model.specs.Runs.{deed_for, first_key, have_one_key, keys_in, AllTold, HaveOneSlot, RunAnswers, ServesAll};
 ghost use Rattle.node_model.specs.Serving.{by_role, held_of};
 
 use crate::cluster::Cluster;
@@ -30,14 +30,24 @@ impl Cluster {
         requires { HaveOneSlot parts.now }
         ensures { ServesAll self.old node asking parts.now verdict result self.new }
     {
-        if !self.has_node(node) {
-            return Err(ServeFault::NoSuchNode);
+        if let Some(fault) = self.serve_fault(node, &verdict) {
+            return Err(fault);
         }
-        if let Verdict::Moved(to) = verdict
-            && !self.has_node(to)
-        {
-            return Err(ServeFault::NotThisVerdict);
-        }
+        self.answer_run(node, asking, parts, verdict)
+    }
+
+    /// Serves a run at one of the nodes.
+    fn answer_run(
+        &mut self,
+        node: NodeId,
+        asking: bool,
+        parts: &[Part],
+        verdict: Verdict,
+    ) -> Result<Vec<Told>, ServeFault>
+        requires slot { HaveOneSlot parts.now }
+        requires there { node < length self.old.stores }
+        ensures { RunAnswers (deed_for self.old node asking parts.now verdict) self.old node parts.now result self.new }
+    {
         match self.deed_for(node, asking, parts, verdict) {
             Deed::Executes => {
                 let slot = slot_of_run(parts);
@@ -148,7 +158,8 @@ fn is_at(part: &Part, first: &[u8]) -> bool
     part.key().as_slice() == first && pairs_are_at(part.rest(), first)
 }
 
-fn pairs_are_at(pairs: &[Pair], first: &[u8]) -> bool
+/// Whether all keys of the pairs are this one.
+pub(crate) fn pairs_are_at(pairs: &[Pair], first: &[u8]) -> bool
     ensures { result ≡ list_all (λ pair. bytes_eq pair.0 first.now) pairs.now }
 {
     pairs.iter().all(|(key, _)| key.as_slice() == first)

@@ -8,10 +8,9 @@ ghost use Rattle.node_model.specs.Runs.{keys_in, store_after_all, AreReplies};
 ghost use Rattle.node_model.specs.Store.{StoreModel};
 ghost use Rattle.node_model.specs.Together.{AreTaken, IsCopy, IsLaidOver, PerformsAll};
 
-use crate::store::Store;
+use crate::store::{Store, put_reserved};
 use key_split::{Part, Told};
 use resp_wire::{Bytes, NoMemory};
-use std::alloc::{AllocFailed, Global};
 use std::collections::HashMap;
 
 impl Store {
@@ -58,7 +57,7 @@ impl Store {
         match self.get(key) {
             None => Ok(()),
             Some(value) => {
-                copy.put(key, value.copy(self.alloc)?)?;
+                drop(copy.put(key, value.copy(self.alloc)?)?);
                 Ok(())
             }
         }
@@ -109,10 +108,10 @@ fn take_away(held: &mut HashMap<Bytes, Bytes>, part: &Part)
     ensures keys { AreTaken (keys_of part.now) (map.from_entries held.old.entries) (map.from_entries held.new.entries) }
     ensures room { spare held.old ≤ spare held.new }
 {
-    held.remove(part.key());
+    drop(held.remove(part.key()));
     let mut rest = part.rest();
     while let [(key, _), further @ ..] = rest {
-        held.remove(key);
+        drop(held.remove(key));
         rest = further;
     }
 }
@@ -123,7 +122,6 @@ fn put_all(held: &mut HashMap<Bytes, Bytes>, values: HashMap<Bytes, Bytes>)
     ensures { IsLaidOver (map.from_entries values.entries) (map.from_entries held.old.entries) (map.from_entries held.new.entries) }
 {
     for (key, value) in values {
-        let put: Result<Option<Bytes>, AllocFailed<(Bytes, Bytes)>> = held.insert(key, value);
-        put.unwrap();
+        put_reserved(held, key, value);
     }
 }

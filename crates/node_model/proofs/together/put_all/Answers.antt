@@ -1,34 +1,21 @@
-use Rattle.std.proofs.Common.{length, ap, sym, ◌∙◌, arith, Some, nat_eq}
+use Rattle.std.proofs.Common.{length, ap, sym, ◌∙◌, arith}
 use Rattle.std.proofs.lemmas.Map.Entries.{hash_map_get_place}
-use Rattle.std.specs.Cmp.Lexicographic.{pointwise, nat_list_eq_equiv}
-use Rattle.std.specs.HashMap.{Updates}
+use Rattle.std.specs.Cmp.Lexicographic.{nat_list_eq_equiv}
 use Rattle.std.specs.FinMap.{from_entries}
 use Rattle.key_split.specs.declared.part.Op.TheVariants.{MSet}
 use Rattle.node_model.specs.Store.{store_along}
-use Rattle.node_model.proofs.Entries.{from_entries-insert, get-lookup, on-ok}
+use Rattle.node_model.proofs.Entries.{get-lookup}
 use Rattle.node_model.proofs.AllDone.{laid-over}
 use Rattle.node_model.proofs.together.put_all.Goals as goal
 
-pub loop-key-preserved-in-Some : goal.loop-key-preserved-in-Some
-loop-key-preserved-in-Some c =
-    let steps = c.in-Some.ensures.steps in
-    let new = on-ok (Updates (pointwise nat_eq) c.loop-key.held c.insert-put.new.self c.in-Some.key (Some c.in-Some.value)) c.insert-put.result c.unwrap.result c.unwrap.ensures c.insert-put.ensures.updates in (
-      tt,
-      tt,
-      ap (λ s. store_along MSet s c.next.new.self) (from_entries-insert c.in-Some.key c.in-Some.value c.loop-key.held.entries c.insert-put.new.self.entries new.0)
-          ∙ ap (store_along MSet (from_entries c.loop-key.held.entries)) (sym steps) ∙ c.loop-key.invariant.2,
-      omega (arith, c.loop-key.invariant.3, ap length steps, c.insert-put.ensures.spare),
-    )
-
 pub loop-key-preserved : goal.loop-key-preserved
 loop-key-preserved c =
-    let steps = c.in-Some.ensures.steps in
-    let new = on-ok (Updates (pointwise nat_eq) c.loop-key.held c.insert-put.new.self c.in-Some.key (Some c.in-Some.value)) c.insert-put.result c.unwrap.result c.unwrap.ensures c.insert-put.ensures.updates in (
+    let steps = c.in-Some.ensures.steps in (
       tt,
       tt,
-      ap (λ s. store_along MSet s c.next.new.self) (from_entries-insert c.in-Some.key c.in-Some.value c.loop-key.held.entries c.insert-put.new.self.entries new.0)
+      ap (λ s. store_along MSet s c.next.new.self) c.put_reserved.ensures.entries
           ∙ ap (store_along MSet (from_entries c.loop-key.held.entries)) (sym steps) ∙ c.loop-key.invariant.2,
-      omega (arith, c.loop-key.invariant.3, ap length steps, c.insert-put.ensures.spare),
+      omega (arith, c.loop-key.invariant.3, ap length steps, c.put_reserved.ensures.room),
     )
 
 pub returns : goal.returns
