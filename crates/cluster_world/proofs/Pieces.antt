@@ -63,22 +63,20 @@ passes_with : (words : Words) (piece : List ℕ) → list_all is_word words ≡ 
 passes_with words piece all right =
     list_all-append is_word words (piece ∷ []) ∙ ap (λ b. b && (is_word piece && true)) all ∙ ap (λ b. b && true) right
 
-pub one_more : (text rest piece copy behind : List ℕ) (words grown : Words) → slice_split is_space text ≡ words ++ slice_split is_space rest
-    → slice_split is_space rest ≡ piece ∷ slice_split is_space behind → is_word piece ≡ true → list_all is_word words ≡ true → copy ≡ piece → grown ≡ words ++ copy ∷ []
+pub one_more : (text rest piece behind : List ℕ) (words grown : Words) → slice_split is_space text ≡ words ++ slice_split is_space rest
+    → slice_split is_space rest ≡ piece ∷ slice_split is_space behind → is_word piece ≡ true → list_all is_word words ≡ true → grown ≡ words ++ piece ∷ []
     → (slice_split is_space text ≡ grown ++ slice_split is_space behind) × (list_all is_word grown ≡ true)
-one_more text rest piece copy behind words grown so_far next right all same added =
-    let put : grown ≡ words ++ piece ∷ [] = added ∙ ap (λ w. words ++ w ∷ []) same in (
-      so_far ∙ ap (λ ps. words ++ ps) next ∙ sym (append_assoc words (piece ∷ []) (slice_split is_space behind)) ∙ ap (λ ps. ps ++ slice_split is_space behind) (sym put),
-      ap (list_all is_word) put ∙ passes_with words piece all right,
-    )
+one_more text rest piece behind words grown so_far next right all added = (
+  so_far ∙ ap (λ ps. words ++ ps) next ∙ sym (append_assoc words (piece ∷ []) (slice_split is_space behind)) ∙ ap (λ ps. ps ++ slice_split is_space behind) (sym added),
+  ap (list_all is_word) added ∙ passes_with words piece all right,
+)
 
-pub all_words : (text rest copy : List ℕ) (words grown : Words) → slice_split is_space text ≡ words ++ slice_split is_space rest
-    → slice_split is_space rest ≡ rest ∷ [] → is_word rest ≡ true → list_all is_word words ≡ true → copy ≡ rest → grown ≡ words ++ copy ∷ [] → Some grown ≡ line_of text
+pub all_words : (text rest : List ℕ) (words grown : Words) → slice_split is_space text ≡ words ++ slice_split is_space rest
+    → slice_split is_space rest ≡ rest ∷ [] → is_word rest ≡ true → list_all is_word words ≡ true → grown ≡ words ++ rest ∷ [] → Some grown ≡ line_of text
 unfolding line_of
-all_words text rest copy words grown so_far last right all copied added =
-    let put : grown ≡ words ++ rest ∷ [] = added ∙ ap (λ w. words ++ w ∷ []) copied in
-    let same : slice_split is_space text ≡ grown = so_far ∙ ap (λ ps. words ++ ps) last ∙ sym put in
-    let passes = ap (list_all is_word) (same ∙ put) ∙ passes_with words rest all right in
+all_words text rest words grown so_far last right all added =
+    let same : slice_split is_space text ≡ grown = so_far ∙ ap (λ ps. words ++ ps) last ∙ sym added in
+    let passes = ap (list_all is_word) (same ∙ added) ∙ passes_with words rest all right in
     sym (ap (λ b. cond b (Some (slice_split is_space text)) None) passes ∙ ap Some same)
 
 -- Lines, one after another.

@@ -62,7 +62,7 @@ impl Model for Link {
 }
 
 impl Link {
-    pub(crate) fn new(alloc: Global, node: NodeId) -> Link
+    fn new(alloc: Global, node: NodeId) -> Link
         ensures { result ≡ new_link_model node result.room }
     {
         Link {
@@ -72,6 +72,15 @@ impl Link {
             backs: Vec::new(alloc),
             asking: false,
         }
+    }
+
+    /// A new link to a run's node, with the run's requests.
+    pub(crate) fn with_run(alloc: Global, posted: &Posted) -> Result<Link, AllocError>
+        ensures { IfOk result (λ link. link ≡ record (new_link_model posted.now.node link.room) { requests = requests_of posted.now }) }
+    {
+        let mut link = Link::new(alloc, posted.node);
+        link.send(alloc, posted)?;
+        Ok(link)
     }
 
     pub(crate) fn node(&self) -> NodeId

@@ -74,10 +74,8 @@ impl Links {
             return Err(WorldFault::NotNow);
         }
         if at == self.links.len() {
-            let mut link = Link::new(self.alloc, posted.node);
-            link.send(self.alloc, posted)?;
-            self.links.reserve(1)?;
-            self.links.push_reserved(link);
+            let link = Link::with_run(self.alloc, posted)?;
+            self.links.push(link)?;
             return Ok(());
         }
         let link = &mut self.links[at];

@@ -3,6 +3,7 @@
 ghost use Rattle.std.specs.Prelude.{◌≡◌, ◌++◌, IfOk, OnOk, OnErr, map};
 ghost use Rattle.std.specs.Fmt.{decimal};
 ghost use Rattle.std.specs.List.{flat_map};
+ghost use Rattle.key_split.specs.Words.{words_of};
 ghost use Rattle.resp_wire.specs.Data.{items_of};
 ghost use Rattle.resp_wire.specs.Seen.{data_of};
 ghost use Rattle.cluster_world.specs.Cuts.{Grows};
@@ -135,10 +136,18 @@ fn push_further_words(out: &mut Vec<u8>, words: &[Bytes]) -> Result<(), AllocErr
     ensures ok { OnOk result (out.new.items ≡ out.old.items ++ flat_map (λ word. report.space ++ word) words.now) }
 {
     for word in words {
-        out.extend_from_slice(b" ")?;
-        out.extend_from_slice(word.as_slice())?;
+        push_two(out, b" ", word.as_slice())?;
     }
     Ok(())
+}
+
+/// A name, a ticket and a space, at the end.
+fn push_head(out: &mut Vec<u8>, name: &[u8], ticket: Ticket) -> Result<(), AllocError>
+    ensures ok { OnOk result (out.new.items ≡ out.old.items ++ (name.now ++ report.ticket_text ticket ++ report.space)) }
+{
+    out.extend_from_slice(name)?;
+    push_ticket(out, ticket)?;
+    out.extend_from_slice(b" ")
 }
 
 /// An answer's line, at the end.
@@ -146,28 +155,31 @@ fn push_further_words(out: &mut Vec<u8>, words: &[Bytes]) -> Result<(), AllocErr
 fn push_answer(out: &mut Vec<u8>, answer: &Answer) -> Result<(), AllocError>
     ensures ok { OnOk result (out.new.items ≡ out.old.items ++ report.answer_line answer.now) }
 {
-    out.extend_from_slice(b"answer ")?;
-    push_ticket(out, answer.ticket)?;
-    out.extend_from_slice(b" ")?;
+    push_head(out, b"answer ", answer.ticket)?;
     push_end(out, &answer.ended)?;
-    out.push(b'\n')?;
-    Ok(())
+    out.extend_from_slice(b"\n")
 }
 
 /// An entry's line, at the end.
-#[tactic(auto, unfolding(crate::specs::Report::entry_line))]
 fn push_entry(alloc: Global, out: &mut Vec<u8>, entry: &Entry) -> Result<(), NoMemory>
     ensures ok { OnOk result (out.new.items ≡ out.old.items ++ report.entry_line entry.now) }
 {
     let words = words_of(alloc, &entry.part)?;
-    out.extend_from_slice(b"entry ")?;
-    push_ticket(out, entry.ticket)?;
-    out.extend_from_slice(b" ")?;
-    push_words(out, words.as_slice())?;
+    push_entry_of(out, entry, words.as_slice())?;
+    Ok(())
+}
+
+/// The line of an entry whose part has these words, at the end.
+#[tactic(auto, unfolding(crate::specs::Report::entry_line))]
+fn push_entry_of(out: &mut Vec<u8>, entry: &Entry, words: &[Bytes]) -> Result<(), AllocError>
+    requires { words.now ≡ words_of entry.now.part }
+    ensures ok { OnOk result (out.new.items ≡ out.old.items ++ report.entry_line entry.now) }
+{
+    push_head(out, b"entry ", entry.ticket)?;
+    push_words(out, words)?;
     out.extend_from_slice(b" = ")?;
     push_value_text(out, &entry.reply)?;
-    out.push(b'\n')?;
-    Ok(())
+    out.extend_from_slice(b"\n")
 }
 
 /// The lines of answers, at the end.
@@ -196,19 +208,20 @@ pub(crate) fn push_entries(
 
 /// The line of a refused event, at the end.
 #[tactic(auto, unfolding(crate::specs::Report::refused_line))]
-pub(crate) fn push_refused(out: &mut Vec<u8>, number: u64, why: WorldFault) -> Result<(), NoMemory>
+pub(crate) fn push_refused(
+    out: &mut Vec<u8>,
+    number: u64,
+    why: WorldFault,
+) -> Result<(), AllocError>
     ensures ok { OnOk result (out.new.items ≡ out.old.items ++ report.refused_line number why) }
 {
-    let name: &[u8] = match why {
-        WorldFault::NotNow => b"NotNow",
-        WorldFault::NoMemory => b"NoMemory",
+    let fault: &[u8] = match why {
+        WorldFault::NotNow => b" NotNow\n",
+        WorldFault::NoMemory => b" NoMemory\n",
     };
     out.extend_from_slice(b"refused ")?;
     push_number(out, number)?;
-    out.extend_from_slice(b" ")?;
-    out.extend_from_slice(name)?;
-    out.push(b'\n')?;
-    Ok(())
+    out.extend_from_slice(fault)
 }
 
 /// The line that names a bad one.

@@ -2,7 +2,7 @@
 //!
 //! A line is ended by LF. Its words are bytes 0x21 to 0x7E, separated by one space.
 
-ghost use Rattle.std.specs.Prelude.{◌≡◌, ◌==◌, ◌^◌, position, IfOk};
+ghost use Rattle.std.specs.Prelude.{◌≡◌, ◌==◌, ◌^◌, ◌++◌, [], ◌∷◌, position, IfOk, OnOk};
 ghost use Rattle.std.specs.List.{list_all};
 ghost use Rattle.cluster_world.specs.Cuts.{Cuts, Follows};
 ghost use Rattle.cluster_world.specs.Reading.{ReadsLine};
@@ -69,14 +69,22 @@ pub fn words(alloc: Global, text: &[u8]) -> Result<Option<Words>, NoMemory>
         if !is_word(word) {
             return Ok(None);
         }
-        words.push(Bytes::from_slice(alloc, word)?)?;
+        push_word(alloc, &mut words, word)?;
         rest = behind;
     }
     if !is_word(rest) {
         return Ok(None);
     }
-    words.push(Bytes::from_slice(alloc, rest)?)?;
+    push_word(alloc, &mut words, rest)?;
     Ok(Some(Words::new(words)))
+}
+
+/// Adds a word, in memory of its own.
+fn push_word(alloc: Global, words: &mut Vec<Bytes>, word: &[u8]) -> Result<(), NoMemory>
+    ensures { OnOk result (words.new.items ≡ words.old.items ++ word.now ∷ []) }
+{
+    words.push(Bytes::from_slice(alloc, word)?)?;
+    Ok(())
 }
 
 fn is_word(piece: &[u8]) -> bool

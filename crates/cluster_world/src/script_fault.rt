@@ -2,15 +2,12 @@
 
 use resp_wire::NoMemory;
 use std::alloc::AllocFailed;
-use thiserror::Error;
 
 /// Why a script is not read.
-#[derive(Clone, Copy, Debug, Drop, Error)]
+#[derive(Clone, Copy, Drop)]
 pub enum ScriptFault {
-    #[error("out of memory")]
     NoMemory,
     /// The lowest line that is bad, from 1.
-    #[error("bad line {0}")]
     BadLine(u64),
 }
 

@@ -13,8 +13,8 @@ pub loop-word-preserved : goal.loop-word-preserved
 loop-word-preserved c =
     let kept = c.loop-word.invariant in
     let parts = c.in-Some.ensures in
-    one_more c.args.text.now c.loop-word.rest.now c.in-Some.word.now c.in_ok-from_slice.field-0 c.in-Some.behind.now _ _ kept.0 (split_cut is_space _ _ _ parts.0 parts.1 parts.2) (sym c.is_word.ensures ∙ c.if-not-is_word.false) kept.1
-    c.in_ok-from_slice.ensures c.in_ok-push.ensures.items
+    one_more c.args.text.now c.loop-word.rest.now c.in-Some.word.now c.in-Some.behind.now _ _ kept.0 (split_cut is_space _ _ _ parts.0 parts.1 parts.2) (sym c.is_word.ensures ∙ c.if-not-is_word.false) kept.1
+    c.in_ok-push_word.ensures
 
 pub returns-then-not-is_word-2 : goal.returns-then-not-is_word-2
 returns-then-not-is_word-2 c =
@@ -24,5 +24,5 @@ returns-then-not-is_word-2 c =
 pub returns : goal.returns
 returns c =
     let kept = c.loop-word.invariant in
-    all_words c.args.text.now c.loop-word.rest.now c.in_ok-from_slice-2.field-0 _ _ kept.0 (split_whole is_space _ c.in_default.ensures) (sym c.is_word-2.ensures ∙ c.if-not-is_word-2.false) kept.1 c.in_ok-from_slice-2.ensures
-    (c.new.ensures ∙ c.in_ok-push-2.ensures.items)
+    all_words c.args.text.now c.loop-word.rest.now _ _ kept.0 (split_whole is_space _ c.in_default.ensures) (sym c.is_word-2.ensures ∙ c.if-not-is_word-2.false) kept.1
+    (c.new.ensures ∙ c.in_ok-push_word-2.ensures)

@@ -51,42 +51,42 @@ can-new ls h k at b is end =
     subst (λ (x : LinksModel). (links : List Link) × GoesOver x.links at b links) is
     (map (shown h) ls ++ sent (new_link b.node) b ∷ [], inr (omega (arith, end, shown-length ls h), refl))
 
-pub returns-in_err-send : goal.returns-in_err-send
-returns-in_err-send c =
+pub returns-in_err-link : goal.returns-in_err-link
+returns-in_err-link c =
     let ls : List LinkModel = c.self.inside.links.items in
     let h : List EntryModel = c.self.inside.history.items in
     let len : c.args.at ≡ length ls = search rules in
     let is : c.from_residual.result ≡ Err NoMemory = search rules in
     subst (λ (r : Result Unit WorldFault). Carries c.args.self.now c.args.at c.args.posted.now r c.args.self.now) (sym is) (can-new ls h c.args.self.now c.args.at c.args.posted.now c.self.view_is len, refl)
 
-pub returns-in_err-reserve : goal.returns-in_err-reserve
-returns-in_err-reserve c =
+pub returns-in_err-push : goal.returns-in_err-push
+returns-in_err-push c =
     let ls : List LinkModel = c.self.inside.links.items in
     let h : List EntryModel = c.self.inside.history.items in
     let len : c.args.at ≡ length ls = search rules in
-    let is : c.from_residual-in_err-reserve.result ≡ Err NoMemory = search rules in
-    subst (λ (r : Result Unit WorldFault). Carries c.args.self.now c.args.at c.args.posted.now r (linked c.reserve.new.self.items h)) (sym is)
-    (can-new ls h c.args.self.now c.args.at c.args.posted.now c.self.view_is len, ap (λ (x : List LinkModel). linked x h) c.in_err-reserve.ensures.items ∙ c.self.view_is)
+    let is : c.from_residual-in_err-push.result ≡ Err NoMemory = search rules in
+    subst (λ (r : Result Unit WorldFault). Carries c.args.self.now c.args.at c.args.posted.now r (linked c.push.new.self.items h)) (sym is)
+    (can-new ls h c.args.self.now c.args.at c.args.posted.now c.self.view_is len, ap (λ (x : List LinkModel). linked x h) c.in_err-push.ensures.items ∙ c.self.view_is)
 
 pub invariant_of-self-then-at-len-2 : goal.invariant_of-self-then-at-len-2
 invariant_of-self-then-at-len-2 c =
     let ls : List LinkModel = c.self.inside.links.items in
     let h : List EntryModel = c.self.inside.history.items in
-    let none : c.send.new.self.backs ≡ [] = ap (λ (l : LinkModel). l.backs) c.in_ok-send.ensures.ok ∙ ap (λ (l : LinkModel). l.backs) c.new-link.ensures in
-    let mine : KeepsBelow (length h) c.send.new.self = subst (All (IsBelow (length h))) (sym none) (λ k d lt. absurd (omega (arith, lt))) in
-    subst (All (KeepsBelow (length h))) (sym (c.push_reserved.ensures.items ∙ ap (λ (xs : List LinkModel). xs ++ c.send.new.self ∷ []) c.in_ok-reserve.ensures.items)) (All-push (KeepsBelow (length h)) ls c.send.new.self c.self.invariant mine)
+    let none : c.in_ok-link.link.backs ≡ [] = ap (λ (l : LinkModel). l.backs) c.in_ok-link.ensures in
+    let mine : KeepsBelow (length h) c.in_ok-link.link = subst (All (IsBelow (length h))) (sym none) (λ k d lt. absurd (omega (arith, lt))) in
+    subst (All (KeepsBelow (length h))) (sym c.in_ok-push.ensures.items) (All-push (KeepsBelow (length h)) ls c.in_ok-link.link c.self.invariant mine)
 
-pub returns-in_err-send-2 : goal.returns-in_err-send-2
-returns-in_err-send-2 c =
+pub returns-in_err-send : goal.returns-in_err-send
+returns-in_err-send c =
     let ls : List LinkModel = c.self.inside.links.items in
     let h : List EntryModel = c.self.inside.history.items in
     let l : LinkModel = c.index_mut-link.result.now in
     let lt : c.args.at < length ls = omega (arith, c.len.ensures, c.len-2.ensures) in
     let at : slice_get ls c.args.at ≡ Some l = at-place ls c.args.at l lt c.index_mut-link.ensures.value in
     let leads : (l.is_open ≡ true) × (l.node ≡ c.args.posted.now.node) = c.if-not-leads_to.ensures.0 refl in
-    let is : c.from_residual-in_err-send-2.result ≡ Err NoMemory = search rules in
-    subst (λ (r : Result Unit WorldFault). Carries c.args.self.now c.args.at c.args.posted.now r (linked (slice_set ls c.args.at c.send-2.new.self) h)) (sym is)
-    (can ls h c.args.self.now c.args.at c.args.posted.now l c.self.view_is at leads.0 leads.1, set-same ls h c.args.at l c.send-2.new.self at (ap (shown h) c.in_err-send-2.ensures.err) ∙ c.self.view_is)
+    let is : c.from_residual-in_err-send.result ≡ Err NoMemory = search rules in
+    subst (λ (r : Result Unit WorldFault). Carries c.args.self.now c.args.at c.args.posted.now r (linked (slice_set ls c.args.at c.send.new.self) h)) (sym is)
+    (can ls h c.args.self.now c.args.at c.args.posted.now l c.self.view_is at leads.0 leads.1, set-same ls h c.args.at l c.send.new.self at (ap (shown h) c.in_err-send.ensures.err) ∙ c.self.view_is)
 
 pub returns : goal.returns
 returns c =
@@ -96,4 +96,4 @@ returns c =
     let lt : c.args.at < length ls = omega (arith, c.len.ensures, c.len-2.ensures) in
     let at : slice_get ls c.args.at ≡ Some l = at-place ls c.args.at l lt c.index_mut-link.ensures.value in
     let leads : (l.is_open ≡ true) × (l.node ≡ c.args.posted.now.node) = c.if-not-leads_to.ensures.0 refl in
-    taken ls h c.args.self.now c.args.at c.args.posted.now l c.send-2.new.self c.self.view_is at leads.0 leads.1 (ap (shown h) c.in_ok-send-2.ensures.ok)
+    taken ls h c.args.self.now c.args.at c.args.posted.now l c.send.new.self c.self.view_is at leads.0 leads.1 (ap (shown h) c.in_ok-send.ensures.ok)
