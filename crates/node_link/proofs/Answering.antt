@@ -9,7 +9,7 @@ use Rattle.std.proofs.lemmas.Option.{slice_get_read}
 use Rattle.resp_wire.specs.Seen.{data_of}
 use Rattle.resp_wire.specs.declared.value.Value.{Value}
 use Rattle.resp_wire.specs.declared.value.Value.TheVariants.{Simple, Error, Integer, Bulk, NullBulk, Array, NullArray}
-use Rattle.node_link.specs.Runs.{IsToldByBlock, IsToldByExec, ends_block, is_answer, is_end, is_error, is_queued, is_text, told_of_none}
+use Rattle.node_link.specs.Runs.{IsRefusedBlock, IsToldByBlock, IsToldByExec, ends_block, is_answer, is_end, is_error, is_queued, is_text, told_of_none}
 use Rattle.node_link.specs.Items.{AreItems}
 
 -- a list and its last
@@ -79,6 +79,11 @@ last_is : (count : ℕ) (replies : List Value) (exec last : Value) → length re
 last_is count replies exec last len at e =
     let there : slice_get replies (count + 1) ≡ Some last = slice_get_read replies (length replies) (count + 1) last refl (omega (arith, len)) e in
     cc
+
+-- none of the commands was executed
+pub none_executed : (count : ℕ) (replies : List Value) (last : Value) → length replies ≡ count + 2 → is_answer count replies ≡ true
+    → last ≡ slice_index_or replies (count + 1) last → is_error last ≡ true → IsRefusedBlock count replies
+none_executed count replies last len is at present = (is, λ exec found. ap is_error (last_is count replies exec last len found at) ∙ present)
 
 pub executed : (count n : ℕ) (replies : List Value) (last : Value) (popped : Option Value) (told : List Value) → n ≡ count + 2 → length replies ≡ count + 2 → is_answer count replies ≡ true
     → last ≡ slice_index_or replies (count + 1) last → is_error last ≡ false → ((d : Value) → 0 < n → popped ≡ Some (slice_index_or replies (n - 1) d)) → AreItems popped told

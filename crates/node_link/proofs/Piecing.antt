@@ -2,7 +2,7 @@
 use Rattle.std.proofs.Common.{◌≡◌, ◌⊎◌, ◌<◌, ◌≤◌, ◌+◌, ◌-◌, ◌++◌, ◌∷◌, [], List, ℕ, take, drop, length, ap, sym, ◌∙◌, arith, refl, inl, inr, subst, append_assoc, length-append, length-drop, length-take, min, suc, zero}
 use Rattle.std.proofs.lemmas.Grind.{flat_map-append}
 use Rattle.std.proofs.lemmas.List.{append-nil, drop-append-le, drop_all, take-append-drop, same_from_push, take-append-le, take_all}
-use Rattle.std.specs.Prelude.{Vec, Some}
+use Rattle.std.specs.Prelude.{Vec, Some, None}
 use Rattle.std.specs.declared.collections.VecDeque.{VecDeque}
 use Rattle.std.specs.List.{flat_map}
 use Rattle.std.specs.declared.alloc.Global.{Global}
@@ -272,10 +272,45 @@ discard_held old full last sound full_is last_is =
     held_settled (record old { full = full; drafted = 0; last = last }) (discard_settled old full last sound full_is last_is)
     ∙ outgoing _ _ _ _ old.refused (rw (full_is, first) refl) refl
 
+-- The last piece is closed, and a new one begun.
+
+first_sealed : (full : List Piece) (last : Vec ℕ Global) → first_of (full ++ record { spelled = last; word = None } ∷ []) [] ≡ first_of full last.items
+first_sealed [] last = append-nil last.items
+first_sealed (piece ∷ later) last = refl
+
+joined_sealed : (full : List Piece) (last : Vec ℕ Global) → joined (full ++ record { spelled = last; word = None } ∷ []) [] ≡ joined full last.items
+joined_sealed full last =
+    let piece : Piece = record { spelled = last; word = None } in
+    append-nil (flat_map bytes_in (full ++ piece ∷ [])) ∙ flat_map-append bytes_in full (piece ∷ [])
+    ∙ ap (λ (bytes : List ℕ). flat_map bytes_in full ++ bytes) (append-nil (last.items ++ []) ∙ append-nil last.items)
+
+pub sealed : (old : Pieces) (full : VecDeque Piece Global) (next : Vec ℕ Global) → IsSettled old → least_offer ≤ length old.last.items
+    → full.items ≡ old.full.items ++ record { spelled = old.last; word = None } ∷ [] → next.items ≡ []
+    → (held_in (record old { full = full; last = next; finished = 0 }) ≡ held_in old) × IsSound (record old { full = full; last = next; finished = 0 })
+sealed old full next before large full_is next_is =
+    let piece : Piece = record { spelled = old.last; word = None } in
+    let new : Pieces = record old { full = full; last = next; finished = 0 } in
+    let first : first_of full.items next.items ≡ first_of old.full.items old.last.items = rw (full_is, next_is) (first_sealed old.full.items old.last) in
+    let all : joined full.items next.items ≡ joined old.full.items old.last.items = rw (full_is, next_is) (joined_sealed old.full.items old.last) in
+    let after : IsSettled new = record {
+      drafted = before.drafted;
+      finished = sym (ap length next_is);
+      front = rw first before.front;
+      begun = before.begun;
+      long = rw full_is (long_with old.full.items piece before.long (omega (arith, large, length-append old.last.items [])));
+    } in (
+      held_settled new after ∙ outgoing _ _ _ _ old.refused (ap (λ (bytes : List ℕ). drop old.written bytes) all) refl ∙ sym (held_settled old before),
+      is_sound new after,
+    )
+
 -- Some of the first piece is written.
 
 begun_within : (pieces : Pieces) → IsSettled pieces → pieces.written ≤ length (first_of pieces.full.items pieces.last.items)
 begun_within pieces settled = omega (arith, settled.front)
+
+-- where no byte waits, none was refused
+pub none_refused : (pieces : Pieces) (len : ℕ) → IsSettled pieces → len ≡ length (front_of pieces) → len ≡ 0 → pieces.refused ≡ 0
+none_refused pieces len settled is none = omega (arith, is, none, settled.front, length-drop pieces.written (first_of pieces.full.items pieces.last.items))
 
 -- the front is what waits first
 taken_off : (pieces : Pieces) (count : ℕ) → IsSettled pieces → count ≤ length (front_of pieces) → take count (waiting_in pieces) ≡ take count (front_of pieces)

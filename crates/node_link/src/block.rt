@@ -129,7 +129,7 @@ fn copies(alloc: Global, value: &Value, count: usize) -> Result<Vec<Value>, NoMe
 {
     let mut copies = Vec::with_capacity(alloc, count)?;
     while copies.len() < count {
-        copies.push(value.copy(alloc)?)?;
+        copies.push_reserved(value.copy(alloc)?);
     }
     Ok(copies)
 }

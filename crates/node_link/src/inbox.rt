@@ -1,6 +1,6 @@
 //! The bytes that were read and make no value yet.
 
-ghost use Rattle.std.specs.Prelude.{◌≡◌, ◌≤◌, [], None, OnOk, length, take};
+ghost use Rattle.std.specs.Prelude.{◌≡◌, ◌≤◌, [], None, OnOk, IfErr, Err, length, take};
 ghost use Rattle.node_link.specs.declared.stream.Flow.{Flow};
 ghost use Rattle.node_link.specs.Bytes.{input_of, FillOutcome, ReadChunkOutcome, TakeOutcome};
 ghost use Rattle.node_link.specs.Waiting.{WasRead};
@@ -66,15 +66,8 @@ impl Inbox {
         ensures taken { TakeOutcome (input_of self.old) result (input_of self.new) }
         ensures fed { OnOk result ((self.new.unfed ≡ []) × (self.new.fed.fault ≡ None)) }
     {
-        if self.filled > 0 {
-            match self.reader.feed(&self.chunk[..self.filled]) {
-                Ok(()) => {
-                    self.filled = 0;
-                    self.is_short = false;
-                }
-                Err(WireFault::NoMemory) => return Err(PortFault::NoMemory),
-                Err(_) => return Err(PortFault::BadWire),
-            }
+        if let Err(fault) = self.feed() {
+            return Err(fault);
         }
         if self.is_short {
             return Ok(None);
@@ -84,6 +77,25 @@ impl Inbox {
             Ok(None) => {
                 self.is_short = true;
                 Ok(None)
+            }
+            Err(WireFault::NoMemory) => Err(PortFault::NoMemory),
+            Err(_) => Err(PortFault::BadWire),
+        }
+    }
+
+    // Feeds the reader what it was not fed yet.
+    fn feed(&mut self) -> Result<(), PortFault>
+        ensures ok { OnOk result ((input_of self.new ≡ input_of self.old) × (self.new.unfed ≡ [])) }
+        ensures err { IfErr result (λ fault. TakeOutcome (input_of self.old) (Err fault) (input_of self.new)) }
+    {
+        if self.filled == 0 {
+            return Ok(());
+        }
+        match self.reader.feed(&self.chunk[..self.filled]) {
+            Ok(()) => {
+                self.filled = 0;
+                self.is_short = false;
+                Ok(())
             }
             Err(WireFault::NoMemory) => Err(PortFault::NoMemory),
             Err(_) => Err(PortFault::BadWire),

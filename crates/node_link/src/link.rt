@@ -6,6 +6,8 @@ ghost use Rattle.std.specs.List.{flat_map};
 ghost use Rattle.key_split.specs.Requests.{Slots, requests_of};
 ghost use Rattle.key_split.specs.Runs.{count_in, requests_of_run};
 ghost use Rattle.slot_map.specs.Table.{Grows};
+ghost use Rattle.node_link.specs.declared.link.Failure.TheVariants as failure;
+ghost use Rattle.node_link.specs.declared.link.LinkFault.TheVariants as linkfault;
 ghost use Rattle.node_link.specs.LinkCalls.{due_of, tickets_of, fault_of, Sends, LinkGives, Receives};
 ghost use Rattle.node_link.specs.Waiting.{ReceivesNone};
 
@@ -216,24 +218,44 @@ impl<P: NodePort> Link<P> {
         }
     }
 
-    // Gives a value to the request that it belongs to. One for which memory is wanting is kept.
+    // Gives a value to the request that it belongs to.
     fn give(&mut self, value: Value, table: &mut NodeTable) -> Result<Option<Got>, LinkFault>
         requires { self.old.node < length table.old }
         ensures { LinkGives value self.old table.old result self.new table.new }
     {
         match self.due.pop_front() {
-            None => Err(self.fail(Failure::Stray)),
-            Some(Due::Asking) => Ok(None),
+            None => Err(self.fail_at_stray(value)),
+            Some(Due::Asking) => {
+                drop(value);
+                Ok(None)
+            }
             Some(Due::Slots) => Ok(Some(Got::Slots(value))),
             Some(Due::Command(ticket)) => match told_of(value, self.node, table) {
                 Ok(told) => Ok(Some(Got::Ticket(ticket, told))),
                 Err(value) => {
-                    self.kept = Some(value);
-                    let _ = self.due.push_front(Due::Command(ticket));
-                    Err(LinkFault::NoMemory)
+                    self.due.push_front_reserved(Due::Command(ticket));
+                    Err(self.keep(value))
                 }
             },
         }
+    }
+
+    // A value came that nothing waits for.
+    fn fail_at_stray(&mut self, value: Value) -> LinkFault
+        ensures fault { result ≡ linkfault.Stray }
+        ensures link { self.new ≡ record self.old { failure = Some failure.Stray } }
+    {
+        drop(value);
+        self.fail(Failure::Stray)
+    }
+
+    // Keeps a value for which memory is wanting.
+    fn keep(&mut self, value: Value) -> LinkFault
+        ensures fault { result ≡ linkfault.NoMemory }
+        ensures link { self.new ≡ record self.old { kept = Some value } }
+    {
+        drop(self.kept.replace(value));
+        LinkFault::NoMemory
     }
 
     // From now on nothing goes over the link.
@@ -320,7 +342,7 @@ fn owe(due: &mut VecDeque<Due>, last: Due)
     ensures len { deque_len due.new ≡ deque_len due.old + 1 }
     ensures room { deque_capacity due.old ≤ deque_capacity due.new }
 {
-    let _ = due.push_back(last);
+    due.push_back_reserved(last);
 }
 
 fn owe_batch(due: &mut VecDeque<Due>, batch: &Batch)

@@ -1,7 +1,35 @@
-use Rattle.std.proofs.Common.{◌≡◌, ◌++◌, ◌+◌, ◌-◌, ◌∙◌, ap, arith, length, length-append, refl, sym, take}
+use Rattle.std.proofs.Common.{◌≡◌, ◌++◌, ◌+◌, ◌-◌, ◌∙◌, ap, arith, inr, length, length-append, refl, sym, take}
+use Rattle.node_link.specs.Bytes.{OutboxModel}
 use Rattle.node_link.specs.declared.stream.Flow.TheVariants as flow
-use Rattle.node_link.proofs.Piecing.{offered_front, refused_sound, settled, wrote}
+use Rattle.node_link.proofs.Piecing.{held_settled, is_sound, none_refused, offered_front, refused_sound, settled, wrote}
 use Rattle.node_link.proofs.pieces.Pieces.write_front.Goals as goal
+
+pub front-requires : goal.front-requires
+front-requires g c = settled c.args.self.now c.requires.sound c.requires.no_draft
+
+pub returns-then-len-eq0-clause-offers : goal.returns-then-len-eq0-clause-offers
+returns-then-len-eq0-clause-offers g c =
+    let old = c.args.self.now in
+    let len = sym (length-append c.front.result.0.now c.front.result.1.now) ∙ ap length c.front.ensures in
+    let none = none_refused old _ (settled old c.requires.sound c.requires.no_draft) len c.if-len-eq0.true in
+    inr (none, none, refl)
+
+pub overflow_sub-len : goal.overflow_sub-len
+overflow_sub-len g c = omega (arith, c.in-Bytes.ensures.written.0, length-append c.front.result.0.now c.front.result.1.now)
+
+pub leave-requires-clause-settled : goal.leave-requires-clause-settled
+leave-requires-clause-settled g c = settled c.args.self.now c.requires.sound c.requires.no_draft
+
+pub leave-requires-clause-within : goal.leave-requires-clause-within
+leave-requires-clause-within g c =
+    let len = sym (length-append c.front.result.0.now c.front.result.1.now) ∙ ap length c.front.ensures in
+    omega (arith, len)
+
+pub returns-in-Bytes-clause-draft : goal.returns-in-Bytes-clause-draft
+returns-in-Bytes-clause-draft g c = ap (λ (held : OutboxModel). held.draft) (held_settled c.leave.new.self c.leave.ensures.settled)
+
+pub returns-in-Bytes-clause-sound : goal.returns-in-Bytes-clause-sound
+returns-in-Bytes-clause-sound g c = is_sound c.leave.new.self c.leave.ensures.settled
 
 pub returns-in-Bytes-clause-written : goal.returns-in-Bytes-clause-written
 returns-in-Bytes-clause-written g c =
