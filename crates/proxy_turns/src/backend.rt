@@ -12,6 +12,8 @@ ghost use Rattle.slot_map.specs.declared.ops.MapOp.{MapOp};
 
 use crate::backend_step::BackendStep;
 use crate::dial::{Dial, DialFault};
+use crate::pending_run::deliver;
+use crate::place::put;
 use key_split::{Run, Ticket, Told};
 use node_link::{Got, Link, LinkFault, NodePort, RunPort};
 use proxy_lanes::{CarrierEnds, Naming, Publisher};
@@ -230,11 +232,11 @@ impl<P: NodePort + Drop> Backend<P> {
     {
         match got {
             Got::Ticket(ticket, told) => {
-                self.pending_told = Some(PendingTold::new(ticket, told));
+                self.hold_told(ticket, told);
                 BackendStep::Fetched
             }
             Got::Slots(value) => {
-                self.answer = Some(value);
+                put(&mut self.answer, Some(value));
                 self.asked = false;
                 BackendStep::Answered
             }
@@ -253,11 +255,11 @@ impl<P: NodePort + Drop> Backend<P> {
             return BackendStep::Idle;
         };
         let Some(ticket) = link.lose() else {
-            self.link = None;
+            put(&mut self.link, None);
             self.asked = false;
             return BackendStep::Closed;
         };
-        self.pending_told = Some(PendingTold::new(ticket, Told::Lost));
+        self.hold_told(ticket, Told::Lost);
         BackendStep::GaveUp
     }
 
@@ -325,11 +327,11 @@ impl<P: NodePort + Drop> Backend<P> {
             return Ok(BackendStep::Idle);
         };
         let Some(link) = &self.link else {
-            self.answer = None;
+            put(&mut self.answer, None);
             return Ok(BackendStep::Unread);
         };
         if !is_known(nodes, link.node()) {
-            self.answer = None;
+            put(&mut self.answer, None);
             return Ok(BackendStep::Unread);
         }
         match ops_of(value, link.node(), nodes) {
@@ -408,28 +410,21 @@ impl<P: NodePort + Drop> Backend<P> {
         ensures gives { GiveOutcome self.old (lanes_of ends.old) result self.new (lanes_of ends.new) }
         ensures map { ends.new.map ≡ ends.old.map }
     {
-        let Some(pending_told) = &self.pending_told else {
+        if self.is_unpublished() {
             return false;
-        };
-        if pending_told.change.is_some() {
-            return false;
-        }
-        let worker = pending_told.ticket.worker;
-        if usize::from(worker) >= ends.workers() {
-            self.pending_told = None;
-            return true;
         }
         let Some(pending_told) = self.pending_told.take() else {
             return false;
         };
-        match ends.give(worker, pending_told.ticket, pending_told.told) {
+        match deliver(ends, pending_told.ticket, pending_told.told) {
             Ok(()) => true,
             Err((ticket, told)) => {
-                self.pending_told = Some(PendingTold {
+                let pending_told = PendingTold {
                     ticket,
                     told,
                     change: None,
-                });
+                };
+                put(&mut self.pending_told, Some(pending_told));
                 false
             }
         }
@@ -453,6 +448,18 @@ impl<P: NodePort + Drop> Backend<P> {
             MapTask::Read => self.read(nodes),
             MapTask::Renew => self.renew(map),
         }
+    }
+}
+
+impl<P: NodePort + Drop> Backend<P> {
+    ghost use Rattle.std.specs.Prelude.{Some};
+    ghost use Rattle.proxy_turns.specs.Backend.{new_pending_told};
+
+    // Holds what the ticket is told, for its worker.
+    fn hold_told(&mut self, ticket: Ticket, told: Told)
+        ensures { self.new ≡ record self.old { pending_told = Some (new_pending_told ticket told) } }
+    {
+        put(&mut self.pending_told, Some(PendingTold::new(ticket, told)));
     }
 }
 

@@ -109,7 +109,16 @@ impl<C: ClientPort + Drop> ClientParts<C> {
     pub(crate) fn into_port(self) -> C
         ensures { result ≡ self.port }
     {
-        let ClientParts { port, .. } = self;
+        let ClientParts {
+            port,
+            session,
+            commands,
+            unpushed,
+            ..
+        } = self;
+        drop(session);
+        drop(commands);
+        drop(unpushed);
         port
     }
 }

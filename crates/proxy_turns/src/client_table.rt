@@ -31,6 +31,7 @@ pub(crate) fn tell_client<C: ClientPort + Drop>(
     ensures len { length clients.new.entries ≡ length clients.old.entries }
 {
     let Some(client) = clients.get_mut(&ticket.client) else {
+        drop(told);
         return false;
     };
     client.hear(ticket, told)

@@ -11,6 +11,7 @@ ghost use Rattle.proxy_turns.specs.Commands.{AreOneRun, BeginOutcome, Drops, Fol
 
 use crate::client_limits::{MAX_RUN, MAX_RUN_WORDS};
 use crate::pause::pause_millis;
+use crate::place::put;
 use crate::turned::NextStep;
 use command_future::{Command, Want};
 use key_split::{Ended, Part, Run, Ticket, Told};
@@ -129,7 +130,7 @@ impl Commands {
         if self.fresh.is_empty() {
             return false;
         }
-        self.fresh = Vec::new(self.alloc);
+        put(&mut self.fresh, Vec::new(self.alloc));
         true
     }
 
@@ -250,6 +251,7 @@ fn tell_at(posted: &mut HashMap<u64, Command>, ticket: Ticket, told: Told) -> bo
     ensures { (fresh : List CommandModel) → Hears (commanded fresh posted.old.entries) ticket told result (commanded fresh posted.new.entries) }
 {
     let Some(command) = posted.get_mut(&ticket.part) else {
+        drop(told);
         return false;
     };
     tell_command(command, ticket, told)
@@ -262,5 +264,6 @@ fn tell_command(command: &mut Command, ticket: Ticket, told: Told) -> bool
         command.told(told);
         return true;
     }
+    drop(told);
     false
 }

@@ -40,6 +40,7 @@ mod newcomer;
 mod owing;
 mod pause;
 mod pending_run;
+mod place;
 mod port;
 mod received;
 mod refused_run;

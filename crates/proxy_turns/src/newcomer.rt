@@ -148,5 +148,5 @@ fn put_ready<C: ClientPort + Drop>(
     let put: Result<Option<ClientState<C>>, AllocFailed<(u32, ClientState<C>)>> = clients.insert(
         number, client,
     );
-    put.unwrap();
+    drop(put.unwrap());
 }

@@ -89,7 +89,10 @@ fn effect_of(alloc: Global, value: Value, numbered: u64) -> Result<Effect, NoMem
         Ok(RequestKind::Words(words)) => effect_by(alloc, words.as_slice(), numbered),
         Ok(RequestKind::Nothing) => Ok(Effect::Skips),
         Ok(RequestKind::Refused) => Ok(Effect::Ends),
-        Err(_) => Err(NoMemory),
+        Err(value) => {
+            drop(value);
+            Err(NoMemory)
+        }
     }
 }
 
@@ -100,7 +103,10 @@ fn effect_by(alloc: Global, words: &[Bytes], numbered: u64) -> Result<Effect, No
     ensures { IfOk result (λ effect. effect ≡ effect_by numbered (plan_for words.now)) }
 {
     match plan(alloc, words) {
-        Ok(Planned::Local(_)) => Ok(Effect::Asks(numbered)),
+        Ok(Planned::Local(reply)) => {
+            drop(reply);
+            Ok(Effect::Asks(numbered))
+        }
         Ok(Planned::Parts(_, parts)) => Ok(numbering(numbered, parts.as_slice().len())),
         Ok(Planned::Close) => Ok(Effect::Ends),
         Err(PlanFault::NoMemory) => Err(NoMemory),

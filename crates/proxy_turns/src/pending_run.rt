@@ -28,6 +28,7 @@ pub(crate) fn deliver<H: Drop, M: Drop>(
     ensures map { ends.new.map ≡ ends.old.map }
 {
     if usize::from(ticket.worker) >= ends.workers() {
+        drop(told);
         return Ok(());
     }
     ends.give(ticket.worker, ticket, told)
@@ -115,10 +116,15 @@ impl PendingRun {
         let Some(ticket) = self.refused.next() else {
             return false;
         };
-        let Ok(()) = deliver(ends, ticket, Told::Unsent) else {
-            return false;
-        };
-        self.refused.told_next();
-        true
+        match deliver(ends, ticket, Told::Unsent) {
+            Ok(()) => {
+                self.refused.told_next();
+                true
+            }
+            Err(back) => {
+                drop(back);
+                false
+            }
+        }
     }
 }

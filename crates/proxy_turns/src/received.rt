@@ -101,7 +101,10 @@ fn take(reader: &mut Reader) -> Result<bool, NoMemory>
     ensures { TakeOutcome reader.old result reader.new }
 {
     match reader.next() {
-        Ok(Some(_)) => Ok(true),
+        Ok(Some(reply)) => {
+            drop(reply);
+            Ok(true)
+        }
         Ok(None) => Ok(false),
         Err(WireFault::NoMemory) => Err(NoMemory),
         Err(_) => Ok(false),

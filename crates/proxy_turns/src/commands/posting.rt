@@ -106,7 +106,7 @@ fn keep_one(command: Command, posted: &mut HashMap<u64, Command>, node: NodeId)
     command.posted(node);
     let number = command.ticket().part;
     let put: Result<Option<Command>, AllocFailed<(u64, Command)>> = posted.insert(number, command);
-    put.unwrap();
+    drop(put.unwrap());
 }
 
 // Posts the command for the part of this number alone, where it wants that. True where it was posted.

@@ -1,4 +1,5 @@
-use Rattle.std.proofs.Common.{◌≡◌, ◌∙◌, rules, Err}
+use Rattle.std.proofs.Common.{◌∙◌}
+use Rattle.std.proofs.lemmas.Result.{err_from_is_err_and}
 use Rattle.proxy_turns.specs.ClientTurn.{is_begin}
 use Rattle.proxy_turns.proofs.Going.{goes_then, moved_by, turns_err}
 use Rattle.proxy_turns.proofs.client_parts.ClientParts.begin_commands.Goals as goal
@@ -11,7 +12,7 @@ returns-then-not-first-clause-none g c = rw c.if-not-first.true at c.in_ok-first
 
 pub returns-in_err-followed-clause-begins : goal.returns-in_err-followed-clause-begins
 returns-in_err-followed-clause-begins g c = λ outlet view.
-    let is : c.from_residual-in_err-followed.result ≡ Err c.in_err-followed.field-0.0 = search rules in
+    let is = (err_from_is_err_and c.from_residual-in_err-followed.result c.from_residual-in_err-followed.ensures.1).1 in
     turns_err g.C.ClientPort.moves is_begin _ _ _ _ _ _ _ (c.loop.invariant.goes outlet view) (c.in_err-followed.ensures.begins outlet view) is
 
 pub returns-then-not-followed-clause-begins : goal.returns-then-not-followed-clause-begins

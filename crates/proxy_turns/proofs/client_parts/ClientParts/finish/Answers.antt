@@ -1,11 +1,12 @@
-use Rattle.std.proofs.Common.{◌≡◌, refl, rules, Err}
+use Rattle.std.proofs.Common.{refl}
+use Rattle.std.proofs.lemmas.Result.{err_from_is_err_and}
 use Rattle.proxy_turns.proofs.Ending.{finish_err, finishes}
 use Rattle.proxy_turns.proofs.Sound.{ended_part, handed_out, sound_ended}
 use Rattle.proxy_turns.proofs.client_parts.ClientParts.finish.Goals as goal
 
 pub returns-in_err-note : goal.returns-in_err-note
 returns-in_err-note g c =
-    let is : c.from_residual.result ≡ Err c.in_err-note.field-0.0 = search rules in
+    let is = (err_from_is_err_and c.from_residual.result c.from_residual.ensures.1).1 in
     rw (← c.self.view_is) (finish_err g.C.ClientPort.moves _ c.args.number _ _ _ is c.in_err-note.ensures.noted)
 
 pub returns-in_default : goal.returns-in_default

@@ -1,4 +1,5 @@
-use Rattle.std.proofs.Common.{◌≡◌, ap, rules, true, false, nat_lt, Err, refl}
+use Rattle.std.proofs.Common.{ap, true, false, nat_lt, refl}
+use Rattle.std.proofs.lemmas.Result.{err_from_is_err_and}
 use Rattle.proxy_turns.specs.ClientTurn.{is_pull}
 use Rattle.proxy_turns.proofs.Going.{err_turn, goes_then, parted, pulled, takes_none, takes_nothing}
 use Rattle.proxy_turns.proofs.ClientResting.{pull_bytes, pull_nothing, unasked}
@@ -7,7 +8,7 @@ use Rattle.proxy_turns.proofs.client_parts.ClientParts.pull.Goals as goal
 pub returns-in_err-count-clause-pulls : goal.returns-in_err-count-clause-pulls
 returns-in_err-count-clause-pulls g c = λ outlet view.
     let clear = rw (← c.self.view_is) at (c.may_pull.ensures.0 c.if-not-may_pull.false) in
-    let is : c.from_residual.result ≡ Err c.in_err-count.field-0.0 = search rules in
+    let is = (err_from_is_err_and c.from_residual.result c.from_residual.ensures.1).1 in
     rw (← c.self.view_is) (err_turn g.C.ClientPort.moves is_pull _ _ false _ _ is (takes_nothing g.C.ClientPort.moves is_pull _ outlet view refl c.in_err-count.field-0.0 _ _ clear.2 c.in_err-count.ensures.takes))
 
 pub returns-in-Bytes-clause-pulls : goal.returns-in-Bytes-clause-pulls

@@ -1,4 +1,5 @@
-use Rattle.std.proofs.Common.{◌≡◌, rules, true, false, Err, refl}
+use Rattle.std.proofs.Common.{true, false, refl}
+use Rattle.std.proofs.lemmas.Result.{err_from_is_err_and}
 use Rattle.proxy_turns.specs.ClientTurn.{is_push}
 use Rattle.proxy_turns.proofs.Going.{err_turn, front_left, front_moves, goes_then, parted, pushed, tried}
 use Rattle.proxy_turns.proofs.ClientResting.{push_bytes, push_nothing, unoffered}
@@ -6,7 +7,7 @@ use Rattle.proxy_turns.proofs.client_parts.ClientParts.push.Goals as goal
 
 pub returns-in_err-count-clause-pushes : goal.returns-in_err-count-clause-pushes
 returns-in_err-count-clause-pushes g c = λ outlet view.
-    let is : c.from_residual.result ≡ Err c.in_err-count.field-0.0 = search rules in
+    let is = (err_from_is_err_and c.from_residual.result c.from_residual.ensures.1).1 in
     rw (← c.self.view_is) (err_turn g.C.ClientPort.moves is_push _ _ false _ _ is (tried g.C.ClientPort.moves is_push _ outlet view refl _ c.in_err-count.ensures.pushed))
 
 pub returns-in-Bytes-clause-pushes : goal.returns-in-Bytes-clause-pushes

@@ -1,4 +1,4 @@
-use Rattle.std.proofs.Common.{◌≡◌, rules, Err}
+use Rattle.std.proofs.lemmas.Result.{err_from_is_err_and}
 use Rattle.proxy_turns.specs.ClientTurn.{is_read}
 use Rattle.proxy_turns.proofs.Going.{goes_seen, goes_then, turns_err}
 use Rattle.proxy_turns.proofs.client_parts.ClientParts.read_all.Goals as goal
@@ -11,7 +11,7 @@ returns-then-not-first-clause-none g c = rw c.if-not-first.true at c.in_ok-first
 
 pub returns-in_err-read-clause-reads : goal.returns-in_err-read-clause-reads
 returns-in_err-read-clause-reads g c = λ outlet view.
-    let is : c.from_residual-in_err-read.result ≡ Err c.in_err-read.field-0.0 = search rules in
+    let is = (err_from_is_err_and c.from_residual-in_err-read.result c.from_residual-in_err-read.ensures.1).1 in
     turns_err g.C.ClientPort.moves is_read _ _ _ _ _ _ _ (c.loop-count.invariant outlet view) (c.in_err-read.ensures.reads outlet view) is
 
 pub returns-then-not-read-clause-reads : goal.returns-then-not-read-clause-reads

@@ -1,4 +1,4 @@
-use Rattle.std.proofs.Common.{◌≡◌, rules, Err}
+use Rattle.std.proofs.lemmas.Result.{err_from_is_err_and}
 use Rattle.proxy_turns.specs.ClientTurn.{is_send}
 use Rattle.proxy_turns.proofs.Going.{goes_then, turns_err}
 use Rattle.proxy_turns.proofs.client_parts.ClientParts.send.Goals as goal
@@ -11,7 +11,7 @@ returns-then-not-first-clause-none g c = rw c.if-not-first.true at c.in_ok-first
 
 pub returns-in_err-sent-clause-sends : goal.returns-in_err-sent-clause-sends
 returns-in_err-sent-clause-sends g c =
-    let is : c.from_residual-in_err-sent.result ≡ Err c.in_err-sent.field-0.0 = search rules in
+    let is = (err_from_is_err_and c.from_residual-in_err-sent.result c.from_residual-in_err-sent.ensures.1).1 in
     turns_err g.C.ClientPort.moves is_send _ _ _ _ _ _ _ c.loop.invariant c.in_err-sent.ensures.sends is
 
 pub returns-then-not-sent-clause-sends : goal.returns-then-not-sent-clause-sends

@@ -1,4 +1,5 @@
-use Rattle.std.proofs.Common.{◌≡◌, rules, true, Err}
+use Rattle.std.proofs.Common.{◌≡◌, true}
+use Rattle.std.proofs.lemmas.Result.{err_from_is_err_and}
 use Rattle.proxy_turns.specs.ClientTurn.{is_begin, is_drop, is_post, is_send}
 use Rattle.proxy_turns.proofs.Going.{err_wider, goes_then, goes_wider, turns_err_wider}
 use Rattle.proxy_turns.proofs.EventKinds.{command_begun, command_dropped, command_posted}
@@ -10,7 +11,7 @@ returns-then-self-clause-sends g c = goes_wider g.C.ClientPort.moves is_send is_
 
 pub returns-in_err-posted-clause-sends : goal.returns-in_err-posted-clause-sends
 returns-in_err-posted-clause-sends g c =
-    let is : c.from_residual-in_err-posted.result ≡ Err c.in_err-posted.field-0.0 = search rules in
+    let is = (err_from_is_err_and c.from_residual-in_err-posted.result c.from_residual-in_err-posted.ensures.1).1 in
     let one = goes_wider g.C.ClientPort.moves is_send is_begin command_begun _ _ _ (c.in_ok-begun.ensures.begins _ _) in
     turns_err_wider g.C.ClientPort.moves is_send is_post command_posted _ _ _ _ _ _ _ one c.in_err-posted.ensures.posts is
 
@@ -30,5 +31,5 @@ returns-clause-none g c =
 
 pub returns-in_err-begun-clause-sends : goal.returns-in_err-begun-clause-sends
 returns-in_err-begun-clause-sends g c =
-    let is : c.from_residual.result ≡ Err c.in_err-begun.field-0.0 = search rules in
+    let is = (err_from_is_err_and c.from_residual.result c.from_residual.ensures.1).1 in
     err_wider g.C.ClientPort.moves is_send is_begin command_begun _ _ _ _ _ (c.in_err-begun.ensures.begins _ _) is

@@ -1,4 +1,4 @@
-use Rattle.std.proofs.Common.{◌≡◌, rules, Err}
+use Rattle.std.proofs.lemmas.Result.{err_from_is_err_and}
 use Rattle.proxy_turns.specs.ClientTurn.{is_feed, is_read, is_send, is_work, is_write}
 use Rattle.proxy_turns.proofs.Going.{err_wider, goes_then, goes_wider, turns_err_wider}
 use Rattle.proxy_turns.proofs.EventKinds.{commands_sent, replies_written, requests_read, session_fed}
@@ -7,25 +7,25 @@ use Rattle.proxy_turns.proofs.client_parts.ClientParts.take_in.Goals as goal
 
 pub returns-in_err-fed-clause-works : goal.returns-in_err-fed-clause-works
 returns-in_err-fed-clause-works g c =
-    let is : c.from_residual.result ≡ Err c.in_err-fed.field-0.0 = search rules in
+    let is = (err_from_is_err_and c.from_residual.result c.from_residual.ensures.1).1 in
     err_wider g.C.ClientPort.moves is_work is_feed session_fed _ _ _ _ _ (c.in_err-fed.ensures.feeds _ _) is
 
 pub returns-in_err-read-clause-works : goal.returns-in_err-read-clause-works
 returns-in_err-read-clause-works g c =
-    let is : c.from_residual-in_err-read.result ≡ Err c.in_err-read.field-0.0 = search rules in
+    let is = (err_from_is_err_and c.from_residual-in_err-read.result c.from_residual-in_err-read.ensures.1).1 in
     let one = goes_wider g.C.ClientPort.moves is_work is_feed session_fed _ _ _ (c.in_ok-fed.ensures.feeds _ _) in
     turns_err_wider g.C.ClientPort.moves is_work is_read requests_read _ _ _ _ _ _ _ one (c.in_err-read.ensures.reads _ _) is
 
 pub returns-in_err-sent-clause-works : goal.returns-in_err-sent-clause-works
 returns-in_err-sent-clause-works g c =
-    let is : c.from_residual-in_err-sent.result ≡ Err c.in_err-sent.field-0.0 = search rules in
+    let is = (err_from_is_err_and c.from_residual-in_err-sent.result c.from_residual-in_err-sent.ensures.1).1 in
     let one = goes_wider g.C.ClientPort.moves is_work is_feed session_fed _ _ _ (c.in_ok-fed.ensures.feeds _ _) in
     let two = goes_then g.C.ClientPort.moves is_work _ _ _ _ _ one (goes_wider g.C.ClientPort.moves is_work is_read requests_read _ _ _ (c.in_ok-read.ensures.reads _ _)) in
     turns_err_wider g.C.ClientPort.moves is_work is_send commands_sent _ _ _ _ _ _ _ two c.in_err-sent.ensures.sends is
 
 pub returns-in_err-written-clause-works : goal.returns-in_err-written-clause-works
 returns-in_err-written-clause-works g c =
-    let is : c.from_residual-in_err-written.result ≡ Err c.in_err-written.field-0.0 = search rules in
+    let is = (err_from_is_err_and c.from_residual-in_err-written.result c.from_residual-in_err-written.ensures.1).1 in
     let one = goes_wider g.C.ClientPort.moves is_work is_feed session_fed _ _ _ (c.in_ok-fed.ensures.feeds _ _) in
     let two = goes_then g.C.ClientPort.moves is_work _ _ _ _ _ one (goes_wider g.C.ClientPort.moves is_work is_read requests_read _ _ _ (c.in_ok-read.ensures.reads _ _)) in
     let three = goes_then g.C.ClientPort.moves is_work _ _ _ _ _ two (goes_wider g.C.ClientPort.moves is_work is_send commands_sent _ _ _ c.in_ok-sent.ensures.sends) in

@@ -1,4 +1,4 @@
-use Rattle.std.proofs.Common.{◌≡◌, rules, Err}
+use Rattle.std.proofs.lemmas.Result.{err_from_is_err_and}
 use Rattle.proxy_turns.specs.ClientTurn.{is_send, is_work}
 use Rattle.proxy_turns.proofs.Going.{err_wider, goes_then, goes_wider, turns_err}
 use Rattle.proxy_turns.proofs.EventKinds.{commands_sent}
@@ -7,12 +7,12 @@ use Rattle.proxy_turns.proofs.client_parts.ClientParts.work.Goals as goal
 
 pub returns-in_err-sent-clause-works : goal.returns-in_err-sent-clause-works
 returns-in_err-sent-clause-works g c =
-    let is : c.from_residual.result ≡ Err c.in_err-sent.field-0.0 = search rules in
+    let is = (err_from_is_err_and c.from_residual.result c.from_residual.ensures.1).1 in
     err_wider g.C.ClientPort.moves is_work is_send commands_sent _ _ _ _ _ c.in_err-sent.ensures.sends is
 
 pub returns-in_err-worked-clause-works : goal.returns-in_err-worked-clause-works
 returns-in_err-worked-clause-works g c =
-    let is : c.from_residual-in_err-worked.result ≡ Err c.in_err-worked.field-0.0 = search rules in
+    let is = (err_from_is_err_and c.from_residual-in_err-worked.result c.from_residual-in_err-worked.ensures.1).1 in
     let one = goes_wider g.C.ClientPort.moves is_work is_send commands_sent _ _ _ c.in_ok-sent.ensures.sends in
     turns_err g.C.ClientPort.moves is_work _ _ _ _ _ _ _ one c.in_err-worked.ensures.works is
 

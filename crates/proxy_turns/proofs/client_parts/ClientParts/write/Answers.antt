@@ -1,4 +1,4 @@
-use Rattle.std.proofs.Common.{◌≡◌, rules, Err}
+use Rattle.std.proofs.lemmas.Result.{err_from_is_err_and}
 use Rattle.proxy_turns.specs.ClientTurn.{is_drain, is_push, is_write}
 use Rattle.proxy_turns.proofs.Going.{err_wider, goes_then, goes_wider, turns_err_wider}
 use Rattle.proxy_turns.proofs.EventKinds.{bytes_pushed, session_drained}
@@ -7,12 +7,12 @@ use Rattle.proxy_turns.proofs.client_parts.ClientParts.write.Goals as goal
 
 pub returns-in_err-drained-clause-writes : goal.returns-in_err-drained-clause-writes
 returns-in_err-drained-clause-writes g c = λ outlet view.
-    let is : c.from_residual.result ≡ Err c.in_err-drained.field-0.0 = search rules in
+    let is = (err_from_is_err_and c.from_residual.result c.from_residual.ensures.1).1 in
     err_wider g.C.ClientPort.moves is_write is_drain session_drained _ _ _ _ _ (c.in_err-drained.ensures.drains outlet view) is
 
 pub returns-in_err-pushed-clause-writes : goal.returns-in_err-pushed-clause-writes
 returns-in_err-pushed-clause-writes g c = λ outlet view.
-    let is : c.from_residual-in_err-pushed.result ≡ Err c.in_err-pushed.field-0.0 = search rules in
+    let is = (err_from_is_err_and c.from_residual-in_err-pushed.result c.from_residual-in_err-pushed.ensures.1).1 in
     let one = goes_wider g.C.ClientPort.moves is_write is_drain session_drained _ _ _ (c.in_ok-drained.ensures.drains outlet view) in
     turns_err_wider g.C.ClientPort.moves is_write is_push bytes_pushed _ _ _ _ _ _ _ one (c.in_err-pushed.ensures.pushes outlet view) is
 

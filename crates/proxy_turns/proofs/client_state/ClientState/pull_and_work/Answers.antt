@@ -1,4 +1,5 @@
-use Rattle.std.proofs.Common.{◌≡◌, ◌||◌, true, rules, Err, Ok}
+use Rattle.std.proofs.Common.{◌≡◌, ◌||◌, true, rules, Ok}
+use Rattle.std.proofs.lemmas.Result.{err_from_is_err_and}
 use Rattle.proxy_turns.specs.ClientRest.{IfStill, IsClientAtRest}
 use Rattle.proxy_turns.specs.ClientState.{is_idle_by}
 use Rattle.proxy_turns.specs.ClientTurn.{is_pull, is_work}
@@ -9,7 +10,7 @@ use Rattle.proxy_turns.proofs.client_state.ClientState.pull_and_work.Goals as go
 
 pub returns-in_err-pulled-clause-turns : goal.returns-in_err-pulled-clause-turns
 returns-in_err-pulled-clause-turns g c =
-    let is : c.from_residual.result ≡ Err c.in_err-pulled.field-0.0 = search rules in
+    let is = (err_from_is_err_and c.from_residual.result c.from_residual.ensures.1).1 in
     let more = c.in_err-pulled.ensures.pulls c.args.outlet.now c.args.view.now in
     rw is (rw (← c.self.view_is) (more.0, goes_of g.C.ClientPort.moves is_pull _ _ _ more.1))
 
@@ -32,13 +33,13 @@ invariant_of-self-then-stays_idle g c =
 
 pub returns-in_err-worked-clause-turns : goal.returns-in_err-worked-clause-turns
 returns-in_err-worked-clause-turns g c =
-    let is : c.from_residual-in_err-worked.result ≡ Err c.in_err-worked.field-0.0 = search rules in
+    let is = (err_from_is_err_and c.from_residual-in_err-worked.result c.from_residual-in_err-worked.ensures.1).1 in
     let one = goes_wider g.C.ClientPort.moves whatever is_pull (in_clients_turn is_pull) _ _ _ (c.in_ok-pulled.ensures.pulls c.args.outlet.now c.args.view.now) in
     rw (← c.self.view_is) (turns_of g.C.ClientPort.moves whatever _ _ _ (turns_err_wider g.C.ClientPort.moves whatever is_work (in_clients_turn is_work) _ _ _ _ _ _ _ one c.in_err-worked.ensures.works is))
 
 pub returns-in_err-more-clause-turns : goal.returns-in_err-more-clause-turns
 returns-in_err-more-clause-turns g c =
-    let is : c.from_residual-in_err-more.result ≡ Err c.in_err-more.field-0.0 = search rules in
+    let is = (err_from_is_err_and c.from_residual-in_err-more.result c.from_residual-in_err-more.ensures.1).1 in
     let one = goes_wider g.C.ClientPort.moves whatever is_pull (in_clients_turn is_pull) _ _ _ (c.in_ok-pulled.ensures.pulls c.args.outlet.now c.args.view.now) in
     let two = goes_then g.C.ClientPort.moves whatever _ _ _ _ _ one (goes_wider g.C.ClientPort.moves whatever is_work (in_clients_turn is_work) _ _ _ c.in_ok-worked.ensures.works) in
     let three = goes_seen g.C.ClientPort.moves whatever _ _ _ _ _ _ c.forget_asked-is_asked_again.ensures.same two in

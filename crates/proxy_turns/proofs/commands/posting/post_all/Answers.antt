@@ -1,4 +1,5 @@
-use Rattle.std.proofs.Common.{◌≡◌, ◌∙◌, Err, inl, refl, rules, subst, sym}
+use Rattle.std.proofs.Common.{◌∙◌, inl, refl, subst, sym}
+use Rattle.std.proofs.lemmas.Result.{err_from_is_err_and}
 use Rattle.proxy_turns.specs.Commands.{AreOneRun}
 use Rattle.proxy_turns.proofs.Tables.{same_look-ups}
 use Rattle.proxy_turns.proofs.Posting.{front_item, may_all, none_back, none_made, posts_all, same_commands}
@@ -18,7 +19,7 @@ pub returns-in_err-run-clause-posts : goal.returns-in_err-run-clause-posts
 returns-in_err-run-clause-posts g c =
     let same = same_look-ups c.args.posted.now.entries c.reserve.new.self.entries c.reserve.ensures.entries.2 in
     let whole = sym c.as_slice.ensures.value ∙ front_item c.as_slice.result.now c.first-item.result c.in-len1-up.len_at_least c.first-item.is in
-    let is : c.from_residual-in_err-run.result ≡ Err c.in_err-run.field-0.0 = search rules in
+    let is = (err_from_is_err_and c.from_residual-in_err-run.result c.from_residual-in_err-run.ensures.1).1 in
     rw is (none_made c.args.fresh.now.items c.first-item.result _ whole c.args.posted.now.entries c.reserve.new.self.entries same c.args.outlet.now c.args.outlet.now c.args.view.now c.aim.new.view c.in-Some.node c.in-Some.ensures.aims)
 
 pub returns-then-not-post_run-clause-posts : goal.returns-then-not-post_run-clause-posts

@@ -1,4 +1,5 @@
-use Rattle.std.proofs.Common.{◌≡◌, ◌∙◌, ap, refl, rules, sym, Err}
+use Rattle.std.proofs.Common.{◌∙◌, ap, refl, rules, sym}
+use Rattle.std.proofs.lemmas.Result.{err_from_is_err_and}
 use Rattle.std.proofs.lemmas.Bool.{false≢true}
 use Rattle.proxy_turns.specs.WorkerModel.{clients_in, admits}
 use Rattle.proxy_turns.specs.WorkerState.{state_model}
@@ -12,7 +13,7 @@ returns-then-not-are_to_come-clause-admits g c = stays_all g.C.ClientPort.moves 
 
 pub returns-in_err-make_room-clause-admits : goal.returns-in_err-make_room-clause-admits
 returns-in_err-make_room-clause-admits g c =
-    let is : c.from_residual.result ≡ Err c.in_err-make_room.field-0.0 = search rules in
+    let is = (err_from_is_err_and c.from_residual.result c.from_residual.ensures.1).1 in
     stays_err g.C.ClientPort.moves admits _ _ _ _ is (λ i. record (state_model c.args.self.now) { clients = c.make_room.ensures.clients i; ports = c.make_room.ensures.ports i })
 
 pub returns-in_default-clause-admits : goal.returns-in_default-clause-admits

@@ -1,4 +1,4 @@
-use Rattle.std.proofs.Common.{◌≡◌, rules, Err}
+use Rattle.std.proofs.lemmas.Result.{err_from_is_err_and}
 use Rattle.proxy_turns.specs.WorkerModel.{admits}
 use Rattle.proxy_turns.proofs.Lifting.{all_err, all_then}
 use Rattle.proxy_turns.proofs.worker_state.WorkerState.admit_all.Goals as goal
@@ -11,7 +11,7 @@ returns-then-not-first-clause-none g c = rw c.if-not-first.true at c.in_ok-first
 
 pub returns-in_err-came-clause-admits : goal.returns-in_err-came-clause-admits
 returns-in_err-came-clause-admits g c =
-    let is : c.from_residual-in_err-came.result ≡ Err c.in_err-came.field-0.0 = search rules in
+    let is = (err_from_is_err_and c.from_residual-in_err-came.result c.from_residual-in_err-came.ensures.1).1 in
     all_err g.C.ClientPort.moves admits _ _ _ _ _ _ _ c.loop.invariant c.in_err-came.ensures.admits is
 
 pub returns-then-not-came-clause-admits : goal.returns-then-not-came-clause-admits

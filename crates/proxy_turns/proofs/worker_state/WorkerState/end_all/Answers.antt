@@ -1,4 +1,4 @@
-use Rattle.std.proofs.Common.{◌≡◌, rules, Err}
+use Rattle.std.proofs.lemmas.Result.{err_from_is_err_and}
 use Rattle.proxy_turns.specs.WorkerModel.{settles}
 use Rattle.proxy_turns.proofs.Lifting.{all_err, all_then}
 use Rattle.proxy_turns.proofs.Settling.{shorter}
@@ -12,5 +12,5 @@ loop-ticket-preserved g c = all_then g.C.ClientPort.moves settles _ _ _ _ _ c.lo
 
 pub returns-in_err-moved-clause-settles : goal.returns-in_err-moved-clause-settles
 returns-in_err-moved-clause-settles g c =
-    let is : c.from_residual.result ≡ Err c.in_err-moved.field-0.0 = search rules in
+    let is = (err_from_is_err_and c.from_residual.result c.from_residual.ensures.1).1 in
     all_err g.C.ClientPort.moves settles _ _ _ _ _ _ _ c.loop-ticket.invariant c.in_err-moved.ensures.settles is

@@ -1,4 +1,5 @@
-use Rattle.std.proofs.Common.{◌≡◌, ◌∙◌, ◌∷◌, Ok, Err, ap, arith, refl, rules, subst}
+use Rattle.std.proofs.Common.{◌∙◌, Ok, ap, arith, refl, rules, subst}
+use Rattle.std.proofs.lemmas.Result.{err_from_is_err_and}
 use Rattle.proxy_turns.specs.declared.turned.Finish.TheVariants as finish
 use Rattle.proxy_turns.specs.ClientTable.{ClientFinishes}
 use Rattle.proxy_turns.specs.WorkerModel.{clients_in, settles}
@@ -17,7 +18,7 @@ invariant_of-self-in-Break-branch-2 g c = record {
 
 pub returns-in_err-finish_at-clause-settles : goal.returns-in_err-finish_at-clause-settles
 returns-in_err-finish_at-clause-settles g c =
-    let is : c.from_residual-in_err-finish_at.result ≡ Err c.in_err-finish_at.field-0.0 = search rules in
+    let is = (err_from_is_err_and c.from_residual-in_err-finish_at.result c.from_residual-in_err-finish_at.ensures.1).1 in
     finish_failed g.C.ClientPort.moves settles (λ k event. refl) (state_model c.args.self.now) c.args.ticket _ _ _ (clients_in c.finish_at.new.clients.entries) c.in_err-finish_at.ensures.finishes is
 
 pub invariant_of-self-in-Open : goal.invariant_of-self-in-Open

@@ -1,4 +1,5 @@
-use Rattle.std.proofs.Common.{◌≡◌, ◌∙◌, ◌∷◌, ap, drop, inl, inr, refl, rules, sym, Err}
+use Rattle.std.proofs.Common.{◌≡◌, ◌∙◌, ◌∷◌, ap, drop, inl, inr, refl, sym}
+use Rattle.std.proofs.lemmas.Result.{err_from_is_err_and}
 use Rattle.std.proofs.lemmas.Bool.{false≢true}
 use Rattle.proxy_turns.specs.WorkerModel.{clients_in, settles}
 use Rattle.proxy_turns.specs.DueCommands.{IsToSettleAt}
@@ -12,7 +13,7 @@ loop-ticket-init g c = record { goes = stays_all g.C.ClientPort.moves settles _ 
 
 pub returns-in_err-settled-clause-settles : goal.returns-in_err-settled-clause-settles
 returns-in_err-settled-clause-settles g c =
-    let is : c.from_residual.result ≡ Err c.in_err-settled.field-0.0 = search rules in
+    let is = (err_from_is_err_and c.from_residual.result c.from_residual.ensures.1).1 in
     all_err g.C.ClientPort.moves settles _ _ _ _ _ _ _ c.loop-ticket.invariant.goes c.in_err-settled.ensures.settles is
 
 pub returns-then-is_held-clause-settles : goal.returns-then-is_held-clause-settles

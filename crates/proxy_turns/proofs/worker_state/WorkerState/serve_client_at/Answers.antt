@@ -1,4 +1,4 @@
-use Rattle.std.proofs.Common.{◌≡◌, rules, Err}
+use Rattle.std.proofs.lemmas.Result.{err_from_is_err_and}
 use Rattle.proxy_turns.specs.WorkerModel.{removes_client, serves_client, turns_client}
 use Rattle.proxy_turns.proofs.EventKinds.{client_removed, client_turned}
 use Rattle.proxy_turns.proofs.Lifting.{all_then, err_wider, goes_wider}
@@ -8,7 +8,7 @@ use Rattle.proxy_turns.proofs.worker_state.WorkerState.serve_client_at.Goals as 
 
 pub returns-in_err-turned-clause-serves : goal.returns-in_err-turned-clause-serves
 returns-in_err-turned-clause-serves g c =
-    let is : c.from_residual.result ≡ Err c.in_err-turned.field-0.0 = search rules in
+    let is = (err_from_is_err_and c.from_residual.result c.from_residual.ensures.1).1 in
     err_wider g.C.ClientPort.moves serves_client turns_client client_turned _ _ _ _ _ c.in_err-turned.ensures.turns is
 
 pub returns-then-not-turned-clause-serves : goal.returns-then-not-turned-clause-serves

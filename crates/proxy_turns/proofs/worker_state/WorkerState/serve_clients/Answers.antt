@@ -1,4 +1,5 @@
-use Rattle.std.proofs.Common.{◌≡◌, ◌∙◌, ℕ, arith, refl, rules, subst, sym, Err}
+use Rattle.std.proofs.Common.{◌∙◌, ℕ, arith, refl, subst, sym}
+use Rattle.std.proofs.lemmas.Result.{err_from_is_err_and}
 use Rattle.proxy_turns.specs.ClientTable.{IsAtRestAt, IsStillAt}
 use Rattle.proxy_turns.specs.WorkerModel.{serves_client}
 use Rattle.proxy_turns.specs.WorkerState.{state_model}
@@ -10,7 +11,7 @@ use Rattle.proxy_turns.proofs.worker_state.WorkerState.serve_clients.Goals as go
 
 pub returns-in_err-moved-clause-serves : goal.returns-in_err-moved-clause-serves
 returns-in_err-moved-clause-serves g c =
-    let is : c.from_residual.result ≡ Err c.in_err-moved.field-0.0 = search rules in
+    let is = (err_from_is_err_and c.from_residual.result c.from_residual.ensures.1).1 in
     all_err g.C.ClientPort.moves serves_client _ _ _ _ _ _ _ c.loop-step.invariant.goes c.in_err-moved.ensures.serves is
 
 pub loop-step-init : goal.loop-step-init

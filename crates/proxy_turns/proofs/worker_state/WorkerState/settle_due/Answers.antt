@@ -1,4 +1,5 @@
-use Rattle.std.proofs.Common.{◌≡◌, ◌∙◌, ap, refl, rules, Err}
+use Rattle.std.proofs.Common.{◌∙◌, ap, refl}
+use Rattle.std.proofs.lemmas.Result.{err_from_is_err_and}
 use Rattle.proxy_turns.specs.WorkerModel.{clients_in, settles}
 use Rattle.proxy_turns.specs.WorkerState.{state_model}
 use Rattle.proxy_turns.proofs.Lifting.{all_err, all_then, stays_err}
@@ -13,7 +14,7 @@ invariant_of-self g c = record {
 
 pub returns-in_err-posted-clause-settles : goal.returns-in_err-posted-clause-settles
 returns-in_err-posted-clause-settles g c =
-    let is : c.from_residual-in_err-posted.result ≡ Err c.in_err-posted.field-0.0 = search rules in
+    let is = (err_from_is_err_and c.from_residual-in_err-posted.result c.from_residual-in_err-posted.ensures.1).1 in
     all_err g.C.ClientPort.moves settles (state_model c.args.self.now) _ (state_model c.end_all.new.self) _ _ _ _ c.in_ok-ended.ensures.settles c.in_err-posted.ensures.settles is
 
 pub returns-clause-settles : goal.returns-clause-settles
@@ -25,4 +26,4 @@ returns-clause-rest g c =
 
 pub returns-in_err-end_pauses-clause-settles : goal.returns-in_err-end_pauses-clause-settles
 returns-in_err-end_pauses-clause-settles g c =
-    let is : c.from_residual.result ≡ Err c.in_err-end_pauses.field-0.0 = search rules in stays_err g.C.ClientPort.moves settles _ _ _ _ is refl
+    let is = (err_from_is_err_and c.from_residual.result c.from_residual.ensures.1).1 in stays_err g.C.ClientPort.moves settles _ _ _ _ is refl

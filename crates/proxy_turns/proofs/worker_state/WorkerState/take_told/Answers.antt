@@ -1,4 +1,4 @@
-use Rattle.std.proofs.Common.{◌≡◌, rules, Err}
+use Rattle.std.proofs.lemmas.Result.{err_from_is_err_and}
 use Rattle.proxy_turns.specs.WorkerModel.{takes_told}
 use Rattle.proxy_turns.proofs.Lifting.{all_err, all_then}
 use Rattle.proxy_turns.proofs.worker_state.WorkerState.take_told.Goals as goal
@@ -11,7 +11,7 @@ returns-then-not-first-clause-none g c = rw c.if-not-first.true at c.in_ok-first
 
 pub returns-in_err-took-clause-takes : goal.returns-in_err-took-clause-takes
 returns-in_err-took-clause-takes g c =
-    let is : c.from_residual-in_err-took.result ≡ Err c.in_err-took.field-0.0 = search rules in
+    let is = (err_from_is_err_and c.from_residual-in_err-took.result c.from_residual-in_err-took.ensures.1).1 in
     all_err g.C.ClientPort.moves takes_told _ _ _ _ _ _ _ c.loop.invariant c.in_err-took.ensures.takes is
 
 pub returns-then-not-took-clause-takes : goal.returns-then-not-took-clause-takes

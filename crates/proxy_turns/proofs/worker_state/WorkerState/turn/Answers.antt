@@ -1,4 +1,4 @@
-use Rattle.std.proofs.Common.{◌≡◌, rules, Err}
+use Rattle.std.proofs.lemmas.Result.{err_from_is_err_and}
 use Rattle.proxy_turns.specs.WorkerModel.{admits, serves_client, settles, takes_told}
 use Rattle.proxy_turns.specs.WorkerState.{state_model}
 use Rattle.proxy_turns.proofs.EventKinds.{every_one, in_workers_turn}
@@ -11,25 +11,25 @@ use Rattle.proxy_turns.proofs.worker_state.WorkerState.turn.Goals as goal
 
 pub returns-in_err-came-clause-turns : goal.returns-in_err-came-clause-turns
 returns-in_err-came-clause-turns g c =
-    let is : c.from_residual.result ≡ Err c.in_err-came.field-0.0 = search rules in
+    let is = (err_from_is_err_and c.from_residual.result c.from_residual.ensures.1).1 in
     turns_of g.C.ClientPort.moves every_one _ _ _ (err_wider g.C.ClientPort.moves every_one admits (in_workers_turn admits) _ _ _ _ _ c.in_err-came.ensures.admits is)
 
 pub returns-in_err-told-clause-turns : goal.returns-in_err-told-clause-turns
 returns-in_err-told-clause-turns g c =
-    let is : c.from_residual-in_err-told.result ≡ Err c.in_err-told.field-0.0 = search rules in
+    let is = (err_from_is_err_and c.from_residual-in_err-told.result c.from_residual-in_err-told.ensures.1).1 in
     let one = goes_wider g.C.ClientPort.moves every_one admits (in_workers_turn admits) _ _ _ c.in_ok-came.ensures.admits in
     turns_of g.C.ClientPort.moves every_one _ _ _ (all_err_wider g.C.ClientPort.moves every_one takes_told (in_workers_turn takes_told) _ _ _ _ _ _ _ one c.in_err-told.ensures.takes is)
 
 pub returns-in_err-settled-clause-turns : goal.returns-in_err-settled-clause-turns
 returns-in_err-settled-clause-turns g c =
-    let is : c.from_residual-in_err-settled.result ≡ Err c.in_err-settled.field-0.0 = search rules in
+    let is = (err_from_is_err_and c.from_residual-in_err-settled.result c.from_residual-in_err-settled.ensures.1).1 in
     let one = goes_wider g.C.ClientPort.moves every_one admits (in_workers_turn admits) _ _ _ c.in_ok-came.ensures.admits in
     let two = all_then g.C.ClientPort.moves every_one _ _ _ _ _ one (goes_wider g.C.ClientPort.moves every_one takes_told (in_workers_turn takes_told) _ _ _ c.in_ok-told.ensures.takes) in
     turns_of g.C.ClientPort.moves every_one _ _ _ (all_err_wider g.C.ClientPort.moves every_one settles (in_workers_turn settles) _ _ _ _ _ _ _ two c.in_err-settled.ensures.settles is)
 
 pub returns-in_err-served-clause-turns : goal.returns-in_err-served-clause-turns
 returns-in_err-served-clause-turns g c =
-    let is : c.from_residual-in_err-served.result ≡ Err c.in_err-served.field-0.0 = search rules in
+    let is = (err_from_is_err_and c.from_residual-in_err-served.result c.from_residual-in_err-served.ensures.1).1 in
     let one = goes_wider g.C.ClientPort.moves every_one admits (in_workers_turn admits) _ _ _ c.in_ok-came.ensures.admits in
     let two = all_then g.C.ClientPort.moves every_one _ _ _ _ _ one (goes_wider g.C.ClientPort.moves every_one takes_told (in_workers_turn takes_told) _ _ _ c.in_ok-told.ensures.takes) in
     let three = all_then g.C.ClientPort.moves every_one _ _ _ _ _ two (goes_wider g.C.ClientPort.moves every_one settles (in_workers_turn settles) _ _ _ c.in_ok-settled.ensures.settles) in
