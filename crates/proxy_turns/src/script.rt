@@ -150,8 +150,7 @@ impl ClientPort for Script {
         ensures none { MovesNone result → ⊤ }
         ensures answer { PushAnswer (first.now ++ second.now) result }
     {
-        let mut bytes = Vec::from_slice(self.alloc, first)?;
-        bytes.extend_from_slice(second)?;
+        let bytes = joined(self.alloc, first, second)?;
         self.replies.push(&bytes)?;
         Ok(Flow::Bytes(bytes.len()))
     }
@@ -165,6 +164,15 @@ impl ClientPort for Script {
     fn close(&mut self)
         ensures closed { self.new ≡ self.old }
     {}
+}
+
+// The bytes of both, one behind the other.
+fn joined(alloc: Global, first: &[u8], second: &[u8]) -> Result<Vec<u8>, NoMemory>
+    ensures { IfOk result (λ bytes. bytes.items ≡ first.now ++ second.now) }
+{
+    let mut bytes = Vec::from_slice(alloc, first)?;
+    bytes.extend_from_slice(second)?;
+    Ok(bytes)
 }
 
 // Copies as many bytes as fit to the front of the buffer.
