@@ -1,5 +1,5 @@
 -- What each order does is steps of a system.
-use Rattle.std.proofs.Common.{◌≡◌, inl, inr, ℕ, Bool, List, [], ◌∷◌, Ok, Err, refl, sym, subst}
+use Rattle.std.proofs.Common.{◌≡◌, ◌≤◌, ◌<◌, ◌-◌, inl, inr, ℕ, zero, suc, Bool, List, [], ◌∷◌, Ok, Err, length, take, drop, get_or, refl, sym, ap, subst, arith}
 use Rattle.std.specs.Prelude.{Result}
 use Rattle.resp_wire.specs.declared.fault.NoMemory.{NoMemory}
 use Rattle.node_model.specs.Nodes.{ClusterModel}
@@ -93,14 +93,32 @@ module _ (C J : Type 0) (moves : Moves C) (gives_none takes_none : C → Type 0)
 
 -- ---- the next order
 
+-- a list that is not empty, by what stands first
+by-first : {X : Type 0} (xs : List X) (x : X) → 1 ≤ length xs → x ≡ get_or xs 0 x → xs ≡ x ∷ take (length xs - 1) (drop 1 xs)
+by-first [] x some is = absurd (omega (arith, some))
+by-first (y ∷ ys) x some is = λ i. sym is i ∷ whole ys (suc (length ys) - 1) (omega arith) i
+  where
+    whole : {X : Type 0} (ys : List X) (n : ℕ) → n ≡ length ys → ys ≡ take n ys
+    whole [] zero e = refl
+    whole [] (suc n) e = refl
+    whole (y ∷ ys) zero e = absurd (omega (arith, e))
+    whole (y ∷ ys) (suc n) e = ap (λ zs. y ∷ zs) (whole ys n (omega (arith, e)))
+
 module _ {C J : Type 0} (moves : Moves C) (gives_none takes_none : C → Type 0) where
   -- what obeying from here on gives, obeying from the first order gives
   abbrev pub GoesOn : PlayModel C J → List Order → PlayModel C J → List Order → Type 0
   GoesOn first orders now rest = (result : Result (Unit {0}) PlayFault) (new : PlayModel C J) → ObeysAll moves gives_none takes_none now rest result new → ObeysAll moves gives_none takes_none first orders result new
 
-  pub goes-on : (first : PlayModel C J) (orders : List Order) (now : PlayModel C J) (what : Order) (rest : List Order) (next : PlayModel C J) → GoesOn first orders now (what ∷ rest) → Obeys moves gives_none takes_none now what (Ok tt) next → GoesOn first orders next rest
-  goes-on first orders now what rest next goes x result new later = goes result new (inl (next, x, later))
+  pub goes-on : (first : PlayModel C J) (orders : List Order) (now : PlayModel C J) (rest : List Order) (what : Order) (next : PlayModel C J) → 1 ≤ length rest → what ≡ get_or rest 0 what
+      → GoesOn first orders now rest → Obeys moves gives_none takes_none now what (Ok tt) next → GoesOn first orders next (take (length rest - 1) (drop 1 rest))
+  goes-on first orders now rest what next some is goes x result new later =
+      subst (GoesOn first orders now) (by-first rest what some is) goes result new (inl (next, x, later))
 
-  pub ends-here : (first : PlayModel C J) (orders : List Order) (now : PlayModel C J) (what : Order) (rest : List Order) (why : PlayFault) (next : PlayModel C J) → GoesOn first orders now (what ∷ rest) → Obeys moves gives_none takes_none now what (Err why) next
-      → ObeysAll moves gives_none takes_none first orders (Err why) next
-  ends-here first orders now what rest why next goes x = goes (Err why) next (inr (why, refl, x))
+  pub ends-here : (first : PlayModel C J) (orders : List Order) (now : PlayModel C J) (rest : List Order) (what : Order) (why : PlayFault) (next : PlayModel C J) → 1 ≤ length rest → what ≡ get_or rest 0 what
+      → GoesOn first orders now rest → Obeys moves gives_none takes_none now what (Err why) next → ObeysAll moves gives_none takes_none first orders (Err why) next
+  ends-here first orders now rest what why next some is goes x =
+      subst (GoesOn first orders now) (by-first rest what some is) goes (Err why) next (inr (why, refl, x))
+
+  pub all-obeyed : (first : PlayModel C J) (orders : List Order) (now : PlayModel C J) (rest : List Order) → length rest < 1 → GoesOn first orders now rest → ObeysAll moves gives_none takes_none first orders (Ok tt) now
+  all-obeyed first orders now [] none goes = goes (Ok tt) now (refl, refl)
+  all-obeyed first orders now (what ∷ rest) none goes = absurd (omega (arith, none))

@@ -31,7 +31,7 @@ pub(crate) fn serve_at<H: Drop, J: Naming, R: Wait + Drop>(
     let mut port = taken;
     let served = port.serve(node, verdict, cluster, nodes);
     // whatever it answered, the port goes back to the link, which is open
-    let _ = carrier.swap_port(node, port);
+    drop(carrier.swap_port(node, port));
     served?;
     Ok(())
 }
@@ -49,5 +49,5 @@ pub(crate) fn break_at<H: Drop, J: Naming, R: Wait + Drop>(
     };
     let mut port = taken;
     port.break_off();
-    let _ = carrier.swap_port(node, port);
+    drop(carrier.swap_port(node, port));
 }

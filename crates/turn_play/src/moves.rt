@@ -1,7 +1,8 @@
 //! The steps by which a slot moves.
 
-ghost use Rattle.turn_play.specs.Moving.{MoveOutcome};
+ghost use Rattle.turn_play.specs.Moving.{MoveOutcome, MovesOrNot};
 
+use crate::fault::PlayFault;
 use node_model::{Cluster, MoveFault};
 use resp_wire::Bytes;
 use slot_hash::Slot;
@@ -20,8 +21,18 @@ pub enum Move {
     Stay(Slot),
 }
 
-/// Makes the step, where it may be made now.
-pub(crate) fn make(cluster: &mut Cluster, step: &Move) -> Result<(), MoveFault>
+/// Makes the step, where it may be made now. Where it may not, nothing changes.
+pub(crate) fn move_on(cluster: &mut Cluster, step: &Move) -> Result<(), PlayFault>
+    ensures { MovesOrNot cluster.old step.now result cluster.new }
+{
+    match make(cluster, step) {
+        Ok(()) => Ok(()),
+        Err(MoveFault::NotNow) => Ok(()),
+        Err(MoveFault::NoMemory) => Err(PlayFault::NoMemory),
+    }
+}
+
+fn make(cluster: &mut Cluster, step: &Move) -> Result<(), MoveFault>
     ensures { MoveOutcome cluster.old step.now result cluster.new }
 {
     match step {

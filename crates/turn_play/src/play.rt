@@ -3,7 +3,7 @@
 ghost use Rattle.std.specs.Prelude.{◌≡◌, IfOk, map};
 ghost use Rattle.proxy_lanes.specs.Carrier.{lanes_of};
 ghost use Rattle.proxy_turns.specs.Worker.{worker_model};
-ghost use Rattle.turn_play.specs.Obeying.{BreaksLink, MovesSlot, Obeys, ObeysAll, ServesNode, TurnsCarrier, TurnsWorker};
+ghost use Rattle.turn_play.specs.Obeying.{Obeys, ObeysAll, TurnsCarrier, TurnsWorker};
 ghost use Rattle.turn_play.specs.Play.{play_model};
 ghost use Rattle.turn_play.specs.Playing.{PlaysSoundly};
 ghost use Rattle.turn_play.specs.Starting.{IsBeginning, ShowsStart, new_play, workers_on};
@@ -12,14 +12,14 @@ use crate::connection::{break_at, serve_at};
 use crate::dial::PlayDial;
 use crate::fault::PlayFault;
 use crate::laws::{obeyed_is_sound, plays_start};
-use crate::moves::{Move, make};
+use crate::moves::move_on;
 use crate::order::Order;
 use crate::port::PlayPort;
-use node_model::{Cluster, MoveFault, Verdict};
+use node_model::Cluster;
 use proxy_lanes::{CarrierEnds, Naming, Publisher, WorkerEnds};
 use proxy_turns::{Carrier, ClientPort, Gate, Newcomer, Worker};
 use resp_wire::NoMemory;
-use slot_map::{NodeId, NodeTable};
+use slot_map::NodeTable;
 use std::alloc::Global;
 use std::sync::Wait;
 
@@ -105,12 +105,6 @@ impl<'g, C: ClientPort + Drop, J: Naming, R: Wait + Drop, G: Gate> Play<'g, C, J
         ensures sound { PlaysSoundly (play_model self.old) (play_model self.new) }
     {
         obeyed_is_sound::<C, J>();
-        self.obey_all(orders)
-    }
-
-    fn obey_all(&mut self, orders: &[Order]) -> Result<(), PlayFault>
-        ensures { ObeysAll C.moves C.gives_none C.takes_none (play_model self.old) orders.now result (play_model self.new) }
-    {
         let mut rest = orders;
         while let [order, later @ ..] = rest {
             self.obey(order)?;
@@ -125,12 +119,19 @@ impl<'g, C: ClientPort + Drop, J: Naming, R: Wait + Drop, G: Gate> Play<'g, C, J
         match order {
             Order::Worker(k) => self.turn_worker(*k),
             Order::Carrier => self.turn_carrier(),
-            Order::Serve(node, verdict) => self.serve(*node, *verdict),
+            Order::Serve(node, verdict) => serve_at(
+                self.alloc,
+                &mut self.carrier,
+                *node,
+                *verdict,
+                &mut self.cluster,
+                &self.nodes,
+            ),
             Order::Break(node) => {
-                self.break_off(*node);
+                break_at(self.alloc, &mut self.carrier, *node);
                 Ok(())
             }
-            Order::Move(step) => self.move_on(step),
+            Order::Move(step) => move_on(&mut self.cluster, step),
         }
     }
 
@@ -150,35 +151,6 @@ impl<'g, C: ClientPort + Drop, J: Naming, R: Wait + Drop, G: Gate> Play<'g, C, J
         self.carrier.turn()?;
         Ok(())
     }
-
-    fn serve(&mut self, node: NodeId, verdict: Verdict) -> Result<(), PlayFault>
-        ensures { ServesNode (play_model self.old) node verdict result (play_model self.new) }
-    {
-        serve_at(
-            self.alloc,
-            &mut self.carrier,
-            node,
-            verdict,
-            &mut self.cluster,
-            &self.nodes,
-        )
-    }
-
-    fn break_off(&mut self, node: NodeId)
-        ensures { BreaksLink (play_model self.old) node (play_model self.new) }
-    {
-        break_at(self.alloc, &mut self.carrier, node);
-    }
-
-    fn move_on(&mut self, step: &Move) -> Result<(), PlayFault>
-        ensures { MovesSlot (play_model self.old) step.now result (play_model self.new) }
-    {
-        match make(&mut self.cluster, step) {
-            Ok(()) => Ok(()),
-            Err(MoveFault::NotNow) => Ok(()),
-            Err(MoveFault::NoMemory) => Err(PlayFault::NoMemory),
-        }
-    }
 }
 
 /// A worker over each of these ends.
@@ -192,7 +164,7 @@ fn workers_over<'g, C: ClientPort + Drop, J: Naming, G: Gate>(
 {
     let mut workers = Vec::with_capacity(alloc, ends.len())?;
     for own in ends {
-        workers.push(Worker::new(alloc, own, gate, clients))?;
+        workers.push_reserved(Worker::new(alloc, own, gate, clients));
     }
     Ok(workers)
 }

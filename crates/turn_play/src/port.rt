@@ -118,7 +118,7 @@ impl PlayPort {
             nodes,
         )?;
         self.asking = first.asking_after(self.asking);
-        self.waiting.pop_front();
+        drop(self.waiting.pop_front());
         let _ = self.values.append(&mut said);
         Ok(true)
     }

@@ -5,7 +5,7 @@ ghost use Rattle.std.specs.VecDeque.{deque_capacity};
 ghost use Rattle.key_split.specs.Told.{CanBeWritten};
 ghost use Rattle.node_model.specs.Runs.{HaveOneSlot};
 ghost use Rattle.turn_laws.specs.Wire.{parts_in};
-ghost use Rattle.turn_play.specs.Serving.{CannotServe, CannotServeRun, IsRunSaid, IsSaid, ReplyOutcome, WriteAllOutcome, WriteOutcome, okay};
+ghost use Rattle.turn_play.specs.Serving.{CannotServe, CannotServeRun, IsRefusal, IsRunSaid, IsSaid, ReplyOutcome, WriteAllOutcome, WriteOutcome, okay};
 ghost use Rattle.turn_play.specs.Waiting.{item_of};
 
 use crate::fault::PlayFault;
@@ -129,14 +129,21 @@ fn write_all(
 fn write(alloc: Global, told: Told, nodes: &NodeTable) -> Result<Value, PlayFault>
     ensures { WriteOutcome nodes.now told result }
 {
-    let told = match into_reply(told) {
-        Ok(value) => return Ok(value),
-        Err(told) => told,
-    };
-    if !can_be_written(&told, nodes) {
+    match into_reply(told) {
+        Ok(value) => Ok(value),
+        Err(told) => write_refusal(alloc, &told, nodes),
+    }
+}
+
+/// What a node writes in place of a reply, where it can.
+fn write_refusal(alloc: Global, told: &Told, nodes: &NodeTable) -> Result<Value, PlayFault>
+    requires { IsRefusal told.now }
+    ensures { WriteOutcome nodes.now told.now result }
+{
+    if !can_be_written(told, nodes) {
         return Err(PlayFault::NotServed);
     }
-    let value = told_value(alloc, &told, nodes)?;
+    let value = told_value(alloc, told, nodes)?;
     Ok(value)
 }
 

@@ -1,5 +1,42 @@
+use Rattle.std.proofs.Common.{◌≡◌, Ok, Err, rules, subst, sym}
+use Rattle.turn_play.specs.Obeying.{ObeysAll}
 use Rattle.turn_play.specs.Play.{play_model}
+use Rattle.turn_play.proofs.Obeyed.{all-obeyed, ends-here, goes-on}
 use Rattle.turn_play.proofs.play.Play.play.Goals as goal
 
+pub loop-rest-init : goal.loop-rest-init
+loop-rest-init g c = λ result new does. does
+
+pub loop-rest-preserved : goal.loop-rest-preserved
+loop-rest-preserved g c =
+    let m = g.C.ClientPort in
+    goes-on m.moves m.gives_none m.takes_none (play_model c.args.self.now) c.args.orders.now (play_model c.loop-rest.self) c.loop-rest.rest.now c.order-item.result (play_model c.obey.new.self)
+    c.in-len1-up.len_at_least c.order-item.is c.loop-rest.invariant c.in_ok-obey.ensures
+
+pub returns-in_err-obey-clause-obeys : goal.returns-in_err-obey-clause-obeys
+returns-in_err-obey-clause-obeys g c =
+    let m = g.C.ClientPort in
+    let is : c.from_residual.result ≡ Err c.in_err-obey.field-0.0 = search rules in
+    subst
+    (λ r. ObeysAll m.moves m.gives_none m.takes_none (play_model c.args.self.now) c.args.orders.now r (play_model c.obey.new.self))
+    (sym is)
+    (ends-here m.moves m.gives_none m.takes_none (play_model c.args.self.now) c.args.orders.now (play_model c.loop-rest.self) c.loop-rest.rest.now c.order-item.result c.in_err-obey.field-0.0 (play_model c.obey.new.self)
+    c.in-len1-up.len_at_least c.order-item.is c.loop-rest.invariant c.in_err-obey.ensures)
+
+pub returns-in_err-obey-clause-sound : goal.returns-in_err-obey-clause-sound
+returns-in_err-obey-clause-sound g c =
+    let m = g.C.ClientPort in
+    c.obeyed_is_sound.ensures (play_model c.args.self.now) (play_model c.obey.new.self) c.args.orders.now (Err c.in_err-obey.field-0.0)
+    (ends-here m.moves m.gives_none m.takes_none (play_model c.args.self.now) c.args.orders.now (play_model c.loop-rest.self) c.loop-rest.rest.now c.order-item.result c.in_err-obey.field-0.0 (play_model c.obey.new.self)
+    c.in-len1-up.len_at_least c.order-item.is c.loop-rest.invariant c.in_err-obey.ensures)
+
+pub returns-clause-obeys : goal.returns-clause-obeys
+returns-clause-obeys g c =
+    let m = g.C.ClientPort in
+    all-obeyed m.moves m.gives_none m.takes_none (play_model c.args.self.now) c.args.orders.now (play_model c.loop-rest.self) c.loop-rest.rest.now c.in_default.len_below c.loop-rest.invariant
+
 pub returns-clause-sound : goal.returns-clause-sound
-returns-clause-sound g c = c.obeyed_is_sound.ensures (play_model c.args.self.now) (play_model c.obey_all.new.self) c.args.orders.now c.obey_all.result c.obey_all.ensures
+returns-clause-sound g c =
+    let m = g.C.ClientPort in
+    c.obeyed_is_sound.ensures (play_model c.args.self.now) (play_model c.loop-rest.self) c.args.orders.now (Ok tt)
+    (all-obeyed m.moves m.gives_none m.takes_none (play_model c.args.self.now) c.args.orders.now (play_model c.loop-rest.self) c.loop-rest.rest.now c.in_default.len_below c.loop-rest.invariant)

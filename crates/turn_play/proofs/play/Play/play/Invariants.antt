@@ -1,7 +1,7 @@
 use Rattle.std.proofs.Common.{length}
 use Rattle.turn_play.specs.Play.{play_model}
 use Rattle.turn_play.proofs.Obeyed.{GoesOn}
-use Rattle.turn_play.proofs.play.Play.obey_all.Given as goal
+use Rattle.turn_play.proofs.play.Play.play.Given as goal
 
 abbrev pub invariant-loop-rest : goal.invariant-loop-rest
 invariant-loop-rest g l = GoesOn g.C.ClientPort.moves g.C.ClientPort.gives_none g.C.ClientPort.takes_none (play_model l.initial.self) l.orders (play_model l.self) l.rest
