@@ -208,6 +208,9 @@ def main(words):
         refused, left = gate.count(words[3:])
         print(f"edits: {refused} passed, {left} failed")
         return 1 if left else 0
+    if words:
+        print(f"tests/edits/run does not know {words[0]}", file=sys.stderr)
+        return 2
     room = Path(tempfile.mkdtemp(prefix="cluster_proxy-gate-"))
     try:
         copy_tree(tree, room)
