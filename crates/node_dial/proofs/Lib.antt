@@ -1,1 +1,2 @@
+pub mod CredentialLemmas
 pub mod PauseLemmas

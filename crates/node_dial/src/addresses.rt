@@ -1,7 +1,8 @@
 //! The addresses of a node.
 
 use crate::look_up::addresses_of;
-use crate::look_ups::{SharedLookUps, take_found};
+use crate::look_ups::{Found, SharedLookUps, take_found};
+use crate::place::put;
 use std::alloc::Global;
 use std::io;
 use std::io::ErrorKind;
@@ -40,16 +41,18 @@ impl Addresses {
             return Err(io::Error::new(ErrorKind::InvalidInput, "the host is no text"));
         };
         if host.parse::<IpAddr>().is_ok() {
-            self.found = addresses_of(rt, self.alloc, host, port)?;
-            return Ok(true);
+            return self.keep(addresses_of(rt, self.alloc, host, port));
         }
         match take_found(look_ups, host, port) {
-            Some(found) => {
-                self.found = found?;
-                Ok(true)
-            }
+            Some(found) => self.keep(found),
             None => Ok(false),
         }
+    }
+
+    /// Keeps what was found. True where addresses were.
+    fn keep(&mut self, found: Found) -> io::Result<bool> {
+        put(&mut self.found, found?);
+        Ok(true)
     }
 
     pub(crate) fn len(&self) -> usize {

@@ -1,13 +1,15 @@
 //! How far a connection to a node has come.
 
-use crate::handshake::Handshake;
+use crate::connector::Connector;
+use crate::handshake::{Handshake, HandshakeOutcome};
 use mio::net::TcpStream;
 use polled_sockets::PolledSocket;
 use std::io;
 use std::io::ErrorKind;
+use std::net::{self, Net};
+use std::time::Clock;
 
 /// A connection to a node, by how far it has come.
-#[derive(Drop)]
 pub(crate) enum Connection {
     /// The system connects.
     Connecting(TcpStream),
@@ -17,7 +19,40 @@ pub(crate) enum Connection {
     Standing(PolledSocket),
 }
 
+impl Drop for Connection {
+    fn drop(self) {
+        match self {
+            Connection::Connecting(stream) => drop(stream),
+            Connection::Greeting(socket, handshake) => {
+                drop(socket);
+                drop(handshake);
+            }
+            Connection::Standing(socket) => drop(socket),
+        }
+    }
+}
+
 impl Connection {
+    /// Goes on with the connection, as far as that needs no waiting.
+    pub(crate) fn advance<R>(self, connector: &Connector<'_, R>) -> io::Result<Connection>
+    where
+        R: Clock + Net<Listener = net::TcpListener, Stream = net::TcpStream>,
+    {
+        match self {
+            Connection::Connecting(stream) => connector.go_on_connecting(stream),
+            Connection::Greeting(socket, handshake) => authenticate(socket, handshake),
+            Connection::Standing(socket) => Ok(Connection::Standing(socket)),
+        }
+    }
+
+    /// The socket, where commands may go over it.
+    pub(crate) fn standing(self) -> Result<PolledSocket, Connection> {
+        match self {
+            Connection::Standing(socket) => Ok(socket),
+            connection => Err(connection),
+        }
+    }
+
     /// What it is still waited for; `None` where the connection stands.
     pub(crate) fn missing(&self) -> Option<io::Error> {
         match self {
@@ -25,6 +60,18 @@ impl Connection {
             Connection::Greeting(..) => Some(timeout("no reply to AUTH in time")),
             Connection::Standing(_) => None,
         }
+    }
+}
+
+/// Goes on with AUTH. A refusal is an error.
+pub(crate) fn authenticate(
+    mut socket: PolledSocket,
+    mut handshake: Handshake,
+) -> io::Result<Connection> {
+    match handshake.advance(&mut socket) {
+        HandshakeOutcome::Pending => Ok(Connection::Greeting(socket, handshake)),
+        HandshakeOutcome::Accepted => Ok(Connection::Standing(socket)),
+        HandshakeOutcome::Refused(error) => Err(error),
     }
 }
 

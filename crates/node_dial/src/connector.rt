@@ -1,14 +1,13 @@
 //! How the proxy connects to an address of a node.
 
 use crate::addresses::Addresses;
-use crate::connection::Connection;
+use crate::connection::{Connection, authenticate};
 use crate::credentials::Credentials;
-use crate::handshake::{Handshake, HandshakeOutcome};
+use crate::handshake::Handshake;
 use crate::look_ups::SharedLookUps;
 use mio::Registry;
 use polled_sockets::{PolledSocket, ReadySet, Registration};
 use proxy_report::ThreadReport;
-use resp_wire::NoMemory;
 use std::alloc::Global;
 use std::io;
 use std::io::{ErrorKind, Write};
@@ -70,8 +69,8 @@ impl<'b, R: Clock + Net<Listener = TcpListener, Stream = TcpStream>> Connector<'
     }
 
     /// What is ready in the thread, with its time.
-    pub(crate) fn ready(&self) -> Result<Arc<ReadySet, Global>, NoMemory> {
-        Ok(Arc::try_clone(&self.ready)?)
+    pub(crate) fn ready(&self) -> &Arc<ReadySet, Global> {
+        &self.ready
     }
 
     /// What time it is, in milliseconds, as the thread last saw it.
@@ -111,23 +110,17 @@ impl<'b, R: Clock + Net<Listener = TcpListener, Stream = TcpStream>> Connector<'
     /// Begins to connect, and does not wait.
     fn start_connecting(&self, address: SocketAddr) -> io::Result<Connection> {
         let stream = mio::net::TcpStream::connect(self.rt, address)?;
-        self.advance(Connection::Connecting(stream))
+        self.go_on_connecting(stream)
     }
 
-    /// Goes on with the connection, as far as that needs no waiting.
-    pub(crate) fn advance(&self, connection: Connection) -> io::Result<Connection> {
-        match connection {
-            Connection::Connecting(stream) => {
-                if stream.peer_addr().is_ok() {
-                    return self.watch(stream, 0);
-                }
-                match stream.take_error()? {
-                    Some(error) => Err(error),
-                    None => Ok(Connection::Connecting(stream)),
-                }
-            }
-            Connection::Greeting(socket, handshake) => authenticate(socket, handshake),
-            Connection::Standing(socket) => Ok(Connection::Standing(socket)),
+    /// Goes on with a connection that the system makes, as far as that needs no waiting.
+    pub(crate) fn go_on_connecting(&self, stream: mio::net::TcpStream) -> io::Result<Connection> {
+        if stream.peer_addr().is_ok() {
+            return self.watch(stream, 0);
+        }
+        match stream.take_error() {
+            Ok(None) => Ok(Connection::Connecting(stream)),
+            Ok(Some(error)) | Err(error) => Err(error),
         }
     }
 
@@ -178,14 +171,5 @@ impl<'b, R: Clock + Net<Listener = TcpListener, Stream = TcpStream>> Connector<'
             return Err(ErrorKind::OutOfMemory.into());
         };
         authenticate(socket, Handshake::new(self.alloc, credentials, sent))
-    }
-}
-
-/// Goes on with AUTH. A refusal is an error.
-fn authenticate(mut socket: PolledSocket, mut handshake: Handshake) -> io::Result<Connection> {
-    match handshake.advance(&mut socket) {
-        HandshakeOutcome::Pending => Ok(Connection::Greeting(socket, handshake)),
-        HandshakeOutcome::Accepted => Ok(Connection::Standing(socket)),
-        HandshakeOutcome::Refused(error) => Err(error),
     }
 }

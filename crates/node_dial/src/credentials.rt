@@ -1,23 +1,29 @@
 //! How the proxy names itself to the nodes.
 
-ghost use Rattle.std.specs.Prelude.{◌≡◌, ◌∷◌, [], IfOk, codes, map};
+ghost use Rattle.std.specs.Prelude.{◌≡◌, ◌++◌, ◌∷◌, [], IfOk, OnOk, codes};
 ghost use Rattle.resp_wire.specs.Canonical.{canonical};
-ghost use Rattle.resp_wire.specs.Data.{array, bulk, items_of};
-ghost use Rattle.resp_wire.specs.Seen.{data_of};
+ghost use Rattle.resp_wire.specs.Data.{bulk};
 ghost use Rattle.node_link.specs.Bytes.{spelled_words};
 
-use resp_wire::{Bytes, NoMemory, Value, Values, write_value};
+use resp_wire::{NoMemory, write_bulk_head};
 use std::alloc::Global;
 use std::io;
 use std::io::ErrorKind;
 use std::marker::Model;
 
 /// A password at the nodes, with a user's name or without. It has no text of its own, so that no log and no fault shows it.
-#[derive(Drop)]
 pub struct Credentials {
     /// AUTH, as it goes over the wire.
     request: Vec<u8>,
     password: Vec<u8>,
+}
+
+impl Drop for Credentials {
+    fn drop(self) {
+        let Credentials { request, password } = self;
+        drop(request);
+        drop(password);
+    }
 }
 
 impl Model for Credentials {
@@ -33,28 +39,30 @@ impl Credentials {
     pub fn of_password(alloc: Global, password: &[u8]) -> Result<Credentials, NoMemory>
         ensures { IfOk result (λ credentials. credentials ≡ spelled_words (codes "AUTH" ∷ password.now ∷ [])) }
     {
-        let words = [bulk(alloc, b"AUTH")?, bulk(alloc, password)?];
-        Credentials::of_words(alloc, Vec::from_array(alloc, words)?, password)
+        let mut request = Vec::new(alloc);
+        request.extend_from_slice(b"*2\r\n$4\r\nAUTH\r\n")?;
+        Credentials::with_password(alloc, request, password)
     }
 
     /// A user's password.
     pub fn of_user(alloc: Global, user: &[u8], password: &[u8]) -> Result<Credentials, NoMemory>
         ensures { IfOk result (λ credentials. credentials ≡ spelled_words (codes "AUTH" ∷ user.now ∷ password.now ∷ [])) }
     {
-        let words = [
-            bulk(alloc, b"AUTH")?,
-            bulk(alloc, user)?,
-            bulk(alloc, password)?,
-        ];
-        Credentials::of_words(alloc, Vec::from_array(alloc, words)?, password)
+        let mut request = Vec::new(alloc);
+        request.extend_from_slice(b"*3\r\n$4\r\nAUTH\r\n")?;
+        push_word(&mut request, user)?;
+        Credentials::with_password(alloc, request, password)
     }
 
-    /// The credentials that are said by these words, with this password.
-    fn of_words(alloc: Global, words: Vec<Value>, password: &[u8]) -> Result<Credentials, NoMemory>
-        ensures { IfOk result (λ credentials. credentials ≡ canonical (array (items_of (map data_of words.items)))) }
+    /// The credentials that are said by this request, once the password stands behind it.
+    fn with_password(
+        alloc: Global,
+        mut request: Vec<u8>,
+        password: &[u8],
+    ) -> Result<Credentials, NoMemory>
+        ensures { IfOk result (λ credentials. credentials ≡ request.items ++ canonical (bulk password.now)) }
     {
-        let mut request = Vec::new(alloc);
-        write_value(&mut request, &Value::Array(Values::new(words)))?;
+        push_word(&mut request, password)?;
         let mut copy = Vec::new(alloc);
         copy.extend_from_slice(password)?;
         Ok(Credentials {
@@ -100,8 +108,11 @@ fn contains(bytes: &[u8], part: &[u8]) -> bool {
     false
 }
 
-fn bulk(alloc: Global, word: &[u8]) -> Result<Value, NoMemory>
-    ensures { IfOk result (λ value. data_of value ≡ bulk word.now) }
+/// Appends a word of a request.
+fn push_word(request: &mut Vec<u8>, word: &[u8]) -> Result<(), NoMemory>
+    ensures { OnOk result (request.new.items ≡ request.old.items ++ canonical (bulk word.now)) }
 {
-    Ok(Value::Bulk(Bytes::from_slice(alloc, word)?))
+    write_bulk_head(request, word.len())?;
+    request.extend_from_slice(word)?;
+    Ok(request.extend_from_slice(b"\r\n")?)
 }

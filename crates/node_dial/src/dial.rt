@@ -3,27 +3,22 @@
 ghost use Rattle.std.specs.Prelude.{◌≡◌, IfOk};
 ghost use Rattle.node_dial.specs.NewPort.{IsUnused};
 
-use crate::cluster_notes::{ClusterNotes, SharedNotes, share};
+use crate::cluster_notes::{ClusterNotes, SharedNotes};
 use crate::connector::Connector;
 use crate::known_node::{DialOutcome, KnownNode};
-use crate::link_watch::LinkWatch;
-use crate::lost_nodes::{is_ask_due, is_lost, note_lost, note_reached};
+use crate::lost_nodes::is_ask_due;
 use crate::node_notes::NodeNotes;
 use crate::node_port::CountedPort;
 use crate::node_stream::NodeStream;
 use crate::plain_nodes::takes_blocks;
-use crate::slot_owners::SlotTeller;
 use node_link::BlockPort;
 use polled_sockets::PolledSocket;
-use proxy_report::{Event, Figure, NodeName};
+use proxy_report::Figure;
 use proxy_turns::{Dial, DialFault};
 use resp_wire::{Limits, NoMemory};
 use slot_map::{NODE_LIMIT, NodeId};
 use std::alloc::Global;
-use std::io;
 use std::net::{Net, TcpListener, TcpStream};
-use std::rc::Rc;
-use std::sync::Arc;
 use std::time::Clock;
 
 /// A port to a node over a socket.
@@ -78,60 +73,18 @@ impl<'b, R: Clock + Net<Listener = TcpListener, Stream = TcpStream>> SocketDial<
     ) -> Result<NodeSocket, NoMemory>
         ensures unused { IfOk result (λ counted. IsUnused counted.port) }
     {
-        let notes = self.notes_of(node, host, port)?;
+        let notes = NodeNotes::new(
+            self.alloc,
+            self.connector.ready(),
+            &self.cluster,
+            node,
+            host,
+            port,
+        )?;
         let stream = notes.stream_over(socket)?;
         let blocks = takes_blocks(&self.cluster.plain, node);
         let port = BlockPort::new(self.alloc, stream, Limits::full(), blocks);
         Ok(CountedPort::new(port, notes))
-    }
-
-    /// The notes of the node at this endpoint, which is reached.
-    fn notes_of(&self, node: NodeId, host: &[u8], port: u16) -> Result<NodeNotes, NoMemory> {
-        let name = NodeName::new(self.alloc, node, host, port)?;
-        note_reached(&self.cluster.lost, &name);
-        let teller = SlotTeller::new(self.alloc, host, port)?;
-        let watch = self.watch()?;
-        let cluster = share(&self.cluster)?;
-        Ok(NodeNotes {
-            node,
-            name,
-            report: Arc::try_clone(self.connector.report())?,
-            teller,
-            watch,
-            cluster,
-        })
-    }
-
-    fn watch(&self) -> Result<Rc<LinkWatch>, NoMemory> {
-        let ready = self.connector.ready()?;
-        Ok(Rc::new(self.alloc, LinkWatch::new(ready))?)
-    }
-
-    /// The node at this endpoint has no connection, so another is asked where its slots are.
-    fn note_unreached(&self, node: NodeId, host: &[u8], port: u16) -> Result<(), NoMemory> {
-        if !is_lost(&self.cluster.lost, node) {
-            note_lost(
-                &self.cluster.lost,
-                &NodeName::new(self.alloc, node, host, port)?,
-            );
-        }
-        Ok(())
-    }
-
-    /// Reports that a dial of the node at this endpoint failed, and counts it.
-    fn report_failure(
-        &self,
-        node: NodeId,
-        host: &[u8],
-        port: u16,
-        error: io::Error,
-    ) -> Result<(), NoMemory> {
-        let name = NodeName::new(self.alloc, node, host, port)?;
-        note_lost(&self.cluster.lost, &name);
-        let report = self.connector.report();
-        report.count(Figure::DialsFailed, 1);
-        report.tell(Event::DialFailed(name, error));
-        Ok(())
     }
 }
 
@@ -158,21 +111,20 @@ impl<'b, R: Clock + Net<Listener = TcpListener, Stream = TcpStream>> Dial for So
         let Some(known) = self.nodes.get_mut(usize::from(node.number())) else {
             return Err(DialFault::NoMemory);
         };
-        match known.dial(&self.connector, host, port) {
+        let noted = match known.dial(&self.connector, host, port) {
             DialOutcome::Standing(socket) => match self.port_over(socket, node, host, port) {
                 Ok(opened) => return Ok(opened),
                 Err(NoMemory) => return Err(DialFault::NoMemory),
             },
-            DialOutcome::Pending => {
-                if self.note_unreached(node, host, port).is_err() {
-                    return Err(DialFault::NoMemory);
-                }
-            }
+            DialOutcome::Pending => self.cluster.note_unreached(self.alloc, node, host, port),
             DialOutcome::Failed(error) => {
-                if self.report_failure(node, host, port, error).is_err() {
-                    return Err(DialFault::NoMemory);
-                }
+                let report = self.connector.report();
+                self.cluster
+                    .note_failure(self.alloc, report, node, host, port, error)
             }
+        };
+        if noted.is_err() {
+            return Err(DialFault::NoMemory);
         }
         self.failures += 1;
         Err(DialFault::Failed)

@@ -6,6 +6,7 @@ use crate::addresses::Addresses;
 use crate::connection::Connection;
 use crate::connector::Connector;
 use crate::dial_pause::DialPause;
+use crate::place::put;
 use polled_sockets::PolledSocket;
 use std::alloc::Global;
 use std::io;
@@ -133,13 +134,13 @@ impl KnownNode {
     /// Gives the connection where it stands, and keeps it otherwise.
     fn keep(&mut self, dial: PendingDial) -> DialOutcome {
         let PendingDial { connection, begun } = dial;
-        match connection {
-            Connection::Standing(socket) => {
+        match connection.standing() {
+            Ok(socket) => {
                 self.pause = DialPause::none();
                 DialOutcome::Standing(socket)
             }
-            connection => {
-                self.under_way = Some(PendingDial { connection, begun });
+            Err(connection) => {
+                put(&mut self.under_way, Some(PendingDial { connection, begun }));
                 DialOutcome::Pending
             }
         }
@@ -157,7 +158,7 @@ where
     R: Clock + Net<Listener = TcpListener, Stream = TcpStream>,
 {
     let PendingDial { connection, begun } = dial;
-    let connection = connector.advance(connection)?;
+    let connection = connection.advance(connector)?;
     if now < begun.saturating_add(DIAL_TIMEOUT_MILLIS) {
         return Ok(Some(PendingDial { connection, begun }));
     }

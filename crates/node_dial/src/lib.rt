@@ -34,6 +34,7 @@ mod lost_nodes;
 mod node_notes;
 mod node_port;
 mod node_stream;
+mod place;
 mod plain_nodes;
 mod slot_owners;
 

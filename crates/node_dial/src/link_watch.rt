@@ -1,17 +1,22 @@
 //! Whether a node owes replies for too long.
 
+use crate::cluster_notes::{ClusterNotes, SharedNotes, share};
 use polled_sockets::ReadySet;
+use proxy_report::ThreadReport;
+use resp_wire::NoMemory;
 use std::alloc::Global;
 use std::cell::Cell;
+use std::rc::Rc;
 use std::sync::Arc;
 
 /// How long a node may owe replies and give none, in milliseconds.
 const REPLY_LIMIT_MILLIS: u64 = 30_000;
 
-/// What a node owes over one connection: its port counts, and its stream ends where that takes too long.
-#[derive(Drop)]
+/// What a node owes over one connection: its port counts, and its stream ends where that takes too long. Both note here what
+/// becomes of the node.
 pub(crate) struct LinkWatch {
     ready: Arc<ReadySet, Global>,
+    cluster: SharedNotes,
     owed: Cell<u64>,
     /// When the last reply came, or the first of the requests was sent that are owed one.
     since: Cell<u64>,
@@ -19,15 +24,46 @@ pub(crate) struct LinkWatch {
     block: Cell<u64>,
 }
 
+impl Drop for LinkWatch {
+    fn drop(self) {
+        let LinkWatch {
+            ready,
+            cluster,
+            owed: _,
+            since: _,
+            block: _,
+        } = self;
+        drop(ready);
+        drop(cluster);
+    }
+}
+
 impl LinkWatch {
     /// Nothing is owed.
-    pub(crate) fn new(ready: Arc<ReadySet, Global>) -> LinkWatch {
-        LinkWatch {
-            ready,
+    pub(crate) fn new(
+        alloc: Global,
+        ready: &Arc<ReadySet, Global>,
+        cluster: &SharedNotes,
+    ) -> Result<Rc<LinkWatch>, NoMemory> {
+        let cluster = share(cluster)?;
+        let watch = LinkWatch {
+            ready: Arc::try_clone(ready)?,
+            cluster,
             owed: Cell::new(0),
             since: Cell::new(0),
             block: Cell::new(0),
-        }
+        };
+        Ok(Rc::new(alloc, watch)?)
+    }
+
+    /// What is noted of the cluster's nodes.
+    pub(crate) fn cluster(&self) -> &ClusterNotes {
+        &self.cluster
+    }
+
+    /// What the thread reports.
+    pub(crate) fn report(&self) -> &ThreadReport {
+        self.ready.report()
     }
 
     /// So many requests were sent.

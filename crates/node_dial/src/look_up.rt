@@ -3,7 +3,6 @@
 use mio::{Registry, Token, Waker};
 use std::alloc::Global;
 use std::io;
-use std::io::ErrorKind;
 use std::net::{Net, SocketAddr, TcpListener, TcpStream, ToSocketAddrs};
 use std::sync::Arc;
 use std::sync::atomic::{AtomicBool, Ordering};
@@ -89,11 +88,10 @@ pub(crate) fn addresses_of<R: Net>(
     host: &str,
     port: u16,
 ) -> io::Result<Vec<SocketAddr>> {
+    let addresses = (host, port).to_socket_addrs(rt)?;
     let mut found = Vec::new(alloc);
-    for address in (host, port).to_socket_addrs(rt)?.take(ADDRESSES) {
-        if found.push(address).is_err() {
-            return Err(ErrorKind::OutOfMemory.into());
-        }
+    for address in addresses.take(ADDRESSES) {
+        found.push(address)?;
     }
     Ok(found)
 }

@@ -1,12 +1,12 @@
 //! The look-ups that the dials of the nodes ask for.
 
 use crate::look_up::LookUp;
+use crate::place::put;
 use mio::Registry;
 use resp_wire::NoMemory;
 use std::alloc::Global;
 use std::cell::RefCell;
 use std::io;
-use std::io::ErrorKind;
 use std::net::{Net, SocketAddr, TcpListener, TcpStream};
 use std::rc::Rc;
 use std::thread::Threads;
@@ -15,12 +15,23 @@ use std::thread::Threads;
 pub(crate) type Found = io::Result<Vec<SocketAddr>>;
 
 /// The names that are to be looked up, with what was found, until that is taken.
-#[derive(Drop)]
 pub struct LookUps {
     alloc: Global,
     /// What the thread polls that is woken when something was found.
     registry: Registry,
     names: Vec<Name>,
+}
+
+impl Drop for LookUps {
+    fn drop(self) {
+        let LookUps {
+            alloc: _,
+            registry,
+            names,
+        } = self;
+        drop(registry);
+        drop(names);
+    }
 }
 
 /// The same, for all that belongs to the carrier.
@@ -69,6 +80,33 @@ impl Name {
     fn is(&self, host: &str, port: u16) -> bool {
         self.port == port && self.host.as_str() == host
     }
+
+    /// Goes on with the look-up, where there is more to do. True where there was.
+    fn advance<R>(&mut self, rt: &R, alloc: Global, registry: &Registry) -> bool
+    where
+        R: Threads + Net<Listener = TcpListener, Stream = TcpStream> + Copy + Send + 'static,
+    {
+        if !self.stage.may_advance() {
+            return false;
+        }
+        let next = match std::mem::replace(&mut self.stage, Stage::Wanted) {
+            Stage::Wanted => self.start(rt, alloc, registry),
+            Stage::UnderWay(look_up) => Stage::Ended(look_up.take(rt)),
+            Stage::Ended(found) => Stage::Ended(found),
+        };
+        put(&mut self.stage, next);
+        true
+    }
+
+    fn start<R>(&self, rt: &R, alloc: Global, registry: &Registry) -> Stage
+    where
+        R: Threads + Net<Listener = TcpListener, Stream = TcpStream> + Copy + Send + 'static,
+    {
+        match LookUp::start(rt, alloc, registry, self.host.as_str(), self.port) {
+            Ok(look_up) => Stage::UnderWay(look_up),
+            Err(error) => Stage::Ended(Err(error)),
+        }
+    }
 }
 
 impl LookUps {
@@ -109,9 +147,7 @@ impl LookUps {
     fn ask(&mut self, host: &str, port: u16) -> io::Result<()> {
         let host = String::from_str(self.alloc, host)?;
         let stage = Stage::Wanted;
-        if self.names.push(Name { host, port, stage }).is_err() {
-            return Err(ErrorKind::OutOfMemory.into());
-        }
+        self.names.push(Name { host, port, stage })?;
         Ok(())
     }
 
@@ -121,39 +157,10 @@ impl LookUps {
         R: Threads + Net<Listener = TcpListener, Stream = TcpStream> + Copy + Send + 'static,
     {
         let mut moved = false;
-        let mut names = std::mem::replace(&mut self.names, Vec::new(self.alloc));
-        for name in &mut names {
-            moved |= self.advance_name(rt, name);
+        for name in &mut self.names {
+            moved |= name.advance(rt, self.alloc, &self.registry);
         }
-        self.names = names;
         moved
-    }
-
-    /// Goes on with the look-up of a name, where there is more to do. True where there was.
-    fn advance_name<R>(&self, rt: &R, name: &mut Name) -> bool
-    where
-        R: Threads + Net<Listener = TcpListener, Stream = TcpStream> + Copy + Send + 'static,
-    {
-        if !name.stage.may_advance() {
-            return false;
-        }
-        let stage = std::mem::replace(&mut name.stage, Stage::Wanted);
-        name.stage = match stage {
-            Stage::Wanted => self.start(rt, name.host.as_str(), name.port),
-            Stage::UnderWay(look_up) => Stage::Ended(look_up.take(rt)),
-            Stage::Ended(found) => Stage::Ended(found),
-        };
-        true
-    }
-
-    fn start<R>(&self, rt: &R, host: &str, port: u16) -> Stage
-    where
-        R: Threads + Net<Listener = TcpListener, Stream = TcpStream> + Copy + Send + 'static,
-    {
-        match LookUp::start(rt, self.alloc, &self.registry, host, port) {
-            Ok(look_up) => Stage::UnderWay(look_up),
-            Err(error) => Stage::Ended(Err(error)),
-        }
     }
 }
 

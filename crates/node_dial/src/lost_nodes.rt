@@ -92,11 +92,11 @@ fn is_primary(name: &NodeName, range: &Value) -> bool {
     let Value::Array(items) = range else {
         return false;
     };
-    let Some(Value::Array(primary)) = items.as_slice().get(2) else {
+    let [_, _, Value::Array(primary), ..] = items.as_slice() else {
         return false;
     };
-    match (primary.as_slice().first(), primary.as_slice().get(1)) {
-        (Some(Value::Bulk(host)), Some(Value::Integer(port))) => match u16::try_from(*port) {
+    match primary.as_slice() {
+        [Value::Bulk(host), Value::Integer(port), ..] => match u16::try_from(*port) {
             Ok(port) => name.is_at(host.as_slice(), port),
             Err(_) => false,
         },

@@ -1,14 +1,14 @@
 //! What is counted, noted and reported of a connection to a node.
 
-use crate::cluster_notes::{SharedNotes, share};
+use crate::cluster_notes::SharedNotes;
 use crate::link_watch::LinkWatch;
-use crate::lost_nodes::note_slots;
+use crate::lost_nodes::{note_reached, note_slots};
 use crate::node_stream::NodeStream;
 use crate::plain_nodes::note_plain;
 use crate::slot_owners::SlotTeller;
 use node_link::PortFault;
-use polled_sockets::PolledSocket;
-use proxy_report::{Event, Figure, NodeName, SlotsTold, ThreadReport};
+use polled_sockets::{PolledSocket, ReadySet};
+use proxy_report::{Event, Figure, NodeName, SlotsTold};
 use resp_wire::{NoMemory, Value};
 use slot_map::NodeId;
 use std::alloc::Global;
@@ -16,30 +16,60 @@ use std::rc::Rc;
 use std::sync::Arc;
 
 /// Where it is counted and noted what goes over a connection to a node, and reported what the node tells of its slots.
-#[derive(Drop)]
 pub(crate) struct NodeNotes {
-    pub(crate) node: NodeId,
-    pub(crate) name: NodeName,
-    pub(crate) report: Arc<ThreadReport, Global>,
-    pub(crate) teller: SlotTeller,
-    pub(crate) watch: Rc<LinkWatch>,
-    pub(crate) cluster: SharedNotes,
+    node: NodeId,
+    name: NodeName,
+    teller: SlotTeller,
+    watch: Rc<LinkWatch>,
+}
+
+impl Drop for NodeNotes {
+    fn drop(self) {
+        let NodeNotes {
+            node: _,
+            name,
+            teller,
+            watch,
+        } = self;
+        drop(name);
+        drop(teller);
+        drop(watch);
+    }
 }
 
 impl NodeNotes {
+    /// The notes of the node at this endpoint, which is reached.
+    pub(crate) fn new(
+        alloc: Global,
+        ready: &Arc<ReadySet, Global>,
+        cluster: &SharedNotes,
+        node: NodeId,
+        host: &[u8],
+        port: u16,
+    ) -> Result<NodeNotes, NoMemory> {
+        let name = NodeName::new(alloc, node, host, port)?;
+        note_reached(&cluster.lost, &name);
+        let teller = SlotTeller::new(alloc, host, port)?;
+        Ok(NodeNotes {
+            node,
+            name,
+            teller,
+            watch: LinkWatch::new(alloc, ready, cluster)?,
+        })
+    }
+
     /// The connection over this socket, which is noted here.
     pub(crate) fn stream_over(&self, socket: PolledSocket) -> Result<NodeStream, NoMemory> {
         let name = self.name.again()?;
-        let cluster = share(&self.cluster)?;
         match self.watch.clone() {
-            Ok(watch) => Ok(NodeStream::new(socket, name, cluster, watch)),
+            Ok(watch) => Ok(NodeStream::new(socket, name, watch)),
             Err(_) => Err(NoMemory),
         }
     }
 
     /// So much is counted.
     pub(crate) fn count(&self, figure: Figure, more: u64) {
-        self.report.count(figure, more);
+        self.watch.report().count(figure, more);
     }
 
     /// So many requests went out, where they did.
@@ -71,7 +101,7 @@ impl NodeNotes {
     /// Notes a node whose connection was garbled while a block was under way.
     fn note_fault(&self, fault: PortFault) {
         if fault == PortFault::BadWire && self.watch.awaits_block() {
-            note_plain(&self.cluster.plain, self.node);
+            note_plain(&self.watch.cluster().plain, self.node);
         }
     }
 
@@ -80,7 +110,7 @@ impl NodeNotes {
         match value {
             Value::Error(line) => {
                 if let Some(figure) = refusal(line.bytes()) {
-                    self.report.count(figure, 1);
+                    self.count(figure, 1);
                 }
             }
             Value::Array(items) => {
@@ -94,13 +124,14 @@ impl NodeNotes {
     }
 
     fn note_slots(&self, answer: &Value, ranges: &[Value]) {
-        note_slots(&self.cluster.lost, ranges);
+        let cluster = self.watch.cluster();
+        note_slots(&cluster.lost, ranges);
         let told = SlotsTold {
             ranges: ranges.len(),
-            slots_changed: self.teller.note(&self.cluster.owners, answer),
+            slots_changed: self.teller.note(&cluster.owners, answer),
         };
         if let Ok(name) = self.name.again() {
-            self.report.tell(Event::SlotsTold(name, told));
+            self.watch.report().tell(Event::SlotsTold(name, told));
         }
     }
 }

@@ -2,7 +2,6 @@
 
 ghost use Rattle.std.specs.Prelude.{◌≡◌, ◌≤◌};
 
-use crate::cluster_notes::SharedNotes;
 use crate::link_watch::LinkWatch;
 use crate::lost_nodes::{LostNodes, note_lost};
 use node_link::{Flow, Stream};
@@ -18,8 +17,6 @@ pub struct NodeStream {
     socket: PolledSocket,
     /// The node, until the connection's end is reported.
     name: Option<NodeName>,
-    /// Where the node is noted as lost then.
-    cluster: SharedNotes,
     watch: Rc<LinkWatch>,
     failures: u64,
 }
@@ -29,15 +26,13 @@ impl Drop for NodeStream {
         let NodeStream {
             socket,
             name,
-            cluster,
             watch,
             failures: _,
         } = self;
         if let Some(name) = name {
-            report_end(&socket, name, &cluster.lost, reason_of(&socket));
+            report_end(&socket, name, &watch.cluster().lost, reason_of(&socket));
         }
         drop(socket);
-        drop(cluster);
         drop(watch);
     }
 }
@@ -59,12 +54,7 @@ fn reason_of(socket: &PolledSocket) -> io::Error {
 
 impl NodeStream {
     /// A connection to this node, which is reported and counted.
-    pub(crate) fn new(
-        socket: PolledSocket,
-        name: NodeName,
-        cluster: SharedNotes,
-        watch: Rc<LinkWatch>,
-    ) -> NodeStream {
+    pub(crate) fn new(socket: PolledSocket, name: NodeName, watch: Rc<LinkWatch>) -> NodeStream {
         socket.count(Figure::Links, 1);
         if let Ok(name) = name.again() {
             socket.tell(Event::LinkOpened(name));
@@ -72,7 +62,6 @@ impl NodeStream {
         NodeStream {
             socket,
             name: Some(name),
-            cluster,
             watch,
             failures: 0,
         }
@@ -89,7 +78,12 @@ impl NodeStream {
         ensures { self.new.failures ≡ self.old.failures }
     {
         if let Some(name) = self.name.take() {
-            report_end(&self.socket, name, &self.cluster.lost, self.reason());
+            report_end(
+                &self.socket,
+                name,
+                &self.watch.cluster().lost,
+                self.reason(),
+            );
         }
     }
 }
