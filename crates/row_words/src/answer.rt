@@ -59,21 +59,7 @@ impl Answer {
         self.put(name);
     }
 
-    pub fn number(&mut self, number: u64) {
-        self.space();
-        if write!(self.text, "{number}").is_err() {
-            self.cut = true;
-        }
-    }
-
-    pub(crate) fn integer(&mut self, number: i64) {
-        self.space();
-        if write!(self.text, "{number}").is_err() {
-            self.cut = true;
-        }
-    }
-
-    /// A fault or the like, by its name.
+    /// A number, or a fault or the like by its name.
     pub fn debug<T: Debug>(&mut self, named: &T) {
         self.space();
         if write!(self.text, "{named:?}").is_err() {
@@ -137,6 +123,14 @@ impl Answer {
 
 /// Whether the bytes are a word without quotes.
 fn is_plain(bytes: &[u8]) -> bool {
+    for byte in bytes {
+        if !is_plain_byte(*byte) {
+            return false;
+        }
+    }
     !bytes.is_empty()
-        && bytes.iter().all(|byte| *byte > b' ' && *byte <= b'~' && *byte != b'"' && *byte != b'\\')
+}
+
+fn is_plain_byte(byte: u8) -> bool {
+    byte > b' ' && byte <= b'~' && byte != b'"' && byte != b'\\'
 }

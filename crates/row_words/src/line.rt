@@ -108,12 +108,23 @@ impl Line {
         }
     }
 
-    /// What was read, or a fault where it could not be.
-    pub(crate) fn found<T: Drop>(&mut self, read: Option<T>, fault: CallFault) -> Option<T> {
-        if read.is_none() {
+    /// What was found, or a fault where nothing was.
+    pub fn found<T: Drop>(&mut self, found: Option<T>, fault: CallFault) -> Option<T> {
+        if found.is_none() {
             self.refuse(fault);
         }
-        read
+        found
+    }
+
+    /// What was made, or the fault for which it was not.
+    pub fn made<T: Drop, F: Into<CallFault> + Drop>(&mut self, made: Result<T, F>) -> Option<T> {
+        match made {
+            Ok(made) => Some(made),
+            Err(fault) => {
+                self.refuse(fault.into());
+                None
+            }
+        }
     }
 
     /// Answers `ok`.
@@ -129,6 +140,20 @@ impl Line {
     /// Answers by the words for something.
     pub fn show<T: Shown + Drop>(&mut self, shown: T) {
         shown.show(&mut self.answer);
+    }
+
+    /// Answers by the words for what was found, or refuses the call where nothing was.
+    pub fn show_found<T: Shown + Drop>(&mut self, found: Option<T>, fault: CallFault) {
+        if let Some(shown) = self.found(found, fault) {
+            self.show(shown);
+        }
+    }
+
+    /// Answers by the words for what was made, or refuses the call for the fault for which it was not.
+    pub fn show_made<T: Shown + Drop, F: Into<CallFault> + Drop>(&mut self, made: Result<T, F>) {
+        if let Some(shown) = self.made(made) {
+            self.show(shown);
+        }
     }
 
     /// Why the call was not made, if it was not.

@@ -31,37 +31,37 @@ impl Shown for bool {
 
 impl Shown for u64 {
     fn show(&self, answer: &mut Answer) {
-        answer.number(*self);
+        answer.debug(self);
     }
 }
 
 impl Shown for usize {
     fn show(&self, answer: &mut Answer) {
-        answer.number(*self as u64);
+        answer.debug(self);
     }
 }
 
 impl Shown for u32 {
     fn show(&self, answer: &mut Answer) {
-        answer.number(u64::from(*self));
+        answer.debug(self);
     }
 }
 
 impl Shown for u16 {
     fn show(&self, answer: &mut Answer) {
-        answer.number(u64::from(*self));
+        answer.debug(self);
     }
 }
 
 impl Shown for Slot {
     fn show(&self, answer: &mut Answer) {
-        answer.number(u64::from(self.number()));
+        answer.debug(&self.number());
     }
 }
 
 impl Shown for NodeId {
     fn show(&self, answer: &mut Answer) {
-        answer.number(u64::from(self.number()));
+        answer.debug(&self.number());
     }
 }
 
@@ -210,7 +210,7 @@ impl Answer {
             Value::Error(line) => self.text_of("error", line.bytes()),
             Value::Integer(number) => {
                 self.name("integer");
-                self.integer(*number);
+                self.debug(number);
             }
             Value::Bulk(bytes) => self.text_of("bulk", bytes.as_slice()),
             Value::NullBulk => self.name("null"),

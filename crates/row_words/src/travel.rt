@@ -5,12 +5,13 @@ use crate::line::Line;
 use crate::word::{Word, number_in};
 use key_split::{Batch, Ended, Part, Planned, Ticket, Told, plan};
 use resp_wire::Bytes;
+use slot_hash::Slot;
 use slot_map::NodeId;
 use std::alloc::Global;
 
 impl Word for Ticket {
     fn next_in(line: &mut Line) -> Option<Ticket> {
-        let ticket = ticket_in(line.bytes()?);
+        let ticket = line.bytes().and_then(ticket_in);
         line.found(ticket, CallFault::BadTicket)
     }
 }
@@ -24,19 +25,9 @@ impl Word for Part {
     }
 }
 
-impl Line {
-    /// Whether ASKING goes before a command.
-    pub fn asking(&mut self) -> Option<bool> {
-        let asking = asking_in(self.name()?);
-        self.found(asking, CallFault::UnknownWord)
-    }
-}
-
 impl Word for Batch {
     fn next_in(line: &mut Line) -> Option<Batch> {
-        let (ticket, node) = line.read::<(Ticket, NodeId)>()?;
-        let asking = line.asking()?;
-        let part = line.read()?;
+        let (((ticket, node), asking), part) = line.read()?;
         Some(Batch {
             ticket,
             node,
@@ -49,18 +40,9 @@ impl Word for Batch {
 impl Word for Told {
     fn next_in(line: &mut Line) -> Option<Told> {
         match line.name()? {
-            "reply" => {
-                let value = line.read()?;
-                Some(Told::Reply(value))
-            }
-            "moved" => {
-                let (slot, node) = line.read()?;
-                Some(Told::Moved(slot, node))
-            }
-            "ask" => {
-                let (slot, node) = line.read()?;
-                Some(Told::Ask(slot, node))
-            }
+            "reply" => line.read().map(Told::Reply),
+            "moved" => line.read().map(moved),
+            "ask" => line.read().map(ask),
             name => {
                 let told = told_alone(name);
                 line.found(told, CallFault::UnknownWord)
@@ -72,21 +54,28 @@ impl Word for Told {
 impl Word for Ended {
     fn next_in(line: &mut Line) -> Option<Ended> {
         match line.name()? {
-            "answered" => {
-                let value = line.read()?;
-                Some(Ended::Answered(value))
+            "answered" => line.read().map(Ended::Answered),
+            name => {
+                let end = end_alone(name);
+                line.found(end, CallFault::UnknownWord)
             }
-            "gaveup" => Some(Ended::GaveUp),
-            "lost" => Some(Ended::Lost),
-            _ => line.found(None, CallFault::UnknownWord),
         }
     }
 }
 
-fn asking_in(name: &str) -> Option<bool> {
+fn moved((slot, node): (Slot, NodeId)) -> Told {
+    Told::Moved(slot, node)
+}
+
+fn ask((slot, node): (Slot, NodeId)) -> Told {
+    Told::Ask(slot, node)
+}
+
+/// What one word says that a command's end is.
+fn end_alone(name: &str) -> Option<Ended> {
     match name {
-        "plain" => Some(false),
-        "asking" => Some(true),
+        "gaveup" => Some(Ended::GaveUp),
+        "lost" => Some(Ended::Lost),
         _ => None,
     }
 }
@@ -103,23 +92,23 @@ fn told_alone(name: &str) -> Option<Told> {
     }
 }
 
+/// The ticket of a word that has `.` between its numbers.
 fn ticket_in(word: &[u8]) -> Option<Ticket> {
-    let [worker, client, part] = numbers_in(word)?;
+    let mut pieces = word.split(|byte| *byte == b'.');
     Some(Ticket {
-        worker: u16::try_from(worker).ok()?,
-        client: u32::try_from(client).ok()?,
-        part,
+        worker: number_of(pieces.next())?,
+        client: number_of(pieces.next())?,
+        part: number_of(pieces.next())?,
     })
 }
 
-/// The first three numbers of a word that has `.` between them.
-fn numbers_in(word: &[u8]) -> Option<[u64; 3]> {
-    let mut pieces = word.split(|byte| *byte == b'.');
-    let mut numbers = [0; 3];
-    for number in numbers.iter_mut() {
-        *number = number_in(pieces.next()?)?;
-    }
-    Some(numbers)
+/// The number that a piece of a word is.
+fn number_of<T: TryFrom<u64> + Drop>(piece: Option<&[u8]>) -> Option<T>
+where
+    T::Error: Drop,
+{
+    let number = piece.and_then(number_in)?;
+    T::try_from(number).ok()
 }
 
 /// The last part of a request, which is its only one where its keys are of one slot.
@@ -127,8 +116,12 @@ fn part_of(alloc: Global, words: &[Bytes]) -> Option<Part> {
     if words.is_empty() {
         return None;
     }
-    match plan(alloc, words) {
-        Ok(Planned::Parts(_, parts)) => parts.into_vec().pop(),
-        Ok(_) | Err(_) => None,
+    last_of(plan(alloc, words).ok()?)
+}
+
+fn last_of(planned: Planned) -> Option<Part> {
+    match planned {
+        Planned::Parts(_, parts) => parts.into_vec().pop(),
+        _ => None,
     }
 }

@@ -16,50 +16,71 @@ pub trait Word: Sized {
 
 impl Word for u64 {
     fn next_in(line: &mut Line) -> Option<u64> {
-        let number = number_in(line.bytes()?);
+        let number = line.bytes().and_then(number_in);
         line.found(number, CallFault::BadNumber)
     }
 }
 
 impl Word for u32 {
     fn next_in(line: &mut Line) -> Option<u32> {
-        let number = u32::try_from(u64::next_in(line)?).ok();
-        line.found(number, CallFault::BadNumber)
+        narrow_in(line)
     }
 }
 
 impl Word for u16 {
     fn next_in(line: &mut Line) -> Option<u16> {
-        let number = u16::try_from(u64::next_in(line)?).ok();
-        line.found(number, CallFault::BadNumber)
+        narrow_in(line)
     }
 }
 
 impl Word for u8 {
     fn next_in(line: &mut Line) -> Option<u8> {
-        let number = u8::try_from(u64::next_in(line)?).ok();
-        line.found(number, CallFault::BadNumber)
+        narrow_in(line)
     }
 }
 
 impl Word for usize {
     fn next_in(line: &mut Line) -> Option<usize> {
-        let number = usize::try_from(u64::next_in(line)?).ok();
-        line.found(number, CallFault::BadNumber)
+        narrow_in(line)
     }
+}
+
+/// The next word as a number of a narrow type.
+fn narrow_in<T: TryFrom<u64> + Drop>(line: &mut Line) -> Option<T>
+where
+    T::Error: Drop,
+{
+    let number = line.read::<u64>()?;
+    line.found(T::try_from(number).ok(), CallFault::BadNumber)
 }
 
 impl Word for Slot {
     fn next_in(line: &mut Line) -> Option<Slot> {
-        let slot = Slot::new(u16::next_in(line)?);
+        let slot = line.read().and_then(Slot::new);
         line.found(slot, CallFault::BadNumber)
     }
 }
 
 impl Word for NodeId {
     fn next_in(line: &mut Line) -> Option<NodeId> {
-        let node = NodeId::new(u8::next_in(line)?);
+        let node = line.read().and_then(NodeId::new);
         line.found(node, CallFault::BadNumber)
+    }
+}
+
+/// Whether ASKING goes before a command.
+impl Word for bool {
+    fn next_in(line: &mut Line) -> Option<bool> {
+        let asking = line.name().and_then(asking_in);
+        line.found(asking, CallFault::UnknownWord)
+    }
+}
+
+fn asking_in(name: &str) -> Option<bool> {
+    match name {
+        "plain" => Some(false),
+        "asking" => Some(true),
+        _ => None,
     }
 }
 
@@ -73,22 +94,15 @@ impl Word for Bytes {
 impl Word for Value {
     fn next_in(line: &mut Line) -> Option<Value> {
         let alloc = line.alloc;
-        match value_in(alloc, line.bytes()?) {
-            Ok(value) => Some(value),
-            Err(fault) => line.found(None, fault),
-        }
+        let value = value_in(alloc, line.bytes()?);
+        line.made(value)
     }
 }
 
+/// One behind the other.
 impl<T: Word + Drop, U: Word + Drop> Word for (T, U) {
     fn next_in(line: &mut Line) -> Option<(T, U)> {
-        Some((T::next_in(line)?, U::next_in(line)?))
-    }
-}
-
-impl<T: Word + Drop, U: Word + Drop, V: Word + Drop> Word for (T, U, V) {
-    fn next_in(line: &mut Line) -> Option<(T, U, V)> {
-        Some((T::next_in(line)?, U::next_in(line)?, V::next_in(line)?))
+        T::next_in(line).zip(U::next_in(line))
     }
 }
 

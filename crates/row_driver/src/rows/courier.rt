@@ -2,7 +2,7 @@
 
 ghost use Rattle.std.specs.Prelude.{◌≡◌, ⊤};
 
-use crate::rows::held::{Object, put};
+use crate::rows::held::{Object, is_done, put};
 use command_future::{self, Command, OneCommand, Posting, Want};
 use futures::Future;
 use futures::executor::block_on;
@@ -71,10 +71,7 @@ fn will_tell(tells: &mut VecDeque<Told>, line: &mut Line) {
     let Some(told) = line.read() else {
         return;
     };
-    match tells.push_back(told) {
-        Ok(()) => line.done(),
-        Err(_) => line.refuse(CallFault::NoMemory),
-    }
+    line.show_made(tells.push_back(told));
 }
 
 fn show_batches(batches: &[Batch], line: &mut Line) {
@@ -103,9 +100,10 @@ impl command_future::Courier for Courier {
         let Ok(batch) = command.batch(self.alloc, node) else {
             return Posting::Later;
         };
-        match self.posted.push(batch) {
-            Ok(()) => Posting::Sent(node),
-            Err(_) => Posting::Later,
+        if is_done(self.posted.push(batch)) {
+            Posting::Sent(node)
+        } else {
+            Posting::Later
         }
     }
 
@@ -119,10 +117,8 @@ fn carry<R: Wait + RandomSource + AllocGlobal>(rt: &R, courier: &mut Courier, li
     let Some((ticket, part)) = line.read() else {
         return;
     };
-    match block_on(rt, OneCommand::new(Command::new(ticket, part), courier)) {
-        Ok(end) => line.show(end),
-        Err(_) => line.refuse(CallFault::NoMemory),
-    }
+    let end = block_on(rt, OneCommand::new(Command::new(ticket, part), courier));
+    line.show_found(end.ok(), CallFault::NoMemory);
 }
 
 /// Polls a command once.

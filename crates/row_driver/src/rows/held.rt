@@ -74,8 +74,5 @@ pub fn is_done<T: Drop, E: Drop>(outcome: Result<T, E>) -> bool {
 
 /// Keeps one more.
 pub fn keep<T: Drop>(kept: &mut Vec<T>, value: T, line: &mut Line) {
-    match kept.push(value) {
-        Ok(()) => line.done(),
-        Err(_) => line.refuse(CallFault::NoMemory),
-    }
+    line.show_made(kept.push(value));
 }

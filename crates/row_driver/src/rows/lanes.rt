@@ -1,8 +1,11 @@
 //! The lanes between two workers and the carrier, and the map that the carrier publishes, in one thread.
 
-use crate::rows::held::is_done;
+ghost use Rattle.std.specs.Prelude.{◌<◌, length};
+ghost use Rattle.proxy_lanes.specs.Carrier.{lanes_of};
+
+use crate::rows::held::{Object, is_done};
 use crate::rows::maps::{range_in, slot_in};
-use key_split::{Batch, Run, Ticket, Told};
+use key_split::{Batch, Run};
 use proxy_lanes::{CarrierEnds, Front, MapView, Naming, Outlet, Publisher, WorkerEnds};
 use row_words::{CallFault, Line};
 use slot_map::MapOp;
@@ -27,19 +30,6 @@ impl<J: Naming, R: Wait + Drop> LaneObjects<J, R> {
             workers,
             carrier,
             fronts: Vec::new(alloc),
-        }
-    }
-
-    pub fn call(&mut self, line: &mut Line) {
-        match line.call() {
-            "publish" => self.publish(line),
-            "tell" => self.tell(line),
-            "learn" => self.learn(line),
-            "give" => give(&mut self.carrier, line),
-            "take" => take(&mut self.carrier, line),
-            "finish" => finish(&mut self.carrier, line),
-            "hand" => hand(&mut self.carrier, line),
-            _ => self.call_of_worker(line),
         }
     }
 
@@ -74,9 +64,19 @@ impl<J: Naming, R: Wait + Drop> LaneObjects<J, R> {
         let Some((worker, place)) = line.read() else {
             return;
         };
-        match learn_kept(&mut self.workers, worker, &mut self.fronts, place) {
-            Some(()) => line.done(),
-            None => line.refuse(CallFault::NotMade),
+        let learned = learn_kept(&mut self.workers, worker, &mut self.fronts, place);
+        line.show_found(learned, CallFault::NotMade);
+    }
+}
+
+impl<J: Naming, R: Wait + Drop> Object for LaneObjects<J, R> {
+    fn call(&mut self, line: &mut Line) {
+        match line.call() {
+            "publish" => self.publish(line),
+            "tell" => self.tell(line),
+            "learn" => self.learn(line),
+            "give" | "take" | "finish" | "hand" => call_of_carrier(&mut self.carrier, line),
+            _ => self.call_of_worker(line),
         }
     }
 }
@@ -116,14 +116,29 @@ fn kept_at<F: Drop>(kept: &mut [Option<F>], place: usize) -> Option<F> {
     kept.get_mut(place)?.take()
 }
 
-/// `give WORKER TICKET TOLD`
-fn give<M: Drop>(carrier: &mut CarrierEnds<u32, M>, line: &mut Line) {
-    let Some((worker, ticket, told)) = line.read::<(u16, Ticket, Told)>() else {
+/// A call of the carrier's end of a worker's lane.
+fn call_of_carrier<M: Drop>(carrier: &mut CarrierEnds<u32, M>, line: &mut Line) {
+    let Some(worker) = line.read::<u16>() else {
         return;
     };
     if usize::from(worker) >= carrier.workers() {
         return line.refuse(CallFault::NotMade);
     }
+    match line.call() {
+        "give" => give(carrier, worker, line),
+        "take" => line.show(carrier.take(worker)),
+        "finish" => finish(carrier, worker, line),
+        _ => hand(carrier, worker, line),
+    }
+}
+
+/// `give WORKER TICKET TOLD`
+fn give<M: Drop>(carrier: &mut CarrierEnds<u32, M>, worker: u16, line: &mut Line)
+    requires { worker < length (lanes_of carrier.old) }
+{
+    let Some((ticket, told)) = line.read() else {
+        return;
+    };
     match carrier.give(worker, ticket, told) {
         Ok(()) => line.done(),
         Err(back) => {
@@ -133,39 +148,22 @@ fn give<M: Drop>(carrier: &mut CarrierEnds<u32, M>, line: &mut Line) {
     }
 }
 
-/// Takes the next run of a worker.
-fn take<M: Drop>(carrier: &mut CarrierEnds<u32, M>, line: &mut Line) {
-    let Some(worker) = line.read::<u16>() else {
-        return;
-    };
-    if usize::from(worker) >= carrier.workers() {
-        return line.refuse(CallFault::NotMade);
-    }
-    line.show(carrier.take(worker));
-}
-
 /// Finishes what goes down to a worker.
-fn finish<M: Drop>(carrier: &mut CarrierEnds<u32, M>, line: &mut Line) {
-    let Some(worker) = line.read::<u16>() else {
-        return;
-    };
-    if usize::from(worker) >= carrier.workers() {
-        return line.refuse(CallFault::NotMade);
-    }
+fn finish<M: Drop>(carrier: &mut CarrierEnds<u32, M>, worker: u16, line: &mut Line)
+    requires { worker < length (lanes_of carrier.old) }
+{
     let is_noted = carrier.finish_down(worker).is_some();
     line.say(if is_noted { "note" } else { "none" });
 }
 
 /// `hand WORKER CLIENT`
-fn hand<M: Drop>(carrier: &mut CarrierEnds<u32, M>, line: &mut Line) {
-    let Some((worker, client)) = line.read::<(u16, u16)>() else {
-        return;
-    };
-    if usize::from(worker) >= carrier.workers() {
-        return line.refuse(CallFault::NotMade);
+fn hand<M: Drop>(carrier: &mut CarrierEnds<u32, M>, worker: u16, line: &mut Line)
+    requires { worker < length (lanes_of carrier.old) }
+{
+    if let Some(client) = line.read::<u16>() {
+        let is_handed = is_done(carrier.hand(worker, u32::from(client)));
+        line.say(if is_handed { "ok" } else { "back" });
     }
-    let is_handed = is_done(carrier.hand(worker, u32::from(client)));
-    line.say(if is_handed { "ok" } else { "back" });
 }
 
 // A call that a worker makes on its way, with no right to wait.

@@ -76,9 +76,11 @@ impl LinkObjects {
         value: &mut Held<Value>,
         line: &mut Line,
     ) {
-        match &mut self.link.value {
-            Some(link) => show_received(receive(link, table, calls), value, line),
-            None => line.refuse(CallFault::NotMade),
+        let Some(link) = &mut self.link.value else {
+            return line.refuse(CallFault::NotMade);
+        };
+        if let Some(received) = line.found(receive(link, table, calls), CallFault::NotNow) {
+            show_received(received, value, line);
         }
     }
 }
@@ -111,9 +113,9 @@ fn give(stream: &mut MemoryStream, line: &mut Line) {
     let Some(bytes) = line.bytes() else {
         return;
     };
-    match Vec::from_slice(alloc, bytes) {
-        Ok(coming) => put(stream, MemoryStream::new(alloc, coming), line),
-        Err(_) => line.refuse(CallFault::NoMemory),
+    let coming = Vec::from_slice(alloc, bytes);
+    if let Some(coming) = line.made(coming) {
+        put(stream, MemoryStream::new(alloc, coming), line);
     }
 }
 
@@ -215,20 +217,25 @@ fn receive(
 
 /// Shows what was received. The answer to CLUSTER SLOTS is then the value that is held.
 fn show_received(
-    received: Option<Result<Option<Got>, LinkFault>>,
+    received: Result<Option<Got>, LinkFault>,
     held: &mut Held<Value>,
     line: &mut Line,
 ) {
     match received {
-        Some(Ok(Some(Got::Ticket(ticket, told)))) => line.show((ticket, told)),
-        Some(Ok(Some(Got::Slots(value)))) => {
+        Ok(Some(got)) => show_got(got, held, line),
+        Ok(None) => line.say("none"),
+        Err(fault) => line.answer.debug(&fault),
+    }
+}
+
+fn show_got(got: Got, held: &mut Held<Value>, line: &mut Line) {
+    match got {
+        Got::Ticket(ticket, told) => line.show((ticket, told)),
+        Got::Slots(value) => {
             line.say("slots");
             line.show(&value);
             held.put(value);
         }
-        Some(Ok(None)) => line.say("none"),
-        Some(Err(fault)) => line.answer.debug(&fault),
-        None => line.refuse(CallFault::NotNow),
     }
 }
 

@@ -139,7 +139,7 @@ fn apply(map: &mut SlotMap, op: Option<MapOp>, line: &mut Line) {
 
 /// `FIRST LAST NODE`
 pub fn range_in(line: &mut Line) -> Option<MapOp> {
-    let (first, last, node) = line.read()?;
+    let ((first, last), node) = line.read()?;
     Some(MapOp::SetRange(first, last, node))
 }
 
@@ -189,9 +189,8 @@ fn tell(table: &mut NodeTable, line: &mut Line) {
     let Some((asked, text)) = line.read::<(NodeId, Bytes)>() else {
         return;
     };
-    match error_in(line.alloc, text.as_slice()) {
-        Ok(value) => show_told_by(table, asked, value, line),
-        Err(fault) => line.refuse(fault),
+    if let Some(value) = line.made(error_in(line.alloc, text.as_slice())) {
+        show_told_by(table, asked, value, line);
     }
 }
 
@@ -204,23 +203,17 @@ fn error_in(alloc: Global, text: &[u8]) -> Result<Value, CallFault> {
 
 /// What a value of the asked node says.
 fn show_told_by(table: &mut NodeTable, asked: NodeId, value: Value, line: &mut Line) {
-    if table.endpoint(asked).is_none() {
-        return line.refuse(CallFault::NotNow);
-    }
-    match told_of(value, asked, table) {
-        Ok(told) => line.show(told),
-        Err(_) => line.refuse(CallFault::NoMemory),
+    if table.endpoint(asked).is_some() {
+        line.show_found(told_of(value, asked, table).ok(), CallFault::NoMemory);
+    } else {
+        line.refuse(CallFault::NotNow);
     }
 }
 
 /// `value TOLD`
 fn show_written(table: &NodeTable, line: &mut Line) {
-    let Some(told) = line.read::<Told>() else {
-        return;
-    };
-    match written(line.alloc, &told, table) {
-        Ok(value) => line.show(value),
-        Err(fault) => line.refuse(fault),
+    if let Some(told) = line.read::<Told>() {
+        line.show_made(written(line.alloc, &told, table));
     }
 }
 

@@ -7,7 +7,6 @@ use node_model::{Cluster, Verdict};
 use resp_wire::{Bytes, Value};
 use row_words::{CallFault, Line};
 use slot_hash::Slot;
-use slot_map::NodeId;
 
 /// A call of the cluster, or of a new one.
 pub fn call(held: &mut Held<Cluster>, maps: &MapObjects, value: &mut Held<Value>, line: &mut Line) {
@@ -34,12 +33,9 @@ fn list(held: &Held<Cluster>, maps: &MapObjects, value: &mut Held<Value>, line: 
     let Some(cluster) = &held.value else {
         return line.refuse(CallFault::NotMade);
     };
-    match cluster.slots_value(&maps.table) {
-        Ok(listed) => {
-            line.show(&listed);
-            value.put(listed);
-        }
-        Err(_) => line.refuse(CallFault::NoMemory),
+    if let Some(listed) = line.made(cluster.slots_value(&maps.table)) {
+        line.show(&listed);
+        value.put(listed);
     }
 }
 
@@ -56,7 +52,10 @@ impl Object for Cluster {
 
 /// `serve NODE plain|asking VERDICT WORDS..`
 fn serve(cluster: &mut Cluster, line: &mut Line) {
-    let Some(((node, asking), verdict)) = served_in(line) else {
+    let Some((node, asking)) = line.read() else {
+        return;
+    };
+    let Some(verdict) = verdict_in(line) else {
         return;
     };
     if let Some(part) = line.read::<Part>() {
@@ -64,16 +63,10 @@ fn serve(cluster: &mut Cluster, line: &mut Line) {
     }
 }
 
-fn served_in(line: &mut Line) -> Option<((NodeId, bool), Verdict)> {
-    let node = line.read::<NodeId>()?;
-    let asking = line.asking()?;
-    Some(((node, asking), verdict_in(line)?))
-}
-
 fn verdict_in(line: &mut Line) -> Option<Verdict> {
     match line.name()? {
         "byrole" => Some(Verdict::Plain),
-        "moved" => Some(Verdict::Moved(line.read::<NodeId>()?)),
+        "moved" => line.read().map(Verdict::Moved),
         "tryagain" => Some(Verdict::TryAgain),
         "clusterdown" => Some(Verdict::ClusterDown),
         _ => {

@@ -2,7 +2,6 @@
 
 use crate::rows::courier::{self, Courier};
 use crate::rows::held::{Held, Object};
-use crate::rows::lanes::LaneObjects;
 use crate::rows::links::LinkObjects;
 use crate::rows::maps::MapObjects;
 use crate::rows::plans::{self, PlanObjects};
@@ -14,7 +13,6 @@ use command_future::Command;
 use key_split::{Ended, Part};
 use local_cluster::LocalState;
 use node_model::{Cluster, Store};
-use proxy_lanes::Naming;
 use resp_wire::{Limits, Reader, Value};
 use row_words::{CallFault, Line, Objects};
 use session_order::Session;
@@ -24,27 +22,29 @@ use std::sync::Wait;
 
 /// The objects of all layers, and the runtime in which a command is carried.
 #[derive(Drop)]
-pub struct LayerObjects<J: Naming, R: Wait + Drop> {
+pub struct LayerObjects<R, L, O> {
     pub rt: R,
-    pub lanes: LaneObjects<J, R>,
-    pub others: RowObjects,
+    pub courier: Courier,
+    pub lanes: L,
+    pub others: O,
 }
 
-impl<J, R> Objects for LayerObjects<J, R>
+impl<R, L, O> Objects for LayerObjects<R, L, O>
 where
-    J: Naming,
-    R: Wait + RandomSource + AllocGlobal + Drop,
+    R: Wait + RandomSource + AllocGlobal,
+    L: Object,
+    O: Object,
 {
     fn call(&mut self, line: &mut Line) {
         match line.object() {
             "lanes" => self.lanes.call(line),
-            "courier" => courier::call(&self.rt, &mut self.others.courier, line),
+            "courier" => courier::call(&self.rt, &mut self.courier, line),
             _ => self.others.call(line),
         }
     }
 }
 
-/// All objects but the lanes.
+/// All objects but the courier and the lanes.
 #[derive(Drop)]
 pub struct RowObjects {
     reader: Reader,
@@ -52,7 +52,6 @@ pub struct RowObjects {
     maps: MapObjects,
     plans: PlanObjects,
     command: Held<Command>,
-    courier: Courier,
     session: Session,
     store: Store,
     cluster: Held<Cluster>,
@@ -69,7 +68,6 @@ impl RowObjects {
             maps: MapObjects::new(alloc),
             plans: PlanObjects::new(alloc),
             command: Held::none(),
-            courier: Courier::new(alloc),
             session: Session::new(alloc, 0, 0, Limits::full()),
             store: Store::new(alloc),
             cluster: Held::none(),

@@ -29,20 +29,29 @@ impl PlanObjects {
         match line.call() {
             "of" => self.plan(line),
             "end" => self.push_end(line),
-            "join" => show_joined(&self.words, &self.ends, line),
-            "refusal" => show_refusal(&self.words, line),
-            "alike" => show_alike(&self.words, line),
             "name" => show_name(line),
+            _ => self.call_of_plan(line),
+        }
+    }
+
+    /// A call of what the words are planned as.
+    fn call_of_plan(&self, line: &mut Line) {
+        let planned = planned(line.alloc, &self.words);
+        match line.call() {
+            "join" => show_joined(&planned, &self.ends, line),
+            "refusal" => show_refusal(&planned, line),
+            "alike" => show_alike(&planned, line),
             _ => line.refuse(CallFault::NoSuchCall),
         }
+        drop(planned);
     }
 
     /// Keeps the words of a request, and shows what they are planned as.
     fn plan(&mut self, line: &mut Line) {
         self.ends.clear();
-        match copy_all(line.alloc, line.rest(), &mut self.words) {
-            Ok(()) => show_planned(&self.words, line),
-            Err(fault) => line.refuse(fault),
+        let copied = copy_all(line.alloc, line.rest(), &mut self.words);
+        if let Some(()) = line.made(copied) {
+            show_planned(&self.words, line);
         }
     }
 
@@ -111,18 +120,11 @@ fn planned(alloc: Global, words: &[Bytes]) -> Result<Planned, PlanFault>
 }
 
 /// The reply that the ends become.
-fn show_joined(words: &[Bytes], ends: &[Ended], line: &mut Line) {
-    match planned(line.alloc, words) {
-        Ok(planned) => show_joined_of(&planned, ends, line),
-        Err(_) => line.refuse(CallFault::NotNow),
-    }
-}
-
-fn show_joined_of(planned: &Planned, ends: &[Ended], line: &mut Line)
-    requires { CanBeJoined planned.now }
+fn show_joined(planned: &Result<Planned, PlanFault>, ends: &[Ended], line: &mut Line)
+    requires { IfOk planned.now CanBeJoined }
 {
     match planned {
-        Planned::Parts(joining, parts) if parts.as_slice().len() == ends.len() => {
+        Ok(Planned::Parts(joining, parts)) if parts.as_slice().len() == ends.len() => {
             line.show(join(line.alloc, joining, ends));
         }
         _ => line.refuse(CallFault::NotNow),
@@ -130,10 +132,10 @@ fn show_joined_of(planned: &Planned, ends: &[Ended], line: &mut Line)
 }
 
 /// The reply to a request that is refused.
-fn show_refusal(words: &[Bytes], line: &mut Line) {
-    match planned(line.alloc, words) {
+fn show_refusal(planned: &Result<Planned, PlanFault>, line: &mut Line) {
+    match planned {
         Ok(_) => line.refuse(CallFault::NotNow),
-        Err(fault) => line.show(refusal(line.alloc, &fault)),
+        Err(fault) => line.show(refusal(line.alloc, fault)),
     }
 }
 
@@ -173,15 +175,14 @@ fn show_parts(parts: &[Part], line: &mut Line) {
 }
 
 /// Whether two parts, by their places, are the same.
-fn show_alike(words: &[Bytes], line: &mut Line) {
+fn show_alike(planned: &Result<Planned, PlanFault>, line: &mut Line) {
     let Some((one, other)) = line.read() else {
         return;
     };
-    match planned(line.alloc, words) {
-        Ok(Planned::Parts(_, parts)) => match are_alike(parts.as_slice(), one, other) {
-            Some(alike) => line.show(alike),
-            None => line.refuse(CallFault::NotMade),
-        },
+    match planned {
+        Ok(Planned::Parts(_, parts)) => {
+            line.show_found(are_alike(parts.as_slice(), one, other), CallFault::NotMade);
+        }
         _ => line.refuse(CallFault::NotNow),
     }
 }

@@ -18,7 +18,7 @@ mod port;
 mod row;
 mod steps;
 mod timing;
-mod turned;
+pub mod turned;
 mod turns;
 
 pub use row::answer_row;

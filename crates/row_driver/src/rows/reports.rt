@@ -39,7 +39,7 @@ fn keep_read<T: Word + Drop>(kept: &mut Vec<T>, line: &mut Line) {
 
 /// `entry TICKET REPLY WORDS..`
 fn keep_entry(history: &mut Vec<Entry>, line: &mut Line) {
-    if let Some((ticket, reply, part)) = line.read() {
+    if let Some(((ticket, reply), part)) = line.read() {
         let entry = Entry {
             ticket,
             part,

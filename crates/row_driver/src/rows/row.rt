@@ -3,6 +3,7 @@
 ghost use Rattle.std.specs.Prelude.{◌≡◌};
 ghost use Rattle.proxy_lanes.specs.Opened.{book_of};
 
+use crate::rows::courier::Courier;
 use crate::rows::lanes::LaneObjects;
 use crate::rows::objects::{LayerObjects, RowObjects};
 use crate::rows::play;
@@ -55,6 +56,7 @@ where
         Ok((workers, carrier)) => {
             let layers = LayerObjects {
                 rt,
+                courier: Courier::new(rt.alloc()),
                 lanes: LaneObjects::new(rt.alloc(), workers, carrier),
                 others: RowObjects::new(rt.alloc()),
             };

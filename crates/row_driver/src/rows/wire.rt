@@ -2,7 +2,7 @@
 
 use crate::rows::held::{Held, Object, put};
 use crate::rows::round;
-use resp_wire::{Bytes, Limits, NoMemory, Reader, Value, write_value};
+use resp_wire::{Bytes, Limits, Reader, Value, write_value};
 use row_words::{CallFault, Line};
 use std::alloc::Global;
 
@@ -89,9 +89,8 @@ impl Object for Value {
 
 /// Holds a copy in the place of the value.
 fn copy(value: &mut Value, line: &mut Line) {
-    match value.copy(line.alloc) {
-        Ok(copy) => put(value, copy, line),
-        Err(NoMemory) => line.refuse(CallFault::NoMemory),
+    if let Some(copy) = line.made(value.copy(line.alloc)) {
+        put(value, copy, line);
     }
 }
 

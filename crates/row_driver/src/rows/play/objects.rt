@@ -2,10 +2,10 @@
 
 use crate::rows::held::Held;
 use crate::rows::play::orders::add_next;
-use crate::rows::play::stage::{Begins, Entrance, PlayOutside, Plays};
+use crate::rows::play::stage::{Begins, PlayOutside, Plays};
 use crate::rows::proxy::clients::Clients;
 use crate::rows::proxy::gate::Open;
-use resp_wire::Bytes;
+use crate::rows::proxy::turned::Entrance;
 use row_words::{CallFault, Line, Objects};
 use std::alloc::Global;
 use turn_play::PlayFault;
@@ -34,7 +34,7 @@ impl<'g, E: Entrance + Drop, P: Plays + Begins<'g, E> + Drop, O> PlayObjects<'g,
 
     fn call_play(&mut self, line: &mut Line) {
         match line.call() {
-            "client" => come(&mut self.ends, &mut self.clients, line),
+            "client" => self.come(line),
             "begin" => self.begin(line),
             "do" => obey(&mut self.play, line),
             "held" => self.clients.show_held(line),
@@ -42,9 +42,17 @@ impl<'g, E: Entrance + Drop, P: Plays + Begins<'g, E> + Drop, O> PlayObjects<'g,
         }
     }
 
+    /// A client comes, where the play has not begun.
+    fn come(&mut self, line: &mut Line) {
+        match &mut self.ends.value {
+            Some(ends) => self.clients.come(ends, line),
+            None => line.refuse(CallFault::NotNow),
+        }
+    }
+
     fn begin(&mut self, line: &mut Line) {
-        let Ok(outside) = PlayOutside::new(line.alloc) else {
-            return line.refuse(CallFault::NoMemory);
+        let Some(outside) = line.made(PlayOutside::new(line.alloc)) else {
+            return;
         };
         match self.ends.value.take() {
             Some(ends) => self
@@ -55,39 +63,13 @@ impl<'g, E: Entrance + Drop, P: Plays + Begins<'g, E> + Drop, O> PlayObjects<'g,
     }
 }
 
-/// `client WORKER NUMBER BYTES`
-fn come<E: Entrance>(ends: &mut Held<E>, clients: &mut Clients, line: &mut Line) {
-    let Some((worker, number, bytes)) = line.read::<(u16, u32, Bytes)>() else {
-        return;
-    };
-    match hand(ends, clients, worker, number, bytes) {
-        Ok(handed) => line.say(if handed { "ok" } else { "full" }),
-        Err(fault) => line.refuse(fault),
-    }
-}
-
-/// Hands a new client that sends these bytes to its worker, where the play has not begun. False where its lane is full.
-fn hand<E: Entrance>(
-    ends: &mut Held<E>,
-    clients: &mut Clients,
-    worker: u16,
-    number: u32,
-    bytes: Bytes,
-) -> Result<bool, CallFault> {
-    let port = clients.add(number, bytes)?;
-    match &mut ends.value {
-        Some(ends) => ends.hand(worker, number, port),
-        None => Err(CallFault::NotNow),
-    }
-}
-
 /// Obeys the orders of a line, where the play has begun.
 fn obey<P: Plays>(held: &mut Held<P>, line: &mut Line) {
     match &mut held.value {
-        Some(play) => match obeyed(play, line) {
-            Ok(obeyed) => line.show(obeyed),
-            Err(fault) => line.refuse(fault),
-        },
+        Some(play) => {
+            let obeyed = obeyed(play, line);
+            line.show_made(obeyed);
+        }
         None => line.refuse(CallFault::NotMade),
     }
 }

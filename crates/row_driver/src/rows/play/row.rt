@@ -4,10 +4,11 @@ ghost use Rattle.std.specs.Prelude.{◌≡◌};
 ghost use Rattle.proxy_lanes.specs.Opened.{book_of};
 
 use crate::rows::play::objects::PlayObjects;
-use crate::rows::play::stage::{Begins, Ends, Entrance, MemoryPlay, Plays};
+use crate::rows::play::stage::{Begins, Ends, MemoryPlay, Plays};
 use crate::rows::proxy;
 use crate::rows::proxy::client::SharedClient;
 use crate::rows::proxy::gate::Open;
+use crate::rows::proxy::turned::Entrance;
 use proxy_lanes::{Naming, Opened, lanes};
 use proxy_turns::Newcomer;
 use row_words::{Objects, Rows};

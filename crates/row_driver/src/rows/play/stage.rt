@@ -4,6 +4,7 @@ use crate::rows::proxy::client::SharedClient;
 use crate::rows::proxy::gate::Open;
 use crate::rows::proxy::memory::{MemoryCarrierEnds, MemoryEnds, newcomer_to};
 use crate::rows::proxy::nodes::{cluster_of_three, table_of_three};
+use crate::rows::proxy::turned::Entrance;
 use node_model::Cluster;
 use proxy_lanes::Naming;
 use resp_wire::{Bytes, NoMemory};
@@ -13,12 +14,6 @@ use slot_map::NodeTable;
 use std::alloc::Global;
 use std::sync::Wait;
 use turn_play::{Order, Play, PlayFault};
-
-/// Where clients come to, before a play has begun.
-pub trait Entrance {
-    /// Hands a client to its worker. False where the worker's lane is full.
-    fn hand(&mut self, worker: u16, number: u32, port: SharedClient) -> Result<bool, CallFault>;
-}
 
 /// What does as it is told.
 pub trait Plays {

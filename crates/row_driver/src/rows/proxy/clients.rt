@@ -1,6 +1,7 @@
 //! The clients of a row, by their numbers.
 
 use crate::rows::proxy::client::SharedClient;
+use crate::rows::proxy::turned::Entrance;
 use resp_wire::Bytes;
 use row_words::{CallFault, Line};
 use std::alloc::Global;
@@ -21,7 +22,7 @@ impl Clients {
     }
 
     /// A new client that sends these bytes.
-    pub fn add(&mut self, number: u32, bytes: Bytes) -> Result<SharedClient, CallFault> {
+    fn add(&mut self, number: u32, bytes: Bytes) -> Result<SharedClient, CallFault> {
         let client = SharedClient::new(self.alloc, number, bytes)?;
         self.held.push((number, client.again()?))?;
         Ok(client)
@@ -45,6 +46,28 @@ impl Clients {
         }
     }
 
+    /// `WORKER NUMBER BYTES`: a new client that sends these bytes comes to its worker.
+    pub fn come<E: Entrance>(&mut self, entrance: &mut E, line: &mut Line) {
+        let Some(((worker, number), bytes)) = line.read() else {
+            return;
+        };
+        if let Some(handed) = line.made(self.hand(entrance, worker, number, bytes)) {
+            line.say(if handed { "ok" } else { "full" });
+        }
+    }
+
+    /// Hands a new client to its worker. False where its lane is full.
+    fn hand<E: Entrance>(
+        &mut self,
+        entrance: &mut E,
+        worker: u16,
+        number: u32,
+        bytes: Bytes,
+    ) -> Result<bool, CallFault> {
+        let port = self.add(number, bytes)?;
+        entrance.hand(worker, number, port)
+    }
+
     /// `CLIENT BYTES`: gives a client bytes, as if they had been replied.
     pub fn hears(&self, line: &mut Line) {
         let Some((number, bytes)) = line.read::<(u32, Bytes)>() else {
@@ -63,15 +86,8 @@ impl Clients {
             return;
         };
         match self.of(number) {
-            Some(client) => show_held(client, line),
+            Some(client) => line.show_found(client.take_held(line.alloc), CallFault::NotNow),
             None => line.refuse(CallFault::NotMade),
         }
-    }
-}
-
-fn show_held(client: &SharedClient, line: &mut Line) {
-    match client.take_held(line.alloc) {
-        Some(held) => line.show(held),
-        None => line.refuse(CallFault::NotNow),
     }
 }

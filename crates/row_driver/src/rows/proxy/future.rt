@@ -15,19 +15,22 @@ use std::cell::{Cell, RefCell};
 use std::random::RandomSource;
 use std::sync::Wait;
 
+/// What runs a worker to its end.
+pub trait RunsWorker {
+    /// A worker that passes this gate, until it has served so many clients. Answers how it ended.
+    fn run<R, C>(&mut self, rt: &R, gate: &TurningGate<'_, C>, clients: u32, line: &mut Line)
+    where
+        R: Wait + RandomSource + AllocGlobal,
+        C: Turned;
+}
+
 /// `run CLIENTS TURNS`: a worker over the lane, the carrier being turned before each of its turns, until it has served so
 /// many clients or had so many turns. `run CLIENTS TURNS CLIENT AFTER BYTES`: that client is given the bytes behind so many
 /// turns. Answers how the worker ended, and how many clients it gave back.
-pub fn call<J, R, C>(
-    rt: &R,
-    lane: &mut Lane<J>,
-    carrier: &RefCell<C>,
-    clients: &Clients,
-    line: &mut Line,
-)
+pub fn call<R, L, C>(rt: &R, lane: &mut L, carrier: &RefCell<C>, clients: &Clients, line: &mut Line)
 where
-    J: Naming,
     R: Wait + RandomSource + AllocGlobal,
+    L: RunsWorker,
     C: Turned,
 {
     match line.call() {
@@ -36,32 +39,24 @@ where
     }
 }
 
-fn run_with<J, R, C>(
-    rt: &R,
-    lane: &mut Lane<J>,
-    carrier: &RefCell<C>,
-    clients: &Clients,
-    line: &mut Line,
-)
+fn run_with<R, L, C>(rt: &R, lane: &mut L, carrier: &RefCell<C>, clients: &Clients, line: &mut Line)
 where
-    J: Naming,
     R: Wait + RandomSource + AllocGlobal,
+    L: RunsWorker,
     C: Turned,
 {
     let Some((count, most)) = line.read() else {
         return;
     };
-    match injected_in(clients, line) {
-        Ok(injected) => {
-            let gate = TurningGate {
-                carrier,
-                passes: Cell::new(0),
-                most,
-                injected,
-            };
-            run_over(rt, lane, &gate, count, line);
-        }
-        Err(fault) => line.refuse(fault),
+    let injected = injected_in(clients, line);
+    if let Some(injected) = line.made(injected) {
+        let gate = TurningGate {
+            carrier,
+            passes: Cell::new(0),
+            most,
+            injected,
+        };
+        lane.run(rt, &gate, count, line);
     }
 }
 
@@ -69,7 +64,7 @@ fn injected_in(clients: &Clients, line: &mut Line) -> Result<Option<InjectedRepl
     if line.is_read() {
         return Ok(None);
     }
-    let Some((number, after, bytes)) = line.read::<(u32, u32, Bytes)>() else {
+    let Some(((number, after), bytes)) = line.read() else {
         return Err(CallFault::MissingWord);
     };
     Ok(Some(InjectedReply {
@@ -79,21 +74,16 @@ fn injected_in(clients: &Clients, line: &mut Line) -> Result<Option<InjectedRepl
     }))
 }
 
-fn run_over<J, R, C>(
-    rt: &R,
-    lane: &mut Lane<J>,
-    gate: &TurningGate<'_, C>,
-    clients: u32,
-    line: &mut Line,
-)
-where
-    J: Naming,
-    R: Wait + RandomSource + AllocGlobal,
-    C: Turned,
-{
-    match lane.ends.take() {
-        Some(own) => run(rt, own, gate, clients, line),
-        None => line.refuse(CallFault::NotNow),
+impl<J: Naming> RunsWorker for Lane<J> {
+    fn run<R, C>(&mut self, rt: &R, gate: &TurningGate<'_, C>, clients: u32, line: &mut Line)
+    where
+        R: Wait + RandomSource + AllocGlobal,
+        C: Turned,
+    {
+        match self.ends.take() {
+            Some(own) => run(rt, own, gate, clients, line),
+            None => line.refuse(CallFault::NotNow),
+        }
     }
 }
 

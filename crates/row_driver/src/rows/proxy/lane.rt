@@ -1,11 +1,13 @@
 //! `lane`: a worker's ends without a worker.
 
-use crate::rows::held::{Held, is_done};
+use crate::rows::held::{Held, Object, is_done};
 use crate::rows::lanes::show_node;
+use crate::rows::made::MadeOf;
 use crate::rows::proxy::memory::MemoryEnds;
 use key_split::{Batch, Run};
 use proxy_lanes::{Naming, Outlet};
 use row_words::{CallFault, Line};
+use std::alloc::Global;
 
 /// The ends of a worker's lane, until a future takes them.
 #[derive(Drop)]
@@ -15,15 +17,18 @@ pub struct Lane<J: Naming> {
     run: Held<Run>,
 }
 
-impl<J: Naming> Lane<J> {
-    pub fn new(ends: Option<MemoryEnds<J>>) -> Lane<J> {
+/// A lane over these ends, if there are any.
+impl<J: Naming> MadeOf<Option<MemoryEnds<J>>> for Lane<J> {
+    fn made_of(_: Global, ends: Option<MemoryEnds<J>>) -> Lane<J> {
         Lane {
             ends,
             run: Held::none(),
         }
     }
+}
 
-    pub fn call(&mut self, line: &mut Line) {
+impl<J: Naming> Object for Lane<J> {
+    fn call(&mut self, line: &mut Line) {
         match &mut self.ends {
             Some(ends) => call_of(ends, &mut self.run, line),
             None => line.refuse(CallFault::NotNow),

@@ -6,7 +6,7 @@ use crate::rows::proxy::client::SharedClient;
 use crate::rows::proxy::dial::MemoryDial;
 use crate::rows::proxy::gate::Open;
 use crate::rows::proxy::port::MemoryPort;
-use crate::rows::proxy::turned::{Hands, Turned};
+use crate::rows::proxy::turned::{Entrance, Turned};
 use node_link::Fuse;
 use proxy_lanes::{CarrierEnds, Naming, Publisher, WorkerEnds};
 use proxy_turns::{Carrier, Newcomer, Worker};
@@ -41,7 +41,7 @@ impl<J: Naming, R: Wait + Drop> Turned for MemoryCarrier<J, R> {
     }
 }
 
-impl<J: Naming, R: Wait + Drop> Hands for MemoryCarrier<J, R> {
+impl<J: Naming, R: Wait + Drop> Entrance for MemoryCarrier<J, R> {
     fn hand(&mut self, worker: u16, number: u32, port: SharedClient) -> Result<bool, CallFault> {
         newcomer_to(self.ends(), worker, number, port)
     }

@@ -1,11 +1,11 @@
 //! The objects of a row, by name.
 
+use crate::rows::held::Object;
 use crate::rows::proxy::clients::Clients;
-use crate::rows::proxy::lane::Lane;
+use crate::rows::proxy::future::RunsWorker;
 use crate::rows::proxy::nodes::SharedNodes;
-use crate::rows::proxy::turned::{Hands, Turned, Turns};
+use crate::rows::proxy::turned::{Entrance, Turned, Turns};
 use crate::rows::proxy::{future, steps, timing, turns};
-use proxy_lanes::Naming;
 use row_words::{Line, Objects};
 use std::alloc::AllocGlobal;
 use std::random::RandomSource;
@@ -14,21 +14,21 @@ use std::time::Clock;
 
 /// Workers and a carrier, with their clients and nodes, the lane of the last worker, and objects that are asked for no turn.
 #[derive(Drop)]
-pub struct TurnObjects<J: Naming, R, W, C, O> {
+pub struct TurnObjects<R, W, C, L, O> {
     pub rt: R,
     pub clients: Clients,
     pub nodes: SharedNodes,
     pub turned: Turns<W, C>,
-    pub lane: Lane<J>,
+    pub lane: L,
     pub others: O,
 }
 
-impl<J, R, W, C, O> Objects for TurnObjects<J, R, W, C, O>
+impl<R, W, C, L, O> Objects for TurnObjects<R, W, C, L, O>
 where
-    J: Naming,
     R: Wait + RandomSource + Clock + AllocGlobal,
     W: Turned,
-    C: Hands,
+    C: Turned + Entrance,
+    L: Object + RunsWorker,
     O: Objects,
 {
     fn call(&mut self, line: &mut Line) {

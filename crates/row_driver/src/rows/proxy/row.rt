@@ -3,10 +3,12 @@
 ghost use Rattle.std.specs.Prelude.{◌≡◌};
 ghost use Rattle.proxy_lanes.specs.Opened.{book_of};
 
+use crate::rows::held::Object;
 use crate::rows::made::MadeOf;
 use crate::rows::proxy::client::SharedClient;
 use crate::rows::proxy::clients::Clients;
 use crate::rows::proxy::dial::MemoryDial;
+use crate::rows::proxy::future::RunsWorker;
 use crate::rows::proxy::gate::Open;
 use crate::rows::proxy::lane::Lane;
 use crate::rows::proxy::memory::{
@@ -15,7 +17,7 @@ use crate::rows::proxy::memory::{
 use crate::rows::proxy::nodes::SharedNodes;
 use crate::rows::proxy::objects::TurnObjects;
 use crate::rows::proxy::outside::Outside;
-use crate::rows::proxy::turned::{Hands, Turned, Turns};
+use crate::rows::proxy::turned::{Entrance, Turned, Turns};
 use proxy_lanes::{Naming, Opened, lanes};
 use proxy_turns::Newcomer;
 use row_words::{CallFault, Objects, Rows};
@@ -62,14 +64,15 @@ where
         Ok((ends, carrier)) => {
             let gate = Open;
             row_over::<
-                J,
                 R,
                 B,
                 W,
                 O,
+                MemoryEnds<J>,
                 MemoryCarrierEnds<J, R>,
                 MemoryWorker<'_, J>,
                 MemoryCarrier<J, R>,
+                Lane<J>,
             >(rt, &gate, outside, ends, carrier, others, rows)
         }
         Err(_) => Ok(false),
@@ -77,49 +80,50 @@ where
 }
 
 /// A row with a worker for each of these ends but the last, and a carrier that knows the seed alone.
-// The types of workers and carriers are parameters from here on, since a value of such a type is moved and dropped by one
-// call each.
-fn row_over<'g, J, R, B, W, O, E, T, C>(
+// The types of workers, carriers and lanes are parameters from here on, since a value of such a type is moved and dropped by
+// one call each.
+fn row_over<'g, R, B, W, O, N, E, T, C, L>(
     rt: R,
     gate: &'g Open,
     outside: Outside,
-    mut ends: Vec<MemoryEnds<J>>,
+    mut ends: Vec<N>,
     carrier: E,
     others: O,
     rows: &mut Rows<B, W>,
 ) -> io::Result<bool>
 where
-    J: Naming,
     R: Wait + RandomSource + Clock + AllocGlobal + Copy + Drop,
     B: BufRead,
     W: Write,
     O: Objects + Drop,
+    N: Drop,
     E: Drop,
-    T: Turned + MadeOf<(MemoryEnds<J>, &'g Open)> + Drop,
-    C: Hands + MadeOf<(E, MemoryDial, NodeTable)> + Drop,
+    T: Turned + MadeOf<(N, &'g Open)> + Drop,
+    C: Turned + Entrance + MadeOf<(E, MemoryDial, NodeTable)> + Drop,
+    L: Object + RunsWorker + MadeOf<Option<N>> + Drop,
 {
     let carrier = C::made_of(rt.alloc(), (carrier, outside.dial, outside.known));
-    let lane = Lane::new(ends.pop());
-    let workers = workers_for::<MemoryEnds<J>, T>(rt.alloc(), ends, gate);
+    let lane = L::made_of(rt.alloc(), ends.pop());
+    let workers = workers_for::<N, T>(rt.alloc(), ends, gate);
     row_with(rt, outside.nodes, workers, carrier, lane, others, rows)
 }
 
-fn row_with<J, R, B, W, T, C, O>(
+fn row_with<R, B, W, T, C, L, O>(
     rt: R,
     nodes: SharedNodes,
     workers: Result<Vec<T>, CallFault>,
     carrier: C,
-    lane: Lane<J>,
+    lane: L,
     others: O,
     rows: &mut Rows<B, W>,
 ) -> io::Result<bool>
 where
-    J: Naming,
     R: Wait + RandomSource + Clock + AllocGlobal + Copy + Drop,
     B: BufRead,
     W: Write,
     T: Turned + Drop,
-    C: Hands + Drop,
+    C: Turned + Entrance + Drop,
+    L: Object + RunsWorker + Drop,
     O: Objects + Drop,
 {
     let Ok(workers) = workers else {

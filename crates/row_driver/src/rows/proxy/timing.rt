@@ -1,11 +1,12 @@
 //! `time`: what a turn costs that moves nothing.
 
-use crate::rows::proxy::turned::{Hands, Turned, Turns};
+use crate::rows::proxy::turned::{Turned, Turns};
+use resp_wire::NoMemory;
 use row_words::{CallFault, Line};
 use std::time::{Clock, Instant};
 
 /// Answers how many nanoseconds a turn took of so many, or `moved` where one of them moved something.
-pub fn call<R: Clock, W: Turned, C: Hands>(rt: &R, turned: &mut Turns<W, C>, line: &mut Line) {
+pub fn call<R: Clock, W: Turned, C: Turned>(rt: &R, turned: &mut Turns<W, C>, line: &mut Line) {
     match line.call() {
         "worker" => match turned.workers.get_mut(0) {
             Some(worker) => show_spent(rt, worker, line),
@@ -20,33 +21,28 @@ fn show_spent<R: Clock, T: Turned>(rt: &R, turned: &mut T, line: &mut Line) {
     let Some(count) = line.read::<u64>() else {
         return;
     };
-    match nanoseconds_of(rt, turned, count) {
-        Ok(Some(spent)) => line.show(spent / count.max(1)),
-        Ok(None) => line.say("moved"),
-        Err(fault) => line.refuse(fault),
+    let Ok(start) = Instant::now(rt) else {
+        return line.refuse(CallFault::NotNow);
+    };
+    match line.made(turn(turned, count)) {
+        Some(true) => line.say("moved"),
+        Some(false) => show_elapsed(rt, &start, count, line),
+        None => {}
     }
 }
 
-/// How long so many turns took, or None where one of them moved something.
-fn nanoseconds_of<R: Clock, T: Turned>(
-    rt: &R,
-    turned: &mut T,
-    count: u64,
-) -> Result<Option<u64>, CallFault> {
-    let Ok(start) = Instant::now(rt) else {
-        return Err(CallFault::NotNow);
-    };
-    if turn(turned, count)? {
-        return Ok(None);
-    }
+fn show_elapsed<R: Clock>(rt: &R, start: &Instant, count: u64, line: &mut Line) {
     match start.elapsed(rt) {
-        Ok(spent) => Ok(Some(u64::try_from(spent.as_nanos()).unwrap_or(u64::MAX))),
-        Err(_) => Err(CallFault::NotNow),
+        Ok(spent) => {
+            let nanoseconds = u64::try_from(spent.as_nanos()).unwrap_or(u64::MAX);
+            line.show(nanoseconds / count.max(1));
+        }
+        Err(_) => line.refuse(CallFault::NotNow),
     }
 }
 
 /// So many turns. True where one of them moved something.
-fn turn<T: Turned>(turned: &mut T, count: u64) -> Result<bool, CallFault> {
+fn turn<T: Turned>(turned: &mut T, count: u64) -> Result<bool, NoMemory> {
     let mut moved = false;
     for _ in 0..count {
         moved |= turned.turn()?;

@@ -11,8 +11,8 @@ pub trait Turned {
     fn turn(&mut self) -> Result<bool, NoMemory>;
 }
 
-/// A carrier, by which clients come to workers.
-pub trait Hands: Turned {
+/// Where clients come to workers.
+pub trait Entrance {
     /// Hands a new client to its worker. False where its lane is full.
     fn hand(&mut self, worker: u16, number: u32, port: SharedClient) -> Result<bool, CallFault>;
 }
@@ -24,7 +24,7 @@ pub struct Turns<W, C> {
     pub carrier: RefCell<C>,
 }
 
-impl<W: Turned, C: Hands> Turns<W, C> {
+impl<W: Turned, C: Turned> Turns<W, C> {
     pub fn new(workers: Vec<W>, carrier: C) -> Turns<W, C> {
         Turns {
             workers,
@@ -32,45 +32,22 @@ impl<W: Turned, C: Hands> Turns<W, C> {
         }
     }
 
-    /// Hands a new client to its worker. False where its lane is full.
-    pub fn hand(
-        &mut self,
-        worker: u16,
-        number: u32,
-        port: SharedClient,
-    ) -> Result<bool, CallFault> {
-        self.carrier.get_mut().hand(worker, number, port)
-    }
-
-    /// One turn of a worker. True where something moved.
-    pub fn turn_worker(&mut self, worker: usize) -> Result<bool, CallFault> {
-        match self.workers.get_mut(worker) {
-            Some(worker) => Ok(worker.turn()?),
-            None => Err(CallFault::BadNumber),
-        }
-    }
-
-    /// One turn of each worker.
-    fn turn_workers(&mut self) -> Result<bool, CallFault> {
-        let mut moved = false;
-        for worker in 0..self.workers.len() {
-            moved |= self.turn_worker(worker)?;
-        }
-        Ok(moved)
-    }
-
-    /// One turn of the carrier.
-    pub fn turn_carrier(&mut self) -> Result<bool, CallFault> {
-        Ok(self.carrier.get_mut().turn()?)
-    }
-
     /// So many turns of each. True where something moved.
-    pub fn turn_all(&mut self, count: u64) -> Result<bool, CallFault> {
+    pub fn turn_all(&mut self, count: u64) -> Result<bool, NoMemory> {
         let mut moved = false;
         for _ in 0..count {
-            moved |= self.turn_workers()?;
-            moved |= self.turn_carrier()?;
+            moved |= turn_each(&mut self.workers)?;
+            moved |= self.carrier.get_mut().turn()?;
         }
         Ok(moved)
     }
+}
+
+/// One turn of each. True where something moved.
+fn turn_each<W: Turned>(workers: &mut [W]) -> Result<bool, NoMemory> {
+    let mut moved = false;
+    for worker in workers.iter_mut() {
+        moved |= worker.turn()?;
+    }
+    Ok(moved)
 }

@@ -1,57 +1,45 @@
 //! `turns`: clients that come, and turns of the workers and the carrier.
 
 use crate::rows::proxy::clients::Clients;
-use crate::rows::proxy::turned::{Hands, Turned, Turns};
-use resp_wire::Bytes;
+use crate::rows::proxy::turned::{Entrance, Turned, Turns};
+use resp_wire::NoMemory;
 use row_words::{CallFault, Line};
 
-pub fn call<W: Turned, C: Hands>(turned: &mut Turns<W, C>, clients: &mut Clients, line: &mut Line) {
-    match line.call() {
-        "client" => come(turned, clients, line),
-        "hears" => clients.hears(line),
-        "held" => clients.show_held(line),
-        _ => match turn(turned, line) {
-            Ok(moved) => line.say(if moved { "moved" } else { "rests" }),
-            Err(fault) => line.refuse(fault),
-        },
-    }
-}
-
-/// `client WORKER NUMBER BYTES`
-fn come<W: Turned, C: Hands>(turned: &mut Turns<W, C>, clients: &mut Clients, line: &mut Line) {
-    let Some((worker, number, bytes)) = line.read::<(u16, u32, Bytes)>() else {
-        return;
-    };
-    match hand(turned, clients, worker, number, bytes) {
-        Ok(handed) => line.say(if handed { "ok" } else { "full" }),
-        Err(fault) => line.refuse(fault),
-    }
-}
-
-/// Hands a new client that sends these bytes to its worker. False where its lane is full.
-fn hand<W: Turned, C: Hands>(
+pub fn call<W: Turned, C: Turned + Entrance>(
     turned: &mut Turns<W, C>,
     clients: &mut Clients,
-    worker: u16,
-    number: u32,
-    bytes: Bytes,
-) -> Result<bool, CallFault> {
-    let port = clients.add(number, bytes)?;
-    turned.hand(worker, number, port)
+    line: &mut Line,
+) {
+    match line.call() {
+        "client" => clients.come(turned.carrier.get_mut(), line),
+        "hears" => clients.hears(line),
+        "held" => clients.show_held(line),
+        "worker" => turn_worker(&mut turned.workers, line),
+        "carrier" => show_moved(turned.carrier.get_mut().turn(), line),
+        "all" => turn_all(turned, line),
+        _ => line.refuse(CallFault::NoSuchCall),
+    }
 }
 
-/// Makes some turns. True where something moved.
-fn turn<W: Turned, C: Hands>(turned: &mut Turns<W, C>, line: &mut Line) -> Result<bool, CallFault> {
-    match line.call() {
-        "carrier" => turned.turn_carrier(),
-        "worker" => match line.read::<u16>() {
-            Some(worker) => turned.turn_worker(usize::from(worker)),
-            None => Err(CallFault::MissingWord),
-        },
-        "all" => match line.read::<u64>() {
-            Some(count) => turned.turn_all(count),
-            None => Err(CallFault::MissingWord),
-        },
-        _ => Err(CallFault::NoSuchCall),
+fn turn_worker<W: Turned>(workers: &mut [W], line: &mut Line) {
+    let Some(worker) = line.read::<usize>() else {
+        return;
+    };
+    match workers.get_mut(worker) {
+        Some(worker) => show_moved(worker.turn(), line),
+        None => line.refuse(CallFault::BadNumber),
+    }
+}
+
+/// So many turns of each.
+fn turn_all<W: Turned, C: Turned>(turned: &mut Turns<W, C>, line: &mut Line) {
+    if let Some(count) = line.read() {
+        show_moved(turned.turn_all(count), line);
+    }
+}
+
+fn show_moved(moved: Result<bool, NoMemory>, line: &mut Line) {
+    if let Some(moved) = line.made(moved) {
+        line.say(if moved { "moved" } else { "rests" });
     }
 }
