@@ -78,6 +78,20 @@ impl RowObjects {
     }
 }
 
+impl RowObjects {
+    fn call_map(&mut self, line: &mut Line) {
+        self.maps.map(&self.value, line);
+    }
+
+    fn call_cluster(&mut self, line: &mut Line) {
+        nodes::call(&mut self.cluster, &self.maps, &mut self.value, line);
+    }
+
+    fn call_link(&mut self, line: &mut Line) {
+        self.links.link(&mut self.maps.table, &mut self.value, line);
+    }
+}
+
 impl Object for RowObjects {
     fn call(&mut self, line: &mut Line) {
         match line.object() {
@@ -92,13 +106,13 @@ impl Object for RowObjects {
             "part" => plans::call_of_one::<Part>(line),
             "end" => plans::call_of_one::<Ended>(line),
             "table" => self.maps.table.call(line),
-            "map" => self.maps.map(&self.value, line),
+            "map" => self.call_map(line),
             "copy" => self.maps.copy(line),
             "told" => self.maps.told(line),
-            "cluster" => nodes::call(&mut self.cluster, &self.maps, &mut self.value, line),
+            "cluster" => self.call_cluster(line),
             "stream" => self.links.stream(line),
             "port" => self.links.port(line),
-            "link" => self.links.link(&mut self.maps.table, &mut self.value, line),
+            "link" => self.call_link(line),
             "state" => local::call(&mut self.state, line),
             _ => line.refuse(CallFault::NoSuchObject),
         }

@@ -23,6 +23,32 @@ pub struct TurnObjects<R, W, C, L, O> {
     pub others: O,
 }
 
+impl<R, W, C, L, O> TurnObjects<R, W, C, L, O>
+where
+    R: Wait + RandomSource + Clock + AllocGlobal,
+    W: Turned,
+    C: Turned + Entrance,
+    L: RunsWorker,
+{
+    fn call_turns(&mut self, line: &mut Line) {
+        turns::call(&mut self.turned, &mut self.clients, line);
+    }
+
+    fn call_time(&mut self, line: &mut Line) {
+        timing::call(&self.rt, &mut self.turned, line);
+    }
+
+    fn call_future(&mut self, line: &mut Line) {
+        future::call(
+            &self.rt,
+            &mut self.lane,
+            &self.turned.carrier,
+            &self.clients,
+            line,
+        );
+    }
+}
+
 impl<R, W, C, L, O> Objects for TurnObjects<R, W, C, L, O>
 where
     R: Wait + RandomSource + Clock + AllocGlobal,
@@ -33,17 +59,11 @@ where
 {
     fn call(&mut self, line: &mut Line) {
         match line.object() {
-            "turns" => turns::call(&mut self.turned, &mut self.clients, line),
+            "turns" => self.call_turns(line),
             "lane" => self.lane.call(line),
             "nodes" => steps::call(&self.nodes, line),
-            "time" => timing::call(&self.rt, &mut self.turned, line),
-            "future" => future::call(
-                &self.rt,
-                &mut self.lane,
-                &self.turned.carrier,
-                &self.clients,
-                line,
-            ),
+            "time" => self.call_time(line),
+            "future" => self.call_future(line),
             _ => self.others.call(line),
         }
     }

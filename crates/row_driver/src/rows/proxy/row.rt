@@ -57,9 +57,6 @@ where
     O: Objects + Drop,
     requires { book_of opened ≡ J.book }
 {
-    let Ok(outside) = Outside::new(rt.alloc()) else {
-        return Ok(false);
-    };
     match lanes::<Newcomer<SharedClient, J>, J, R>(rt.alloc(), rt, opened, LANES) {
         Ok((ends, carrier)) => {
             let gate = Open;
@@ -73,7 +70,7 @@ where
                 MemoryWorker<'_, J>,
                 MemoryCarrier<J, R>,
                 Lane<J>,
-            >(rt, &gate, outside, ends, carrier, others, rows)
+            >(rt, &gate, ends, carrier, others, rows)
         }
         Err(_) => Ok(false),
     }
@@ -85,7 +82,6 @@ where
 fn row_over<'g, R, B, W, O, N, E, T, C, L>(
     rt: R,
     gate: &'g Open,
-    outside: Outside,
     mut ends: Vec<N>,
     carrier: E,
     others: O,
@@ -102,6 +98,9 @@ where
     C: Turned + Entrance + MadeOf<(E, MemoryDial, NodeTable)> + Drop,
     L: Object + RunsWorker + MadeOf<Option<N>> + Drop,
 {
+    let Ok(outside) = Outside::new(rt.alloc()) else {
+        return Ok(false);
+    };
     let carrier = C::made_of(rt.alloc(), (carrier, outside.dial, outside.known));
     let lane = L::made_of(rt.alloc(), ends.pop());
     let workers = workers_for::<N, T>(rt.alloc(), ends, gate);

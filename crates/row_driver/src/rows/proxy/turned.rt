@@ -46,8 +46,10 @@ impl<W: Turned, C: Turned> Turns<W, C> {
 /// One turn of each. True where something moved.
 fn turn_each<W: Turned>(workers: &mut [W]) -> Result<bool, NoMemory> {
     let mut moved = false;
-    for worker in workers.iter_mut() {
-        moved |= worker.turn()?;
+    for at in 0..workers.len() {
+        if let Some(worker) = workers.get_mut(at) {
+            moved |= worker.turn()?;
+        }
     }
     Ok(moved)
 }
