@@ -1,12 +1,10 @@
 -- What is found first in what is left of a script.
-use Rattle.std.proofs.Common.{◌≡◌, ◌<◌, ◌≤◌, ◌+◌, ◌^◌, ◌∷◌, [], suc, List, ℕ, Bool, true, false, Option, Some, None, Result, Ok, Err, IfOk, length, refl, sym, ap, subst, ◌∙◌, cond, arith, rules, map, nat_eq, inl, inr}
-use Rattle.std.specs.Prelude.{nat_le, option_map, is_some}
-use Rattle.resp_wire.specs.Data.{Data, simple, error, integer, bulk, null_bulk, array, null_array, no_items, item, items_of}
+use Rattle.std.proofs.Common.{◌≡◌, ◌<◌, ◌≤◌, ◌+◌, ◌^◌, List, ℕ, Bool, true, false, Some, None, Result, Ok, Err, IfOk, length, refl, sym, ap, subst, ◌∙◌, cond, arith, rules, inl, inr}
+use Rattle.std.specs.Prelude.{nat_le}
 use Rattle.resp_wire.specs.Front.{Front, Whole, Partial, Faulty, front, ReaderTakes}
 use Rattle.resp_wire.specs.ReaderModel.{ReaderModel}
 use Rattle.resp_wire.specs.Laws.{FrontIsWhole}
 use Rattle.resp_wire.specs.Seen.{data_of}
-use Rattle.resp_wire.specs.Words.{words_of, bulks_of}
 use Rattle.resp_wire.specs.declared.fault.WireFault.{WireFault}
 use Rattle.resp_wire.specs.declared.fault.WireFault.TheVariants as wire
 use Rattle.resp_wire.specs.declared.fault.NoMemory.{NoMemory}
@@ -21,9 +19,9 @@ use Rattle.key_split.specs.declared.planned.Planned.TheVariants as planned
 use Rattle.key_split.specs.declared.planned.PlanFault.{PlanFault}
 use Rattle.key_split.specs.declared.planned.PlanFault.TheVariants as fault
 use Rattle.session_order.specs.PendingReply.{plan_for, ends_session, owed_by}
-use Rattle.session_order.specs.Requests.{RequestKindModel, Skipped, Refused, is_empty_array, asked_by, asked_of}
+use Rattle.session_order.specs.Requests.{asked_of}
 use Rattle.script_runs.proofs.Fronts.{faulty, full-front, goes-on}
-use Rattle.script_runs.specs.Requests.{Request, First, Ends, Skips, Asks, Quits, first_as, first_of, first_in, request_first, parts_planned}
+use Rattle.script_runs.specs.Requests.{Request, First, Ends, Asks, Quits, first_as, first_of, first_in, request_first, parts_planned}
 use Rattle.script_runs.specs.Wanted.{IsOpen, Means, GoesOn, Leaves, Wants, Fits}
 use Rattle.script_runs.specs.declared.wanted.Wanted.{Wanted}
 use Rattle.script_runs.specs.declared.wanted.Wanted.TheVariants.{Nothing, Skip, Reply, Parts, Close}

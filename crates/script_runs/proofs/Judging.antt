@@ -1,8 +1,10 @@
 -- What a run's clients were answered, judged by their scripts.
-use Rattle.std.proofs.Common.{◌≡◌, ◌<◌, ◌+◌, ◌++◌, ◌∷◌, ◌↔◌, ◌&&◌, [], suc, List, ℕ, Bool, true, false, IsTrue, nat_eq, length, take, drop, drop-cons, get_or, append_assoc, refl, sym, ap, subst, ◌∙◌, inl, inr, arith, map}
-use Rattle.std.specs.List.{flat_map}
+use Rattle.std.proofs.Common.{◌≡◌, ◌<◌, ◌+◌, ◌++◌, ◌∷◌, ◌↔◌, ◌&&◌, [], suc, List, ℕ, Bool, true, false, IsTrue, nat_eq, length, take, drop, drop-cons, get_or, append_assoc, refl, sym, ap, subst, ◌∙◌, inl, inr, arith, map, eqb→eq}
+use Rattle.std.specs.Prelude.{T}
+use Rattle.std.specs.List.{flat_map, IsAnyAnswer}
 use Rattle.std.proofs.Math.Seq.{take-append_seam}
 use Rattle.std.specs.Cmp.Lexicographic.{pointwise, bytes_decides}
+use Rattle.std.proofs.lemmas.Bool.{eqb-false}
 use Rattle.std.proofs.lemmas.List.{append-nil, drop_all, take-append-drop}
 use Rattle.key_split.specs.PartModel.{PartModel}
 use Rattle.key_split.specs.declared.travel.Ticket.{Ticket}
@@ -16,7 +18,7 @@ use Rattle.script_runs.specs.Replayed.{State, outcome_of, outcome, opened}
 use Rattle.script_runs.specs.Requests.{Request, Requested, AsksFor, parts_for}
 use Rattle.script_runs.specs.Run.{client_id_of, parts_of, parts_from, ends_of, output_for, HaveEnds, IsStopped, IsFront, IsAnswered, AreAnswered, AskFor}
 use Rattle.script_runs.proofs.Asking.{quit-is-last}
-use Rattle.script_runs.proofs.Telling.{all_told, have-ends, true-and}
+use Rattle.script_runs.proofs.Telling.{all_told, have-ends, no-way, true-and}
 
 -- ---- one client
 
@@ -152,4 +154,15 @@ pub front-told : (bytes whole : List ℕ) (same : Bool) → same ≡ pointwise n
 front-told bytes whole same is = (
   λ e. front-of bytes whole ((bytes_decides (take (length bytes) whole) bytes).0 (sym is ∙ e)),
   λ front. is ∙ (bytes_decides (take (length bytes) whole) bytes).1 (front-taken bytes whole front),
+)
+
+-- whether the worker is among these, as a search by equality tells
+pub stopped-told : (stopped : List ℕ) (worker : ℕ) (found : Bool) → IsAnyAnswer (λ one b. nat_eq one worker ≡ b) stopped found → IsTrue found ↔ IsStopped stopped worker
+stopped-told stopped worker true told = (
+  λ _. (told.0, worker, told.1, eqb→eq (get_or stopped told.0 worker) worker (subst T (sym (told.2 worker)) tt), refl),
+  λ _. refl,
+)
+stopped-told stopped worker false told = (
+  λ is. no-way is,
+  λ any. absurd (eqb-false (get_or stopped any.0 any.1) worker (told any.0 any.1 (omega arith) any.2) (any.3 ∙ any.4)),
 )

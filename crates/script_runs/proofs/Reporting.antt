@@ -1,9 +1,9 @@
 -- The report of a run, judged.
-use Rattle.std.proofs.Common.{◌≡◌, ◌∙◌, sym, subst, List, ℕ, Bool, true, false, refl, ◌∷◌, [], arith}
+use Rattle.std.proofs.Common.{◌≡◌, ◌∙◌, ◌<◌, ◌+◌, ◌++◌, sym, ap, subst, List, ℕ, Bool, true, false, refl, ◌∷◌, [], arith, get_or, take}
 use Rattle.std.specs.Prelude.{length, replicate}
 use Rattle.std.specs.List.{fold}
 use Rattle.std.proofs.lemmas.Grind.{common_steps}
-use Rattle.std.proofs.lemmas.List.{length-set}
+use Rattle.std.proofs.lemmas.List.{length-set, take_more}
 use Rattle.cluster_world.specs.Lawful.{IsLawful}
 use Rattle.cluster_world.specs.declared.run_report.RunReport.{RunReport}
 use Rattle.script_runs.specs.Answered.{put_reply, replies_in}
@@ -12,6 +12,10 @@ use Rattle.script_runs.specs.Requests.{Requested}
 use Rattle.script_runs.specs.Run.{AreAnswered, IsRunOf}
 use Rattle.script_runs.proofs.Asking.{all-asked}
 use Rattle.script_runs.proofs.Judging.{Found}
+
+-- the item at this place comes next
+pub next-item : {X : Type 0} (xs : List X) (i : ℕ) (x : X) → x ≡ get_or xs i x → i < length xs → take i xs ++ x ∷ [] ≡ take (i + 1) xs
+next-item xs i x is within = ap (λ item. take i xs ++ item ∷ []) is ∙ sym (take_more xs i x within)
 
 length-put : (clients : List ClientRecord) (replies : List (List ℕ)) → length (fold put_reply replies clients) ≡ length replies
 length-put [] replies = refl

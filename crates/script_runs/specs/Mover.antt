@@ -1,7 +1,6 @@
 -- What the mover says of its steps.
 -- Private: no fact crosses a thread's join, so no contract that callers see counts the steps that were skipped.
-use Rattle.std.specs.Prelude.{◌≡◌, ℕ, ◌+◌, Bool, true, false, List, [], ◌∷◌, Result, Ok, Err}
-use Rattle.node_model.specs.declared.standing.MoveFault.{MoveFault}
+use Rattle.std.specs.Prelude.{◌≡◌, ℕ, ◌+◌, Bool, true, false, List, [], ◌∷◌, Ok, Err}
 use Rattle.node_model.specs.declared.standing.MoveFault.TheVariants.{NotNow}
 use Rattle.local_cluster.specs.Held.{WasTried}
 use Rattle.local_cluster.specs.declared.step.MoveStep.{MoveStep}

@@ -49,7 +49,7 @@ pub(crate) fn replay_all(
 fn is_stopped(stopped: &[u16], worker: u16) -> bool
     ensures { IsTrue result ↔ IsStopped stopped.now worker }
 {
-    stopped.iter().any(|one| *one == worker)
+    stopped.contains(&worker)
 }
 
 /// Whether the client's bytes are what it is to be answered: a front of it where its worker was stopped, else all of it.
@@ -108,7 +108,7 @@ fn unanswered(alloc: Global, count: usize) -> Result<Vec<Bytes>, NoMemory>
 {
     let mut replies = Vec::with_capacity(alloc, count)?;
     for _ in 0..count {
-        replies.push(Bytes::new(Vec::new(alloc)))?;
+        replies.push_reserved(Bytes::new(Vec::new(alloc)));
     }
     Ok(replies)
 }

@@ -75,7 +75,7 @@ fn copy_of(alloc: Global, history: &[Entry]) -> Result<Vec<Entry>, NoMemory>
 {
     let mut copy = Vec::with_capacity(alloc, history.len())?;
     for entry in history {
-        copy.push(copy_entry(alloc, entry)?)?;
+        copy.push_reserved(copy_entry(alloc, entry)?);
     }
     Ok(copy)
 }

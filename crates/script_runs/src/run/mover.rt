@@ -86,13 +86,7 @@ fn finish_step<R: Wait>(
             move_keys(rt, cluster, step, stop)?;
             Ok(true)
         }
-        MoveStep::Import(_, _) => try_often(rt, cluster, step, stop),
-        MoveStep::Migrate(_) => try_often(rt, cluster, step, stop),
-        MoveStep::MoveKey(_, _) => try_often(rt, cluster, step, stop),
-        MoveStep::Own(_) => try_often(rt, cluster, step, stop),
-        MoveStep::Release(_) => try_often(rt, cluster, step, stop),
-        MoveStep::Forget(_) => try_often(rt, cluster, step, stop),
-        MoveStep::Stay(_) => try_often(rt, cluster, step, stop),
+        _ => try_often(rt, cluster, step, stop),
     }
 }
 

@@ -4,6 +4,7 @@ ghost use Rattle.std.specs.Prelude.{◌≡◌, ◌++◌, List, ℕ, IfOk, OnOk};
 ghost use Rattle.std.specs.Fmt.{decimal};
 ghost use Rattle.resp_wire.specs.Data.{Data};
 ghost use Rattle.resp_wire.specs.Seen.{data_of};
+ghost use Rattle.cluster_world.specs.Report.{space};
 ghost use Rattle.script_runs.specs.ReplyText.{reply_line, reply_lines, Holds, RepliesText, Takes};
 ghost use Rattle.script_runs.specs.Wanted.{IsOpen};
 
@@ -69,18 +70,17 @@ fn push_line(out: &mut Vec<u8>, client: u64, number: u64, value: &Value) -> Resu
 {
     out.extend_from_slice(b"reply ")?;
     push_number(out, client)?;
-    out.extend_from_slice(b" ")?;
     push_number(out, number)?;
-    out.extend_from_slice(b" ")?;
     write_value_text(out, value)?;
     out.push(b'\n')?;
     Ok(())
 }
 
-/// A number in decimal.
+/// A number in decimal, and a space.
 fn push_number(out: &mut Vec<u8>, number: u64) -> Result<(), AllocError>
-    ensures { OnOk result (out.new.items ≡ out.old.items ++ decimal number) }
+    ensures { OnOk result (out.new.items ≡ out.old.items ++ decimal number ++ space) }
 {
     let mut buffer = Buffer::new();
-    out.extend_from_slice(buffer.format(number).as_bytes())
+    out.extend_from_slice(buffer.format(number).as_bytes())?;
+    out.extend_from_slice(b" ")
 }
