@@ -2,7 +2,8 @@
 
 `rt ci` proves each of them. A check of an edited function asks for the contracts of those that it calls, and would prove these
 once more, with all that they call. So each has a loop without an end for a body and a hole for a proof: the check takes the
-contract as it stands, and tries the goals of the edited function, which are those that they would be.
+contract as it stands, and tries the goals of the edited function, which are those that they would be. A cycle of calls is one by
+one proof of all its functions: they are stubs where no edit touches any of them, and then no cycle.
 """
 
 import re
@@ -14,6 +15,9 @@ import twins
 
 # What is given back by a name for some type has to come from a body.
 OPAQUE = re.compile(r"\) -> [^{]*\bimpl\b")
+
+# The attribute of a function in a cycle of calls.
+CYCLE = re.compile(r"^ *#\[cycle\((\w+)\)\]\n", re.M)
 
 HOLE = """\
 use Rattle.{crate}.proofs.{module}.Statement.{{statement}}
@@ -31,10 +35,22 @@ class Stubs:
     removed: list = field(default_factory=list)
 
 
+@dataclass
+class Function:
+    """A function that can be a stub: what the prover calls it, the cycle of calls that it is in if it is in one, and where its attributes
+    and its body begin and where this ends."""
+
+    name: str
+    cycle: str | None
+    begin: int
+    body: int
+    end: int
+
+
 def body_of(text, head):
     """Where the body of a function begins and ends, or None where it is written in one line or has to stay."""
     end = re.compile(rf"^{head[1]}(?! )([^\n]*)\}}\n", re.M).search(text, head.start())
-    if end is None or end[1] or "const " in head[0] or "#[cycle" in text[twins.begin_of(text, head) : head.start()]:
+    if end is None or end[1] or "const " in head[0]:
         return None
     begin = re.compile(rf"^{head[1]}\{{\n", re.M).search(text, head.end(), end.start())
     begin = begin or re.compile(r" \{\n").search(text, head.end(), end.start())
@@ -43,19 +59,33 @@ def body_of(text, head):
     return begin.end(), end.start()
 
 
-def stubs_in(file, text, names, kept):
-    """The text of a file with stubs in place of all functions but those kept, and what the prover calls the stubs."""
-    parts, stubbed, last = [], [], 0
+def functions_in(file, text, names):
+    """The functions of a file that can be stubs, of which `names` has the prover's names."""
+    found = []
     for head in edits.HEAD.finditer(text):
         body = body_of(text, head)
-        if body is None or body[0] < last:
+        if body is None or found and body[0] < found[-1].end:
             continue
         name = edits.in_full(edits.function_at(file, text, head.end()) or "", names)
-        if name in names and name not in kept:
-            parts += [text[last : body[0]], f"{head[1]}    loop {{}}\n"]
-            stubbed.append(name)
-            last = body[1]
-    return "".join([*parts, text[last:]]), stubbed
+        if name in names:
+            begin = twins.begin_of(text, head)
+            cycle = CYCLE.search(text, begin, head.start())
+            found.append(Function(name, cycle and cycle[1], begin, *body))
+    return found
+
+
+def stubs_in(file, text, names, kept):
+    """The text of a file with stubs in place of all functions but those kept and those in a cycle of calls with one that is kept, and
+    the functions that are stubs now."""
+    functions = functions_in(file, text, names)
+    kept_cycles = {it.cycle for it in functions if it.name in kept and it.cycle}
+    found = [it for it in functions if it.name not in kept and it.cycle not in kept_cycles]
+    parts, last = [], 0
+    for it in found:
+        indent = text[it.end : text.index("}", it.end)]
+        parts += [text[last : it.begin], CYCLE.sub("", text[it.begin : it.body]), f"{indent}    loop {{}}\n"]
+        last = it.end
+    return "".join([*parts, text[last:]]), found
 
 
 def stubbed(texts, crate, names, kept):
@@ -65,8 +95,10 @@ def stubbed(texts, crate, names, kept):
         file = str(path.relative_to(crate.folder))
         text = texts.get(file) or path.read_text(encoding="utf-8")
         made.texts[file], found = stubs_in(file, text, names, kept)
-        for name in found:
-            made.removed += twins.places_of(name)
-            place = Path("proofs", *name.split("::"), "Proof.antt")
-            made.texts[str(place)] = HOLE.format(crate=crate.name, module=name.replace("::", "."), name=name.split("::")[-1])
+        for it in found:
+            *above, last = it.name.split("::")
+            made.removed += twins.places_of(it.name)
+            if it.cycle:
+                made.removed.append(Path("proofs", *filter(None, edits.module_of(file).split("::")), f"+{it.cycle}"))
+            made.texts[str(Path("proofs", *above, last, "Proof.antt"))] = HOLE.format(crate=crate.name, module=".".join([*above, last]), name=last)
     return made

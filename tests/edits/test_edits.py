@@ -406,10 +406,30 @@ fn free(count: u8) -> u8
     def test_bodies_give_way(self):
         names = {"size", "law", "Pair::first", "Pair::second", "free"}
         text, stubbed = stubs.stubs_in("src/lib.rt", self.TEXT, names, {"free"})
-        self.assertEqual(stubbed, ["Pair::first", "Pair::second"])
+        self.assertEqual([it.name for it in stubbed], ["Pair::first", "Pair::second"])
         left = self.TEXT.replace("        let Pair { first, .. } = self;\n        *first\n", "        loop {}\n")
         left = left.replace("        if self.is_set {\n            return 1;\n        }\n        2\n", "        loop {}\n")
         self.assertEqual(text, left)
+
+    CYCLE = """\
+/// Whether a count is even.
+#[cycle(parity)]
+fn even(count: u8) -> bool {
+    count == 0 || odd(count - 1)
+}
+
+#[cycle(parity)]
+fn odd(count: u8) -> bool {
+    count != 0 && even(count - 1)
+}
+"""
+
+    def test_a_cycle_of_calls_gives_way_as_a_whole(self):
+        text, stubbed = stubs.stubs_in("src/lib.rt", self.CYCLE, {"even", "odd"}, set())
+        self.assertEqual([(it.name, it.cycle) for it in stubbed], [("even", "parity"), ("odd", "parity")])
+        head = "/// Whether a count is even.\nfn even(count: u8) -> bool {\n    loop {}\n}\n"
+        self.assertEqual(text, head + "\nfn odd(count: u8) -> bool {\n    loop {}\n}\n")
+        self.assertEqual(stubs.stubs_in("src/lib.rt", self.CYCLE, {"even", "odd"}, {"odd"}), (self.CYCLE, []))
 
     def test_a_stub_has_a_hole_for_a_proof(self):
         with tempfile.TemporaryDirectory() as folder:

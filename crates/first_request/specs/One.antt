@@ -6,7 +6,7 @@ use Rattle.resp_wire.specs.Canonical.{canonical}
 use Rattle.resp_wire.specs.Seen.{data_of}
 use Rattle.resp_wire.specs.declared.value.Value.{Value}
 use Rattle.resp_wire.specs.declared.value.Value.TheVariants.{Error}
-use Rattle.store_answer.specs.Answers.{Answers}
+use Rattle.first_request.specs.Answers.{Answers}
 use Rattle.first_request.specs.Opening.{Opening, Asks, Breaks, Ends, Opens}
 
 abbrev pub protocol_error : Value

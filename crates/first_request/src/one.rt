@@ -5,12 +5,12 @@ ghost use Rattle.std.specs.Io.KnownBytes.{Appends, Keeps};
 ghost use Rattle.first_request.specs.Looks.{HasWords, opening_of};
 ghost use Rattle.first_request.specs.One.{Writes, WritesFor};
 
+use crate::answer::reply_on_empty;
 use crate::first::{First, first_request};
 use cluster_world::{INPUT_LIMIT, Outcome, WriteFailed};
 use resp_wire::{Line, NoMemory, Value, write_value};
 use std::alloc::Global;
 use std::io::{Read, Write};
-use store_answer::reply_on_empty;
 use thiserror::Error;
 
 /// Why a run of `one` ends before its time.

@@ -2,7 +2,7 @@
 
 ghost use Rattle.std.specs.Prelude.{◌≡◌, ◌<◌, length, IfOk};
 ghost use Rattle.std.specs.FinMap.{empty};
-ghost use Rattle.store_answer.specs.Answers.{Answers, EndsFrom};
+ghost use Rattle.first_request.specs.Answers.{Answers, EndsFrom};
 
 use key_split::{Ended, Part, Planned, join, plan, refusal};
 use node_model::Store;

@@ -1,8 +1,8 @@
 use Rattle.std.proofs.Common.{◌≡◌, ◌+◌, ◌++◌, List, ℕ, length}
 use Rattle.std.specs.FinMap.{empty}
 use Rattle.key_split.specs.declared.travel.Ended.{Ended}
-use Rattle.store_answer.specs.Answers.{EndsFrom}
-use Rattle.store_answer.proofs.answer.ends_on_empty.Given as goal
+use Rattle.first_request.specs.Answers.{EndsFrom}
+use Rattle.first_request.proofs.answer.ends_on_empty.Given as goal
 
 abbrev pub invariant-loop-rest : goal.invariant-loop-rest
 invariant-loop-rest l =

@@ -1,5 +1,5 @@
-use Rattle.store_answer.proofs.Ends.{one_more, no_more}
-use Rattle.store_answer.proofs.answer.ends_on_empty.Goals as goal
+use Rattle.first_request.proofs.Ends.{one_more, no_more}
+use Rattle.first_request.proofs.answer.ends_on_empty.Goals as goal
 
 pub loop-rest-preserved : goal.loop-rest-preserved
 loop-rest-preserved c = one_more _ _ _ _ _ _ _ _ _ c.in-len1-up.len_at_least c.part-item.is c.in_ok-apply.ensures c.in_ok-push.ensures.items

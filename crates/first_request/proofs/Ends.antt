@@ -8,7 +8,7 @@ use Rattle.key_split.specs.PartModel.{PartModel}
 use Rattle.key_split.specs.declared.travel.Ended.{Ended}
 use Rattle.key_split.specs.declared.travel.Ended.TheVariants.{Answered}
 use Rattle.node_model.specs.Store.{StoreModel, store_after, reply_to}
-use Rattle.store_answer.specs.Answers.{EndsFrom}
+use Rattle.first_request.specs.Answers.{EndsFrom}
 
 -- whatever ends come for the rest, the ends so far and they are the ends of all
 abbrev GoesOn : StoreModel → List PartModel → StoreModel → List Ended → List PartModel → Type 0
