@@ -14,16 +14,17 @@ use Rattle.proxy_lanes.specs.declared.ends.lane_ends.LaneEnds.{LaneEnds}
 use Rattle.proxy_turns.specs.declared.pending_run.PendingRun.{PendingRun}
 use Rattle.proxy_turns.specs.declared.backend.Backend.{Backend}
 use Rattle.proxy_turns.specs.declared.backend_step.BackendStep.{BackendStep}
-use Rattle.proxy_turns.specs.Backend.{BackendDoes, Starves, is_backend_move, is_unanswered}
+use Rattle.proxy_turns.specs.Growing.{Grows, grown}
+use Rattle.proxy_turns.specs.Backend.{BackendDoes, Starves, is_backend_move, is_unanswered, new_backend}
 use Rattle.proxy_turns.specs.Sending.{DialOutcome, IsUnreached, SendOutcome}
 use Rattle.proxy_turns.specs.declared.backend.Dialled.TheVariants as dialled
 use Rattle.proxy_turns.specs.declared.backend.RunStep.TheVariants as run_step
 use Rattle.key_split.specs.declared.travel.Ticket.{Ticket}
 use Rattle.proxy_turns.proofs.EventKinds.{and_true, and_both}
-use Rattle.proxy_turns.specs.PendingRun.{GiveOutcome, TellOutcome, TakeOutcome, target_of}
+use Rattle.proxy_turns.specs.PendingRun.{GiveOutcome, TellOutcome, TakeOutcome, no_pending_run, target_of}
 use Rattle.proxy_turns.specs.RefusedRun.{tickets_in}
 use Rattle.proxy_turns.specs.CarrierModel.{CarrierModel, CarrierEvent, CarrierDoes, CarrierGoes, CarrierGoesBy, CarrierTurns, CarrierTurnsBy, is_carrier_move, context_of}
-use Rattle.proxy_turns.specs.CarrierModel.CarrierEvent.{AtBackend, Starved, Looked, Took, Opened, Refused, Missed, SeedReached, Sent, Gave, GaveUnsent}
+use Rattle.proxy_turns.specs.CarrierModel.CarrierEvent.{AtBackend, Starved, WorkerAdded, BackendAdded, Looked, Took, Opened, Refused, Missed, SeedReached, Sent, Gave, GaveUnsent}
 
 -- events were made until memory ran out
 abbrev pub Stops : {H P : Type 0} → (P → ℕ) → (P → Type 0) → (P → List Request → List Value → P → Type 0) → (P → Type 0) → (Endpoint → P → Type 0) → (P → ℕ) → (CarrierEvent → Bool) → CarrierModel H P → CarrierModel H P → Type 0
@@ -75,6 +76,34 @@ module _ {H P : Type 0} (failures : P → ℕ) (is_garbled : P → Type 0) (exch
     ap (λ a. a || next) is ∙ ap (λ b. list_any is_carrier_move es || b) so ∙ sym (list_any-append is_carrier_move es fs),
     list_all-append may es fs ∙ and_true (list_all may es) (list_all may fs) few more,
   )
+
+  -- backends are made
+  backends_grown : may BackendAdded ≡ true → (old : CarrierModel H P) (n : ℕ) → CarrierGoesBy failures is_garbled exchange gives_none opens longest may old false (record old { backends = grown n new_backend old.backends })
+  backends_grown kind old zero = stays old
+  backends_grown kind old (suc n) =
+      let mid : CarrierModel H P = record old { backends = grown n new_backend old.backends } in
+      let new : CarrierModel H P = record mid { backends = mid.backends ++ new_backend ∷ [] } in
+      goes_then old false mid false new (backends_grown kind old n) (goes_by mid BackendAdded new kind refl)
+
+  pub backends_added : may BackendAdded ≡ true → (old : CarrierModel H P) (backends' : List (Backend P)) → Grows new_backend old.backends backends'
+      → CarrierGoesBy failures is_garbled exchange gives_none opens longest may old false (record old { backends = backends' })
+  backends_added kind old backends' (n, is) =
+      let Q : List (Backend P) → Type 0 = λ xs. CarrierGoesBy failures is_garbled exchange gives_none opens longest may old false (record old { backends = xs }) in
+      subst Q (sym is) (backends_grown kind old n)
+
+  -- places for pending runs are made
+  places_grown : may WorkerAdded ≡ true → (old : CarrierModel H P) (n : ℕ) → CarrierGoesBy failures is_garbled exchange gives_none opens longest may old false (record old { pending_runs = grown n no_pending_run old.pending_runs })
+  places_grown kind old zero = stays old
+  places_grown kind old (suc n) =
+      let mid : CarrierModel H P = record old { pending_runs = grown n no_pending_run old.pending_runs } in
+      let new : CarrierModel H P = record mid { pending_runs = mid.pending_runs ++ no_pending_run ∷ [] } in
+      goes_then old false mid false new (places_grown kind old n) (goes_by mid WorkerAdded new kind refl)
+
+  pub places_added : may WorkerAdded ≡ true → (old : CarrierModel H P) (pending_runs' : List PendingRun) → Grows no_pending_run old.pending_runs pending_runs'
+      → CarrierGoesBy failures is_garbled exchange gives_none opens longest may old false (record old { pending_runs = pending_runs' })
+  places_added kind old pending_runs' (n, is) =
+      let Q : List PendingRun → Type 0 = λ xs. CarrierGoesBy failures is_garbled exchange gives_none opens longest may old false (record old { pending_runs = xs }) in
+      subst Q (sym is) (places_grown kind old n)
 
   -- a call after others found no memory
   pub turns_err : (rests : CarrierModel H P → Type 0) (old : CarrierModel H P) (first : Bool) (mid new : CarrierModel H P) (e' : NoMemory) (result : Result Bool NoMemory)

@@ -134,6 +134,11 @@ pub if_turned : {P : Type 0} (moved : Bool) → IfStill (Ok moved) P → moved �
 if_turned true still e = absurd (cc)
 if_turned false still e = still
 
+-- where only the last of some steps moved nothing, something moved; where it is the first, it was so from the start
+pub still_first : {X : Type 0} (P : X → Type 0) (b : Bool) (old now : X) → (b ≡ false → now ≡ old) → P now → IfStill (Ok b) (P old)
+still_first P true old now same holds = tt
+still_first P false old now same holds = subst P (same refl) holds
+
 module _ {C : Type 0} where
   post_none : (client : ClientModel C) (outlet : Outlet RunModel) → client.commands.fresh ≡ [] → HasNoneToPost client outlet
   post_none client outlet none some = absurd (some none)
@@ -316,6 +321,14 @@ module _ {C : Type 0} (t : ClientModel C) where
 
   pub undrained : (may : Bool) → (t.gone ≡ false → t.unpushed ≡ [] → may ≡ true) → may ≡ false → DrainsNone t t
   undrained may is not_so = record { kept = refl; drained = λ here empty. absurd (false≢true (sym not_so ∙ is here empty)) }
+
+  -- nothing is drained behind bytes that wait
+  pub drains_held : (session : SessionModel) (unpushed : List ℕ) → t.unpushed ≢ [] → session ≡ t.session → unpushed ≡ t.unpushed
+      → DrainsNone t (record t { session = session; unpushed = unpushed })
+  drains_held session unpushed some same kept = record {
+    kept = λ i. record t { session = same i; unpushed = kept i };
+    drained = λ here empty. absurd (some (sym kept ∙ empty));
+  }
 
   pub fed_still : (session : SessionModel) (unfed : List ℕ) (n : ℕ) → FeedOutcome t.session t.unfed (Ok n) session → unfed ≡ drop n t.unfed
       → IfStill (Ok (nat_lt 0 n)) (FeedsNone t (record t { session = session; unfed = unfed }))

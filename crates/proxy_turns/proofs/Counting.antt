@@ -16,7 +16,7 @@ use Rattle.session_order.specs.Requests.{asked_of}
 use Rattle.proxy_turns.specs.declared.owing.Effect.{Effect}
 use Rattle.proxy_turns.specs.declared.owing.Effect.TheVariants.{Skips, Asks, Ends}
 use Rattle.proxy_turns.specs.Owing.{Owes, unfinished, garbled, ended, skipped, asked, effect_of, Reads, Holds, RestIs, IsCounted, Took, EndsAt}
-use Rattle.proxy_turns.specs.Script.{Plays}
+use Rattle.proxy_turns.specs.Script.{Plays, ScriptModel}
 use Rattle.proxy_turns.specs.Received.{FeedOutcome, TakeOutcome, CountOutcome, IsStuck}
 
 -- ---- what is owed is one number
@@ -222,6 +222,9 @@ served_where_held (Ok all) bytes pushed owed owes is = (
   (λ served. is.1 (let P : ℕ → Type 0 = λ k. Holds k pushed in subst P (one_owed 0 bytes served.0 served.1 owed owes) served.2)),
 )
 served_where_held (Err refused) bytes pushed owed owes is = tt
+
+pub plays_nothing : (script : ScriptModel) → Plays script [] [] [] script
+plays_nothing script = (refl, λ i. record script { pulled = sym (append-nil script.pulled) i; pushed = sym (append-nil script.pushed) i; noted = sym (append-nil script.noted) i })
 
 -- the bytes in front of the buffer leave the front of what is left
 pub front_played : (client : ℕ) (bytes buffer pushed : List ℕ) (noted : List (Ticket × Ended)) (at n : ℕ)

@@ -2,7 +2,7 @@
 use Rattle.std.proofs.Common.{◌≡◌, ◌||◌, ◌&&◌, Bool, true, false, refl}
 use Rattle.proxy_turns.specs.ClientTurn.{ClientEvent, is_begin, is_drain, is_drop, is_feed, is_post, is_push, is_read, is_send, is_work, is_write}
 use Rattle.proxy_turns.specs.WorkerModel.{WorkerEvent, turns_client, removes_client, serves_client}
-use Rattle.proxy_turns.specs.CarrierModel.{CarrierEvent, adds_backend, dials_seed, dials_node, dials_to_ask, seeks_by_dial, renews_map, fetches, gives, tells_unsent, takes_run, sends, connects_seed, connects, serves_backend, serves_lane}
+use Rattle.proxy_turns.specs.CarrierModel.{CarrierEvent, renews_map, fetches, gives, tells_unsent, takes_run, sends, connects, serves_backend, serves_lane}
 
 pub and_true : (a b : Bool) → a ≡ true → b ≡ true → (a && b) ≡ true
 and_true true true e f = refl
@@ -21,21 +21,6 @@ or_left false b e = absurd (cc)
 or_right : (a b : Bool) → b ≡ true → (a || b) ≡ true
 or_right true b e = refl
 or_right false b e = e
-
-pub seed_added : (event : CarrierEvent) → adds_backend event ≡ true → connects_seed event ≡ true
-seed_added event kind = or_left (adds_backend event) (dials_seed event) kind
-
-pub seed_dialled : (event : CarrierEvent) → dials_seed event ≡ true → connects_seed event ≡ true
-seed_dialled event kind = or_right (adds_backend event) (dials_seed event) kind
-
-pub node_added : (event : CarrierEvent) → adds_backend event ≡ true → connects event ≡ true
-node_added event kind = or_left (adds_backend event) (dials_node event) kind
-
-pub node_dialled : (event : CarrierEvent) → dials_node event ≡ true → connects event ≡ true
-node_dialled event kind = or_right (adds_backend event) (dials_node event) kind
-
-pub asked_added : (event : CarrierEvent) → adds_backend event ≡ true → seeks_by_dial event ≡ true
-asked_added event kind = or_left (adds_backend event) (dials_to_ask event) kind
 
 pub map_renewed : (event : CarrierEvent) → renews_map event ≡ true → serves_backend event ≡ true
 map_renewed event kind = or_left (renews_map event) (fetches event || gives event) kind

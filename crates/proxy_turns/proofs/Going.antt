@@ -151,6 +151,13 @@ module _ {C : Type 0} (moves : Moves C) (may : ClientEvent → Bool) where
         → moved ≡ nat_lt 0 n → ClientGoesBy moves may (at t o v) moved (at (record t { session = session; unpushed = unpushed }) o v)
     drained kind session n unpushed moved there drains is = by (at t o v) (Drained n) _ moved is (kind n) (there, drains, refl)
 
+    -- nothing was drained
+    pub drains_nothing : (session : SessionModel) (unpushed : List ℕ) → session ≡ t.session → unpushed ≡ t.unpushed
+        → ClientGoesBy moves may (at t o v) false (at (record t { session = session; unpushed = unpushed }) o v)
+    drains_nothing session unpushed same kept =
+        let is : at t o v ≡ at (record t { session = session; unpushed = unpushed }) o v = λ i. at (record t { session = sym same i; unpushed = sym kept i }) o v in
+        subst (ClientGoesBy moves may (at t o v) false) is (stays (at t o v))
+
     pub pushed : ((bytes : List ℕ) → may (Pushed bytes) ≡ true) → (port : C) (bytes unpushed : List ℕ) (moved : Bool) → moves t.port [] bytes [] port → t.unpushed ≡ bytes ++ unpushed
         → moved ≡ nat_lt 0 (length bytes) → ClientGoesBy moves may (at t o v) moved (at (record t { port = port; unpushed = unpushed }) o v)
     pushed kind port bytes unpushed moved m left is = by (at t o v) (Pushed bytes) _ moved is (kind bytes) (m, left, refl)

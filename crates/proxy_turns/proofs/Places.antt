@@ -1,5 +1,6 @@
 -- What stands at a place of a list, and tests.
-use Rattle.std.proofs.Common.{◌≡◌, ◌||◌, ◌<◌, ◌≤◌, ◌+◌, ℕ, zero, suc, List, [], ◌∷◌, ◌++◌, length, Bool, true, false, Option, Some, None, refl, sym, subst, arith}
+use Rattle.std.proofs.Common.{◌≡◌, ◌||◌, ◌<◌, ◌≤◌, ◌+◌, ℕ, zero, suc, List, [], ◌∷◌, ◌++◌, length, Bool, true, false, Option, Some, None, nat_lt, refl, sym, subst, arith}
+use Rattle.std.proofs.lemmas.Bool.Decides.{nat_tests}
 use Rattle.std.specs.Prelude.{slice_get, slice_set}
 use Rattle.std.specs.Option.{ForSome}
 
@@ -14,6 +15,24 @@ three_false a b c e = let f = or_false (a || b) c e in let g = or_false a b f.0 
 
 pub four_false : (a b c d : Bool) → (((a || b) || c) || d) ≡ false → (a ≡ false) × (b ≡ false) × (c ≡ false) × (d ≡ false)
 four_false a b c d e = let f = or_false ((a || b) || c) d e in let g = three_false a b c f.0 in (g.0, g.1, g.2, f.1)
+
+-- whether anything moved after one more step, and where there is none
+pub one_moved : (n : ℕ) (moved : Bool) → moved ≡ true → (nat_lt 0 n || moved) ≡ nat_lt 0 (n + 1)
+one_moved n moved is = grind (arith, nat_tests, is)
+
+pub none_moved : (n : ℕ) (moved : Bool) → moved ≡ false → (nat_lt 0 n || moved) ≡ nat_lt 0 n
+none_moved n true is = absurd (cc)
+none_moved n false is = last_none (nat_lt 0 n)
+  where
+    last_none : (b : Bool) → (b || false) ≡ b
+    last_none true = refl
+    last_none false = refl
+
+pub some_after : (n : ℕ) → nat_lt 0 (n + 1) ≡ false → ⊥
+some_after n none = grind (arith, nat_tests, none)
+
+pub some_moved : (n m : ℕ) → suc m ≤ n → nat_lt 0 n ≡ true
+some_moved n m le = grind (arith, nat_tests, le)
 
 -- ---- what stands at a place of a list
 

@@ -1,7 +1,7 @@
 -- One command of a client's is posted, told, or ends.
-use Rattle.std.proofs.Common.{◌≡◌, ◌⊎◌, ◌≤◌, ◌-◌, ◌++◌, ◌∷◌, [], arith, drop, get_or, length, map, take, ℕ, nat_eq, Bool, true, false, List, Option, Some, None, Result, Ok, Err, inl, inr, refl, sym, ap, ◌∙◌, subst}
+use Rattle.std.proofs.Common.{◌≡◌, ◌⊎◌, ◌<◌, ◌≤◌, ◌-◌, ◌++◌, ◌∷◌, [], arith, drop, get_or, length, map, take, ℕ, nat_eq, Bool, true, false, List, Option, Some, None, Result, Ok, Err, inl, inr, refl, sym, ap, ◌∙◌, subst}
 use Rattle.std.specs.Prelude.{All, IfOk, OnErr}
-use Rattle.std.proofs.lemmas.List.{append_assoc}
+use Rattle.std.proofs.lemmas.List.{append-nil, append_assoc}
 use Rattle.std.proofs.lemmas.List.Elements.{All-cons, All-nil, All-tail, All-weaker}
 use Rattle.std.specs.FinMap.{get, insert}
 use Rattle.std.specs.Map.{lookup}
@@ -145,6 +145,12 @@ one_more_goes first node all rest next later grown batch some item made pushed s
       ap (λ (bs : List Batch). bs ++ batches tail) (pushed ∙ ap (λ (b : Batch). later ++ b ∷ []) made) ∙ append_assoc later (batch_of next node ∷ []) (batches tail) ∙ sym (ap (λ (cs : List CommandModel). later ++ batches cs) whole) ∙ so_far,
       All-tail (GoesWith first) next tail (subst (All (GoesWith first)) whole goes),
     )
+
+-- where none is left, all go
+pub all_made : (first : CommandModel) (node : ℕ) (all rest : List CommandModel) (run : RunModel) → length rest < 1 → run.first ≡ batch_of first node
+    → run.later ++ map (λ c. batch_of c node) rest ≡ map (λ c. batch_of c node) all → run ≡ run_of first all node
+all_made first node all [] run none is so_far = λ i. record { first = is i; later = (sym (append-nil run.later) ∙ so_far) i }
+all_made first node all (next ∷ rest) run none is so_far = absurd (omega (arith, none))
 
 -- each may be posted anywhere
 pub may_all : (cs : List CommandModel) (node : ℕ) → AreOneRun cs → All (λ c. MayPostTo c.stage node) cs

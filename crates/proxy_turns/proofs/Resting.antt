@@ -1,5 +1,5 @@
 -- What rests, and goes on to rest.
-use Rattle.std.proofs.Common.{◌≡◌, ◌∙◌, ◌||◌, ◌<◌, ◌≤◌, inl, inr, ℕ, zero, suc, List, [], ◌∷◌, length, Bool, true, false, Option, Some, None, Result, Ok, Err, refl, sym, ap, subst, is_some, arith}
+use Rattle.std.proofs.Common.{◌≡◌, ◌∙◌, ◌||◌, ◌≤◌, inl, inr, ℕ, List, [], ◌∷◌, length, Bool, true, false, Option, Some, None, Result, Ok, Err, refl, sym, ap, subst, is_some, arith}
 use Rattle.std.specs.Prelude.{◌≢◌, ◌⊎◌, IfSome, IsSome, is_none, slice_get, slice_set}
 use Rattle.std.specs.Option.{ForSome}
 use Rattle.resp_wire.specs.declared.fault.NoMemory.{NoMemory}
@@ -44,9 +44,6 @@ take_by f t v f' t' v' ef et ev (inr (inr there)) = inr (inr (ap (λ o. is_some 
 closed_by : (f : Option Failure) → is_none f ≡ false → is_some f ≡ true
 closed_by None e = absurd (cc)
 closed_by (Some f) e = refl
-
-same_target : {o : Option ℕ} {a b : ℕ} → o ≡ Some a → o ≡ Some b → a ≡ b
-same_target e f = cc
 
 module _ {H : Type 0} where
   lane_there : (o : Option (LaneEnds H)) (lane : LaneEnds H) → LaneStays (Some lane) o → (lane' : LaneEnds H) × (o ≡ Some lane') × LaneStays (Some lane) (Some lane')
@@ -112,18 +109,6 @@ module _ {P : Type 0} where
       → (backend : Backend P) × (o ≡ Some backend) × (has_failed backend.link ≡ true)
   linked_failed a None stays some closed = absurd stays
   linked_failed a (Some backend) (is, link) some closed = (backend, refl, closed_failed backend.link (link_stays a.link backend.link link some) (closed backend refl))
-
-  none_left : (xs : List (Backend P)) (k : ℕ) → k < length xs → BackendStays (slice_get xs k) None → ⊥
-  none_left [] k lt stays = absurd (omega (arith, lt))
-  none_left (x ∷ xs) zero lt stays = stays
-  none_left (x ∷ xs) (suc k) lt stays = none_left xs k (omega (arith, lt)) stays
-
-  no_fewer : (xs ys : List (Backend P)) (k : ℕ) → k < length xs → BackendStays (slice_get xs k) (slice_get ys k) → length ys ≤ k → ⊥
-  no_fewer [] ys k lt stays none = absurd (omega (arith, lt))
-  no_fewer (x ∷ xs) [] zero lt stays none = stays
-  no_fewer (x ∷ xs) [] (suc k) lt stays none = none_left xs k (omega (arith, lt)) stays
-  no_fewer (x ∷ xs) (y ∷ ys) zero lt stays none = absurd (omega (arith, none))
-  no_fewer (x ∷ xs) (y ∷ ys) (suc k) lt stays none = no_fewer xs ys k (omega (arith, lt)) stays (omega (arith, none))
 
 -- ---- what rests goes on to rest
 
@@ -240,23 +225,6 @@ module _ {H P : Type 0} where
       let at2 : slice_get s2.pending_runs worker ≡ Some pending = subst Q q2.runs at3 in
       let at1 : slice_get s1.pending_runs worker ≡ Some pending = subst Q q1.runs at2 in
       run_by s1 s2 s3 s4 q1 q2 q3 worker pending.refused pending.run (told pending at1) (take pending at2) (link pending at3) (send pending at)
-
-  link_by_node : (mid new : CarrierModel H P) → Quiet mid new → (node n : ℕ) → node < length mid.backends → node ≡ n → HasLink new.backends n ⊎ (length new.backends ≤ n) → HasLink new.backends n
-  link_by_node mid new quiet node n lt same (inl link) = link
-  link_by_node mid new quiet node n lt same (inr none) = absurd (no_fewer mid.backends new.backends node lt (quiet.backends node) (omega (arith, none, same)))
-
-  -- the node of a pending run has a link, once it has a backend
-  pub linked : (mid new : CarrierModel H P) → Quiet mid new → (worker node : ℕ) → ForSome (slice_get mid.pending_runs worker) (λ pending. target_of pending.refused pending.run ≡ Some node)
-      → node < length mid.backends → ForSome (slice_get new.pending_runs worker) (λ pending. ForSome (target_of pending.refused pending.run) (λ n. HasLink new.backends n ⊎ (length new.backends ≤ n)))
-      → ForSome (slice_get new.pending_runs worker) (λ pending. ForSome (target_of pending.refused pending.run) (HasLink new.backends))
-  linked mid new quiet worker node goal lt either pending at n is =
-      let Q : List PendingRun → Type 0 = λ ps. slice_get ps worker ≡ Some pending in
-      link_by_node mid new quiet node n lt (same_target (goal pending (subst Q quiet.runs at)) is) (either pending at n is)
-
-  -- the seed was dialled, once it has a backend
-  pub dialled_seed : (mid new : CarrierModel H P) → Quiet mid new → (seed : ℕ) → seed < length mid.backends → (new.seed_to_dial ≡ false) ⊎ (length new.backends ≤ 0) → new.seed_to_dial ≡ false
-  dialled_seed mid new quiet seed lt (inl dialled) = dialled
-  dialled_seed mid new quiet seed lt (inr none) = absurd (no_fewer mid.backends new.backends seed lt (quiet.backends seed) (omega (arith, none)))
 
 -- ---- what one call leaves at its place
 

@@ -1,7 +1,7 @@
 -- What the carrier does between the workers' lanes and the nodes: a list of events.
 -- A turn is a list of events, and moved exactly where one of them is a move; one that moved nothing leaves the carrier at
 -- rest.
-use Rattle.std.specs.Prelude.{◌||◌, ◌≡◌, ◌++◌, ◌∷◌, [], ◌⊎◌, ◌<◌, ◌≤◌, ℕ, List, Bool, true, false, Some, None, Result, Ok, Err, length, slice_get, slice_set}
+use Rattle.std.specs.Prelude.{◌||◌, ◌≡◌, ◌++◌, ◌∷◌, [], ◌⊎◌, ◌≤◌, ℕ, List, Bool, true, false, Some, None, Result, Ok, Err, length, slice_get, slice_set}
 use Rattle.std.specs.List.{FoldsTo, list_all, list_any}
 use Rattle.std.specs.Option.{ForSome}
 use Rattle.resp_wire.specs.declared.fault.NoMemory.{NoMemory}
@@ -248,17 +248,6 @@ ChangesBackend {H} {P} old new R = (k : ℕ) × (backend : Backend P) × (backen
     × R (context_of old backend) (context_of new backend')
     × (new ≡ record old { backends = slice_set old.backends k backend'; nodes = new.nodes; published = new.published })
 
-module _ {H P : Type 0} where
-  -- a backend for one more node
-  abbrev pub AddsBackend : CarrierModel H P → Result (Unit {0}) NoMemory → CarrierModel H P → Type 0
-  AddsBackend old (Ok _) new = new ≡ record old { backends = old.backends ++ new_backend ∷ [] }
-  AddsBackend old (Err _) new = new ≡ old
-
-  -- a place for the pending run of one more worker
-  abbrev pub AddsWorker : CarrierModel H P → Result (Unit {0}) NoMemory → CarrierModel H P → Type 0
-  AddsWorker old (Ok _) new = new ≡ record old { pending_runs = old.pending_runs ++ no_pending_run ∷ [] }
-  AddsWorker old (Err _) new = new ≡ old
-
 module _ {H P : Type 0} (failures : P → ℕ) (is_garbled : P → Type 0) (exchange : P → List Request → List Value → P → Type 0) (gives_none : P → Type 0) (opens : Endpoint → P → Type 0) (longest : P → ℕ) where
   abbrev pub CarrierDoes : CarrierModel H P → CarrierEvent → CarrierModel H P → Type 0
   CarrierDoes old (AtBackend step) new =
@@ -334,28 +323,9 @@ module _ {H P : Type 0} (failures : P → ℕ) (is_garbled : P → Type 0) (exch
   CarrierTurnsBy may rests old (Ok moved) new = CarrierCalls may rests old moved new
   CarrierTurnsBy may rests old (Err _) new = (moved : Bool) × CarrierGoesBy may old moved new
 
-  -- places for pending runs are made, until each worker has one; nothing moves
-  abbrev pub AddsWorkers : CarrierModel H P → Result (Unit {0}) NoMemory → CarrierModel H P → Type 0
-  AddsWorkers old (Ok _) new = CarrierGoesBy adds_worker old false new × (length new.lanes ≤ length new.pending_runs)
-  AddsWorkers old (Err _) new = (moved : Bool) × CarrierGoesBy adds_worker old moved new
-
-  -- backends are made, until this node has one; nothing moves
-  abbrev pub AddsBackends : ℕ → CarrierModel H P → Result (Unit {0}) NoMemory → CarrierModel H P → Type 0
-  AddsBackends node old (Ok _) new = CarrierGoesBy adds_backend old false new × (node < length new.backends)
-  AddsBackends node old (Err _) new = (moved : Bool) × CarrierGoesBy adds_backend old moved new
-
-  -- the seed is dialled, where it has a backend
-  abbrev pub DialsSeed : CarrierModel H P → Result Bool NoMemory → CarrierModel H P → Type 0
-  DialsSeed = CarrierTurnsBy dials_seed (λ left. (left.seed_to_dial ≡ false) ⊎ (length left.backends ≤ 0))
-
   -- the seed gets its backend, and is dialled
   abbrev pub ConnectsSeed : CarrierModel H P → Result Bool NoMemory → CarrierModel H P → Type 0
   ConnectsSeed = CarrierTurnsBy connects_seed (λ left. left.seed_to_dial ≡ false)
-
-  -- the node of a pending run is dialled, where it has a backend
-  abbrev pub DialsNode : ℕ → CarrierModel H P → Result Bool NoMemory → CarrierModel H P → Type 0
-  DialsNode worker = CarrierTurnsBy dials_node (λ left. ForSome (slice_get left.pending_runs worker) (λ pending_run.
-      ForSome (target_of pending_run.refused pending_run.run) (λ node. HasLink left.backends node ⊎ (length left.backends ≤ node))))
 
   -- the node of a pending run gets its backend, and is dialled
   abbrev pub Connects : ℕ → CarrierModel H P → Result Bool NoMemory → CarrierModel H P → Type 0

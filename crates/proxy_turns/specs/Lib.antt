@@ -14,6 +14,7 @@ pub mod WorkerState
 pub mod Worker
 pub mod Dialling
 pub mod Backend
+pub mod Growing
 pub mod Sending
 pub mod RefusedRun
 pub mod PendingRun

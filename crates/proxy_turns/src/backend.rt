@@ -174,7 +174,7 @@ impl<P: NodePort + Drop> Backend<P> {
         };
         match dial.open(node, host, port) {
             Ok(port) => {
-                self.link = Some(Link::new(alloc, port, node));
+                put(&mut self.link, Some(Link::new(alloc, port, node)));
                 self.asked = false;
                 Ok(Dialled::Opened)
             }
@@ -336,13 +336,13 @@ impl<P: NodePort + Drop> Backend<P> {
         }
         match ops_of(value, link.node(), nodes) {
             Ok(changes) => {
-                self.answer = None;
-                self.changes = Some(changes);
+                put(&mut self.answer, None);
+                put(&mut self.changes, Some(changes));
                 Ok(BackendStep::Read)
             }
             Err(fault) => {
                 if is_unread(fault) {
-                    self.answer = None;
+                    put(&mut self.answer, None);
                     return Ok(BackendStep::Unread);
                 }
                 Err(NoMemory)
@@ -363,7 +363,7 @@ impl<P: NodePort + Drop> Backend<P> {
             return Ok(BackendStep::Idle);
         };
         map.publish(changes.as_slice())?;
-        self.changes = None;
+        put(&mut self.changes, None);
         Ok(BackendStep::Renewed)
     }
 

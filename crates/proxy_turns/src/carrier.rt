@@ -4,10 +4,11 @@ ghost use Rattle.std.specs.Prelude.{◌≡◌, ◌<◌, false, length};
 ghost use Rattle.std.specs.List.{list_any};
 ghost use Rattle.proxy_turns.specs.Backend.{has_open_link};
 
-use crate::all_backends::{any_unanswered, first_open};
+use crate::all_backends::{add_backends, any_unanswered, first_open};
 use crate::backend::{Backend, Dialled, MapTask, RunStep};
-use crate::dial::Dial;
-use crate::pending_run::PendingRun;
+use crate::dial::{Dial, seed};
+use crate::pending_run::{PendingRun, add_places};
+use crate::place::put;
 use node_link::RunPort;
 use proxy_lanes::{CarrierEnds, Naming, Publisher};
 use resp_wire::NoMemory;
@@ -55,12 +56,15 @@ impl<H: Drop, M: Drop, D: Drop, P: Drop> Drop for Carrier<H, M, D, P> {
     }
 }
 
-// The node of this number, or the seed.
-fn node_at(number: u8) -> NodeId {
-    match NodeId::new(number) {
-        Some(node) => node,
-        None => NodeId::new(0).unwrap(),
-    }
+// The node that is to be dialled next: each of the table, one after the other.
+fn next_node(next_dialled: &mut u8, nodes: &NodeTable) -> NodeId {
+    let node = NodeId::new(*next_dialled).unwrap_or(seed());
+    *next_dialled = if nodes.endpoint(node).is_some() {
+        node.number() + 1
+    } else {
+        0
+    };
+    node
 }
 
 // The place of a node's backend.
@@ -93,7 +97,7 @@ where
     P: RunPort + Drop,
     D: Dial<Port = P> + Drop,
 {
-    ghost use Rattle.proxy_turns.specs.CarrierModel.{AddsBackend, AddsBackends, AddsWorker, AddsWorkers, CarrierTurns, Connects, ConnectsSeed, DialsNode, DialsSeed, DoesMapTask, FetchesReply, GivesReply, IsSought, RenewsMap, RestsAfter, SendsRun, ServesBackend, ServesBackends, SeekOutcome, SeeksByDial, ServesLane, ServesLanes, TakesRun, TakesTurn, TellsUnsent, carrier_model, new_carrier};
+    ghost use Rattle.proxy_turns.specs.CarrierModel.{CarrierTurns, Connects, ConnectsSeed, DoesMapTask, FetchesReply, GivesReply, IsSought, RenewsMap, RestsAfter, SendsRun, ServesBackend, ServesBackends, SeekOutcome, SeeksByDial, ServesLane, ServesLanes, TakesRun, TakesTurn, TellsUnsent, carrier_model, new_carrier};
     ghost use Rattle.proxy_lanes.specs.Carrier.{lanes_of};
     ghost use Rattle.proxy_turns.specs.Backend.{GaveNone};
     ghost use Rattle.proxy_turns.specs.Swapping.{SwapOutcome};
@@ -165,22 +169,6 @@ where
         self.backends[at].give(&mut self.ends)
     }
 
-    // A backend for one more node.
-    fn add_backend(&mut self) -> Result<(), NoMemory>
-        ensures { AddsBackend (carrier_model D.failures self.old) result (carrier_model D.failures self.new) }
-    {
-        self.backends.push(Backend::new())?;
-        Ok(())
-    }
-
-    // A place for the pending run of one more worker.
-    fn add_worker(&mut self) -> Result<(), NoMemory>
-        ensures { AddsWorker (carrier_model D.failures self.old) result (carrier_model D.failures self.new) }
-    {
-        self.pending_runs.push(PendingRun::new())?;
-        Ok(())
-    }
-
     // Takes the next run of a worker's lane.
     fn take_from(&mut self, at: usize) -> bool
         ensures { TakesRun P.failures P.is_garbled P.exchange P.gives_none D.opens P.longest at (carrier_model D.failures self.old) result (carrier_model D.failures self.new) }
@@ -207,31 +195,6 @@ where
         self.pending_runs[at].tell_unsent(&mut self.ends)
     }
 
-    // Dials the node of a pending run, where there is no link to it.
-    fn dial_for(&mut self, worker: usize) -> Result<bool, NoMemory>
-        ensures { DialsNode P.failures P.is_garbled P.exchange P.gives_none D.opens P.longest worker (carrier_model D.failures self.old) result (carrier_model D.failures self.new) }
-    {
-        if worker >= self.pending_runs.len() {
-            return Ok(false);
-        }
-        let Some(node) = self.pending_runs[worker].target() else {
-            return Ok(false);
-        };
-        let at = place_of(node);
-        if at >= self.backends.len() {
-            return Ok(false);
-        }
-        match self.backends[at].open(self.alloc, node, &mut self.dial, &self.nodes)? {
-            Dialled::Present => Ok(false),
-            Dialled::Opened => Ok(true),
-            Dialled::Unreached => {
-                self.dial.unsent();
-                self.pending_runs[worker].refuse();
-                Ok(true)
-            }
-        }
-    }
-
     // Sends a pending run. One that is too long for its link is refused.
     fn send_for(&mut self, worker: usize) -> Result<bool, NoMemory>
         ensures { SendsRun P.failures P.is_garbled P.exchange P.gives_none D.opens P.longest worker (carrier_model D.failures self.old) result (carrier_model D.failures self.new) }
@@ -252,7 +215,7 @@ where
         }
         match self.backends[at].send(run)? {
             RunStep::Sent => {
-                pending_run.run = None;
+                put(&mut pending_run.run, None);
                 Ok(true)
             }
             RunStep::TooLong => {
@@ -263,54 +226,7 @@ where
         }
     }
 
-    // Backends for all nodes up to this one.
-    fn add_backends(&mut self, node: NodeId) -> Result<(), NoMemory>
-        ensures { AddsBackends P.failures P.is_garbled P.exchange P.gives_none D.opens P.longest node (carrier_model D.failures self.old) result (carrier_model D.failures self.new) }
-    {
-        for _next in self.backends.len()..place_of(node) + 1 {
-            self.add_backend()?;
-        }
-        Ok(())
-    }
-
-    // Places for the pending runs of all workers.
-    fn add_workers(&mut self) -> Result<(), NoMemory>
-        ensures { AddsWorkers P.failures P.is_garbled P.exchange P.gives_none D.opens P.longest (carrier_model D.failures self.old) result (carrier_model D.failures self.new) }
-    {
-        for _next in self.pending_runs.len()..self.ends.workers() {
-            self.add_worker()?;
-        }
-        Ok(())
-    }
-
-    // Dials the seed, which is then to be asked for CLUSTER SLOTS.
-    fn dial_seed(&mut self, seed: NodeId) -> Result<bool, NoMemory>
-        requires { seed ≡ 0 }
-        ensures { DialsSeed P.failures P.is_garbled P.exchange P.gives_none D.opens P.longest (carrier_model D.failures self.old) result (carrier_model D.failures self.new) }
-    {
-        if !self.seed_to_dial {
-            return Ok(false);
-        }
-        let at = place_of(seed);
-        if at >= self.backends.len() {
-            return Ok(false);
-        }
-        let backend = &mut self.backends[at];
-        match backend.open(self.alloc, seed, &mut self.dial, &self.nodes)? {
-            Dialled::Opened => Ok(true),
-            Dialled::Present => {
-                backend.to_ask = true;
-                self.seed_to_dial = false;
-                Ok(true)
-            }
-            Dialled::Unreached => {
-                self.seed_to_dial = false;
-                Ok(true)
-            }
-        }
-    }
-
-    // Publishes what a backend says of the slot map, where it says anything.
+    // Publishes what a backend says of the slot map, where it says anything: each task in order.
     fn renew_map(&mut self, at: usize) -> Result<bool, NoMemory>
         ensures { RenewsMap P.failures P.is_garbled P.exchange P.gives_none D.opens P.longest at (carrier_model D.failures self.old) result (carrier_model D.failures self.new) }
     {
@@ -320,13 +236,6 @@ where
         if !self.backends[at].has_map_work() {
             return Ok(false);
         }
-        self.run_map_tasks(at)
-    }
-
-    // Does each task at a backend, in order.
-    fn run_map_tasks(&mut self, at: usize) -> Result<bool, NoMemory>
-        ensures { RenewsMap P.failures P.is_garbled P.exchange P.gives_none D.opens P.longest at (carrier_model D.failures self.old) result (carrier_model D.failures self.new) }
-    {
         let published = self.run_map_task(at, MapTask::Publish)?;
         let asked = self.run_map_task(at, MapTask::Ask)?;
         let read = self.run_map_task(at, MapTask::Read)?;
@@ -338,14 +247,10 @@ where
     fn serve_backend(&mut self, at: usize) -> Result<bool, NoMemory>
         ensures { ServesBackend P.failures P.is_garbled P.exchange P.gives_none D.opens P.longest at (carrier_model D.failures self.old) result (carrier_model D.failures self.new) }
     {
-        let first = self.pass_reply(at)?;
-        if !first {
-            return Ok(false);
-        }
-        for _ in 1..REPLIES_PER_TURN {
-            let passed = self.pass_reply(at)?;
-            if !passed {
-                return Ok(true);
+        for passed in 0..REPLIES_PER_TURN {
+            let moved = self.pass_reply(at)?;
+            if !moved {
+                return Ok(passed > 0);
             }
         }
         Ok(true)
@@ -372,7 +277,7 @@ where
         Ok(moved)
     }
 
-    // Dials the node of a run that is still pending.
+    // Dials the node of a run that is still pending, where there is no link to it.
     fn connect(&mut self, worker: usize) -> Result<bool, NoMemory>
         ensures { Connects P.failures P.is_garbled P.exchange P.gives_none D.opens P.longest worker (carrier_model D.failures self.old) result (carrier_model D.failures self.new) }
     {
@@ -382,22 +287,27 @@ where
         let Some(node) = self.pending_runs[worker].target() else {
             return Ok(false);
         };
-        self.add_backends(node)?;
-        self.dial_for(worker)
+        let at = place_of(node);
+        add_backends(&mut self.backends, at + 1)?;
+        match self.backends[at].open(self.alloc, node, &mut self.dial, &self.nodes)? {
+            Dialled::Present => Ok(false),
+            Dialled::Opened => Ok(true),
+            Dialled::Unreached => {
+                self.dial.unsent();
+                self.pending_runs[worker].refuse();
+                Ok(true)
+            }
+        }
     }
 
     // The turn of a worker's lanes: several runs are carried, as long as something moves.
     fn serve_lane(&mut self, worker: usize) -> Result<bool, NoMemory>
         ensures { ServesLane P.failures P.is_garbled P.exchange P.gives_none D.opens P.longest worker (carrier_model D.failures self.old) result (carrier_model D.failures self.new) }
     {
-        let first = self.carry_run(worker)?;
-        if !first {
-            return Ok(false);
-        }
-        for _ in 1..RUNS_PER_TURN {
-            let carried = self.carry_run(worker)?;
-            if !carried {
-                return Ok(true);
+        for carried in 0..RUNS_PER_TURN {
+            let moved = self.carry_run(worker)?;
+            if !moved {
+                return Ok(carried > 0);
             }
         }
         Ok(true)
@@ -439,7 +349,7 @@ where
     fn take_turn(&mut self) -> Result<bool, NoMemory>
         ensures { TakesTurn P.failures P.is_garbled P.exchange P.gives_none D.opens P.longest (carrier_model D.failures self.old) result (carrier_model D.failures self.new) }
     {
-        self.add_workers()?;
+        add_places(&mut self.pending_runs, self.ends.workers())?;
         let connected = self.connect_seed()?;
         let fetched = self.serve_backends()?;
         let carried = self.serve_lanes()?;
@@ -470,30 +380,9 @@ where
         requires closed { list_any has_open_link self.old.backends.items ≡ false }
         ensures { SeeksByDial P.failures P.is_garbled P.exchange P.gives_none D.opens P.longest (carrier_model D.failures self.old) result (carrier_model D.failures self.new) }
     {
-        let node = self.next_node();
-        self.add_backends(node)?;
-        self.dial_to_ask(node)
-    }
-
-    // The node that is to be dialled next: each of the table, one after the other.
-    fn next_node(&mut self) -> NodeId
-        ensures { carrier_model D.failures self.new ≡ carrier_model D.failures self.old }
-    {
-        let node = node_at(self.next_dialled);
-        self.next_dialled = if self.nodes.endpoint(node).is_some() {
-            node.number() + 1
-        } else {
-            0
-        };
-        node
-    }
-
-    fn dial_to_ask(&mut self, node: NodeId) -> Result<bool, NoMemory>
-        requires inside { node < length self.old.backends.items }
-        requires closed { list_any has_open_link self.old.backends.items ≡ false }
-        ensures { SeeksByDial P.failures P.is_garbled P.exchange P.gives_none D.opens P.longest (carrier_model D.failures self.old) result (carrier_model D.failures self.new) }
-    {
+        let node = next_node(&mut self.next_dialled, &self.nodes);
         let at = place_of(node);
+        add_backends(&mut self.backends, at + 1)?;
         let backend = &mut self.backends[at];
         match backend.open(self.alloc, node, &mut self.dial, &self.nodes)? {
             Dialled::Opened => {
@@ -505,16 +394,28 @@ where
         }
     }
 
+    // Dials the seed, which is then to be asked for CLUSTER SLOTS.
     fn connect_seed(&mut self) -> Result<bool, NoMemory>
         ensures { ConnectsSeed P.failures P.is_garbled P.exchange P.gives_none D.opens P.longest (carrier_model D.failures self.old) result (carrier_model D.failures self.new) }
     {
         if !self.seed_to_dial {
             return Ok(false);
         }
-        let Some(seed) = NodeId::new(0) else {
-            return Ok(false);
-        };
-        self.add_backends(seed)?;
-        self.dial_seed(seed)
+        let seed = seed();
+        let at = place_of(seed);
+        add_backends(&mut self.backends, at + 1)?;
+        let backend = &mut self.backends[at];
+        match backend.open(self.alloc, seed, &mut self.dial, &self.nodes)? {
+            Dialled::Opened => Ok(true),
+            Dialled::Present => {
+                backend.to_ask = true;
+                self.seed_to_dial = false;
+                Ok(true)
+            }
+            Dialled::Unreached => {
+                self.seed_to_dial = false;
+                Ok(true)
+            }
+        }
     }
 }

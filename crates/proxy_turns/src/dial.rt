@@ -19,6 +19,13 @@ pub enum DialFault {
     Failed,
 }
 
+/// The first node of the table, which is dialled first.
+pub(crate) fn seed() -> NodeId
+    ensures { result ≡ 0 }
+{
+    NodeId::new(0).unwrap()
+}
+
 /// Opens connections to nodes.
 pub trait Dial {
     type Port: RunPort + Drop;

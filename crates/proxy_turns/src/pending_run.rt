@@ -1,12 +1,14 @@
 //! The run of one worker that the carrier took and did not send yet.
 
-ghost use Rattle.std.specs.Prelude.{◌≡◌, ◌<◌, ◌↔◌, ◌≢◌, [], None, IfSome, IsTrue, length};
+ghost use Rattle.std.specs.Prelude.{◌≡◌, ◌<◌, ◌≤◌, ◌↔◌, ◌≢◌, [], None, IfSome, IsTrue, OnOk, length};
 ghost use Rattle.proxy_lanes.specs.Carrier.{lanes_of};
-ghost use Rattle.proxy_turns.specs.PendingRun.{DeliverOutcome};
+ghost use Rattle.proxy_turns.specs.Growing.{Grows};
+ghost use Rattle.proxy_turns.specs.PendingRun.{DeliverOutcome, no_pending_run};
 
 use crate::refused_run::RefusedRun;
 use key_split::{Run, Ticket, Told};
 use proxy_lanes::CarrierEnds;
+use resp_wire::NoMemory;
 use slot_map::NodeId;
 
 /// The run of one worker that the carrier took and did not send yet, or one that it could not send.
@@ -16,6 +18,17 @@ pub struct PendingRun {
     pub(crate) run: Option<Run>,
     /// What is still to be told of a run that could not be sent.
     pub(crate) refused: RefusedRun,
+}
+
+/// Places for the pending runs of so many workers.
+pub(crate) fn add_places(pending_runs: &mut Vec<PendingRun>, workers: usize) -> Result<(), NoMemory>
+    ensures added { Grows no_pending_run pending_runs.old.items pending_runs.new.items }
+    ensures enough { OnOk result (workers ≤ length pending_runs.new.items) }
+{
+    for _next in pending_runs.len()..workers {
+        pending_runs.push(PendingRun::new())?;
+    }
+    Ok(())
 }
 
 /// Gives a pair to its worker. One whose worker does not exist is dropped.
@@ -35,7 +48,7 @@ pub(crate) fn deliver<H: Drop, M: Drop>(
 }
 
 impl PendingRun {
-    ghost use Rattle.proxy_turns.specs.PendingRun.{no_pending_run, target_of, TakeOutcome, TellOutcome};
+    ghost use Rattle.proxy_turns.specs.PendingRun.{target_of, TakeOutcome, TellOutcome};
     ghost use Rattle.proxy_turns.specs.RefusedRun.{tickets_in};
 
     pub(crate) fn new() -> PendingRun

@@ -100,7 +100,7 @@ impl<'g, C: ClientPort + Drop, J: Naming, G: Gate> Worker<'g, C, J, G> {
     fn pass(&self) -> bool
         ensures { G.says self.now.gate.now self.now.state.worker self.now.state.answered result }
     {
-        self.gate.pass(self.state.worker(), self.state.answered())
+        self.gate.pass(self.state.worker, self.state.answered)
     }
 }
 

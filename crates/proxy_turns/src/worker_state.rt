@@ -35,7 +35,7 @@ use std::mem;
 #[derive(Drop)]
 pub(crate) struct WorkerState<C: ClientPort + Drop, J: Naming> {
     alloc: Global,
-    worker: u16,
+    pub(crate) worker: u16,
     // How many workers there are.
     workers: u16,
     clients: ClientTable<C>,
@@ -47,8 +47,8 @@ pub(crate) struct WorkerState<C: ClientPort + Drop, J: Naming> {
     outlet: Outlet<Run>,
     view: MapView<J>,
     inlet: Inlet<(Ticket, Told)>,
-    // How many parts have ended.
-    answered: u64,
+    /// How many parts have ended.
+    pub(crate) answered: u64,
     // The ports of the clients that were let go, where they are kept.
     ports: Vec<C>,
     // The parts whose commands have ended or are to be posted again.
@@ -119,19 +119,6 @@ impl<C: ClientPort + Drop, J: Naming> WorkerState<C, J> {
         is_none_to_come(self.left) && self.clients.is_empty()
     }
 
-    pub(crate) fn worker(&self) -> u16
-        ensures { result ≡ self.now.worker }
-    {
-        self.worker
-    }
-
-    /// How many parts have ended.
-    pub(crate) fn answered(&self) -> u64
-        ensures { result ≡ self.now.answered }
-    {
-        self.answered
-    }
-
     /// When the first of the commands that wait is due.
     pub(crate) fn next_due(&self) -> Option<u64> {
         self.due.next_due()
@@ -166,14 +153,10 @@ impl<C: ClientPort + Drop, J: Naming> WorkerState<C, J> {
         ensures admits { AdmitsClients C.moves (state_model self.old) result (state_model self.new) }
         ensures none { IfStill result (HasNoNewcomer (state_model self.new)) }
     {
-        let first = self.admit()?;
-        if !first {
-            return Ok(false);
-        }
-        for _ in 1..LANE_PLACES {
-            let came = self.admit()?;
-            if !came {
-                return Ok(true);
+        for came in 0..LANE_PLACES {
+            let moved = self.admit()?;
+            if !moved {
+                return Ok(came > 0);
             }
         }
         Ok(true)
@@ -220,14 +203,10 @@ impl<C: ClientPort + Drop, J: Naming> WorkerState<C, J> {
         ensures takes { TakesTold C.moves (state_model self.old) result (state_model self.new) }
         ensures none { IfStill result (HasNothingToTell (state_model self.new)) }
     {
-        let first = self.take_one(gate)?;
-        if !first {
-            return Ok(false);
-        }
-        for _ in 1..LANE_PLACES {
-            let took = self.take_one(gate)?;
-            if !took {
-                return Ok(true);
+        for told in 0..LANE_PLACES {
+            let moved = self.take_one(gate)?;
+            if !moved {
+                return Ok(told > 0);
             }
         }
         Ok(true)

@@ -24,14 +24,10 @@ impl<C: ClientPort + Drop> ClientParts<C> {
         ensures sends { SendsCommands C.moves (record { client = self.old; outlet = outlet.old; view = view.old }) result (record { client = self.new; outlet = outlet.new; view = view.new }) }
         ensures none { IfStill result (SendsNone self.old self.new outlet.new) }
     {
-        let first = self.send_next(outlet, view, is_crowded)?;
-        if !first {
-            return Ok(false);
-        }
-        for _ in 1..MAX_SENT {
-            let sent = self.send_next(outlet, view, is_crowded)?;
-            if !sent {
-                return Ok(true);
+        for sent in 0..MAX_SENT {
+            let moved = self.send_next(outlet, view, is_crowded)?;
+            if !moved {
+                return Ok(sent > 0);
             }
         }
         Ok(true)

@@ -11,6 +11,7 @@ ghost use Rattle.proxy_turns.specs.ClientRest.{HasNoPlace, IfStill};
 ghost use Rattle.proxy_turns.specs.Commands.{AreOneRun, GoesTo, GoesWith, Looks, PostOutcome, PostsAtResult, PostsFreshResult, PostsRun, WantsPostAt, commanded, in_table, node_looked_up, run_of, with_posted};
 
 use crate::client_limits::KEPT_COMMANDS;
+use crate::dial::seed;
 use command_future::{Command, Want};
 use key_split::{Batch, Run};
 use proxy_lanes::{MapView, Naming, Outlet};
@@ -181,11 +182,4 @@ fn node_by_map<J: Naming>(view: &mut MapView<J>, slot: Slot) -> NodeId
         Ok(None) => seed(),
         Err(_) => seed(),
     }
-}
-
-// The first node of the table.
-fn seed() -> NodeId
-    ensures { result ≡ 0 }
-{
-    NodeId::new(0).unwrap()
 }

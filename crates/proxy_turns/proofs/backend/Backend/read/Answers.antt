@@ -1,4 +1,4 @@
-use Rattle.std.proofs.Common.{◌∙◌, sym, subst, Option, Some, None, refl, inr}
+use Rattle.std.proofs.Common.{◌∙◌, ap, sym, subst, Option, Some, refl, inr}
 use Rattle.std.proofs.lemmas.Bool.{false≢true}
 use Rattle.node_link.specs.LinkModel.{LinkModel}
 use Rattle.proxy_turns.specs.Backend.{IsUnreadable}
@@ -13,7 +13,7 @@ returns-then-is_unread g c = λ unanswered published.
         c.in-Some.value,
         c.in-Some.is,
         subst Q (sym c.in-Some-link.is) (inr (c.in-Err.fault, ill.0)),
-        λ i. record { backend = record c.args.self.now { answer = None }; nodes = ill.1 i; published = published },
+        λ i. record { backend = record c.args.self.now { answer = c.put-then-is_unread.ensures i }; nodes = ill.1 i; published = published },
       ),
       refl,
       λ still. absurd (false≢true (sym still)),
@@ -31,7 +31,7 @@ returns-in-Ok g c = λ unanswered published.
         none_where _ (sym c.is_some.ensures ∙ c.if-is_some.false),
         well.1,
         λ i. record {
-          backend = record c.args.self.now { answer = None; changes = Some (well.2 i) };
+          backend = record c.args.self.now { answer = c.put-in-Ok.ensures i; changes = (c.put-in-Ok-2.ensures ∙ ap Some well.2) i };
           nodes = well.3 i;
           published = published;
         },

@@ -1,4 +1,4 @@
-use Rattle.std.proofs.Common.{◌≡◌, ◌∙◌, ap, inl, sym, refl, None, Some}
+use Rattle.std.proofs.Common.{◌≡◌, ◌∙◌, ap, inl, inr, sym, refl, None, Some}
 use Rattle.std.specs.List.{list_any, position}
 use Rattle.std.proofs.lemmas.Option.{get_or_from_slice_get}
 use Rattle.proxy_turns.specs.Backend.{has_open_link, is_unanswered}
@@ -10,6 +10,9 @@ pub returns-then-any_unanswered : goal.returns-then-any_unanswered
 returns-then-any_unanswered g c =
     let answer : c.any_unanswered.result ≡ list_any is_unanswered c.args.self.now.backends.items = c.any_unanswered.ensures ∙ ap (list_any is_unanswered) c.deref.ensures.value in
     (refl, inl (sym answer ∙ c.if-any_unanswered.true))
+
+pub returns-then-not-seeks : goal.returns-then-not-seeks
+returns-then-not-seeks g c = ((λ i. record (carrier_model g.D.Dial.failures c.args.self.now) { failures = c.seeks.ensures.failures i }), inr (c.seeks.ensures.calm c.if-not-seeks.true))
 
 pub returns-in-Some : goal.returns-in-Some
 returns-in-Some g c =

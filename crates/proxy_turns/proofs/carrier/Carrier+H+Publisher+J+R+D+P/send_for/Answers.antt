@@ -1,4 +1,5 @@
-use Rattle.std.proofs.Common.{◌≡◌, ◌∙◌, ◌<◌, ◌≤◌, ap, arith, length, Some, refl}
+use Rattle.key_split.specs.Runs.{RunModel}
+use Rattle.std.proofs.Common.{◌≡◌, ◌∙◌, ◌<◌, ◌≤◌, ap, arith, length, Some, refl, Option, subst, sym, true}
 use Rattle.std.specs.Prelude.{slice_get, slice_set}
 use Rattle.key_split.specs.declared.travel.Batch.{Batch}
 use Rattle.proxy_turns.specs.Resting.{HasNoOpenLink}
@@ -6,7 +7,7 @@ use Rattle.proxy_turns.proofs.Places.{past, set_at}
 use Rattle.proxy_turns.proofs.Refusing.{none_left}
 use Rattle.proxy_turns.proofs.Resting.{no_run, no_way, not_open, not_open_set}
 use Rattle.std.proofs.lemmas.Result.{err_from_is_err_and}
-use Rattle.proxy_turns.specs.CarrierModel.{carrier_model, sends}
+use Rattle.proxy_turns.specs.CarrierModel.{carrier_model, sends, CarrierGoesBy}
 use Rattle.proxy_turns.proofs.Carrying.{at-place, sent, not_sent, same_pending, stays, too_long, unsent}
 use Rattle.proxy_turns.proofs.carrier.Carrier+H+Publisher+J+R+D+P.send_for.Goals as goal
 
@@ -79,4 +80,6 @@ returns-in-Sent g c =
     let within : c.args.worker < length c.args.self.now.pending_runs.items = omega (arith, c.len.ensures, c.if-worker-len.false) in
     let one : slice_get c.args.self.now.pending_runs.items c.args.worker ≡ Some c.index_mut-pending_run.result.now = at-place c.args.self.now.pending_runs.items c.args.worker c.index_mut-pending_run.result.now within c.index_mut-pending_run.ensures.value in
     let named : c.place_of-at.result ≡ c.in-Some.run'.first.node = c.place_of-at.ensures.value ∙ ap (λ (b : Batch). b.node) c.first.ensures in
-    (sent g.P.NodePort.failures g.P.NodePort.is_garbled g.P.NodePort.exchange g.P.NodePort.gives_none g.D.Dial.opens g.P.RunPort.longest sends refl (carrier_model g.D.Dial.failures c.args.self.now) c.args.worker c.place_of-at.result c.index_mut-pending_run.result.now c.in-Some.run' c.index_mut.result.now c.send.new.self one c.in-Some.is named there (rw c.in-Sent.is at c.in_ok-send.ensures), λ still. absurd (cc))
+    let Q : Option RunModel → Type 0 = λ run. CarrierGoesBy g.P.NodePort.failures g.P.NodePort.is_garbled g.P.NodePort.exchange g.P.NodePort.gives_none g.D.Dial.opens g.P.RunPort.longest sends (carrier_model g.D.Dial.failures c.args.self.now) true
+    (record (carrier_model g.D.Dial.failures c.args.self.now) { pending_runs = slice_set c.args.self.now.pending_runs.items c.args.worker (record c.index_mut-pending_run.result.now { run = run }); backends = slice_set c.args.self.now.backends.items c.place_of-at.result c.send.new.self }) in
+    (subst Q (sym c.put.ensures) (sent g.P.NodePort.failures g.P.NodePort.is_garbled g.P.NodePort.exchange g.P.NodePort.gives_none g.D.Dial.opens g.P.RunPort.longest sends refl (carrier_model g.D.Dial.failures c.args.self.now) c.args.worker c.place_of-at.result c.index_mut-pending_run.result.now c.in-Some.run' c.index_mut.result.now c.send.new.self one c.in-Some.is named there (rw c.in-Sent.is at c.in_ok-send.ensures)), λ still. absurd (cc))

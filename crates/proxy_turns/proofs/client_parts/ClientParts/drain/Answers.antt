@@ -1,8 +1,9 @@
-use Rattle.std.proofs.Common.{refl}
+use Rattle.std.proofs.lemmas.Result.{err_from_is_err_and}
+use Rattle.std.proofs.Common.{refl, false}
 use Rattle.proxy_turns.specs.ClientTurn.{is_drain}
-use Rattle.proxy_turns.proofs.Going.{drained}
+use Rattle.proxy_turns.proofs.Going.{drained, drains_nothing, stays}
 use Rattle.proxy_turns.proofs.Sound.{sound_kept}
-use Rattle.proxy_turns.proofs.ClientResting.{drain_none, undrained}
+use Rattle.proxy_turns.proofs.ClientResting.{drain_none, undrained, drains_held}
 use Rattle.proxy_turns.proofs.client_parts.ClientParts.drain.Goals as goal
 
 pub invariant_of-self-2 : goal.invariant_of-self-2
@@ -21,3 +22,28 @@ returns-clause-none g c =
 
 pub returns-then-not-may_drain-clause-none : goal.returns-then-not-may_drain-clause-none
 returns-then-not-may_drain-clause-none g c = undrained _ c.may_drain.result c.may_drain.ensures.may c.if-not-may_drain.true
+
+pub returns-then-not-may_drain-clause-drains : goal.returns-then-not-may_drain-clause-drains
+returns-then-not-may_drain-clause-drains g c = λ outlet view. stays g.C.ClientPort.moves is_drain _
+
+pub invariant_of-self : goal.invariant_of-self
+invariant_of-self g c = sound_kept c.self.inside.session c.drain.new.session c.self.inside.commands c.drain.ensures.order c.drain.ensures.parts c.self.invariant
+
+pub invariant_of-self-in_default : goal.invariant_of-self-in_default
+invariant_of-self-in_default g c = sound_kept c.self.inside.session c.drain.new.session c.self.inside.commands c.drain.ensures.order c.drain.ensures.parts c.self.invariant
+
+pub returns-in_err-count-clause-drains : goal.returns-in_err-count-clause-drains
+returns-in_err-count-clause-drains g c = λ outlet view.
+    let is = (err_from_is_err_and c.from_residual.result c.from_residual.ensures.1).1 in
+    let does = c.in_err-count.ensures.does in
+    rw is (rw (← c.self.view_is) (false, drains_nothing g.C.ClientPort.moves is_drain _ outlet view c.drain.new.session c.drain.new.self does.1 does.0))
+
+pub returns-in_default-clause-drains : goal.returns-in_default-clause-drains
+returns-in_default-clause-drains g c = λ outlet view.
+    let does = rw c.in_default.is at c.in_ok-count.ensures.does in
+    rw (← c.self.view_is) (drains_nothing g.C.ClientPort.moves is_drain _ outlet view c.drain.new.session c.drain.new.self does.1 does.2)
+
+pub returns-in_default-clause-none : goal.returns-in_default-clause-none
+returns-in_default-clause-none g c =
+    let does = rw c.in_default.is at c.in_ok-count.ensures.does in
+    rw (← c.self.view_is) (drains_held _ c.drain.new.session c.drain.new.self does.0 does.1 does.2)

@@ -1,6 +1,7 @@
-use Rattle.std.proofs.Common.{refl, rules, Ok}
+use Rattle.session_order.specs.declared.fault.SessionFault.TheVariants as fault
+use Rattle.std.proofs.Common.{refl, rules, Ok, Err, false}
 use Rattle.proxy_turns.specs.ClientTurn.{is_feed}
-use Rattle.proxy_turns.proofs.Going.{fed}
+use Rattle.proxy_turns.proofs.Going.{fed, stays}
 use Rattle.proxy_turns.proofs.Sound.{sound_kept}
 use Rattle.proxy_turns.proofs.ClientResting.{fed_still, feed_fault, unfed_none}
 use Rattle.proxy_turns.proofs.client_parts.ClientParts.feed.Goals as goal
@@ -30,3 +31,30 @@ pub returns-in-Err-NotRequest-clause-none : goal.returns-in-Err-NotRequest-claus
 returns-in-Err-NotRequest-clause-none g c =
     let done = rw c.in-Err-NotRequest.field-0-is at c.in-Err-NotRequest.ensures.does in
     rw (← c.self.view_is) (feed_fault _ _ _ done.0 done.1)
+
+pub returns-then-is_empty-clause-feeds : goal.returns-then-is_empty-clause-feeds
+returns-then-is_empty-clause-feeds g c = λ outlet view. stays g.C.ClientPort.moves is_feed _
+
+pub invariant_of-self-in-Err-NoMemory : goal.invariant_of-self-in-Err-NoMemory
+invariant_of-self-in-Err-NoMemory g c = sound_kept c.self.inside.session c.feed.new.self c.self.inside.commands c.feed.ensures.order c.feed.ensures.parts c.self.invariant
+
+pub returns-in-Err-NoMemory-clause-feeds : goal.returns-in-Err-NoMemory-clause-feeds
+returns-in-Err-NoMemory-clause-feeds g c = λ outlet view.
+    let done = rw c.in-Err-NoMemory.field-0-is at c.in-Err-NoMemory.ensures.does in
+    rw (← c.self.view_is) (false, fed g.C.ClientPort.moves is_feed _ outlet view (λ result. refl) _ (Err fault.NoMemory) _ _ done refl refl)
+
+pub invariant_of-self-in-Err-Wire : goal.invariant_of-self-in-Err-Wire
+invariant_of-self-in-Err-Wire g c = sound_kept c.self.inside.session c.feed.new.self c.self.inside.commands c.feed.ensures.order c.feed.ensures.parts c.self.invariant
+
+pub returns-in-Err-Wire-clause-feeds : goal.returns-in-Err-Wire-clause-feeds
+returns-in-Err-Wire-clause-feeds g c = λ outlet view.
+    let done = rw c.in-Err-Wire.field-0-is at c.in-Err-Wire.ensures.does in
+    rw (← c.self.view_is) (fed g.C.ClientPort.moves is_feed _ outlet view (λ result. refl) _ (Err (fault.Wire _)) _ _ done refl refl)
+
+pub invariant_of-self-in-Err-NotRequest : goal.invariant_of-self-in-Err-NotRequest
+invariant_of-self-in-Err-NotRequest g c = sound_kept c.self.inside.session c.feed.new.self c.self.inside.commands c.feed.ensures.order c.feed.ensures.parts c.self.invariant
+
+pub returns-in-Err-NotRequest-clause-feeds : goal.returns-in-Err-NotRequest-clause-feeds
+returns-in-Err-NotRequest-clause-feeds g c = λ outlet view.
+    let done = rw c.in-Err-NotRequest.field-0-is at c.in-Err-NotRequest.ensures.does in
+    rw (← c.self.view_is) (fed g.C.ClientPort.moves is_feed _ outlet view (λ result. refl) _ (Err fault.NotRequest) _ _ done refl refl)

@@ -1,7 +1,7 @@
 use Rattle.std.proofs.Common.{ap, true, false, nat_lt, refl}
 use Rattle.std.proofs.lemmas.Result.{err_from_is_err_and}
 use Rattle.proxy_turns.specs.ClientTurn.{is_pull}
-use Rattle.proxy_turns.proofs.Going.{err_turn, goes_then, parted, pulled, takes_none, takes_nothing}
+use Rattle.proxy_turns.proofs.Going.{err_turn, goes_then, parted, pulled, takes_none, takes_nothing, stays}
 use Rattle.proxy_turns.proofs.ClientResting.{pull_bytes, pull_nothing, unasked}
 use Rattle.proxy_turns.proofs.client_parts.ClientParts.pull.Goals as goal
 
@@ -41,3 +41,18 @@ returns-in-Nothing-clause-none g c =
     let clear = rw (← c.self.view_is) at (c.may_pull.ensures.0 c.if-not-may_pull.false) in
     let done = rw c.in-Nothing.is at c.in_ok-count.ensures.takes in
     rw (← c.self.view_is) (pull_nothing _ g.C.ClientPort.gives_none c.args.is_held_back _ _ clear done.1 ((rw c.in-Nothing.is at c.in_ok-count.ensures.none) tt))
+
+pub returns-then-not-may_pull-clause-pulls : goal.returns-then-not-may_pull-clause-pulls
+returns-then-not-may_pull-clause-pulls g c = λ outlet view. stays g.C.ClientPort.moves is_pull _
+
+pub invariant_of-self : goal.invariant_of-self
+invariant_of-self g c = c.self.invariant
+
+pub invariant_of-self-in-Bytes : goal.invariant_of-self-in-Bytes
+invariant_of-self-in-Bytes g c = c.self.invariant
+
+pub invariant_of-self-in-Nothing : goal.invariant_of-self-in-Nothing
+invariant_of-self-in-Nothing g c = c.self.invariant
+
+pub invariant_of-self-in-Gone : goal.invariant_of-self-in-Gone
+invariant_of-self-in-Gone g c = c.self.invariant

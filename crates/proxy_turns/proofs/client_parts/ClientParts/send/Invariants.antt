@@ -1,8 +1,10 @@
-use Rattle.std.proofs.Common.{true}
+use Rattle.std.proofs.Common.{◌≡◌, false, nat_lt}
 use Rattle.proxy_turns.specs.ClientTurn.{ClientGoesBy, is_send}
 use Rattle.proxy_turns.proofs.client_parts.ClientParts.send.Given as goal
 
-abbrev pub invariant-loop : goal.invariant-loop
-invariant-loop g l =
-    ClientGoesBy g.C.ClientPort.moves is_send (record { client = l.fn.self; outlet = l.fn.outlet; view = l.fn.view }) true
-    (record { client = l.self; outlet = l.outlet; view = l.view })
+abbrev pub invariant-loop-sent : goal.invariant-loop-sent
+invariant-loop-sent g l = record {
+  goes : ClientGoesBy g.C.ClientPort.moves is_send (record { client = l.initial.self; outlet = l.initial.outlet; view = l.initial.view }) (nat_lt 0 l.sent)
+      (record { client = l.self; outlet = l.outlet; view = l.view });
+  same : nat_lt 0 l.sent ≡ false → l.self ≡ l.initial.self;
+}

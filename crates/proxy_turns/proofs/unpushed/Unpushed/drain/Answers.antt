@@ -1,4 +1,4 @@
-use Rattle.std.proofs.Common.{refl}
+use Rattle.std.proofs.Common.{refl, ap, arith, length, length-append}
 use Rattle.session_order.specs.Replies.{bytes_behind}
 use Rattle.proxy_turns.proofs.Draining.{drained_behind, tail_waits}
 use Rattle.proxy_turns.proofs.unpushed.Unpushed.drain.Goals as goal
@@ -13,3 +13,8 @@ returns-clause-does c =
     let none = c.is_empty.ensures.0 c.if-not-is_empty.false in
     rw (← c.self.view_is, c.new.ensures)
     (drained_behind c.args.most c.self.inside.pushed given.count _ _ c.self.inside.bytes.items _ c.self.inside.tail (bytes_behind given.tail) c.self.invariant none c.in_ok-drained.ensures.grown c.in_ok-drained.ensures.does)
+
+pub invariant_of-self-2 : goal.invariant_of-self-2
+invariant_of-self-2 c =
+    let grown = c.in_ok-drained.ensures.grown in
+    omega (arith, c.self.invariant, ap length grown.1, length-append c.self.inside.bytes.items grown.0)

@@ -1,0 +1,23 @@
+use Rattle.std.proofs.Common.{◌∙◌, Some, ap, inl, refl, sym, false}
+use Rattle.proxy_turns.proofs.Backends.{none_where}
+use Rattle.proxy_turns.proofs.backend.Backend.open.Goals as goal
+
+pub returns-then-is_some : goal.returns-then-is_some
+returns-then-is_some g c = (sym c.is_some.ensures ∙ c.if-is_some.true, refl, refl)
+
+pub returns-in-Ok : goal.returns-in-Ok
+returns-in-Ok g c = (
+  record { host = c.in-Some.host.now; port = c.in-Some.port },
+  c.in-Ok.port,
+  none_where _ (sym c.is_some.ensures ∙ c.if-is_some.false),
+  sym c.in-Some.ensures.value,
+  c.in-Ok.ensures.0,
+  (λ i. record c.args.self.now { link = (c.put.ensures ∙ ap Some c.new.ensures) i; asked = false }),
+  c.in-Ok.ensures.1,
+)
+
+pub returns-in-Err-NoMemory : goal.returns-in-Err-NoMemory
+returns-in-Err-NoMemory g c = (refl, rw c.in-Err-NoMemory.field-0-is at c.in-Err-NoMemory.ensures)
+
+pub returns-in-Err-Failed : goal.returns-in-Err-Failed
+returns-in-Err-Failed g c = (none_where _ (sym c.is_some.ensures ∙ c.if-is_some.false), refl, inl (rw c.in-Err-Failed.field-0-is at c.in-Err-Failed.ensures))
