@@ -9,6 +9,7 @@ ghost use Rattle.local_cluster.specs.Held.{IsSaid, WasTold};
 ghost use Rattle.local_cluster.specs.Waiting.{request_of};
 
 use crate::cluster::LocalCluster;
+use crate::place::put;
 use key_split::{Batch, Part, Ticket, Told, told_value};
 use resp_wire::{Line, NoMemory, Value};
 use slot_map::{NodeId, NodeTable};
@@ -117,7 +118,7 @@ fn answer_command<R: Wait>(
     match write(alloc, said, cluster.table()) {
         Ok(value) => Ok(value),
         Err(said) => {
-            *told = Some(said);
+            put(told, Some(said));
             Err(NoMemory)
         }
     }
