@@ -8,6 +8,7 @@ pub mod Twice
 pub mod Noted
 pub mod Opened
 pub mod Addressed
+mod KeptTold
 pub mod Told
 mod RunKept
 pub mod RunServed

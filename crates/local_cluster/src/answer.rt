@@ -9,6 +9,7 @@ ghost use Rattle.local_cluster.specs.Held.{IsSaid, WasTold};
 ghost use Rattle.local_cluster.specs.Waiting.{request_of};
 
 use crate::cluster::LocalCluster;
+use crate::place::put;
 use key_split::{Batch, Part, Ticket, Told, told_value};
 use resp_wire::{Line, NoMemory, Value};
 use slot_map::{NodeId, NodeTable};
@@ -17,11 +18,19 @@ use std::collections::VecDeque;
 use std::sync::Wait;
 
 /// A request that waits for its node.
-#[derive(Drop)]
 pub(crate) enum LocalRequest {
     Asking,
     Command(Ticket, Part),
     Slots,
+}
+
+impl Drop for LocalRequest {
+    fn drop(self) {
+        match self {
+            LocalRequest::Command(_, part) => drop(part),
+            LocalRequest::Asking | LocalRequest::Slots => {}
+        }
+    }
 }
 
 impl LocalRequest {
@@ -109,13 +118,13 @@ fn answer_command<R: Wait>(
     match write(alloc, said, cluster.table()) {
         Ok(value) => Ok(value),
         Err(said) => {
-            *told = Some(said);
+            put(told, Some(said));
             Err(NoMemory)
         }
     }
 }
 
-/// What the node says of a command: what it was told already, or else it is served.
+/// What the node says of a command: what it was told already, or else it is served in one hold of the lock.
 fn say<R: Wait>(
     alloc: Global,
     rt: &R,
@@ -129,24 +138,9 @@ fn say<R: Wait>(
     requires { OldestWasTold node asking (Command ticket part.now ∷ []) told }
     ensures { IfOk result (WasTold (asked_of node asking ticket part.now)) }
 {
-    match told {
-        Some(said) => Ok(said),
-        None => ask(alloc, rt, cluster, node, asking, ticket, part),
+    if let Some(said) = told {
+        return Ok(said);
     }
-}
-
-/// Serves a command in one hold of the lock.
-fn ask<R: Wait>(
-    alloc: Global,
-    rt: &R,
-    cluster: &LocalCluster,
-    node: NodeId,
-    asking: bool,
-    ticket: Ticket,
-    part: &Part,
-) -> Result<Told, NoMemory>
-    ensures { IfOk result (WasTold (asked_of node asking ticket part.now)) }
-{
     let batch = Batch {
         ticket,
         node,
@@ -165,8 +159,11 @@ fn write(alloc: Global, said: Told, table: &NodeTable) -> Result<Value, Told>
     match said {
         Told::Reply(value) => Ok(value),
         other => match spell(alloc, &other, table) {
-            Ok(value) => Ok(value),
-            Err(_) => Err(other),
+            Ok(value) => {
+                drop(other);
+                Ok(value)
+            }
+            Err(NoMemory) => Err(other),
         },
     }
 }

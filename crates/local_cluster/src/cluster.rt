@@ -144,7 +144,10 @@ fn is_there(cluster: &mut Cluster, node: NodeId, question: &Part) -> Result<bool
     ensures there { IfOk result (λ there. IsTrue there ↔ (node < length cluster.old.stores)) }
 {
     match cluster.serve(node, false, question, Verdict::TryAgain) {
-        Ok(_) => Ok(true),
+        Ok(told) => {
+            drop(told);
+            Ok(true)
+        }
         Err(ServeFault::NoSuchNode) => Ok(false),
         Err(ServeFault::NoMemory) => Err(NoMemory),
         Err(ServeFault::NotThisVerdict) => Err(NoMemory),

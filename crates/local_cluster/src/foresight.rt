@@ -138,7 +138,7 @@ fn put_read(alloc: Global, store: &mut Store, key: &Bytes, value: &Value) -> Res
                 key.copy(alloc)?,
                 bytes.copy(alloc)?,
             );
-            store.apply(&set)?;
+            drop(store.apply(&set)?);
             Ok(())
         }
         Value::Simple(_)

@@ -33,6 +33,7 @@ mod local;
 mod locked;
 mod moves;
 mod notes;
+mod place;
 mod port;
 mod room;
 mod step;

@@ -21,12 +21,25 @@ use std::marker::Model;
 use world_laws::Entry;
 
 /// The nodes, what they executed, and the ASKs that no request has followed.
-#[derive(Drop)]
 pub struct LocalState<H: History = Vec<Entry>> {
     alloc: Global,
     cluster: Cluster,
     history: H,
     asks: Vec<Asked>,
+}
+
+impl<H: History> Drop for LocalState<H> {
+    fn drop(self) {
+        let LocalState {
+            alloc: _,
+            cluster,
+            history,
+            asks,
+        } = self;
+        drop(cluster);
+        drop(history);
+        drop(asks);
+    }
 }
 
 impl<H: History> Model for LocalState<H> {

@@ -5,7 +5,6 @@ use slot_hash::Slot;
 use slot_map::NodeId;
 
 /// A step of a slot's move.
-#[derive(Drop)]
 pub enum MoveStep {
     /// The target begins to import the slot.
     Import(Slot, NodeId),
@@ -23,4 +22,19 @@ pub enum MoveStep {
     Forget(Slot),
     /// The source stays the owner.
     Stay(Slot),
+}
+
+impl Drop for MoveStep {
+    fn drop(self) {
+        match self {
+            MoveStep::MoveKey(_, key) => drop(key),
+            MoveStep::Import(_, _)
+            | MoveStep::Migrate(_)
+            | MoveStep::MoveRest(_)
+            | MoveStep::Own(_)
+            | MoveStep::Release(_)
+            | MoveStep::Forget(_)
+            | MoveStep::Stay(_) => {}
+        }
+    }
 }

@@ -89,9 +89,5 @@ pub(crate) fn addresses_of<R: Net>(
     port: u16,
 ) -> io::Result<Vec<SocketAddr>> {
     let addresses = (host, port).to_socket_addrs(rt)?;
-    let mut found = Vec::new(alloc);
-    for address in addresses.take(ADDRESSES) {
-        found.push(address)?;
-    }
-    Ok(found)
+    Ok(addresses.take(ADDRESSES).collect(alloc)?)
 }

@@ -17,11 +17,18 @@ use slot_map::NodeTable;
 use std::alloc::Global;
 
 /// What a node answers.
-#[derive(Drop)]
 pub enum Answer {
     Says(Value),
     /// The reply to QUIT, after which the connection is closed.
     Closes(Value),
+}
+
+impl Drop for Answer {
+    fn drop(self) {
+        match self {
+            Answer::Says(value) | Answer::Closes(value) => drop(value),
+        }
+    }
 }
 
 /// Answers the caller's next request.

@@ -52,7 +52,6 @@ impl Queue {
 }
 
 /// What a connection keeps between MULTI and EXEC.
-#[derive(Drop)]
 pub enum Block {
     /// No MULTI came.
     Closed,
@@ -60,6 +59,15 @@ pub enum Block {
     Queued(Queue),
     /// A command was refused, so EXEC executes none.
     Aborted,
+}
+
+impl Drop for Block {
+    fn drop(self) {
+        match self {
+            Block::Queued(queue) => drop(queue),
+            Block::Closed | Block::Aborted => {}
+        }
+    }
 }
 
 impl Block {

@@ -78,7 +78,10 @@ fn queue_command(
     ensures block { OnErr result (block.new ≡ block.old) }
 {
     match plan(alloc, words) {
-        Ok(Planned::Local(_)) => abort_with(alloc, block, KEYS_ONLY),
+        Ok(Planned::Local(reply)) => {
+            drop(reply);
+            abort_with(alloc, block, KEYS_ONLY)
+        }
         Ok(Planned::Close) => Ok(Answer::Closes(simple_line(alloc, b"OK")?)),
         Ok(Planned::Parts(_, parts)) => {
             queue_parts(alloc, node, block, state.cluster(), table, parts.into_vec())

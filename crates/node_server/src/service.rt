@@ -61,7 +61,6 @@ fn serve<R: Wait>(
 }
 
 /// The nodes, and who is connected to them.
-#[derive(Drop)]
 struct Service<'a> {
     alloc: Global,
     poll: Poll,
@@ -77,6 +76,28 @@ struct Service<'a> {
     next: Option<u32>,
     /// The system refused a connection.
     refused: bool,
+}
+
+impl Drop for Service<'_> {
+    fn drop(self) {
+        let Service {
+            alloc: _,
+            poll,
+            listeners,
+            peers,
+            active,
+            state,
+            table: _,
+            left: _,
+            next: _,
+            refused: _,
+        } = self;
+        drop(poll);
+        drop(listeners);
+        drop(peers);
+        drop(active);
+        drop(state);
+    }
 }
 
 impl<'a> Service<'a> {
@@ -253,7 +274,7 @@ impl<'a> Service<'a> {
             TurnOutcome::Again => self.active.push_back(key)?,
             TurnOutcome::Waits => peer.active = false,
             TurnOutcome::Over => {
-                let _ = self.peers.try_remove(key);
+                drop(self.peers.try_remove(key));
             }
         }
         Ok(())

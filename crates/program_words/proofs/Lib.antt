@@ -1,1 +1,2 @@
 mod Colon
+mod Comma

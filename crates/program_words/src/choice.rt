@@ -1,8 +1,9 @@
 //! What the words of the program ask for.
 
-use crate::local::{Playing, local_command, playing_of};
-use crate::ports::{Ports, nodes_command, ports_in};
-use crate::serving::{Serving, serve_command, serving_of};
+use crate::local::{LOCAL, Playing, playing_of};
+use crate::ports::{NODES, Ports, ports_in};
+use crate::serving::{SERVE, Serving, serving_of};
+use crate::subcommand::Subcommand;
 use clap::error::ErrorKind;
 use clap::{ArgMatches, Command, Error};
 use std::alloc::{AllocError, Global};
@@ -36,19 +37,35 @@ const SERVING_WANTED: &str =
 /// What follows the program's name. (clap refuses words without a subcommand by itself.)
 const SUBCOMMAND_WANTED: &str = "a subcommand is asked for";
 
+/// Runs one request.
+const ONE: Subcommand = Subcommand {
+    name: "one",
+    about: "Answer one request from standard input as an empty Redis server would",
+    after_help: None,
+    settings: &[],
+};
+
+/// Runs a script of events.
+const SIMULATE: Subcommand = Subcommand {
+    name: "simulate",
+    about: "Run a script of protocol events from standard input, and print what was answered and executed",
+    after_help: None,
+    settings: &[],
+};
+
+/// The subcommands, in the order of the program's help.
+static SUBCOMMANDS: [Subcommand; 5] = [ONE, SIMULATE, LOCAL, NODES, SERVE];
+
 /// The program's words.
 fn command<'a>(alloc: Global) -> Result<Command<'a>, AllocError> {
-    let command = with(with_streams(alloc), local_command(alloc))?;
-    let command = with(Ok(command), nodes_command(alloc))?;
-    with(Ok(command), serve_command(alloc))
+    let mut command = program(alloc);
+    for subcommand in &SUBCOMMANDS {
+        command = command.subcommand(subcommand.command(alloc)?)?;
+    }
+    Ok(command)
 }
 
-/// The program, and the subcommands that read standard input and start no thread.
-fn with_streams<'a>(alloc: Global) -> Result<Command<'a>, AllocError> {
-    let command = with(Ok(program(alloc)), Ok(one_command(alloc)))?;
-    with(Ok(command), Ok(simulate_command(alloc)))
-}
-
+/// The program without its subcommands.
 fn program<'a>(alloc: Global) -> Command<'a> {
     Command::new(alloc, "cluster_proxy")
         .about("Lets a plain Redis client use a Redis Cluster as if it were one server")
@@ -57,65 +74,60 @@ fn program<'a>(alloc: Global) -> Command<'a> {
         .arg_required_else_help(true)
 }
 
-fn one_command<'a>(alloc: Global) -> Command<'a> {
-    Command::new(alloc, "one").about(
-        "Answer one request from standard input as an empty Redis server would",
-    )
-}
-
-fn simulate_command<'a>(alloc: Global) -> Command<'a> {
-    Command::new(alloc, "simulate").about(
-        "Run a script of protocol events from standard input, and print what was answered and executed",
-    )
-}
-
-/// The command with one more subcommand, where there was memory for both.
-fn with<'a>(
-    command: Result<Command<'a>, AllocError>,
-    added: Result<Command<'a>, AllocError>,
-) -> Result<Command<'a>, AllocError> {
-    command?.subcommand(added?)
-}
-
 /// The run that the words ask for. An error holds the text for the caller, and the status: 2 for refused words, 0 for
 /// help that was asked for.
 pub fn choose<'a>(alloc: Global, words: &'a [String]) -> Result<Choice<'a>, Error> {
     let matches = command(alloc)?.try_get_matches_from(words)?;
-    chosen(alloc, &matches)
+    or_refuse(alloc, chosen(&matches))
 }
 
-/// The run that the words of a subcommand ask for.
-fn chosen<'a>(alloc: Global, matches: &ArgMatches<'a>) -> Result<Choice<'a>, Error> {
+/// The run that the words of a subcommand ask for, or what is taken in their place.
+fn chosen<'a>(matches: &ArgMatches<'a>) -> Result<Choice<'a>, &'static str> {
     match matches.subcommand() {
         Some(("one", _)) => Ok(Choice::One),
         Some(("simulate", _)) => Ok(Choice::Simulate),
-        Some(("local", words)) => or_refuse(alloc, local_in(words), WORKERS_WANTED),
-        Some(("nodes", words)) => or_refuse(alloc, nodes_in(words), PORTS_WANTED),
-        Some(("serve", words)) => or_refuse(alloc, serve_in(words), SERVING_WANTED),
-        _ => or_refuse(alloc, None, SUBCOMMAND_WANTED),
+        Some(("local", words)) => local_in(words),
+        Some(("nodes", words)) => nodes_in(words),
+        Some(("serve", words)) => serve_in(words),
+        _ => Err(SUBCOMMAND_WANTED),
     }
 }
 
-fn local_in<'a>(words: &ArgMatches<'_>) -> Option<Choice<'a>> {
-    Some(Choice::Local(playing_of(words)?))
+fn local_in<'a>(words: &ArgMatches<'_>) -> Result<Choice<'a>, &'static str> {
+    match playing_of(words) {
+        Some(playing) => Ok(Choice::Local(playing)),
+        None => Err(WORKERS_WANTED),
+    }
 }
 
-fn nodes_in<'a>(words: &ArgMatches<'_>) -> Option<Choice<'a>> {
-    Some(Choice::Nodes(ports_in(words)?))
+fn nodes_in<'a>(words: &ArgMatches<'_>) -> Result<Choice<'a>, &'static str> {
+    match ports_in(words) {
+        Some(ports) => Ok(Choice::Nodes(ports)),
+        None => Err(PORTS_WANTED),
+    }
 }
 
-fn serve_in<'a>(words: &ArgMatches<'a>) -> Option<Choice<'a>> {
-    Some(Choice::Serve(serving_of(words)?))
+fn serve_in<'a>(words: &ArgMatches<'a>) -> Result<Choice<'a>, &'static str> {
+    match serving_of(words) {
+        Some(serving) => Ok(Choice::Serve(serving)),
+        None => Err(SERVING_WANTED),
+    }
 }
 
-/// The choice, or what is taken in place of words that ask for none.
+/// The choice, or the error that says what is taken.
 fn or_refuse<'a>(
     alloc: Global,
-    choice: Option<Choice<'a>>,
-    wanted: &str,
+    choice: Result<Choice<'a>, &'static str>,
 ) -> Result<Choice<'a>, Error> {
     match choice {
-        Some(choice) => Ok(choice),
-        None => Err(command(alloc)?.error(ErrorKind::ValueValidation, wanted)?),
+        Ok(choice) => Ok(choice),
+        Err(wanted) => Err(refusal(alloc, wanted)?),
     }
+}
+
+fn refusal(alloc: Global, wanted: &str) -> Result<Error, AllocError> {
+    let mut command = command(alloc)?;
+    let error = command.error(ErrorKind::ValueValidation, wanted);
+    drop(command);
+    error
 }

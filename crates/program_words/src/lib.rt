@@ -17,6 +17,7 @@ mod local;
 mod number;
 mod ports;
 mod serving;
+mod subcommand;
 
 pub use address::{Address, address_of};
 pub use choice::{Choice, VERSION, choose};

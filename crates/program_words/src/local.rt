@@ -5,9 +5,9 @@ ghost use Rattle.std.specs.Option.{option_map};
 ghost use Rattle.clap.specs.Matches.{first_value, found_of};
 ghost use Rattle.node_link.specs.Line.{number_within};
 
-use crate::number::workers_of;
-use clap::{Arg, ArgAction, ArgMatches, Command};
-use std::alloc::{AllocError, Global};
+use crate::number::workers_in;
+use crate::subcommand::{Setting, Subcommand};
+use clap::ArgMatches;
 
 /// How many workers serve the clients of the scripts.
 #[derive(Clone, Copy)]
@@ -17,26 +17,22 @@ pub struct Playing {
 }
 
 /// The subcommand and its words.
-pub(crate) fn local_command<'a>(alloc: Global) -> Result<Command<'a>, AllocError> {
-    Command::new(alloc, "local")
-        .about(
-            "Run client scripts from standard input on a cluster in this process, print the replies and check the run",
-        )
-        .arg(
-            Arg::new(alloc, "workers")
-                .long("workers")
-                .value_name("N")
-                .help("Threads that serve clients, 1 to 64")
-                .required(true)
-                .action(ArgAction::Set),
-        )
-}
+pub(crate) const LOCAL: Subcommand = Subcommand {
+    name: "local",
+    about: "Run client scripts from standard input on a cluster in this process, print the replies and check the run",
+    after_help: None,
+    settings: &[Setting {
+        name: "workers",
+        value_name: "N",
+        help: "Threads that serve clients, 1 to 64",
+    }],
+};
 
 /// What the words of `local` ask for, where they can be read.
 pub fn playing_of(words: &ArgMatches<'_>) -> Option<Playing>
     ensures { option_map (λ p. p.workers) result ≡ option_and_then (number_within 1 64) (first_value (found_of words.now) (codes "workers")) }
 {
     Some(Playing {
-        workers: workers_of(words.get_str("workers")?)?,
+        workers: workers_in(words)?,
     })
 }

@@ -5,27 +5,23 @@ ghost use Rattle.clap.specs.Matches.{first_value, found_of};
 ghost use Rattle.program_words.specs.Asked.{ports_in};
 
 use crate::number::port_of;
-use clap::{Arg, ArgAction, ArgMatches, Command};
-use std::alloc::{AllocError, Global};
+use crate::subcommand::{Setting, Subcommand};
+use clap::ArgMatches;
 
 /// The ports of the three nodes.
 pub type Ports = [u16; 3];
 
 /// The subcommand and its words.
-pub(crate) fn nodes_command<'a>(alloc: Global) -> Result<Command<'a>, AllocError> {
-    Command::new(alloc, "nodes")
-        .about(
-            "Serve an example cluster of three empty nodes on 127.0.0.1, until the process is ended",
-        )
-        .arg(
-            Arg::new(alloc, "ports")
-                .long("ports")
-                .value_name("A,B,C")
-                .help("Ports of the three nodes")
-                .required(true)
-                .action(ArgAction::Set),
-        )
-}
+pub(crate) const NODES: Subcommand = Subcommand {
+    name: "nodes",
+    about: "Serve an example cluster of three empty nodes on 127.0.0.1, until the process is ended",
+    after_help: None,
+    settings: &[Setting {
+        name: "ports",
+        value_name: "A,B,C",
+        help: "Ports of the three nodes",
+    }],
+};
 
 /// Three ports with a comma between them.
 pub fn ports_of(text: &str) -> Option<Ports>

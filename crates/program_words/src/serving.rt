@@ -1,13 +1,13 @@
 //! `serve`: an address, a node of the cluster and a number of workers.
 
-ghost use Rattle.std.specs.Prelude.{◌≡◌, ◌<◌, ◌≤◌, None, Some, MatchOption, codes};
+ghost use Rattle.std.specs.Prelude.{◌≡◌, ◌<◌, ◌≤◌, None, Some, MatchOption, codes, option_and_then};
 ghost use Rattle.clap.specs.Matches.{first_value, found_of};
-ghost use Rattle.program_words.specs.Asked.{serving_in};
+ghost use Rattle.program_words.specs.Asked.{address_in, serving_in};
 
 use crate::address::{Address, address_of};
-use crate::number::workers_of;
-use clap::{Arg, ArgAction, ArgMatches, Command};
-use std::alloc::{AllocError, Global};
+use crate::number::workers_in;
+use crate::subcommand::{Setting, Subcommand};
+use clap::ArgMatches;
 
 /// Where the proxy listens, a node of its cluster, and how many workers it has.
 #[derive(Clone, Copy)]
@@ -18,41 +18,35 @@ pub struct Serving<'a> {
     pub ghost in_range: { (0 < workers) × (workers ≤ 64) },
 }
 
-/// What stands below the options of `serve --help`.
+/// What stands below the settings of `serve --help`.
 const AFTER_HELP: &str = "\
 Example:
   cluster_proxy serve --listen 127.0.0.1:7000 --seed 10.0.0.5:6379 --workers 2
   redis-cli -p 7000 set greeting hello";
 
 /// The subcommand and its words.
-pub(crate) fn serve_command<'a>(alloc: Global) -> Result<Command<'a>, AllocError> {
-    Command::new(alloc, "serve")
-        .about("Serve Redis clients from a Redis Cluster, until the process is ended")
-        .after_help(AFTER_HELP)
-        .arg(
-            word(alloc, "listen")
-                .value_name("HOST:PORT")
-                .help("Address to accept clients on"),
-        )?
-        .arg(
-            word(alloc, "seed")
-                .value_name("HOST:PORT")
-                .help("Address of any primary of the cluster"),
-        )?
-        .arg(
-            word(alloc, "workers").value_name("N").help(
-                "Threads that serve clients, 1 to 64; one more talks to the nodes",
-            ),
-        )
-}
-
-/// An option that takes a word, which has to be there.
-fn word<'a>(alloc: Global, name: &'static str) -> Arg<'a> {
-    Arg::new(alloc, name)
-        .long(name)
-        .required(true)
-        .action(ArgAction::Set)
-}
+pub(crate) const SERVE: Subcommand = Subcommand {
+    name: "serve",
+    about: "Serve Redis clients from a Redis Cluster, until the process is ended",
+    after_help: Some(AFTER_HELP),
+    settings: &[
+        Setting {
+            name: "listen",
+            value_name: "HOST:PORT",
+            help: "Address to accept clients on",
+        },
+        Setting {
+            name: "seed",
+            value_name: "HOST:PORT",
+            help: "Address of any primary of the cluster",
+        },
+        Setting {
+            name: "workers",
+            value_name: "N",
+            help: "Threads that serve clients, 1 to 64; one more talks to the nodes",
+        },
+    ],
+};
 
 /// What the words of `serve` ask for, where they can be read.
 pub fn serving_of<'a>(words: &ArgMatches<'a>) -> Option<Serving<'a>>
@@ -64,8 +58,16 @@ pub fn serving_of<'a>(words: &ArgMatches<'a>) -> Option<Serving<'a>>
         })) }
 {
     Some(Serving {
-        listen: address_of(words.get_str("listen")?)?,
-        seed: address_of(words.get_str("seed")?)?,
-        workers: workers_of(words.get_str("workers")?)?,
+        listen: address_in(words, "listen")?,
+        seed: address_in(words, "seed")?,
+        workers: workers_in(words)?,
     })
+}
+
+/// The address that the words give for this setting.
+fn address_in<'a>(words: &ArgMatches<'a>, setting: &str) -> Option<Address<'a>>
+    ensures { MatchOption result (option_and_then address_in (first_value (found_of words.now) setting.now) ≡ None)
+        (λ a. option_and_then address_in (first_value (found_of words.now) setting.now) ≡ Some (record { host = a.host.now; port = a.port })) }
+{
+    address_of(words.get_str(setting)?)
 }

@@ -4,15 +4,12 @@ use crate::acceptor::Acceptor;
 use crate::client::SocketClient;
 use crate::lookout::Lookout;
 use crate::shared::Shared;
-use crate::unfinished::UnfinishedRequest;
 use mio::Registry;
 use mio::net::TcpStream;
-use polled_sockets::{PolledSocket, Poller, Registration};
+use polled_sockets::Poller;
 use proxy_lanes::CarrierEnds;
 use std::io;
-use std::io::ErrorKind;
 use std::net::SocketAddr;
-use std::sync::Arc;
 use std::time::Clock;
 
 /// After so many milliseconds accepting is tried again, where a connection may wait for a descriptor or for room.
@@ -55,7 +52,6 @@ impl Activity {
 }
 
 /// The acceptor, and the poll of the carrier's thread.
-#[derive(Drop)]
 pub(crate) struct AcceptLoop {
     acceptor: Acceptor,
     poller: Poller,
@@ -68,6 +64,23 @@ pub(crate) struct AcceptLoop {
     has_slept: bool,
     /// When accepting is tried again, in milliseconds.
     retried: u64,
+}
+
+impl Drop for AcceptLoop {
+    fn drop(self) {
+        let AcceptLoop {
+            acceptor,
+            poller,
+            lookout: _,
+            registries,
+            marked_asleep: _,
+            has_slept: _,
+            retried: _,
+        } = self;
+        drop(acceptor);
+        drop(poller);
+        drop(registries);
+    }
 }
 
 impl AcceptLoop {
@@ -124,18 +137,11 @@ impl AcceptLoop {
         ) else {
             return Err(io::Error::other("no worker is there"));
         };
-        let (Ok(registration), Ok(report), Ok(unfinished)) = (
-            Registration::new(&handle.ready),
-            Arc::try_clone(handle.ready.report()),
-            Arc::try_clone(&handle.unfinished),
-        ) else {
-            return Err(ErrorKind::OutOfMemory.into());
-        };
-        let socket = PolledSocket::new(stream, registration, registry)?;
+        let port = handle.client_over(stream, address, registry)?;
         Ok(AcceptedClient {
             number,
             worker: place,
-            port: SocketClient::new(socket, address, report, UnfinishedRequest::new(unfinished)),
+            port,
         })
     }
 

@@ -11,7 +11,6 @@ use std::net::{Net, SocketAddr, ToSocketAddrs};
 use std::os::fd::AsRawFd;
 
 /// The listener with its registration, and how many clients may still be accepted.
-#[derive(Drop)]
 pub(crate) struct Acceptor {
     listener: TcpListener,
     registration: Registration,
@@ -24,6 +23,22 @@ pub(crate) struct Acceptor {
     starves: bool,
     /// That there is no room was reported.
     is_full: bool,
+}
+
+impl Drop for Acceptor {
+    fn drop(self) {
+        let Acceptor {
+            listener,
+            registration,
+            next: _,
+            left: _,
+            room: _,
+            starves: _,
+            is_full: _,
+        } = self;
+        drop(listener);
+        drop(registration);
+    }
 }
 
 impl Acceptor {

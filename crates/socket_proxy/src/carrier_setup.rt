@@ -35,7 +35,6 @@ pub(crate) struct CarrierSetup<'a> {
 }
 
 /// What connections to nodes are made with.
-#[derive(Drop)]
 pub(crate) struct ConnectorSetup {
     ready: Arc<ReadySet, Global>,
     /// What the thread's poll watches.
@@ -43,6 +42,40 @@ pub(crate) struct ConnectorSetup {
     look_ups: SharedLookUps,
     /// What each node is told first; `None` for nothing.
     credentials: Option<Arc<Credentials, Global>>,
+}
+
+impl Drop for ConnectorSetup {
+    fn drop(self) {
+        let ConnectorSetup {
+            ready,
+            registry,
+            look_ups,
+            credentials,
+        } = self;
+        drop(ready);
+        drop(registry);
+        drop(look_ups);
+        drop(credentials);
+    }
+}
+
+impl ConnectorSetup {
+    /// A dial that makes its connections so.
+    pub(crate) fn dial<'b, R>(self, rt: &'b R, alloc: Global) -> Result<SocketDial<'b, R>, NoMemory>
+    where
+        R: Clock + Net<Listener = net::TcpListener, Stream = net::TcpStream>,
+    {
+        let ConnectorSetup {
+            ready,
+            registry,
+            look_ups,
+            credentials,
+        } = self;
+        SocketDial::new(
+            alloc,
+            Connector::new(rt, alloc, ready, registry, look_ups, credentials),
+        )
+    }
 }
 
 /// What the carrier of this proxy is given, whose thread has this poll. Those of the workers are registered with, too.
@@ -167,26 +200,5 @@ fn acceptor(
     let registration = Registration::new(&shared.carrier.ready)?;
     Acceptor::new(listener, registration, poller.registry(), clients, room).map_err(
         WireRunFault::Listen,
-    )
-}
-
-/// A dial that makes its connections so.
-pub(crate) fn socket_dial<'b, R>(
-    rt: &'b R,
-    alloc: Global,
-    connecting: ConnectorSetup,
-) -> Result<SocketDial<'b, R>, NoMemory>
-where
-    R: Clock + Net<Listener = net::TcpListener, Stream = net::TcpStream>,
-{
-    let ConnectorSetup {
-        ready,
-        registry,
-        look_ups,
-        credentials,
-    } = connecting;
-    SocketDial::new(
-        alloc,
-        Connector::new(rt, alloc, ready, registry, look_ups, credentials),
     )
 }

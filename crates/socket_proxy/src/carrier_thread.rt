@@ -3,7 +3,7 @@
 ghost use Rattle.std.specs.Prelude.{◌<◌, length};
 
 use crate::accept_loop::{AcceptLoop, AcceptOutcome, AcceptedClient, Activity};
-use crate::carrier_setup::{CarrierSetup, socket_dial};
+use crate::carrier_setup::CarrierSetup;
 use crate::client::SocketClient;
 use crate::shared::Shared;
 use node_dial::{NodeSocket, SharedLookUps, SocketDial, advance_look_ups};
@@ -39,10 +39,92 @@ type SocketCarrier<'b, J, R> = Carrier<
 >;
 
 /// A client that waits for a place in the lane of its worker.
-#[derive(Drop)]
 struct PendingClient<J: Naming> {
     worker: u16,
     newcomer: Newcomer<SocketClient, J>,
+}
+
+impl<J: Naming> Drop for PendingClient<J> {
+    fn drop(self) {
+        let PendingClient {
+            worker: _,
+            newcomer,
+        } = self;
+        drop(newcomer);
+    }
+}
+
+impl<J: Naming> PendingClient<J> {
+    /// Hands the client to its worker. It comes back where the lane has no place.
+    fn hand_to_worker<'b, R: Wait>(
+        self,
+        ends: &mut SocketEnds<'b, J, R>,
+    ) -> Option<PendingClient<J>> {
+        let PendingClient { worker, newcomer } = self;
+        if usize::from(worker) >= ends.workers() {
+            drop(newcomer);
+            return None;
+        }
+        match ends.hand(worker, newcomer) {
+            Ok(()) => None,
+            Err(newcomer) => Some(PendingClient { worker, newcomer }),
+        }
+    }
+}
+
+/// The clients as they come in.
+struct Intake<J: Naming> {
+    accept_loop: AcceptLoop,
+    /// One that was accepted and has no place yet.
+    waiting: Option<PendingClient<J>>,
+}
+
+impl<J: Naming> Drop for Intake<J> {
+    fn drop(self) {
+        let Intake {
+            accept_loop,
+            waiting,
+        } = self;
+        drop(accept_loop);
+        drop(waiting);
+    }
+}
+
+impl<J: Naming> Intake<J> {
+    /// No client has come.
+    fn new(accept_loop: AcceptLoop) -> Intake<J> {
+        Intake {
+            accept_loop,
+            waiting: None,
+        }
+    }
+
+    /// Accepts clients and hands them to their workers. True where one was accepted, rejected or handed over.
+    fn accept_clients<'b, R: Wait>(
+        &mut self,
+        ends: &mut SocketEnds<'b, J, R>,
+        shared: &Shared,
+    ) -> bool {
+        let mut moved = false;
+        for _ in 0..ACCEPT_BATCH {
+            if let Some(client) = self.waiting.take() {
+                put(&mut self.waiting, client.hand_to_worker(ends));
+                if self.waiting.is_some() {
+                    return moved;
+                }
+                moved = true;
+            }
+            match self.accept_loop.accept_client(shared) {
+                AcceptOutcome::Accepted(accepted) => {
+                    put(&mut self.waiting, Some(pending_client(ends, accepted)));
+                    moved = true;
+                }
+                AcceptOutcome::Rejected => moved = true,
+                AcceptOutcome::NoneWaiting => return moved,
+            }
+        }
+        moved
+    }
 }
 
 /// Runs the carrier and accepts clients, until all threads are told to stop. After a fault they are told.
@@ -91,18 +173,19 @@ where
 {
     let CarrierSetup {
         nodes,
-        mut accept_loop,
+        accept_loop,
         connecting,
         look_ups,
         mut reporter,
     } = setup;
-    let dial = socket_dial(rt, alloc, connecting)?;
+    let dial = connecting.dial(rt, alloc)?;
     let mut carrier = Carrier::new(alloc, ends, dial, nodes);
+    let mut intake = Intake::new(accept_loop);
     carrier_loop(
         rt,
         &mut carrier,
         &look_ups,
-        &mut accept_loop,
+        &mut intake,
         &mut reporter,
         shared,
     )
@@ -112,7 +195,7 @@ fn carrier_loop<'b, J, R>(
     rt: &'b R,
     carrier: &mut SocketCarrier<'b, J, R>,
     look_ups: &SharedLookUps,
-    accept_loop: &mut AcceptLoop,
+    intake: &mut Intake<J>,
     reporter: &mut Reporter<'_>,
     shared: &Shared,
 ) -> Result<(), NoMemory>
@@ -126,7 +209,6 @@ where
         + Send
         + 'static,
 {
-    let mut waiting: Option<PendingClient<J>> = None;
     let mut quiet = 0u32;
     for _ in rt.forever() {
         shared.carrier.ready.update_time(rt);
@@ -134,11 +216,13 @@ where
         if shared.is_stopped() {
             return Ok(());
         }
-        let accepted = accept_clients(carrier.ends(), accept_loop, shared, &mut waiting);
+        let accepted = intake.accept_clients(carrier.ends(), shared);
         let turns = take_turns(carrier, &shared.carrier.ready, &mut quiet)?;
         let looked_up = advance_look_ups(rt, look_ups);
         let activity = turns.beside(accepted | looked_up);
-        accept_loop.after_turns(rt, shared, carrier.ends(), activity);
+        intake
+            .accept_loop
+            .after_turns(rt, shared, carrier.ends(), activity);
     }
     unreachable!()
 }
@@ -169,38 +253,6 @@ where
     Ok(Activity::Busy)
 }
 
-/// Accepts clients and hands them to their workers. True where one was accepted, rejected or handed over.
-fn accept_clients<'b, J, R>(
-    ends: &mut SocketEnds<'b, J, R>,
-    accept_loop: &mut AcceptLoop,
-    shared: &Shared,
-    waiting: &mut Option<PendingClient<J>>,
-) -> bool
-where
-    J: Naming,
-    R: Wait,
-{
-    let mut moved = false;
-    for _ in 0..ACCEPT_BATCH {
-        if let Some(client) = waiting.take() {
-            put(waiting, hand_to_worker(ends, client));
-            if waiting.is_some() {
-                return moved;
-            }
-            moved = true;
-        }
-        match accept_loop.accept_client(shared) {
-            AcceptOutcome::Accepted(accepted) => {
-                put(waiting, Some(pending_client(ends, accepted)));
-                moved = true;
-            }
-            AcceptOutcome::Rejected => moved = true,
-            AcceptOutcome::NoneWaiting => return moved,
-        }
-    }
-    moved
-}
-
 fn put<T: Drop>(place: &mut Option<T>, value: Option<T>) {
     *place = value;
 }
@@ -227,24 +279,5 @@ where
             port,
             front,
         },
-    }
-}
-
-/// Hands the client to its worker. It comes back where the lane has no place.
-fn hand_to_worker<'b, J, R>(
-    ends: &mut SocketEnds<'b, J, R>,
-    client: PendingClient<J>,
-) -> Option<PendingClient<J>>
-where
-    J: Naming,
-    R: Wait,
-{
-    let PendingClient { worker, newcomer } = client;
-    if usize::from(worker) >= ends.workers() {
-        return None;
-    }
-    match ends.hand(worker, newcomer) {
-        Ok(()) => None,
-        Err(newcomer) => Some(PendingClient { worker, newcomer }),
     }
 }

@@ -15,7 +15,6 @@ use std::sync::Arc;
 
 /// A client over a socket. It counts the ends that it is to note. One that has ended its sending is there as long as it is owed
 /// something.
-#[derive(Drop)]
 pub(crate) struct SocketClient {
     /// `None` once the client is gone.
     socket: Option<PolledSocket>,
@@ -25,6 +24,22 @@ pub(crate) struct SocketClient {
     is_owed: Cell<bool>,
     /// Its protocol error was reported.
     is_faulted: Cell<bool>,
+}
+
+impl Drop for SocketClient {
+    fn drop(self) {
+        let SocketClient {
+            socket,
+            report,
+            address: _,
+            request,
+            is_owed: _,
+            is_faulted: _,
+        } = self;
+        drop(socket);
+        drop(report);
+        drop(request);
+    }
 }
 
 impl SocketClient {

@@ -27,7 +27,6 @@ impl WorkCount {
 }
 
 /// The gate of one worker.
-#[derive(Drop)]
 pub(crate) struct SocketGate<'b, R> {
     rt: &'b R,
     poller: RefCell<Poller>,
@@ -45,6 +44,25 @@ pub(crate) struct SocketGate<'b, R> {
     reported: Cell<WorkCount>,
     /// When the first of the commands that wait is due.
     due: Cell<Option<u64>>,
+}
+
+impl<R> Drop for SocketGate<'_, R> {
+    fn drop(self) {
+        let SocketGate {
+            rt: _,
+            poller,
+            handle: _,
+            shared: _,
+            lookout: _,
+            moved: _,
+            marked_asleep: _,
+            turns: _,
+            count: _,
+            reported: _,
+            due: _,
+        } = self;
+        drop(poller);
+    }
 }
 
 impl<'b, R: Clock> SocketGate<'b, R> {

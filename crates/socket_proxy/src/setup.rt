@@ -27,7 +27,11 @@ pub(crate) fn setup_threads<R: Net>(
     alloc: Global,
     workers: u16,
 ) -> Result<ThreadSetups, WireRunFault> {
-    let (handles, pollers) = setup_workers(rt, alloc, workers)?;
+    let mut handles = Vec::new(alloc);
+    let mut pollers = Vec::new(alloc);
+    for _ in 0..workers {
+        setup_worker(rt, alloc, &mut handles, &mut pollers)?;
+    }
     let (carrier, poller) = setup_thread(rt, alloc)?;
     Ok(ThreadSetups {
         shared: Shared::new(handles, carrier),
@@ -36,20 +40,17 @@ pub(crate) fn setup_threads<R: Net>(
     })
 }
 
-/// A handle and a poller for each worker's thread.
-fn setup_workers<R: Net>(
+/// A handle and a poller for one more worker's thread.
+fn setup_worker<R: Net>(
     rt: &R,
     alloc: Global,
-    workers: u16,
-) -> Result<(Vec<ThreadHandle>, Vec<Poller>), WireRunFault> {
-    let mut handles = Vec::new(alloc);
-    let mut pollers = Vec::new(alloc);
-    for _ in 0..workers {
-        let (handle, poller) = setup_thread(rt, alloc)?;
-        push(&mut handles, handle)?;
-        push(&mut pollers, poller)?;
-    }
-    Ok((handles, pollers))
+    handles: &mut Vec<ThreadHandle>,
+    pollers: &mut Vec<Poller>,
+) -> Result<(), WireRunFault> {
+    let (handle, poller) = setup_thread(rt, alloc)?;
+    push(handles, handle)?;
+    push(pollers, poller)?;
+    Ok(())
 }
 
 /// A thread's handle and poller.

@@ -1,10 +1,16 @@
 //! What all threads of a run share.
 
-use crate::unfinished::Unfinished;
-use polled_sockets::{Parker, ReadySet};
+use crate::client::SocketClient;
+use crate::unfinished::{Unfinished, UnfinishedRequest};
+use mio::Registry;
+use mio::net::TcpStream;
+use polled_sockets::{Parker, PolledSocket, ReadySet, Registration};
 use proxy_report::{Figure, ThreadReport};
 use resp_wire::NoMemory;
 use std::alloc::Global;
+use std::io;
+use std::io::ErrorKind;
+use std::net::SocketAddr;
 use std::sync::Arc;
 use std::sync::atomic::{AtomicU64, Ordering};
 
@@ -14,13 +20,26 @@ const LONE_READS: u64 = 16;
 const SERVED_MILLIS: u64 = 2;
 
 /// What the others see of a thread: the ready set of its sockets, its parker, and the unfinished requests of its clients.
-#[derive(Drop)]
 pub(crate) struct ThreadHandle {
     pub(crate) ready: Arc<ReadySet, Global>,
     pub(crate) parker: Parker,
     pub(crate) unfinished: Arc<Unfinished, Global>,
     /// How much the thread had been given when it was woken last.
     given: AtomicU64,
+}
+
+impl Drop for ThreadHandle {
+    fn drop(self) {
+        let ThreadHandle {
+            ready,
+            parker,
+            unfinished,
+            given: _,
+        } = self;
+        drop(ready);
+        drop(parker);
+        drop(unfinished);
+    }
 }
 
 impl ThreadHandle {
@@ -35,6 +54,28 @@ impl ThreadHandle {
             unfinished,
             given: AtomicU64::new(0),
         }
+    }
+
+    /// The client over this connection, which the poll of the registry, the thread's own, watches from now on.
+    pub(crate) fn client_over(
+        &self,
+        stream: TcpStream,
+        address: SocketAddr,
+        registry: &Registry,
+    ) -> io::Result<SocketClient> {
+        let Ok(registration) = Registration::new(&self.ready) else {
+            return Err(ErrorKind::OutOfMemory.into());
+        };
+        let report = Arc::try_clone(self.ready.report())?;
+        let request = UnfinishedRequest::new(Arc::try_clone(&self.unfinished)?);
+        let socket = PolledSocket::new(stream, registration, registry)?;
+        Ok(SocketClient::new(socket, address, report, request))
+    }
+
+    /// Puts what the thread reports behind the others' reports.
+    fn push_report(&self, reports: &mut Vec<Arc<ThreadReport, Global>>) -> Result<(), NoMemory> {
+        reports.push(Arc::try_clone(self.ready.report())?)?;
+        Ok(())
     }
 
     /// Whether a client of the thread sent something lately.
@@ -56,12 +97,23 @@ impl ThreadHandle {
 }
 
 /// The handles of all threads, and whether they are to stop.
-#[derive(Drop)]
 pub(crate) struct Shared {
     pub(crate) workers: Vec<ThreadHandle>,
     pub(crate) carrier: ThreadHandle,
     /// How many workers have not ended; 0 once all threads are to stop.
     left: AtomicU64,
+}
+
+impl Drop for Shared {
+    fn drop(self) {
+        let Shared {
+            workers,
+            carrier,
+            left: _,
+        } = self;
+        drop(workers);
+        drop(carrier);
+    }
 }
 
 impl Shared {
@@ -80,9 +132,9 @@ impl Shared {
         alloc: Global,
     ) -> Result<Vec<Arc<ThreadReport, Global>>, NoMemory> {
         let mut reports = Vec::new(alloc);
-        reports.push(Arc::try_clone(self.carrier.ready.report())?)?;
+        self.carrier.push_report(&mut reports)?;
         for worker in &self.workers {
-            reports.push(Arc::try_clone(worker.ready.report())?)?;
+            worker.push_report(&mut reports)?;
         }
         Ok(reports)
     }

@@ -149,12 +149,23 @@ fn known_after(known: u64, before: u64, bytes: u64) -> u64
 }
 
 /// What is held of a client's unfinished request, among those of its worker.
-#[derive(Drop)]
 pub(crate) struct UnfinishedRequest {
     all: Arc<Unfinished, Global>,
     bytes: Cell<u64>,
     /// Its entry, once bytes of the client came.
     held: Option<Arc<HeldRequest, Global>>,
+}
+
+impl Drop for UnfinishedRequest {
+    fn drop(self) {
+        let UnfinishedRequest {
+            all,
+            bytes: _,
+            held,
+        } = self;
+        drop(all);
+        drop(held);
+    }
 }
 
 impl UnfinishedRequest {

@@ -58,7 +58,10 @@ fn serve_clients<J: Naming, R: Wait + Clock + RandomSource + AllocGlobal>(
     setup: SocketWorkerSetup<J>,
     shared: &Shared,
 ) -> Option<WireRunFault> {
-    let handle = shared.workers.get(usize::from(setup.worker))?;
+    let Some(handle) = shared.workers.get(usize::from(setup.worker)) else {
+        drop(setup);
+        return None;
+    };
     let WorkerSetup {
         worker,
         workers,

@@ -9,15 +9,14 @@ use Rattle.node_server.specs.declared.answer.Answer.TheVariants.{Says, Closes}
 use Rattle.node_server.specs.declared.block.Block.TheVariants.{Aborted}
 use Rattle.node_server.proofs.Answering.{if-ok, planned-ok, planned-err}
 use Rattle.node_server.proofs.block_answer.queue_command.Goals as goal
-use Rattle.node_server.proofs.block_answer.queue_command.Goals.{in-Array-1, in-One-1, in-Ok-plan-3+in-Local+in-Simple-1, in-Ok-plan-3+in-Local+in-Error-1, in-Ok-plan-3+in-Local+in-Bulk-1, in-Ok-plan-3+in-Local+in-Array-1, in-Ok-plan-3+in-Local+in-Integer-1, in-Ok-plan-3+in-Parts-1, in-Err-1}
+use Rattle.node_server.proofs.block_answer.queue_command.Goals.{in-Array-1, in-One-1}
 
 pub returns-in-Ok-Local-clause-answer : goal.returns-in-Ok-Local-clause-answer
 unfolding planned
 returns-in-Ok-Local-clause-answer c =
     let is = planned-ok (plan_of c.args.words.now) c.in-Ok-Local.field-0 c.in-Ok-Local.ensures.value ∙ ap Ok c.in-Ok-Local.field-0-is in
-    let whole = if-ok c.abort_with.result (λ (answer : Answer) h.
-    subst (λ (p : PlanAnswer). Queues c.args.table.now c.args.node c.args.block.now c.args.state.now.nodes p answer c.abort_with.new.block) (sym is) h) c.abort_with.ensures.answer in
-    elim c.match-plan-3.branch [ in-Ok-plan-3+in-Local+in-Simple-1 w ↦ whole | in-Ok-plan-3+in-Local+in-Error-1 w ↦ whole | in-Ok-plan-3+in-Local+in-Bulk-1 w ↦ whole | in-Ok-plan-3+in-Local+in-Array-1 w ↦ whole | in-Ok-plan-3+in-Local+in-Integer-1 w ↦ whole | in-Ok-plan-3+in-Parts-1 w ↦ whole | in-Err-1 w ↦ whole ]
+    if-ok c.abort_with.result (λ (answer : Answer) h.
+    subst (λ (p : PlanAnswer). Queues c.args.table.now c.args.node c.args.block.now c.args.state.now.nodes p answer c.abort_with.new.block) (sym is) h) c.abort_with.ensures.answer
 
 pub returns-in-Ok-Close-clause-answer : goal.returns-in-Ok-Close-clause-answer
 unfolding planned
