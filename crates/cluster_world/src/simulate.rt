@@ -107,8 +107,7 @@ fn play(alloc: Global, script: &[u8]) -> Result<Outcome, ScriptFault>
 {
     let header = read_header(alloc, script)?;
     let mut world = open(alloc, &header)?;
-    let events = read_events(alloc, header.workers, header.count + 1, header.rest)?;
-    let ran = world.run(&events);
+    let ran = world.run(&read_events(alloc, header.workers, header.count + 1, header.rest)?);
     Ok(report(alloc, &world, ran)?)
 }
 
