@@ -1,5 +1,5 @@
 -- What links show of what they keep, and of the history.
-use Rattle.std.proofs.Common.{◌≡◌, ◌≢◌, ℕ, zero, suc, ◌+◌, ◌<◌, List, [], ◌∷◌, ◌++◌, length, Some, None, Option, Bool, true, false, refl, sym, ap, ◌∙◌, subst, arith}
+use Rattle.std.proofs.Common.{◌≡◌, ◌≢◌, ℕ, zero, suc, ◌+◌, ◌<◌, ◌≤◌, List, [], ◌∷◌, ◌++◌, length, Some, None, Option, Bool, true, false, refl, sym, ap, ◌∙◌, subst, arith}
 use Rattle.std.specs.Prelude.{slice_get, slice_set, slice_index_or, map, All, MatchOption, Ok}
 use Rattle.std.specs.Borrow.{Bor}
 use Rattle.std.specs.Option.{option_map}
@@ -103,6 +103,10 @@ pub set-same : (ls : List LinkModel) (h : List EntryModel) (at : ℕ) (l new : L
 set-same ls h at l new e same =
     ap (λ xs. record { links = xs; history = h })
     (set-shown ls h at new ∙ ap (slice_set (map (shown h) ls) at) same ∙ set-itself (map (shown h) ls) at (shown h l) (at-shown ls h at l e))
+
+-- behind the last link there is none
+pub none-past : (ls : List LinkModel) (h : List EntryModel) (k : LinksModel) → linked ls h ≡ k → (at : ℕ) → length ls ≤ at → (P : Link → Type 0) → NoneThere k at P
+none-past ls h k is at le P = subst (λ (x : LinksModel). NoneThere x at P) is (λ l e p. omega (arith, le, shown-length ls h, slice_get_within (map (shown h) ls) at l e))
 
 module _ (ls : List LinkModel) (h : List EntryModel) (k : LinksModel) (is : linked ls h ≡ k) (at : ℕ) (l : LinkModel) (e : slice_get ls at ≡ Some l) where
   pub there : (P : LinksModel → Link → Type 0) → P (linked ls h) (shown h l) → There k at (P k)
