@@ -1,6 +1,6 @@
 -- Where nothing asks at a node, no ticket's command does.
 use Rattle.std.proofs.Common.{◌≡◌, ◌↔◌, ℕ, zero, suc, ◌+◌, ◌≤◌, ◌==◌, not, length, ◌&&◌, Bool, true, false, List, [], ◌∷◌, Option, Some, None, refl, sym, ap, ◌∙◌, subst, arith}
-use Rattle.std.specs.Prelude.{All, slice_get, slice_index_or, if◌then◌else◌}
+use Rattle.std.specs.Prelude.{slice_index_or, if◌then◌else◌}
 use Rattle.std.proofs.lemmas.Bool.Decides.{nat_tests}
 use Rattle.key_split.specs.Same.{same_ticket, same_ticket-Decides}
 use Rattle.key_split.specs.declared.travel.Ticket.{Ticket}
@@ -10,14 +10,14 @@ use Rattle.command_future.specs.declared.stage.Stage.{Stage}
 use Rattle.command_future.specs.declared.stage.Stage.TheVariants.{Wants, WantsAsking, Awaits, Over}
 use Rattle.world_laws.specs.State.{WorldModel, Link}
 use Rattle.world_laws.specs.World.{IsAmong}
-use Rattle.world_laws.specs.Places.{Item, in_backs, in_lane, in_requests, is, asks_in_stage, asks_in_told, total}
+use Rattle.world_laws.specs.Places.{Item, in_backs, in_requests, is, asks_in_stage, asks_in_told, total}
 use Rattle.world_laws.specs.Places.Item.{Stands, Lies, Sent, Comes}
 use Rattle.world_laws.specs.declared.state.LinkReply.{LinkReply}
 use Rattle.world_laws.specs.declared.state.LinkReply.TheVariants.{Welcome, To}
 use Rattle.world_laws.specs.declared.state.LinkRequest.{LinkRequest}
 use Rattle.world_laws.specs.declared.state.LinkRequest.TheVariants.{Asking, Runs}
 use Rattle.world_laws.specs.declared.state.Posted.{Posted}
-use Rattle.cluster_world.specs.Rests.{any_at, in_request, one_at, sets_flag, sought, weight, LinkRests, Rests, RunRests, TicketsRest}
+use Rattle.cluster_world.specs.Rests.{any_at, in_request, one_at, sets_flag, sought, LinkRests, Rests, RunRests, TicketsRest}
 
 one : (t u : Ticket) → is t u ≤ 1
 one t u = go (same_ticket t u)

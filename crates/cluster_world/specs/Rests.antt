@@ -1,6 +1,6 @@
 -- Where a command that ASK sent to a node may be on its way there: place by place, it is not.
 -- Only private functions cite it.
-use Rattle.std.specs.Prelude.{◌≡◌, ℕ, ◌+◌, ◌==◌, ◌&&◌, Bool, true, false, if◌then◌else◌, List, All, Option, Some, None}
+use Rattle.std.specs.Prelude.{◌≡◌, ℕ, ◌==◌, ◌&&◌, Bool, true, false, if◌then◌else◌, List, All, Option, Some, None}
 use Rattle.key_split.specs.Same.{same_ticket}
 use Rattle.key_split.specs.declared.travel.Ticket.{Ticket}
 use Rattle.world_laws.specs.State.{WorldModel, Link}

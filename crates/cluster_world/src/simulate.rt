@@ -107,7 +107,8 @@ fn play(alloc: Global, script: &[u8]) -> Result<Outcome, ScriptFault>
 {
     let header = read_header(alloc, script)?;
     let mut world = open(alloc, &header)?;
-    let ran = world.run(&read_events(alloc, header.workers, header.count + 1, header.rest)?);
+    let events = read_events(alloc, header.workers, header.count + 1, header.rest)?;
+    let ran = world.run(&events);
     Ok(report(alloc, &world, ran)?)
 }
 
