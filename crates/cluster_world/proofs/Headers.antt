@@ -5,6 +5,9 @@ use Rattle.std.proofs.Math.Seq.{drop-nil}
 use Rattle.slot_map.specs.declared.ops.MapOp.{MapOp}
 use Rattle.slot_map.specs.Map.{MapShows}
 use Rattle.world_laws.specs.declared.event.Event.{Event}
+use Rattle.cluster_world.specs.Reading.{ReadsHeader, SaysFirst, SaysNone}
+use Rattle.cluster_world.specs.declared.script_fault.ScriptFault.{ScriptFault}
+use Rattle.cluster_world.specs.declared.script_fault.ScriptFault.TheVariants.{BadLine, NoMemory}
 use Rattle.cluster_world.specs.Script.{ScriptLine, lines_of}
 use Rattle.cluster_world.specs.Schedule.{HasHeader, IsBadAt, all_said, event_of, line_at, nodes_of, owner_of, put_before, said_first, said_with, workers_of}
 use Rattle.cluster_world.specs.Schedule.IsBadAt.{no_nodes, no_owner, no_workers}
@@ -123,28 +126,21 @@ no_words_no_event workers (Some words) none = absurd (cc)
 
 -- The two lines before the owners.
 
-nodes-none : nodes_of None ≡ None
+pub nodes-none : nodes_of None ≡ None
 unfolding nodes_of
 nodes-none = refl
 
-workers-none : workers_of None ≡ None
+pub workers-none : workers_of None ≡ None
 unfolding workers_of
 workers-none = refl
 
-pub no_first : (lines : List ScriptLine) → lines ≡ [] → IsBadAt lines 1
-no_first lines none = no_nodes lines (ap (λ ls. nodes_of (line_at ls 0)) none ∙ nodes-none)
+-- a line that is not there, or that says no number
 
-pub bad_first : (lines more : List ScriptLine) (line : ScriptLine) → lines ≡ line ∷ more → None ≡ nodes_of line → IsBadAt lines 1
-bad_first lines more line read none = no_nodes lines (ap (λ ls. nodes_of (line_at ls 0)) read ∙ sym none)
+pub first_none : (said : ScriptLine → Option ℕ) (lines : List ScriptLine) → said None ≡ None → lines ≡ [] → said (line_at lines 0) ≡ None
+first_none said lines nothing none = ap (λ ls. said (line_at ls 0)) none ∙ nothing
 
-pub no_second : (lines more : List ScriptLine) (line : ScriptLine) (nodes : ℕ) → lines ≡ line ∷ more → Some nodes ≡ nodes_of line → more ≡ [] → IsBadAt lines 2
-no_second lines more line nodes read says none =
-    no_workers lines nodes (ap (λ ls. nodes_of (line_at ls 0)) read ∙ sym says) (ap (λ ls. workers_of (line_at ls 1)) (read ∙ ap (λ ls. line ∷ ls) none) ∙ workers-none)
-
-pub bad_second : (lines more further : List ScriptLine) (line next : ScriptLine) (nodes : ℕ) → lines ≡ line ∷ more → Some nodes ≡ nodes_of line → more ≡ next ∷ further
-    → None ≡ workers_of next → IsBadAt lines 2
-bad_second lines more further line next nodes read says then none =
-    no_workers lines nodes (ap (λ ls. nodes_of (line_at ls 0)) read ∙ sym says) (ap (λ ls. workers_of (line_at ls 1)) (read ∙ ap (λ ls. line ∷ ls) then) ∙ sym none)
+pub first_bad : (said : ScriptLine → Option ℕ) (lines more : List ScriptLine) (line : ScriptLine) → lines ≡ line ∷ more → None ≡ said line → said (line_at lines 0) ≡ None
+first_bad said lines more line read none = ap (λ ls. said (line_at ls 0)) read ∙ sym none
 
 -- the lines begin with two that say how many nodes and workers there are
 pub record BeginsWith (lines further : List ScriptLine) (nodes workers : ℕ) : Type 0 where
@@ -152,11 +148,22 @@ pub record BeginsWith (lines further : List ScriptLine) (nodes workers : ℕ) : 
   pub second : workers_of (line_at lines 1) ≡ Some workers
   pub behind : drop 2 lines ≡ further
 
-pub two_lines : (lines more further : List ScriptLine) (line next : ScriptLine) (nodes workers : ℕ) → lines ≡ line ∷ more → Some nodes ≡ nodes_of line → more ≡ next ∷ further
-    → Some workers ≡ workers_of next → BeginsWith lines further nodes workers
-two_lines lines more further line next nodes workers read says then says' =
-    let both = read ∙ ap (λ ls. line ∷ ls) then in
-    record { first = ap (λ ls. nodes_of (line_at ls 0)) both ∙ sym says; second = ap (λ ls. workers_of (line_at ls 1)) both ∙ sym says'; behind = ap (drop 2) both }
+pub two_lines : (lines more further : List ScriptLine) (nodes workers : ℕ) → SaysFirst nodes_of lines nodes more → SaysFirst workers_of more workers further
+    → BeginsWith lines further nodes workers
+two_lines lines more further nodes workers first second =
+    let both = first.1 ∙ ap (λ ls. first.0 ∷ ls) second.1 in
+    record { first = ap (λ ls. nodes_of (line_at ls 0)) both ∙ sym first.2; second = ap (λ ls. workers_of (line_at ls 1)) both ∙ sym second.2; behind = ap (drop 2) both }
+
+pub bad_nodes : (input : List ℕ) (fault : ScriptFault) → SaysNone nodes_of 1 (lines_of input) fault → ReadsHeader input (Err fault)
+bad_nodes input (BadLine number) none = subst (IsBadAt (lines_of input)) (sym none.0) (no_nodes (lines_of input) none.1)
+bad_nodes input NoMemory none = tt
+
+pub bad_workers : (input : List ℕ) (more : List ScriptLine) (nodes : ℕ) (fault : ScriptFault) → SaysFirst nodes_of (lines_of input) nodes more → SaysNone workers_of 2 more fault
+    → ReadsHeader input (Err fault)
+bad_workers input more nodes (BadLine number) first none =
+    subst (IsBadAt (lines_of input)) (sym none.0)
+    (no_workers (lines_of input) nodes (ap (λ ls. nodes_of (line_at ls 0)) first.1 ∙ sym first.2) (ap (λ ls. workers_of (line_at ls 1)) first.1 ∙ none.1))
+bad_workers input more nodes NoMemory first none = tt
 
 nothing_said : (ops : List MapOp) → 0 ≡ length ops → ops ≡ []
 nothing_said [] none = refl

@@ -1,5 +1,5 @@
 -- What links show of what they keep, and of the history.
-use Rattle.std.proofs.Common.{◌≡◌, ◌≢◌, ℕ, zero, suc, ◌+◌, ◌<◌, List, [], ◌∷◌, ◌++◌, length, Some, None, Option, Bool, true, false, refl, sym, ap, ◌∙◌, subst, arith}
+use Rattle.std.proofs.Common.{◌≡◌, ◌≢◌, ℕ, zero, suc, ◌+◌, ◌<◌, ◌≤◌, List, [], ◌∷◌, ◌++◌, length, Some, None, Option, Bool, true, false, refl, sym, ap, ◌∙◌, subst, arith}
 use Rattle.std.specs.Prelude.{slice_get, slice_set, slice_index_or, map, All, MatchOption, Ok}
 use Rattle.std.specs.Borrow.{Bor}
 use Rattle.std.specs.Option.{option_map}
@@ -19,11 +19,12 @@ use Rattle.world_laws.specs.declared.state.LinkRequest.{LinkRequest}
 use Rattle.world_laws.specs.declared.state.LinkReply.{LinkReply}
 use Rattle.world_laws.specs.declared.state.LinkReply.TheVariants.{To}
 use Rattle.world_laws.specs.declared.state.LinkReply.TheVariants as back
-use Rattle.world_laws.specs.Places.{asks, in_backs}
+use Rattle.world_laws.specs.Places.{in_backs}
 use Rattle.world_laws.specs.Places.Item.{Comes}
 use Rattle.cluster_world.specs.Kept.{LinkModel, value_of, reply_at, shown_back, shown, IsBelow, KeepsBelow, kept_for, in_kept, keeps, refusal_in, Notes}
 use Rattle.cluster_world.specs.Links.{LinksModel, linked, with_link, There, NoneThere, FirstIs, Begins, Fetches, IsOpen}
-use Rattle.cluster_world.specs.Rests.{LineRests, LinkRests}
+use Rattle.cluster_world.specs.Rests.{sought, LineRests, LinkRests}
+use Rattle.cluster_world.specs.declared.asks.Sought.{Sought}
 use Rattle.cluster_world.specs.declared.link.Kept.{Kept}
 use Rattle.cluster_world.specs.declared.link.Kept.TheVariants.{Welcome, Refusal, Entry}
 use Rattle.cluster_world.proofs.Lookups.{set-itself, same-item}
@@ -103,6 +104,10 @@ set-same ls h at l new e same =
     ap (λ xs. record { links = xs; history = h })
     (set-shown ls h at new ∙ ap (slice_set (map (shown h) ls) at) same ∙ set-itself (map (shown h) ls) at (shown h l) (at-shown ls h at l e))
 
+-- behind the last link there is none
+pub none-past : (ls : List LinkModel) (h : List EntryModel) (k : LinksModel) → linked ls h ≡ k → (at : ℕ) → length ls ≤ at → (P : Link → Type 0) → NoneThere k at P
+none-past ls h k is at le P = subst (λ (x : LinksModel). NoneThere x at P) is (λ l e p. omega (arith, le, shown-length ls h, slice_get_within (map (shown h) ls) at l e))
+
 module _ (ls : List LinkModel) (h : List EntryModel) (k : LinksModel) (is : linked ls h ≡ k) (at : ℕ) (l : LinkModel) (e : slice_get ls at ≡ Some l) where
   pub there : (P : LinksModel → Link → Type 0) → P (linked ls h) (shown h l) → There k at (P k)
   there P p = subst (λ (x : LinksModel). There x at (P x)) is (shown h l, at-shown ls h at l e, p)
@@ -145,27 +150,27 @@ answered-shown h (Welcome ∷ ks) = answered-shown h ks
 answered-shown h (Refusal t told ∷ ks) = ap (λ ts. t ∷ ts) (answered-shown h ks)
 answered-shown h (Entry t place ∷ ks) = ap (λ ts. t ∷ ts) (answered-shown h ks)
 
-asks-shown : (h : List EntryModel) (node : ℕ) (ticket : Ticket) (ks : List Kept) → in_backs (asks node ticket) (map (shown_back h) ks) ≡ in_kept (asks node ticket) ks
-asks-shown h node ticket [] = refl
-asks-shown h node ticket (Welcome ∷ ks) = asks-shown h node ticket ks
-asks-shown h node ticket (Refusal t told ∷ ks) = ap (λ n. asks node ticket (Comes t told) + n) (asks-shown h node ticket ks)
-asks-shown h node ticket (Entry t place ∷ ks) = omega (arith, asks-shown h node ticket ks)
+sought-shown : (h : List EntryModel) (s : Sought) (ks : List Kept) → in_backs (sought s) (map (shown_back h) ks) ≡ in_kept (sought s) ks
+sought-shown h s [] = refl
+sought-shown h s (Welcome ∷ ks) = sought-shown h s ks
+sought-shown h s (Refusal t told ∷ ks) = ap (λ n. sought s (Comes t told) + n) (sought-shown h s ks)
+sought-shown h s (Entry t place ∷ ks) = omega (arith, sought-shown h s ks)
 
-rests-shown : (h : List EntryModel) (l : LinkModel) (node : ℕ) (ticket : Ticket) → LineRests l node ticket → LinkRests (shown h l) node ticket
+rests-shown : (h : List EntryModel) (l : LinkModel) (s : Sought) → LineRests l s → LinkRests (shown h l) s
 unfolding LineRests LinkRests
-rests-shown h l node ticket r = (r.0, asks-shown h node ticket l.backs ∙ r.1)
+rests-shown h l s r = (r.0, sought-shown h s l.backs ∙ r.1)
 
-shown-rests : (h : List EntryModel) (l : LinkModel) (node : ℕ) (ticket : Ticket) → LinkRests (shown h l) node ticket → LineRests l node ticket
+shown-rests : (h : List EntryModel) (l : LinkModel) (s : Sought) → LinkRests (shown h l) s → LineRests l s
 unfolding LineRests LinkRests
-shown-rests h l node ticket r = (r.0, sym (asks-shown h node ticket l.backs) ∙ r.1)
+shown-rests h l s r = (r.0, sym (sought-shown h s l.backs) ∙ r.1)
 
-pub all-rest : (ls : List LinkModel) (h : List EntryModel) (node : ℕ) (ticket : Ticket) → All (λ l. LineRests l node ticket) ls → All (λ l. LinkRests l node ticket) (map (shown h) ls)
-all-rest ls h node ticket all = All-map (λ l. LinkRests l node ticket) (shown h) ls (λ k d lt. rests-shown h _ node ticket (all k d lt))
+pub all-rest : (ls : List LinkModel) (h : List EntryModel) (s : Sought) → All (λ l. LineRests l s) ls → All (λ l. LinkRests l s) (map (shown h) ls)
+all-rest ls h s all = All-map (λ l. LinkRests l s) (shown h) ls (λ k d lt. rests-shown h _ s (all k d lt))
 
-pub rest-all : (ls : List LinkModel) (h : List EntryModel) (node : ℕ) (ticket : Ticket) → All (λ l. LinkRests l node ticket) (map (shown h) ls) → All (λ l. LineRests l node ticket) ls
-rest-all [] h node ticket all k d lt = absurd (omega (arith, lt))
-rest-all (x ∷ ls) h node ticket all zero d lt = shown-rests h x node ticket (all zero (shown h d) (omega arith))
-rest-all (x ∷ ls) h node ticket all (suc k) d lt = rest-all ls h node ticket (λ j e l. all (suc j) e (omega (arith, l))) k d (omega (arith, lt))
+pub rest-all : (ls : List LinkModel) (h : List EntryModel) (s : Sought) → All (λ l. LinkRests l s) (map (shown h) ls) → All (λ l. LineRests l s) ls
+rest-all [] h s all k d lt = absurd (omega (arith, lt))
+rest-all (x ∷ ls) h s all zero d lt = shown-rests h x s (all zero (shown h d) (omega arith))
+rest-all (x ∷ ls) h s all (suc k) d lt = rest-all ls h s (λ j e l. all (suc j) e (omega (arith, l))) k d (omega (arith, lt))
 
 -- what is kept, where the history grows
 

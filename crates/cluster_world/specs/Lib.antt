@@ -20,3 +20,4 @@ pub mod Commands
 pub mod Tables
 pub mod Posting
 pub mod Serving
+pub mod Audit

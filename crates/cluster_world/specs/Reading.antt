@@ -14,8 +14,8 @@ use Rattle.cluster_world.specs.declared.script.LineRead.{LineRead}
 use Rattle.cluster_world.specs.declared.script_fault.ScriptFault.{ScriptFault}
 use Rattle.cluster_world.specs.declared.script_fault.ScriptFault.TheVariants.{NoMemory, BadLine}
 use Rattle.cluster_world.specs.declared.header.Header.{Header}
-use Rattle.cluster_world.specs.Script.{lines_of}
-use Rattle.cluster_world.specs.Schedule.{HasHeader, IsBadAt}
+use Rattle.cluster_world.specs.Script.{ScriptLine, lines_of}
+use Rattle.cluster_world.specs.Schedule.{HasHeader, IsBadAt, line_at}
 
 -- the whole input; or as many bytes as may be read, or more; or a read failed
 abbrev pub IsInput : ℕ → List ℕ → Input → Type 0
@@ -45,6 +45,15 @@ abbrev pub ReadsEvents : Result (List Event) ℕ → Result (Vec Event Global) S
 ReadsEvents said (Ok events) = said ≡ Ok events.items
 ReadsEvents said (Err (BadLine number)) = said ≡ Err number
 ReadsEvents said (Err NoMemory) = Unit {0}
+
+-- the first line says this number, and these follow it
+abbrev pub SaysFirst : (ScriptLine → Option ℕ) → List ScriptLine → ℕ → List ScriptLine → Type 0
+SaysFirst said lines number rest = (line : ScriptLine) × (lines ≡ line ∷ rest) × (Some number ≡ said line)
+
+-- it says none, and is the bad line of this place; or there is no memory
+abbrev pub SaysNone : (ScriptLine → Option ℕ) → ℕ → List ScriptLine → ScriptFault → Type 0
+SaysNone said place lines (BadLine number) = (number ≡ place) × (said (line_at lines 0) ≡ None)
+SaysNone said place lines NoMemory = Unit {0}
 
 -- the header of the lines, and what stands behind it; or where they are bad
 abbrev pub ReadsHeader : List ℕ → Result Header ScriptFault → Type 0

@@ -1,10 +1,10 @@
 //! The header of a script.
 
-ghost use Rattle.std.specs.Prelude.{◌≡◌, ◌≤◌, ◌<◌, ◌+◌, ◌++◌, List, IfOk, IfSome, length, drop};
+ghost use Rattle.std.specs.Prelude.{◌≡◌, ◌≤◌, ◌<◌, ◌+◌, ◌++◌, List, IfOk, IfErr, IfSome, length, drop};
 ghost use Rattle.slot_map.specs.declared.ops.MapOp.{MapOp};
 ghost use Rattle.slot_map.specs.Map.{MapShows};
 ghost use Rattle.cluster_world.specs.Cuts.{Shows};
-ghost use Rattle.cluster_world.specs.Reading.{ReadsHeader};
+ghost use Rattle.cluster_world.specs.Reading.{ReadsHeader, SaysFirst, SaysNone};
 ghost use Rattle.cluster_world.specs.Script.{lines_of};
 ghost use Rattle.cluster_world.specs.Schedule as schedule;
 
@@ -37,6 +37,20 @@ struct Owners<'a> {
     rest: &'a [u8],
 }
 
+/// How many nodes there are, and what follows their line.
+#[derive(Clone, Copy)]
+struct NodesLine<'a> {
+    nodes: u8,
+    rest: &'a [u8],
+}
+
+/// How many workers there are, and what follows their line.
+#[derive(Clone, Copy)]
+struct WorkersLine<'a> {
+    workers: u16,
+    rest: &'a [u8],
+}
+
 /// Reads the header of a script.
 pub(crate) fn read_header<'a>(alloc: Global, script: &'a [u8]) -> Result<Header<'a>, ScriptFault>
     requires { length script.now ≤ INPUT_LIMIT }
@@ -44,29 +58,56 @@ pub(crate) fn read_header<'a>(alloc: Global, script: &'a [u8]) -> Result<Header<
     ensures workers { IfOk result (λ header. (1 ≤ header.workers) × (header.workers ≤ 64)) }
     ensures within { IfOk result (λ header. header.count + length header.rest.now ≤ INPUT_LIMIT) }
 {
-    let Some(first) = read_line(alloc, script)? else {
-        return Err(ScriptFault::BadLine(1));
-    };
-    let Some(nodes) = nodes_of(&first.words) else {
-        return Err(ScriptFault::BadLine(1));
-    };
-    let Some(second) = read_line(alloc, first.rest)? else {
-        return Err(ScriptFault::BadLine(2));
-    };
-    let Some(workers) = workers_of(&second.words) else {
-        return Err(ScriptFault::BadLine(2));
-    };
+    let first = read_nodes(alloc, script)?;
+    let second = read_workers(alloc, first.rest)?;
     let mut owners = SlotMap::new(alloc)?;
     let owned = read_owners(alloc, &mut owners, second.rest)?;
     if owned.count == 0 {
         return Err(ScriptFault::BadLine(3));
     }
     Ok(Header {
-        nodes,
-        workers,
+        nodes: first.nodes,
+        workers: second.workers,
         owners,
         count: owned.count + 2,
         rest: owned.rest,
+    })
+}
+
+/// Reads the line that says how many nodes there are, which is the first.
+fn read_nodes<'a>(alloc: Global, lines: &'a [u8]) -> Result<NodesLine<'a>, ScriptFault>
+    ensures says { IfOk result (λ read. SaysFirst schedule.nodes_of (lines_of lines.now) read.nodes (lines_of read.rest.now)) }
+    ensures bad { IfErr result (SaysNone schedule.nodes_of 1 (lines_of lines.now)) }
+    ensures within { IfOk result (λ read. length read.rest.now + 1 ≤ length lines.now) }
+{
+    let Some(line) = read_line(alloc, lines)? else {
+        return Err(ScriptFault::BadLine(1));
+    };
+    let Some(nodes) = nodes_of(&line.words) else {
+        return Err(ScriptFault::BadLine(1));
+    };
+    Ok(NodesLine {
+        nodes,
+        rest: line.rest,
+    })
+}
+
+/// Reads the line that says how many workers there are, which is the second.
+fn read_workers<'a>(alloc: Global, lines: &'a [u8]) -> Result<WorkersLine<'a>, ScriptFault>
+    ensures says { IfOk result (λ read. SaysFirst schedule.workers_of (lines_of lines.now) read.workers (lines_of read.rest.now)) }
+    ensures bad { IfErr result (SaysNone schedule.workers_of 2 (lines_of lines.now)) }
+    ensures few { IfOk result (λ read. (1 ≤ read.workers) × (read.workers ≤ 64)) }
+    ensures within { IfOk result (λ read. length read.rest.now + 1 ≤ length lines.now) }
+{
+    let Some(line) = read_line(alloc, lines)? else {
+        return Err(ScriptFault::BadLine(2));
+    };
+    let Some(workers) = workers_of(&line.words) else {
+        return Err(ScriptFault::BadLine(2));
+    };
+    Ok(WorkersLine {
+        workers,
+        rest: line.rest,
     })
 }
 

@@ -5,6 +5,7 @@ ghost use Rattle.std.specs.FinMap.{empty};
 ghost use Rattle.resp_wire.specs.Seen.{data_of};
 ghost use Rattle.node_model.specs.History.{IsLegal};
 ghost use Rattle.cluster_world.specs.Index.{place_in, IsIndex};
+ghost use Rattle.cluster_world.specs.Audit.{EndedSo, FollowTurns, HaveParts};
 ghost use Rattle.cluster_world.specs.Lawful.{IsAnswered, IsLawful, MayPrecede, WasAnswered, WasExecuted};
 
 use crate::Entry;
@@ -34,25 +35,55 @@ fn is_lawful(
     if !is_legal(alloc, history)? {
         return Ok(false);
     }
-    let Some(part_places) = places_of(alloc, parts)? else {
-        return Ok(false);
-    };
-    let Some(end_places) = places_of(alloc, ends)? else {
-        return Ok(false);
-    };
-    if !ends_have_parts(parts, &part_places, ends) {
+    if !have_parts(alloc, parts, ends, history)? {
         return Ok(false);
     }
-    if !entries_have_parts(parts, &part_places, history) {
+    if !ended_so(alloc, ends, history)? {
         return Ok(false);
     }
-    let Some(entry_places) = places_of_entries(alloc, history)? else {
+    follow_turns(alloc, ends, history)
+}
+
+/// Whether no ticket is twice among the parts, and each end and each entry has its part.
+fn have_parts(
+    alloc: Global,
+    parts: &[(Ticket, Part)],
+    ends: &[(Ticket, Ended)],
+    history: &[Entry],
+) -> Result<bool, NoMemory>
+    ensures { IfOk result (λ all. IsTrue all ↔ HaveParts parts.now ends.now history.now) }
+{
+    let Some(places) = places_of(alloc, parts)? else {
         return Ok(false);
     };
-    if !are_as_ended(history, &entry_places, ends) {
+    if !ends_have_parts(parts, &places, ends) {
         return Ok(false);
     }
-    are_in_turn(alloc, ends, &end_places, history)
+    Ok(entries_have_parts(parts, &places, history))
+}
+
+/// Whether no ticket is twice in the history, and each part was executed as its end says.
+fn ended_so(alloc: Global, ends: &[(Ticket, Ended)], history: &[Entry]) -> Result<bool, NoMemory>
+    ensures { IfOk result (λ so. EndedSo ends.now history.now so) }
+{
+    let Some(places) = places_of_entries(alloc, history)? else {
+        return Ok(false);
+    };
+    Ok(are_as_ended(history, &places, ends))
+}
+
+/// Whether no ticket is twice among the ends, and the answered parts of each client stand in their order, slot by slot.
+fn follow_turns(
+    alloc: Global,
+    ends: &[(Ticket, Ended)],
+    history: &[Entry],
+) -> Result<bool, NoMemory>
+    ensures { IfOk result (λ follow. IsTrue follow ↔ FollowTurns ends.now history.now) }
+{
+    let Some(places) = places_of(alloc, ends)? else {
+        return Ok(false);
+    };
+    are_in_turn(alloc, ends, &places, history)
 }
 
 /// Whether each reply is one store's.

@@ -1,14 +1,14 @@
 //! A link to a node.
 
 ghost use Rattle.std.specs.Prelude.{◌≡◌, ◌<◌, ◌≤◌, ◌+◌, [], ◌∷◌, ◌++◌, true, false, List, OnOk, OnErr, ◌≢◌, IsTrue, ◌↔◌, IfOk, MatchOption, length};
-ghost use Rattle.world_laws.specs.Places.{asks, in_requests};
+ghost use Rattle.world_laws.specs.Places.{in_requests};
 ghost use Rattle.world_laws.specs.State.{requests_of, sent_of};
 ghost use Rattle.world_laws.specs.declared.state.LinkRequest.{LinkRequest as Request};
 ghost use Rattle.cluster_world.specs.Kept.{FirstEntry, keeps, kept_for, new_link_model, refusal_in};
-ghost use Rattle.cluster_world.specs.Rests.{asked, sets_flag, LineAsksNot, LineRests, RequestAsksNot, RequestRests};
+ghost use Rattle.cluster_world.specs.Rests.{sets_flag, sought as sought_at, LineRests, RequestRests};
 ghost use Rattle.cluster_world.specs.Lost.{each_lost};
 
-use crate::asks::{goes_asking, kept_ask_not, kept_rest, tickets_ask_not, tickets_rest};
+use crate::asks::{Sought, goes_asking, kept_rest, tickets_rest};
 use key_split::{Ticket, Told};
 use slot_map::NodeId;
 use std::alloc::{AllocError, Global};
@@ -208,21 +208,21 @@ impl Link {
         Ok(lost)
     }
 
-    /// Whether it does not carry the ticket's command to the node behind ASKING, nor a reply that tells it to ask there.
-    pub(crate) fn rests(&self, node: NodeId, ticket: Ticket) -> bool
-        ensures { IsTrue result ↔ LineRests self.now node ticket }
+    /// Whether it carries no sought command to the node behind ASKING, nor a reply that tells one to ask there.
+    pub(crate) fn rests(&self, sought: &Sought) -> bool
+        ensures { IsTrue result ↔ LineRests self.now sought.now }
     {
-        self.requests_rest(node, ticket) && kept_rest(&self.backs, node, ticket)
+        self.requests_rest(sought) && kept_rest(&self.backs, sought)
     }
 
-    // Whether none of its requests is the ticket's command, for the node and behind ASKING.
-    fn requests_rest(&self, node: NodeId, ticket: Ticket) -> bool
-        ensures { IsTrue result ↔ (in_requests (asks node ticket) self.now.is_open self.now.node self.now.asking self.now.requests ≡ 0) }
+    // Whether none of its requests is a sought command for the node and behind ASKING.
+    fn requests_rest(&self, sought: &Sought) -> bool
+        ensures { IsTrue result ↔ (in_requests (sought_at sought.now) self.now.is_open self.now.node self.now.asking self.now.requests ≡ 0) }
     {
         let mut asking = self.asking;
         let mut rest = self.requests.as_slice();
         while let [request, further @ ..] = rest {
-            if !self.request_rests(asking, request, node, ticket) {
+            if !self.request_rests(asking, request, sought) {
                 return false;
             }
             asking = sets_flag(request);
@@ -231,57 +231,15 @@ impl Link {
         true
     }
 
-    // Whether the request, which meets this flag, is not the ticket's command, for the node and behind ASKING.
-    fn request_rests(
-        &self,
-        asking: bool,
-        request: &LinkRequest,
-        node: NodeId,
-        ticket: Ticket,
-    ) -> bool
-        ensures { IsTrue result ↔ RequestRests self.now asking request.now node ticket }
+    // Whether the request, which meets this flag, has no sought command for the node behind ASKING.
+    fn request_rests(&self, asking: bool, request: &LinkRequest, sought: &Sought) -> bool
+        ensures { IsTrue result ↔ RequestRests self.now asking request.now sought.now }
     {
         match request {
             LinkRequest::Asking => true,
             LinkRequest::Runs(tickets) => {
-                let goes = goes_asking(asking, self.node, node);
-                tickets_rest(tickets.as_slice(), goes, ticket)
-            }
-        }
-    }
-
-    /// Whether it carries no command to the node behind ASKING, nor a reply that tells one to ask there.
-    pub(crate) fn asks_not(&self, node: NodeId) -> bool
-        ensures { IsTrue result ↔ LineAsksNot self.now node }
-    {
-        self.requests_ask_not(node) && kept_ask_not(&self.backs, node)
-    }
-
-    // Whether none of its requests is for the node and behind ASKING.
-    fn requests_ask_not(&self, node: NodeId) -> bool
-        ensures { IsTrue result ↔ (in_requests (asked node) self.now.is_open self.now.node self.now.asking self.now.requests ≡ 0) }
-    {
-        let mut asking = self.asking;
-        let mut rest = self.requests.as_slice();
-        while let [request, further @ ..] = rest {
-            if !self.request_asks_not(asking, request, node) {
-                return false;
-            }
-            asking = sets_flag(request);
-            rest = further;
-        }
-        true
-    }
-
-    // Whether the request, which meets this flag, is not for the node and behind ASKING.
-    fn request_asks_not(&self, asking: bool, request: &LinkRequest, node: NodeId) -> bool
-        ensures { IsTrue result ↔ RequestAsksNot self.now asking request.now node }
-    {
-        match request {
-            LinkRequest::Asking => true,
-            LinkRequest::Runs(tickets) => {
-                let goes = goes_asking(asking, self.node, node);
-                tickets_ask_not(tickets.as_slice(), goes)
+                let goes = goes_asking(asking, self.node, sought.node);
+                tickets_rest(tickets.as_slice(), goes, sought)
             }
         }
     }

@@ -7,16 +7,16 @@ ghost use Rattle.std.specs.Vec.{vec_len, vec_capacity};
 ghost use Rattle.node_model.specs.Runs.{HaveOneSlot};
 ghost use Rattle.cluster_world.specs.Kept.{served_in, shown, KeepsBelow, Notes, NotesAll};
 ghost use Rattle.cluster_world.specs.Links.{There, Begins, BeginsRun, Carries, Closes, Discards, Fetches, FirstIs, HasReply, Welcomes, LinkExecutes};
-ghost use Rattle.cluster_world.specs.Rests.{LineAsksNot, LineRests, LinkRests};
+ghost use Rattle.cluster_world.specs.Rests.{LineRests, LinkRests};
 ghost use Rattle.world_laws.specs.World.{IsNode};
 ghost use Rattle.world_laws.specs.declared.state.LinkRequest.{LinkRequest as Request};
 ghost use Rattle.world_laws.specs.declared.state.LinkRequest.TheVariants.{Asking};
 
+use crate::asks::Sought;
 use crate::fault::WorldFault;
 use crate::link::{Kept, Link};
 use key_split::{Part, Ticket, Told};
 use node_model::{Cluster, Verdict};
-use slot_map::NodeId;
 use std::alloc::Global;
 use std::collections::VecDeque;
 use std::marker::Model;
@@ -198,33 +198,19 @@ impl Links {
         }
     }
 
-    /// Whether none of the links carries the ticket's command to the node behind ASKING, or such a reply to it.
-    pub(crate) fn rest(&self, node: NodeId, ticket: Ticket) -> bool
-        ensures { IsTrue result ↔ All (λ l. LinkRests l node ticket) self.now.links }
+    /// Whether none of the links carries a sought command to the node behind ASKING, or a reply that tells one to ask there.
+    pub(crate) fn rest(&self, sought: &Sought) -> bool
+        ensures { IsTrue result ↔ All (λ l. LinkRests l sought.now) self.now.links }
     {
-        lines_rest(&self.links, node, ticket)
-    }
-
-    /// Whether none of the links carries a command to the node behind ASKING, or a reply that tells one to ask there.
-    pub(crate) fn ask_not(&self, node: NodeId) -> bool
-        ensures { IsTrue result → (ticket : Ticket) → All (λ l. LinkRests l node ticket) self.now.links }
-    {
-        lines_ask_not(&self.links, node)
+        lines_rest(&self.links, sought)
     }
 }
 
 // The same of links in a list.
-fn lines_ask_not(links: &[Link], node: NodeId) -> bool
-    ensures { IsTrue result ↔ All (λ l. LineAsksNot l node) links.now }
+fn lines_rest(links: &[Link], sought: &Sought) -> bool
+    ensures { IsTrue result ↔ All (λ l. LineRests l sought.now) links.now }
 {
-    links.iter().all(|link| link.asks_not(node))
-}
-
-// The same of links in a list.
-fn lines_rest(links: &[Link], node: NodeId, ticket: Ticket) -> bool
-    ensures { IsTrue result ↔ All (λ l. LineRests l node ticket) links.now }
-{
-    links.iter().all(|link| link.rests(node, ticket))
+    links.iter().all(|link| link.rests(sought))
 }
 
 // Notes what the commands of a run were told: the link keeps a reply to each.

@@ -3,15 +3,12 @@
 ghost use Rattle.cluster_world.specs.Machine.{state_of, MachineAnswers};
 ghost use Rattle.std.specs.Prelude.{◌≡◌, ◌↔◌, All, IsTrue};
 ghost use Rattle.world_laws.specs.State.{slot_for};
-ghost use Rattle.cluster_world.specs.Rests.{Rests};
+ghost use Rattle.cluster_world.specs.Rests.{one_at, Rests};
 ghost use Rattle.world_laws.specs.declared.event.Event.TheVariants as event;
 
-use crate::asks::{
-    commands_ask_not, commands_rest, downs_ask_not, downs_rest, runs_ask_not, runs_rest,
-};
+use crate::asks::{Sought, commands_rest, downs_rest, runs_rest};
 use crate::fault::WorldFault;
 use crate::machine::Machine;
-use key_split::Ticket;
 use resp_wire::Bytes;
 use slot_hash::Slot;
 use slot_map::NodeId;
@@ -28,41 +25,33 @@ impl Machine {
         Ok(())
     }
 
-    // Whether no command for the slot that ASK sent to the node is on its way.
+    // Whether no command for the slot that ASK sent to the node is on its way. Most often nothing asks there at all, which
+    // one look through the lists tells.
     fn none_asks(&self, slot: Slot, node: NodeId) -> bool
-        ensures { IsTrue result ↔ All (λ c. slot_for c.command.part ≡ slot → Rests (state_of self.now) node c.command.ticket) self.now.commands }
+        ensures { IsTrue result ↔ All (λ c. slot_for c.command.part ≡ slot → Rests (state_of self.now) (one_at node c.command.ticket)) self.now.commands }
     {
-        self.asks_not(node) || self.slot_rests(slot, node)
+        self.rests(&Sought { node, ticket: None }) || self.slot_rests(slot, node)
     }
 
-    // Whether nothing at all asks at the node: a quick look, once through the lists.
-    fn asks_not(&self, node: NodeId) -> bool
-        ensures { IsTrue result → (ticket : Ticket) → Rests (state_of self.now) node ticket }
-    {
-        commands_ask_not(self.commands.as_slice(), node)
-            && runs_ask_not(&self.ups, node)
-            && self.links.ask_not(node)
-            && downs_ask_not(&self.downs, node)
-    }
-
-    // The same of each command for the slot.
+    // The same, command by command.
     fn slot_rests(&self, slot: Slot, node: NodeId) -> bool
-        ensures { IsTrue result ↔ All (λ c. slot_for c.command.part ≡ slot → Rests (state_of self.now) node c.command.ticket) self.now.commands }
+        ensures { IsTrue result ↔ All (λ c. slot_for c.command.part ≡ slot → Rests (state_of self.now) (one_at node c.command.ticket)) self.now.commands }
     {
         self.commands.as_slice().iter().all(|arrival| {
-            arrival.command.slot() != slot || self.rests(node, arrival.command.ticket())
+            let ticket = Some(arrival.command.ticket());
+            arrival.command.slot() != slot || self.rests(&Sought { node, ticket })
         })
     }
 
-    // Whether the ticket's command is nowhere on its way to the node by ASK.
+    // Whether nothing that is sought is on its way.
     #[tactic(auto, unfolding(crate::specs::Rests::Rests))]
-    fn rests(&self, node: NodeId, ticket: Ticket) -> bool
-        ensures { IsTrue result ↔ Rests (state_of self.now) node ticket }
+    fn rests(&self, sought: &Sought) -> bool
+        ensures { IsTrue result ↔ Rests (state_of self.now) sought.now }
     {
-        commands_rest(self.commands.as_slice(), node, ticket)
-            && runs_rest(&self.ups, node, ticket)
-            && self.links.rest(node, ticket)
-            && downs_rest(&self.downs, node, ticket)
+        commands_rest(self.commands.as_slice(), sought)
+            && runs_rest(&self.ups, sought)
+            && self.links.rest(sought)
+            && downs_rest(&self.downs, sought)
     }
 
     /// The slot's owner begins to give it.

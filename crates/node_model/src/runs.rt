@@ -61,7 +61,14 @@ impl Cluster {
         }
     }
 
-    fn deed_for(&self, node: NodeId, asking: bool, parts: &[Part], verdict: Verdict) -> Deed
+    /// What a node does with a run.
+    pub(crate) fn deed_for(
+        &self,
+        node: NodeId,
+        asking: bool,
+        parts: &[Part],
+        verdict: Verdict,
+    ) -> Deed
         requires { node < length self.now.stores }
         ensures { result ≡ deed_for self.now node asking parts.now verdict }
     {
@@ -124,7 +131,10 @@ fn deed_by_role(role: Role, asking: bool, slot: Slot, parts: &[Part], node: &Nod
 fn slot_of_run(parts: &[Part]) -> Slot
     ensures { result ≡ slot_of (first_key parts.now) }
 {
-    slot_hash::slot_of(first_key(parts))
+    match parts {
+        [] => slot_hash::slot_of(b""),
+        [part, ..] => part.slot(),
+    }
 }
 
 fn first_key(parts: &[Part]) -> &[u8]
@@ -159,7 +169,7 @@ fn is_at(part: &Part, first: &[u8]) -> bool
 }
 
 /// Whether all keys of the pairs are this one.
-pub(crate) fn pairs_are_at(pairs: &[Pair], first: &[u8]) -> bool
+fn pairs_are_at(pairs: &[Pair], first: &[u8]) -> bool
     ensures { result ≡ list_all (λ pair. bytes_eq pair.0 first.now) pairs.now }
 {
     pairs.iter().all(|(key, _)| key.as_slice() == first)

@@ -146,19 +146,15 @@ impl Replay {
         ensures { IfOk result (λ more. (more ≡ true) × (state_of self.new ≡ takes_parts client_id (ends_of client_id ends.now) (state_of self.old) how.now planned)) }
     {
         let count = planned.as_slice().len();
-        let found = ends_of(alloc, ends, client_id, self.number, count)?;
-        number_parts(&mut self.parts, client_id, self.number, planned)?;
+        let first = self.number;
+        number_parts(&mut self.parts, client_id, first, planned)?;
         self.number += count as u64;
-        match found {
-            Some(own) => {
-                self.say_joined(alloc, how, &own)?;
-                Ok(true)
-            }
-            None => {
-                self.is_whole = false;
-                Ok(true)
-            }
-        }
+        let Some(own) = ends_of(alloc, ends, client_id, first, count)? else {
+            self.is_whole = false;
+            return Ok(true);
+        };
+        self.say_joined(alloc, how, &own)?;
+        Ok(true)
     }
 }
 

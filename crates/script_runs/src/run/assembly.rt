@@ -15,6 +15,7 @@ use proxy_lanes::{CarrierEnds, Naming, Opened, Publisher, WorkerEnds, lanes};
 use proxy_runtime::{Host, ThreadsFault};
 use proxy_turns::{Carrier, Dial, Gate, Newcomer, Script};
 use resp_wire::{Bytes, NoMemory};
+use slot_map::NodeTable;
 use std::alloc::Global;
 use std::marker::Brand;
 use std::sync::Wait;
@@ -38,11 +39,13 @@ where
     G: Gate + Sync,
     requires workers { (0 < workers) × (workers ≤ 64) }
 {
+    let nodes = node_table(alloc)?;
     run_named::<Brand, C, D, P, R, G>(
         rt,
         alloc,
         cluster,
         dial,
+        nodes,
         scripts,
         moves,
         workers,
@@ -51,12 +54,13 @@ where
     )
 }
 
-/// Runs them with lanes of this name.
+/// Runs them with lanes of this name, over these nodes.
 fn run_named<J, C, D, P, R, G>(
     rt: &R,
     alloc: Global,
     cluster: &C,
     dial: D,
+    nodes: NodeTable,
     scripts: &[Bytes],
     moves: &[MoveStep],
     workers: u16,
@@ -73,7 +77,6 @@ where
     requires name { book_of opened ≡ J.book }
     requires workers { (0 < workers) × (workers ≤ 64) }
 {
-    let nodes = node_table(alloc)?;
     let RunLanes {
         tasks,
         queues,

@@ -6,7 +6,6 @@ ghost use Rattle.script_runs.specs.Mover.{AllEnd, Ends, WasMade, skips};
 use super::stop::{Flag, Signals};
 use local_cluster::{LocalCluster, MoveStep};
 use node_model::MoveFault;
-use resp_wire::NoMemory;
 use std::sync::Wait;
 use std::thread;
 
@@ -19,17 +18,6 @@ pub(crate) enum MoverFault {
     NoMemory,
     /// Another thread ended the run.
     Stopped,
-}
-
-impl From<NoMemory> for MoverFault {
-    ghost use Rattle.std.specs.Prelude.{◌≡◌};
-    ghost use Rattle.script_runs.specs.declared.run.mover.MoverFault.TheVariants as fault;
-
-    ghost from_gives = { λ _ given. given ≡ fault.NoMemory };
-
-    fn from(_: NoMemory) -> MoverFault {
-        MoverFault::NoMemory
-    }
 }
 
 /// Makes all steps in order, and answers how many were skipped. Want of memory ends all other threads too.
@@ -100,10 +88,7 @@ fn move_keys<R: Wait>(
     ensures { OnOk result (WasMade step.now false) }
 {
     for _ in rt.forever() {
-        if stop.is_raised() {
-            return Err(MoverFault::Stopped);
-        }
-        if !try_once(rt, cluster, step)? {
+        if !try_again(rt, cluster, step, stop)? {
             return Ok(());
         }
         thread::yield_now();
@@ -121,15 +106,12 @@ fn try_often<R: Wait>(
     ensures { IfOk result (WasMade step.now) }
 {
     for tries in 1..TRIES {
-        if stop.is_raised() {
-            return Err(MoverFault::Stopped);
-        }
-        if try_once(rt, cluster, step)? {
+        if try_again(rt, cluster, step, stop)? {
             return Ok(true);
         }
         yield_often(tries);
     }
-    Ok(try_once(rt, cluster, step)?)
+    try_once(rt, cluster, step)
 }
 
 /// Lets other threads run, so often.
@@ -139,13 +121,28 @@ fn yield_often(turns: u32) {
     }
 }
 
+/// Tries a step, unless another thread ended the run. False where it is not allowed now.
+fn try_again<R: Wait>(
+    rt: &R,
+    cluster: &LocalCluster,
+    step: &MoveStep,
+    stop: &Flag,
+) -> Result<bool, MoverFault>
+    ensures { IfOk result (WasMade step.now) }
+{
+    if stop.is_raised() {
+        return Err(MoverFault::Stopped);
+    }
+    try_once(rt, cluster, step)
+}
+
 /// Tries a step in one hold of the lock. False where it is not allowed now.
-fn try_once<R: Wait>(rt: &R, cluster: &LocalCluster, step: &MoveStep) -> Result<bool, NoMemory>
+fn try_once<R: Wait>(rt: &R, cluster: &LocalCluster, step: &MoveStep) -> Result<bool, MoverFault>
     ensures { IfOk result (WasMade step.now) }
 {
     match cluster.try_step(rt, step) {
         Ok(()) => Ok(true),
         Err(MoveFault::NotNow) => Ok(false),
-        Err(MoveFault::NoMemory) => Err(NoMemory),
+        Err(MoveFault::NoMemory) => Err(MoverFault::NoMemory),
     }
 }

@@ -119,14 +119,18 @@ where
     R: Wait + RandomSource + AllocGlobal,
     G: Gate,
 {
-    let end = match block_on(rt, Worker::new(alloc, ends, gate, Some(clients))) {
-        Ok(end) => end,
-        Err(error) => return Err(ThreadsFault::NoThread(error)),
-    };
-    if matches!(end.outcome, WorkerOutcome::NoMemory) {
-        return Err(ThreadsFault::NoMemory);
+    match block_on(rt, Worker::new(alloc, ends, gate, Some(clients))) {
+        Ok(end) => with_memory(end),
+        Err(error) => Err(ThreadsFault::NoThread(error)),
     }
-    Ok(end)
+}
+
+// The end of a worker that did not want for memory.
+fn with_memory<C: Drop>(end: WorkerEnd<C>) -> Result<WorkerEnd<C>, ThreadsFault> {
+    match end.outcome {
+        WorkerOutcome::NoMemory => Err(ThreadsFault::NoMemory),
+        _ => Ok(end),
+    }
 }
 
 // What a worker hands back.

@@ -118,21 +118,23 @@ fn slot_and_node(words: &Words) -> Option<(Slot, NodeId)>
 fn push_move(moves: &mut Vec<MoveStep>, slot: Slot, node: NodeId) -> Result<(), AllocError>
     ensures { OnOk result (moves.new.items ≡ moves.old.items ++ move_steps slot node) }
 {
-    moves.push(MoveStep::Import(slot, node))?;
-    moves.push(MoveStep::Migrate(slot))?;
-    moves.push(MoveStep::MoveRest(slot))?;
-    moves.push(MoveStep::Own(slot))?;
-    moves.push(MoveStep::Release(slot))?;
+    moves.reserve(5)?;
+    moves.push_reserved(MoveStep::Import(slot, node));
+    moves.push_reserved(MoveStep::Migrate(slot));
+    moves.push_reserved(MoveStep::MoveRest(slot));
+    moves.push_reserved(MoveStep::Own(slot));
+    moves.push_reserved(MoveStep::Release(slot));
     Ok(())
 }
 
 fn push_recall(moves: &mut Vec<MoveStep>, slot: Slot, node: NodeId) -> Result<(), AllocError>
     ensures { OnOk result (moves.new.items ≡ moves.old.items ++ recall_steps slot node) }
 {
-    moves.push(MoveStep::Import(slot, node))?;
-    moves.push(MoveStep::Migrate(slot))?;
-    moves.push(MoveStep::Forget(slot))?;
-    moves.push(MoveStep::Stay(slot))?;
+    moves.reserve(4)?;
+    moves.push_reserved(MoveStep::Import(slot, node));
+    moves.push_reserved(MoveStep::Migrate(slot));
+    moves.push_reserved(MoveStep::Forget(slot));
+    moves.push_reserved(MoveStep::Stay(slot));
     Ok(())
 }
 

@@ -1,18 +1,12 @@
-use Rattle.std.proofs.Common.{◌≡◌, true, false, refl, sym, ◌∙◌}
-use Rattle.world_laws.specs.World.{IsAmong}
-use Rattle.cluster_world.specs.Rests.{TicketsRest}
-use Rattle.cluster_world.proofs.Asked.{not-so, run-rests}
+use Rattle.std.proofs.Common.{rules}
+use Rattle.cluster_world.proofs.Asked.{none-rest, off-rest, one-rests}
 use Rattle.cluster_world.proofs.asks.tickets_rest.Goals as goal
 
-pub returns-else-goes : goal.returns-else-goes
-unfolding TicketsRest
-returns-else-goes c =
-    let r = run-rests c.args.goes c.args.ticket c.args.tickets.now in
-    (λ t. r.0 (λ yes. absurd (let no : false ≡ true = sym c.if-goes.false ∙ yes in cc)), λ e. refl)
+pub returns-then-not-goes : goal.returns-then-not-goes
+returns-then-not-goes c = off-rest c.args.tickets.now c.args.goes c.args.sought.now.ticket (search rules)
 
-pub returns-then-goes : goal.returns-then-goes
-unfolding TicketsRest
-returns-then-goes c =
-    let r = run-rests c.args.goes c.args.ticket c.args.tickets.now in
-    not-so c.is_among.result (IsAmong c.args.tickets.now c.args.ticket) (TicketsRest c.args.tickets.now c.args.goes c.args.ticket) c.is_among.ensures
-    ((λ never. r.0 (λ yes. never)), λ e. r.1 e c.if-goes.true)
+pub returns-in-Some : goal.returns-in-Some
+returns-in-Some c = one-rests c.args.tickets.now c.args.goes c.args.sought.now.ticket c.in-Some.named c.is_among.result (search rules) (search rules) c.is_among.ensures
+
+pub returns-in-None : goal.returns-in-None
+returns-in-None c = none-rest c.args.tickets.now c.args.goes c.args.sought.now.ticket c.is_empty.result (search rules) (search rules) c.is_empty.ensures

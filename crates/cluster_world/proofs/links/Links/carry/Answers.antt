@@ -10,6 +10,7 @@ use Rattle.cluster_world.specs.declared.fault.WorldFault.TheVariants.{NoMemory}
 use Rattle.cluster_world.proofs.Lookups.{at-place, same-item}
 use Rattle.cluster_world.proofs.Shown.{at-shown, set-shown, set-same, shown-length}
 use Rattle.std.proofs.lemmas.List.Elements.{All-push}
+use Rattle.std.proofs.lemmas.Option.{slice_get_within}
 use Rattle.cluster_world.proofs.links.Links.carry.Goals as goal
 
 -- no link takes the batch but the one at the place
@@ -20,6 +21,20 @@ refused ls h k at b l is lt e never links d = go (subst (λ (x : LinksModel). Go
     go : GoesOver (map (shown h) ls) at b links → ⊥
     go (inl x) = let same : x.0 ≡ shown h l = same-item (map (shown h) ls) at x.0 (shown h l) x.1 (at-shown ls h at l e) in never (ap (λ (y : Link). y.is_open) (sym same) ∙ x.2, ap (λ (y : Link). y.node) (sym same) ∙ x.3)
     go (inr x) = omega (arith, lt, x.0, shown-length ls h)
+
+-- no link takes it at a place behind the next
+too-far : (ls : List LinkModel) (h : List EntryModel) (k : LinksModel) (at : ℕ) (b : Posted) → linked ls h ≡ k → length ls < at → (links : List Link) → GoesOver k.links at b links → ⊥
+too-far ls h k at b is lt links d = go (subst (λ (x : LinksModel). GoesOver x.links at b links) (sym is) d)
+  where
+    go : GoesOver (map (shown h) ls) at b links → ⊥
+    go (inl x) = omega (arith, lt, shown-length ls h, slice_get_within (map (shown h) ls) at x.0 x.1)
+    go (inr x) = omega (arith, lt, x.0, shown-length ls h)
+
+pub returns-then-at-len : goal.returns-then-at-len
+returns-then-at-len c =
+    let ls : List LinkModel = c.self.inside.links.items in
+    let h : List EntryModel = c.self.inside.history.items in
+    let lt : length ls < c.args.at = search rules in (too-far ls h c.args.self.now c.args.at c.args.posted.now c.self.view_is lt, refl)
 
 -- the link at the place takes it
 taken : (ls : List LinkModel) (h : List EntryModel) (k : LinksModel) (at : ℕ) (b : Posted) (l new : LinkModel) → linked ls h ≡ k → slice_get ls at ≡ Some l

@@ -10,7 +10,7 @@ use Rattle.cluster_world.specs.declared.fault.WorldFault.{WorldFault}
 use Rattle.cluster_world.specs.declared.fault.WorldFault.TheVariants.{NoMemory}
 use Rattle.cluster_world.specs.Lost.{each_lost}
 use Rattle.cluster_world.proofs.Lookups.{at-place}
-use Rattle.cluster_world.proofs.Shown.{there, none-there, set-linked, set-same, answered-shown}
+use Rattle.cluster_world.proofs.Shown.{there, none-past, none-there, set-linked, set-same, answered-shown}
 use Rattle.cluster_world.proofs.links.Links.close.Goals as goal
 
 pub returns-then-not-is_open : goal.returns-then-not-is_open
@@ -58,3 +58,9 @@ returns c =
       set-linked ls h c.args.at c.close.new.self ∙ ap (λ (x : LinkModel). with_link (linked ls h) c.args.at (shown h x)) c.close.ensures,
       c.in_ok-append.ensures.items ∙ ap (λ (ds : List (Ticket × Told)). downs ++ ds) (c.in_ok-lost.ensures ∙ (λ i. each_lost (sym (answered-shown h l.backs) i ++ sent_of l.requests))),
     )
+
+pub returns-in_default : goal.returns-in_default
+returns-in_default c =
+    let ls : List LinkModel = c.self.inside.links.items in
+    let h : List EntryModel = c.self.inside.history.items in
+    (none-past ls h c.args.self.now c.self.view_is c.args.at c.in_default.ensures.item.3 IsOpen, search rules, refl)

@@ -151,3 +151,10 @@ returns-in-Runs c =
     let after : c.take_request.new.self ≡ record c.reserve.new.self { requests = c.take_request.new.self.requests; asking = false } = c.take_request.ensures.rest ∙ (λ i. record c.reserve.new.self { requests = c.take_request.new.self.requests; asking = sets_flag (c.in-Runs.is i) }) in
     served ls h c.args.self.now c.self.view_is c.args.at l at c.args.cluster.now c.serve_run.new.self (tt {0}) c.note_all.new.history.items c.in-Runs.tickets c.args.parts.items c.in_ok-tolds.tolds.items c.args.verdict c.args.moment c.reserve.new.self c.take_request.new.self c.note_all.new.link
     c.self.invariant (c.take_request.ensures.first ∙ ap (λ (r : LinkRequest). r ∷ c.take_request.new.self.requests) c.in-Runs.is) c.in_ok-reserve.ensures.same after notes does
+
+pub index_mut-link-requires : goal.index_mut-link-requires
+index_mut-link-requires c =
+    let ls : List LinkModel = c.self.inside.links.items in
+    let h : List EntryModel = c.self.inside.history.items in
+    let lt : c.args.at < length ls = there-within ls h c.args.self.now c.args.at BeginsRun c.self.view_is c.requires.first in
+    let size : vec_len c.self.inside.links ≡ length ls = search rules in omega (arith, lt, size)

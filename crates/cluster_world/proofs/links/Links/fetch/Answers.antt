@@ -12,7 +12,7 @@ use Rattle.cluster_world.specs.Kept.{LinkModel, KeepsBelow, shown_back}
 use Rattle.cluster_world.specs.Links.{linked, HasReply, Fetches}
 use Rattle.cluster_world.specs.declared.link.Kept.TheVariants.{Entry}
 use Rattle.cluster_world.proofs.Lookups.{at-place}
-use Rattle.cluster_world.proofs.Shown.{none-there, set-same, line-at, rest-below, first-below, fetched, fetched-other, shows-reply, tails}
+use Rattle.cluster_world.proofs.Shown.{none-past, none-there, set-same, line-at, rest-below, first-below, fetched, fetched-other, shows-reply, tails}
 use Rattle.cluster_world.proofs.links.Links.fetch.Goals as goal
 
 pub returns-then-not-can_fetch : goal.returns-then-not-can_fetch
@@ -76,3 +76,9 @@ returns c =
     let at : slice_get ls c.args.at ≡ Some l = at-place ls c.args.at l c.in-Some.ensures.item.3.0 c.in-Some.ensures.value in
     subst (λ (r : Option (Ticket × Told)). Fetches c.args.self.now c.args.at (Ok r) (linked (slice_set ls c.args.at c.take_back-2.new.self) h)) (sym c.refusal.ensures)
     (fetched-other ls h c.args.self.now c.self.view_is c.args.at l at c.take_back-2.new.self c.take_back-2.ensures.rest (c.if-not-can_fetch.ensures.0 refl).0 c.take_back-2.result c.take_back-2.ensures.first c.in_default-first_entry.ensures)
+
+pub returns-in_default : goal.returns-in_default
+returns-in_default c =
+    let ls : List LinkModel = c.self.inside.links.items in
+    let h : List EntryModel = c.self.inside.history.items in
+    (none-past ls h c.args.self.now c.self.view_is c.args.at c.in_default.ensures.item.3 HasReply, search rules)

@@ -11,8 +11,8 @@ pub returns : goal.returns
 returns c =
     let ls : List LinkModel = c.self.inside.links.items in
     let h : List EntryModel = c.self.inside.history.items in (
-      (λ t. subst (λ (x : LinksModel). All (λ l. LinkRests l c.args.node c.args.ticket) x.links) c.self.view_is
-          (all-rest ls h c.args.node c.args.ticket (subst (λ (xs : List LinkModel). All (λ l. LineRests l c.args.node c.args.ticket) xs) c.deref.ensures.value (c.lines_rest.ensures.0 t)))),
-      (λ a. c.lines_rest.ensures.1 (subst (λ (xs : List LinkModel). All (λ l. LineRests l c.args.node c.args.ticket) xs) (sym c.deref.ensures.value)
-          (rest-all ls h c.args.node c.args.ticket (subst (λ (x : LinksModel). All (λ l. LinkRests l c.args.node c.args.ticket) x.links) (sym c.self.view_is) a)))),
+      (λ t. subst (λ (x : LinksModel). All (λ l. LinkRests l c.args.sought.now) x.links) c.self.view_is
+          (all-rest ls h c.args.sought.now (subst (λ (xs : List LinkModel). All (λ l. LineRests l c.args.sought.now) xs) c.deref.ensures.value (c.lines_rest.ensures.0 t)))),
+      (λ a. c.lines_rest.ensures.1 (subst (λ (xs : List LinkModel). All (λ l. LineRests l c.args.sought.now) xs) (sym c.deref.ensures.value)
+          (rest-all ls h c.args.sought.now (subst (λ (x : LinksModel). All (λ l. LinkRests l c.args.sought.now) x.links) (sym c.self.view_is) a)))),
     )

@@ -1,4 +1,5 @@
-use Rattle.std.proofs.Common.{rules, ◌≡◌, ◌<◌, List, ◌∷◌, length, Some, Err, true, sym, ap, ◌∙◌, subst}
+use Rattle.std.proofs.Common.{rules, ◌≡◌, ◌<◌, List, ◌∷◌, length, Some, Err, true, sym, ap, ◌∙◌, subst, arith}
+use Rattle.std.specs.Vec.{vec_len}
 use Rattle.std.specs.Prelude.{slice_get, slice_set, Result}
 use Rattle.std.proofs.lemmas.List.Elements.{All-set}
 use Rattle.node_model.specs.History.{EntryModel}
@@ -71,3 +72,10 @@ returns c =
       set-linked ls h c.args.at c.keep.new.self
           ∙ ap (with_link (linked ls h) c.args.at) (done-shown l c.reserve.new.self c.take_request.new.self c.keep.new.self true Welcome c.in_ok-reserve.ensures.same after c.keep.ensures h),
     )
+
+pub index_mut-link-requires : goal.index_mut-link-requires
+index_mut-link-requires c =
+    let ls : List LinkModel = c.self.inside.links.items in
+    let h : List EntryModel = c.self.inside.history.items in
+    let lt : c.args.at < length ls = there-within ls h c.args.self.now c.args.at (Begins Asking) c.self.view_is c.requires in
+    let size : vec_len c.self.inside.links ≡ length ls = search rules in omega (arith, lt, size)

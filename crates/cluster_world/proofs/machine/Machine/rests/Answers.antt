@@ -2,11 +2,10 @@ use Rattle.std.proofs.Common.{◌≡◌, List, sym, ◌∙◌, subst}
 use Rattle.std.specs.Prelude.{All}
 use Rattle.key_split.specs.declared.travel.Ticket.{Ticket}
 use Rattle.key_split.specs.declared.travel.Told.{Told}
-use Rattle.world_laws.specs.Places.{asks}
 use Rattle.world_laws.specs.Places.Item.{Stands, Comes}
 use Rattle.world_laws.specs.declared.state.Arrival.{Arrival}
 use Rattle.world_laws.specs.declared.state.Posted.{Posted}
-use Rattle.cluster_world.specs.Rests.{Rests, RunRests}
+use Rattle.cluster_world.specs.Rests.{sought, Rests, RunRests}
 use Rattle.cluster_world.proofs.Lists.{never}
 use Rattle.cluster_world.proofs.machine.Machine.rests.Goals.{then-commands_rest, else-commands_rest, then-runs_rest, else-runs_rest}
 use Rattle.cluster_world.proofs.machine.Machine.rests.Goals as goal
@@ -14,9 +13,9 @@ use Rattle.cluster_world.proofs.machine.Machine.rests.Goals as goal
 pub returns-then-rest : goal.returns-then-rest
 unfolding Rests
 returns-then-rest c =
-    let Arrivals = λ (cs : List Arrival). All (λ a. asks c.args.node c.args.ticket (Stands a) ≡ 0) cs in
-    let Lanes = λ (bs : List Posted). All (λ b. RunRests b c.args.node c.args.ticket) bs in
-    let Downs = λ (ds : List (Ticket × Told)). All (λ p. asks c.args.node c.args.ticket (Comes p.0 p.1) ≡ 0) ds in
+    let Arrivals = λ (cs : List Arrival). All (λ a. sought c.args.sought.now (Stands a) ≡ 0) cs in
+    let Lanes = λ (bs : List Posted). All (λ b. RunRests b c.args.sought.now) bs in
+    let Downs = λ (ds : List (Ticket × Told)). All (λ p. sought c.args.sought.now (Comes p.0 p.1) ≡ 0) ds in
     elim c.if-runs_rest.branch [
       | then-runs_rest w ↦ elim c.if-commands_rest.branch [
         | then-commands_rest v ↦ (
@@ -40,8 +39,8 @@ returns-else-rest c = (
   λ r. absurd (elim c.if-runs_rest.branch [
     | then-runs_rest w ↦ never (sym c.if-rest.false ∙ w.value-is ∙ w.rest.ensures.1 r.links)
     | else-runs_rest w ↦ elim c.if-commands_rest.branch [
-      | then-commands_rest v ↦ never (sym w.if-runs_rest.false ∙ v.value-is ∙ v.runs_rest.ensures.1 (subst (λ (bs : List Posted). All (λ b. RunRests b c.args.node c.args.ticket) bs) (sym v.deref.ensures.value) r.ups))
-      | else-commands_rest v ↦ never (sym v.if-commands_rest.false ∙ c.commands_rest.ensures.1 (subst (λ (cs : List Arrival). All (λ a. asks c.args.node c.args.ticket (Stands a) ≡ 0) cs) (sym c.as_slice.ensures) r.commands))
+      | then-commands_rest v ↦ never (sym w.if-runs_rest.false ∙ v.value-is ∙ v.runs_rest.ensures.1 (subst (λ (bs : List Posted). All (λ b. RunRests b c.args.sought.now) bs) (sym v.deref.ensures.value) r.ups))
+      | else-commands_rest v ↦ never (sym v.if-commands_rest.false ∙ c.commands_rest.ensures.1 (subst (λ (cs : List Arrival). All (λ a. sought c.args.sought.now (Stands a) ≡ 0) cs) (sym c.as_slice.ensures) r.commands))
     ]
   ]),
 )
