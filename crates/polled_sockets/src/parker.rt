@@ -9,10 +9,16 @@ use std::sync::atomic::{AtomicBool, Ordering};
 /// into the ring, and then looks whether the thread sleeps. All these steps have one order: so either the turn finds the
 /// item, or the other sees the thread asleep and wakes it. The first to see it asleep wakes it; a later one, which finds
 /// it awake, put its item there before the thread can say again that it sleeps.
-#[derive(Drop)]
 pub struct Parker {
     asleep: AtomicBool,
     waker: Waker,
+}
+
+impl Drop for Parker {
+    fn drop(self) {
+        let Parker { asleep: _, waker } = self;
+        drop(waker);
+    }
 }
 
 impl Parker {

@@ -16,10 +16,17 @@ const SLEEP_MILLIS: u64 = 250;
 const WAKER: Token = Token(usize::MAX);
 
 /// A thread's poll of its sockets. What it reports is noted in the thread's ready set.
-#[derive(Drop)]
 pub struct Poller {
     poll: Poll,
     events: Events<Global>,
+}
+
+impl Drop for Poller {
+    fn drop(self) {
+        let Poller { poll, events } = self;
+        drop(poll);
+        drop(events);
+    }
 }
 
 impl Poller {

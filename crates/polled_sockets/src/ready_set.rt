@@ -61,7 +61,6 @@ impl Readiness {
 }
 
 /// What is known of the sockets that a thread polls.
-#[derive(Drop)]
 pub struct ReadySet {
     /// Milliseconds on the system's clock, as the thread last saw it.
     time: AtomicU64,
@@ -77,6 +76,23 @@ pub struct ReadySet {
     /// Where the search for a free entry goes on.
     next: AtomicU64,
     report: Arc<ThreadReport, Global>,
+}
+
+impl Drop for ReadySet {
+    fn drop(self) {
+        let ReadySet {
+            time: _,
+            traffic: _,
+            reader: _,
+            reads: _,
+            read_time: _,
+            sockets,
+            next: _,
+            report,
+        } = self;
+        drop(sockets);
+        drop(report);
+    }
 }
 
 impl ReadySet {

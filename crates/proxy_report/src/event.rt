@@ -14,11 +14,17 @@ use std::sync::Arc;
 const HOST_SHOWN: usize = 128;
 
 /// A node, as the log names it.
-#[derive(Drop)]
 pub struct NodeName {
     number: u8,
     /// Its host and port.
     address: Arc<String, Global>,
+}
+
+impl Drop for NodeName {
+    fn drop(self) {
+        let NodeName { number: _, address } = self;
+        drop(address);
+    }
 }
 
 impl NodeName {
@@ -61,7 +67,6 @@ impl NodeName {
 }
 
 /// Something that an operator may want to know of.
-#[derive(Drop)]
 pub enum Event {
     LinkOpened(NodeName),
     LinkLost(NodeName, io::Error),
@@ -76,6 +81,21 @@ pub enum Event {
     ProtocolError(SocketAddr, SessionFault),
     /// A client was closed whose unfinished request had so many bytes.
     UnfinishedRequest(SocketAddr, u64),
+}
+
+impl Drop for Event {
+    fn drop(self) {
+        match self {
+            Event::LinkOpened(node)
+            | Event::LinkLost(node, _)
+            | Event::DialFailed(node, _)
+            | Event::SlotsTold(node, _) => drop(node),
+            Event::ClientRefused(_)
+            | Event::ClientsFull(_)
+            | Event::ProtocolError(_, _)
+            | Event::UnfinishedRequest(_, _) => {}
+        }
+    }
 }
 
 /// What an answer to CLUSTER SLOTS told.

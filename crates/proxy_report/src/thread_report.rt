@@ -8,10 +8,17 @@ use std::alloc::Global;
 use std::sync::Arc;
 
 /// The events of a thread that are not logged yet, and its counts.
-#[derive(Drop)]
 pub struct ThreadReport {
     journal: Journal,
     figures: Figures,
+}
+
+impl Drop for ThreadReport {
+    fn drop(self) {
+        let ThreadReport { journal, figures } = self;
+        drop(journal);
+        drop(figures);
+    }
 }
 
 impl ThreadReport {
