@@ -1,25 +1,23 @@
 //! One command, stepped by hand.
 
 use crate::held::Held;
-use crate::made::MadeOf;
 use crate::notation::{CallFault, Line, Object};
 use command_future::{Command, Step, Want};
-use key_split::{Part, Ticket};
-use std::alloc::Global;
 
 /// A call of the command, or of a new one.
 pub fn call(held: &mut Held<Command>, line: &mut Line) {
     match line.call() {
-        "new" => held.renew::<(Ticket, Part)>(line),
+        "new" => renew(held, line),
         "finish" => finish(held, line),
         _ => held.call(line),
     }
 }
 
 /// The command of a ticket and a part.
-impl MadeOf<(Ticket, Part)> for Command {
-    fn made_of(_: Global, (ticket, part): (Ticket, Part)) -> Command {
-        Command::new(ticket, part)
+fn renew(held: &mut Held<Command>, line: &mut Line) {
+    if let Some((ticket, part)) = line.read() {
+        held.put(Command::new(ticket, part));
+        line.done();
     }
 }
 

@@ -1,7 +1,6 @@
 //! Places whose values change.
 
-use crate::made::MadeOf;
-use crate::notation::{CallFault, Line, Object, Word};
+use crate::notation::{CallFault, Line, Object};
 use std::fmt::Debug;
 
 /// A value that a call makes, or none as yet.
@@ -32,17 +31,6 @@ impl<T: Drop> Held<T> {
                 line.done();
             }
             Err(fault) => line.answer.debug(&fault),
-        }
-    }
-
-    /// Holds a new value, made of what the line says.
-    pub fn renew<G: Word + Drop>(&mut self, line: &mut Line)
-    where
-        T: MadeOf<G>,
-    {
-        if let Some(given) = line.read::<G>() {
-            self.put(T::made_of(line.alloc, given));
-            line.done();
         }
     }
 }

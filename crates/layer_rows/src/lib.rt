@@ -11,7 +11,6 @@ mod held;
 mod lanes;
 mod links;
 mod local;
-mod made;
 mod maps;
 mod nodes;
 mod notation;
@@ -28,7 +27,6 @@ mod wire;
 
 pub use held::{Held, is_done, put};
 pub use lanes::show_node;
-pub use made::{MadeOf, shared_of};
 pub use maps::written;
 pub use notation::{Answer, CallFault, Line, Object, Rows, Shown, Word};
 pub use row::{AnswersRow, RowHost, answer_rows};

@@ -1,6 +1,6 @@
 //! A client's session.
 
-use crate::made::{MadeOf, renew};
+use crate::held::put;
 use crate::notation::{CallFault, Line, Object};
 use key_split::{Ended, Ticket};
 use resp_wire::{Bytes, Limits};
@@ -10,7 +10,7 @@ use std::alloc::Global;
 impl Object for Session {
     fn call(&mut self, line: &mut Line) {
         match line.call() {
-            "new" => renew::<(u16, u16), Session>(self, line),
+            "new" => renew(self, line),
             "feed" => feed(self, line),
             "read" => line.show(self.read()),
             "ready" => line.show(self.ready()),
@@ -22,9 +22,10 @@ impl Object for Session {
 }
 
 /// The session of a client of a worker, by their numbers.
-impl MadeOf<(u16, u16)> for Session {
-    fn made_of(alloc: Global, (worker, client): (u16, u16)) -> Session {
-        Session::new(alloc, worker, u32::from(client), Limits::full())
+fn renew(session: &mut Session, line: &mut Line) {
+    if let Some((worker, client)) = line.read::<(u16, u16)>() {
+        let new = Session::new(line.alloc, worker, u32::from(client), Limits::full());
+        put(session, new, line);
     }
 }
 

@@ -10,6 +10,7 @@ mod dial;
 mod future;
 pub mod gate;
 mod lane;
+mod made;
 pub mod memory;
 pub mod nodes;
 mod objects;

@@ -1,7 +1,7 @@
 //! A client in memory, which the driver still sees while a worker serves it.
 
+use crate::rows::proxy::made::shared;
 use key_split::{Ended, Ticket};
-use layer_rows::{MadeOf, shared_of};
 use node_link::Flow;
 use proxy_turns::{ClientPort, Script};
 use resp_wire::{Bytes, NoMemory};
@@ -18,7 +18,7 @@ pub struct SharedClient {
 impl SharedClient {
     /// A client that sends these bytes.
     pub fn new(alloc: Global, client: u32, bytes: Bytes) -> Result<SharedClient, NoMemory> {
-        let script = shared_of::<(u32, Bytes), Script>(alloc, (client, bytes))?;
+        let script = shared(alloc, Script::new(alloc, client, bytes))?;
         Ok(SharedClient { script })
     }
 
@@ -42,12 +42,6 @@ impl SharedClient {
         let script = self.script.try_replace(empty).ok()?;
         let (_, replies, ends) = script.into_parts();
         Some((replies, ends.len()))
-    }
-}
-
-impl MadeOf<(u32, Bytes)> for Script {
-    fn made_of(alloc: Global, (client, bytes): (u32, Bytes)) -> Script {
-        Script::new(alloc, client, bytes)
     }
 }
 

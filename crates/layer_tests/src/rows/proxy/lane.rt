@@ -1,8 +1,9 @@
 //! `lane`: a worker's ends without a worker.
 
+use crate::rows::proxy::made::MadeOf;
 use crate::rows::proxy::memory::MemoryEnds;
 use key_split::{Batch, Run};
-use layer_rows::{CallFault, Held, Line, MadeOf, Object, is_done, show_node};
+use layer_rows::{CallFault, Held, Line, Object, is_done, show_node};
 use proxy_lanes::{Naming, Outlet};
 use std::alloc::Global;
 

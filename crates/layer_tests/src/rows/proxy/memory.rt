@@ -3,9 +3,10 @@
 use crate::gates::Open;
 use crate::rows::proxy::client::SharedClient;
 use crate::rows::proxy::dial::MemoryDial;
+use crate::rows::proxy::made::MadeOf;
 use crate::rows::proxy::port::MemoryPort;
 use crate::rows::proxy::turned::{Entrance, Turned};
-use layer_rows::{CallFault, MadeOf, is_done};
+use layer_rows::{CallFault, is_done};
 use node_link::Fuse;
 use proxy_lanes::{CarrierEnds, Naming, Publisher, WorkerEnds};
 use proxy_turns::{Carrier, Newcomer, Worker};

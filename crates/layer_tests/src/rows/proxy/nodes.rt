@@ -1,5 +1,6 @@
 //! Three nodes in memory, whose slots move.
 
+use crate::rows::proxy::made::shared;
 use crate::tables::{PORTS, table_at};
 use key_split::{Batch, Told};
 use layer_rows::written;
@@ -49,20 +50,19 @@ pub fn cluster_of_three(alloc: Global) -> Result<Cluster, NoMemory> {
 
 /// Three nodes that listen, whose slots are all the last one's.
 pub fn three_nodes(alloc: Global) -> Result<SharedNodes, NoMemory> {
-    let nodes = Nodes {
+    shared(
         alloc,
-        cluster: cluster_of_three(alloc)?,
-        table: table_at(alloc, &PORTS)?,
-        served: 0,
-        refuses: false,
-        listens: true,
-        calls: u64::MAX,
-        behind: 0,
-    };
-    match Rc::new(alloc, RefCell::new(nodes)) {
-        Ok(shared) => Ok(shared),
-        Err(_) => Err(NoMemory),
-    }
+        Nodes {
+            alloc,
+            cluster: cluster_of_three(alloc)?,
+            table: table_at(alloc, &PORTS)?,
+            served: 0,
+            refuses: false,
+            listens: true,
+            calls: u64::MAX,
+            behind: 0,
+        },
+    )
 }
 
 /// The node that listens at a port.

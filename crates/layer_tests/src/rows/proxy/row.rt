@@ -9,6 +9,7 @@ use crate::rows::proxy::clients::Clients;
 use crate::rows::proxy::dial::MemoryDial;
 use crate::rows::proxy::future::RunsWorker;
 use crate::rows::proxy::lane::Lane;
+use crate::rows::proxy::made::MadeOf;
 use crate::rows::proxy::memory::{
     MemoryCarrier, MemoryCarrierEnds, MemoryEnds, MemoryWorker, workers_for,
 };
@@ -16,7 +17,7 @@ use crate::rows::proxy::nodes::SharedNodes;
 use crate::rows::proxy::objects::TurnObjects;
 use crate::rows::proxy::outside::Outside;
 use crate::rows::proxy::turned::{Entrance, Turned, Turns};
-use layer_rows::{CallFault, MadeOf, Object, RowHost, Rows};
+use layer_rows::{CallFault, Object, RowHost, Rows};
 use proxy_lanes::{Naming, Opened, lanes};
 use proxy_turns::Newcomer;
 use slot_map::NodeTable;
