@@ -82,7 +82,10 @@ fn tell(command: &mut Command, line: &mut Line) {
     };
     match command.want() {
         Want::Await => line.say(step_name(command.told(told))),
-        _ => line.refuse(CallFault::NotNow),
+        _ => {
+            drop(told);
+            line.refuse(CallFault::NotNow);
+        }
     }
 }
 

@@ -45,7 +45,9 @@ fn serve(state: &mut LocalState, line: &mut Line) {
 
 fn make_step(state: &mut LocalState, line: &mut Line) {
     if let Some(step) = step_in(line) {
-        line.show(state.step(&step));
+        let made = state.step(&step);
+        drop(step);
+        line.show(made);
     }
 }
 

@@ -206,6 +206,7 @@ fn show_told_by(table: &mut NodeTable, asked: NodeId, value: Value, line: &mut L
     if table.endpoint(asked).is_some() {
         line.show_found(told_of(value, asked, table).ok(), CallFault::NoMemory);
     } else {
+        drop(value);
         line.refuse(CallFault::NotNow);
     }
 }
@@ -213,7 +214,9 @@ fn show_told_by(table: &mut NodeTable, asked: NodeId, value: Value, line: &mut L
 /// `value TOLD`
 fn show_written(table: &NodeTable, line: &mut Line) {
     if let Some(told) = line.read::<Told>() {
-        line.show_made(written(line.alloc, &told, table));
+        let written = written(line.alloc, &told, table);
+        drop(told);
+        line.show_made(written);
     }
 }
 

@@ -104,10 +104,12 @@ fn copy_all(alloc: Global, words: &[Bytes], copies: &mut Vec<Bytes>) -> Result<(
 
 /// What the words of a request are planned as.
 fn show_planned(words: &[Bytes], line: &mut Line) {
-    match planned(line.alloc, words) {
-        Ok(planned) => show_plan(&planned, line),
-        Err(fault) => line.answer.debug(&fault),
+    let planned = planned(line.alloc, words);
+    match &planned {
+        Ok(planned) => show_plan(planned, line),
+        Err(fault) => line.answer.debug(fault),
     }
+    drop(planned);
 }
 
 fn planned(alloc: Global, words: &[Bytes]) -> Result<Planned, PlanFault>

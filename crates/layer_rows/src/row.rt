@@ -34,15 +34,15 @@ pub trait AnswersRow {
 }
 
 /// Answers all rows, each over new objects of the layers.
-pub fn answer_rows<A, R, B, W>(rt: R, mut rows: Rows<B, W>) -> io::Result<()>
+pub fn answer_rows<A, R, B, W>(rt: R, rows: &mut Rows<B, W>) -> io::Result<()>
 where
     A: AnswersRow,
     R: RowHost,
-    B: BufRead + Drop,
-    W: Write + Drop,
+    B: BufRead,
+    W: Write,
 {
     for _ in 0..u64::MAX {
-        if !next_row::<A, R, B, W>(rt, &mut rows)? {
+        if !next_row::<A, R, B, W>(rt, rows)? {
             break;
         }
     }

@@ -111,6 +111,8 @@ fn written_behind(alloc: Global, before: &[u8], value: &Value) -> Result<Bytes, 
 
 fn compare(value: &Value, line: &mut Line) {
     if let Some(other) = line.read::<Value>() {
-        line.show(*value == other);
+        let is_same = *value == other;
+        drop(other);
+        line.show(is_same);
     }
 }

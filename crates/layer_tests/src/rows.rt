@@ -14,5 +14,6 @@ use std::io::{self, BufReader, BufWriter};
 fn of_standard_input(rt: HostRuntime) -> io::Result<()> {
     let reader = BufReader::new(rt.alloc(), rt.reader())?;
     let writer = BufWriter::new(rt.alloc(), io::writer(&rt))?;
-    answer_rows::<PlayRow, _, _, _>(rt, Rows::new(rt.alloc(), reader, writer))
+    let mut rows = Rows::new(rt.alloc(), reader, writer);
+    answer_rows::<PlayRow, _, _, _>(rt, &mut rows)
 }

@@ -5,7 +5,7 @@ use crate::tables::{PORTS, table_at};
 use key_split::{Batch, Told};
 use layer_rows::written;
 use node_model::{Cluster, MoveFault, Verdict};
-use resp_wire::{Bytes, NoMemory, Value, write_value};
+use resp_wire::{Bytes, NoMemory, write_value};
 use slot_hash::Slot;
 use slot_map::{MapOp, NodeId, NodeTable, SlotMap};
 use std::alloc::Global;
@@ -116,17 +116,19 @@ impl Nodes {
         let verdict = self.verdict(at);
         let mut out = Vec::new(self.alloc);
         match self.cluster.serve(at, batch.asking, &batch.part, verdict) {
-            Ok(told) => self.write_told(&told, &mut out)?,
+            Ok(told) => self.write_told(told, &mut out)?,
             Err(_) => return Err(NoMemory),
         }
         Ok(out)
     }
 
-    fn write_told(&self, told: &Told, out: &mut Vec<u8>) -> Result<(), NoMemory> {
-        match told {
+    fn write_told(&self, told: Told, out: &mut Vec<u8>) -> Result<(), NoMemory> {
+        let written = match &told {
             Told::Reply(value) => write_value(out, value),
-            _ => self.write_refusal(told, out),
-        }
+            _ => self.write_refusal(&told, out),
+        };
+        drop(told);
+        written
     }
 
     fn write_refusal(&self, told: &Told, out: &mut Vec<u8>) -> Result<(), NoMemory> {
@@ -136,8 +138,9 @@ impl Nodes {
         }
     }
 
-    /// What CLUSTER SLOTS says.
-    pub fn slots(&self) -> Result<Value, NoMemory> {
-        self.cluster.slots_value(&self.table)
+    /// Writes what CLUSTER SLOTS says.
+    pub fn write_slots(&self, out: &mut Vec<u8>) -> Result<(), NoMemory> {
+        let slots = self.cluster.slots_value(&self.table)?;
+        write_value(out, &slots)
     }
 }

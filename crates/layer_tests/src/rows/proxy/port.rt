@@ -5,7 +5,7 @@ ghost use Rattle.std.specs.Prelude.{◌^◌, ◌+◌};
 use crate::rows::proxy::nodes::SharedNodes;
 use key_split::{Batch, Run};
 use node_link::{NodePort, PortFault, RunPort};
-use resp_wire::{Limits, NoMemory, Reader, Value, write_value};
+use resp_wire::{Limits, NoMemory, Reader, Value};
 use slot_map::NodeId;
 use std::alloc::Global;
 
@@ -70,14 +70,11 @@ impl MemoryPort {
     }
 
     fn slots(&self) -> Result<Vec<u8>, PortFault> {
-        let mut out = Vec::new(self.alloc);
         let Ok(nodes) = self.nodes.try_borrow() else {
             return Err(PortFault::NoMemory);
         };
-        let Ok(value) = nodes.slots() else {
-            return Err(PortFault::NoMemory);
-        };
-        match write_value(&mut out, &value) {
+        let mut out = Vec::new(self.alloc);
+        match nodes.write_slots(&mut out) {
             Ok(()) => Ok(out),
             Err(NoMemory) => Err(PortFault::NoMemory),
         }
