@@ -90,10 +90,13 @@ const LOST_TWICE: &[u8] =
 // One client, over connections that pass no call on: nothing is executed.
 fn lose_all<R: Host>(rt: &R) -> Result<bool, Fail> {
     let scripts = scripts_of(rt.alloc(), &[SET_A_GET_A])?;
-    match ran(rt, &scripts, &[], 1, &Open, Some(0))? {
-        Some((report, _)) => Ok(is_lost(&report)),
-        None => Ok(false),
-    }
+    let Some((report, state)) = ran(rt, &scripts, &[], 1, &Open, Some(0))? else {
+        return Ok(false);
+    };
+    drop(state);
+    let is_lost = is_lost(&report);
+    drop(report);
+    Ok(is_lost)
 }
 
 fn is_lost(report: &RunReport) -> bool {

@@ -137,25 +137,11 @@ where
 {
     let (ends, mut carrier) = lanes::<u32, J, R>(rt.alloc(), rt, opened, 2)?;
     let mut readers = Vec::new(rt.alloc());
-    start_readers(&rt, ends, &mut readers)?;
+    for worker in ends {
+        readers.push(reader_of(&rt, view_of(worker))?)?;
+    }
     publish_all(&mut carrier.map)?;
     Ok(any_fell(&rt, readers))
-}
-
-// A thread for each of these workers.
-fn start_readers<J, R>(
-    rt: &R,
-    ends: Vec<WorkerEnds<u32, J>>,
-    readers: &mut Vec<JoinHandle<bool>>,
-) -> Result<(), Fail>
-where
-    J: Naming + Send + Sync + 'static,
-    R: Threads,
-{
-    for worker in ends {
-        readers.push(reader_of(rt, view_of(worker))?)?;
-    }
-    Ok(())
 }
 
 // A thread that looks until the slot's node is the last one, or falls.

@@ -131,18 +131,21 @@ pub fn run<R: Host, G: Gate + Sync>(
 ) -> Result<Option<Counts>, Fail>
     requires { (0 < workers) × (workers ≤ 64) }
 {
-    let Some((report, state)) = ran(rt, scripts, moves, workers, gate, calls)? else {
+    let Some(ran) = ran(rt, scripts, moves, workers, gate, calls)? else {
         return Ok(None);
     };
-    list_slots(rt.alloc(), &state, listing)?;
-    counts_of(rt.alloc(), &report, &state)
+    let counts = counts_of(rt.alloc(), &ran, listing);
+    drop(ran);
+    counts
 }
 
+// Lists the slots, and counts what the report says, where it is lawful.
 fn counts_of(
     alloc: Global,
-    report: &RunReport,
-    state: &LocalState,
+    (report, state): &(RunReport, LocalState),
+    listing: &mut Vec<u8>,
 ) -> Result<Option<Counts>, Fail> {
+    list_slots(alloc, state, listing)?;
     if !audit(alloc, report)? || report.history.len() != state.history().len() {
         return Ok(None);
     }
@@ -168,7 +171,9 @@ fn answered_in(report: &RunReport) -> usize {
 
 // The bytes of CLUSTER SLOTS at the end.
 fn list_slots(alloc: Global, state: &LocalState, listing: &mut Vec<u8>) -> Result<(), Fail> {
-    let value = state.cluster().slots_value(&table_at(alloc, &PORTS)?)?;
-    write_value(listing, &value)?;
-    Ok(())
+    let table = table_at(alloc, &PORTS)?;
+    let slots = state.cluster().slots_value(&table)?;
+    let written = write_value(listing, &slots);
+    drop(slots);
+    Ok(written?)
 }

@@ -75,21 +75,16 @@ fn call_of_run(held: &mut Held<Run>, line: &mut Line) {
             line.done();
         }
         "behind" => put_behind(held, batch, line),
-        _ => {
-            drop(batch);
-            line.refuse(CallFault::NoSuchCall);
-        }
+        _ => line.refuse(CallFault::NoSuchCall),
     }
 }
 
 /// Puts a command behind those of the run, where it goes with them.
 fn put_behind(held: &mut Held<Run>, batch: Batch, line: &mut Line) {
     let Some(run) = &mut held.value else {
-        drop(batch);
         return line.refuse(CallFault::NotMade);
     };
     if !run.takes(&batch) {
-        drop(batch);
         return line.say("apart");
     }
     if is_done(run.push(batch)) {
