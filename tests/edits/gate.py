@@ -24,7 +24,7 @@ FREE = 5_000_000_000
 # Rounds that run at once while `rt ci` still runs.
 BESIDE = 2
 # Programs of tests that tests/rows and tests/program run once more.
-TESTS = ("row_driver_tests", "thread_tests_tests")
+TESTS = ("layer_tests_tests",)
 # What the last run of the gate took.
 TOOK = Path(__file__).resolve().parent / "out/took.txt"
 

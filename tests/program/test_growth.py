@@ -52,7 +52,7 @@ TWO_CLIENTS_TEXT = b"reply 0 0 simple OK\nreply 0 1 integer 2\nreply 1 0 simple 
 
 # The tests of runs in threads, a program that runs one of them by its name, and what it says of one that fails, by its status: one that
 # finds no memory itself, and one whose run did not end as it asserts, which ends by an abort behind this line.
-TESTS = os.environ.get("THREAD_TESTS") or os.path.join(os.path.dirname(os.path.abspath(__file__)), "../../crates/thread_tests/out/thread_tests_tests")
+TESTS = os.environ.get("THREAD_TESTS") or os.path.join(os.path.dirname(os.path.abspath(__file__)), "../../crates/layer_tests/out/layer_tests_tests")
 FAILED_SAYS = {101: rb"error: [^\n]+\nthe test failed: its result gives status 1\n", -signal.SIGABRT: rb"assertion failed: lose_all\(&rt\)\?\n"}
 
 # So many runs in a row whose growths were fewer than the one that is refused end a sweep of runs in threads.
@@ -106,7 +106,7 @@ class Growth(unittest.TestCase):
     def test_connections_that_pass_no_call_on(self):
         """`run_faulty`, which no word of the program calls: the test of it passes, or fails and says so."""
         if not os.access(TESTS, os.X_OK):
-            self.skipTest("the tests of thread_tests are not there: rt ci builds them")
+            self.skipTest("the tests of layer_tests are not there: rt ci builds them")
 
         def attempt():
             words = [TESTS, "local_runs::connections_that_pass_no_call_on"]

@@ -9,7 +9,7 @@ import time
 from pathlib import Path
 
 # $ROW_DRIVER, or the tests that the repository builds: a program that runs one of them by its name.
-BUILT = Path(__file__).resolve().parents[2] / "crates/row_driver/out/row_driver_tests"
+BUILT = Path(__file__).resolve().parents[2] / "crates/layer_tests/out/layer_tests_tests"
 # What it writes behind what the test wrote.
 PASSED = "\ntest result: ok\n"
 

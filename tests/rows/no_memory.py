@@ -55,7 +55,7 @@ BY_ROWS = {
 BY_TESTS = {
     "World::new, apply, run; run_simulate": ("tests/program/simulate_scripts.txt", "# another_workers_batch_between_ask_and_its_pair 0"),
     "LocalCluster::new, run_local; run_scripts": ("tests/program/test_local.py", "def test_two_clients("),
-    "run_faulty": ("crates/thread_tests/src/local_runs.rt", "fn connections_that_pass_no_call_on("),
+    "run_faulty": ("crates/layer_tests/src/local_runs.rt", "fn connections_that_pass_no_call_on("),
     "run_wire": ("tests/program/test_serve.py", "def test_set_then_get_with_two_workers("),
     "run_nodes": ("tests/program/test_nodes.py", "def test_a_node_sends_to_the_owner_and_takes_one_key("),
     "write_bulk_head": ("tests/real/cases_commands.py", "def big_values(world"),

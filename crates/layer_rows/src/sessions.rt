@@ -1,0 +1,81 @@
+//! A client's session.
+
+use crate::held::put;
+use crate::notation::{CallFault, Line, Object};
+use key_split::{Ended, Ticket};
+use resp_wire::{Bytes, Limits};
+use session_order::Session;
+use std::alloc::Global;
+
+impl Object for Session {
+    fn call(&mut self, line: &mut Line) {
+        match line.call() {
+            "new" => renew(self, line),
+            "feed" => feed(self, line),
+            "read" => line.show(self.read()),
+            "ready" => line.show(self.ready()),
+            "finished" => line.show(self.finished()),
+            "drain" => line.show(drained(line.alloc, self)),
+            _ => call_of_ticket(self, line),
+        }
+    }
+}
+
+/// The session of a client of a worker, by their numbers.
+fn renew(session: &mut Session, line: &mut Line) {
+    if let Some((worker, client)) = line.read::<(u16, u16)>() {
+        let new = Session::new(line.alloc, worker, u32::from(client), Limits::full());
+        put(session, new, line);
+    }
+}
+
+fn feed(session: &mut Session, line: &mut Line) {
+    if let Some(bytes) = line.bytes() {
+        let fed = session.feed(bytes);
+        line.show(fed);
+    }
+}
+
+fn call_of_ticket(session: &mut Session, line: &mut Line) {
+    let Some(ticket) = line.read() else {
+        return;
+    };
+    match line.call() {
+        "awaits" => line.show(session.awaits(ticket)),
+        "follow" => follow(session, ticket, line),
+        "ended" => end(session, ticket, line),
+        _ => line.refuse(CallFault::NoSuchCall),
+    }
+}
+
+// The part behind one that is out.
+fn follow(session: &mut Session, ticket: Ticket, line: &mut Line) {
+    if session.awaits(ticket) {
+        line.show(session.follower(ticket));
+    } else {
+        line.say("none");
+    }
+}
+
+/// Tells an end, where it is awaited.
+fn end(session: &mut Session, ticket: Ticket, line: &mut Line) {
+    let Some(end) = line.read::<Ended>() else {
+        return;
+    };
+    if session.awaits(ticket) {
+        session.ended(ticket, end);
+        line.done();
+    } else {
+        drop(end);
+        line.say("none");
+    }
+}
+
+fn drained(alloc: Global, session: &mut Session) -> Result<Bytes, CallFault> {
+    let mut out = Vec::new(alloc);
+    let drained = session.drain(&mut out, usize::MAX)?;
+    if let Some(tail) = drained.tail {
+        out.extend_from_slice(tail.as_slice())?;
+    }
+    Ok(Bytes::new(out))
+}

@@ -1,8 +1,0 @@
-use Rattle.std.proofs.Common.{◌+◌, ◌*◌}
-use Rattle.row_words.proofs.answer.Answer.+value.Given as goal
-
-abbrev pub decreases-value_within : goal.decreases-value_within
-decreases-value_within l = 2 * l.depth + 1
-
-abbrev pub decreases-items_within : goal.decreases-items_within
-decreases-items_within l = 2 * l.depth
