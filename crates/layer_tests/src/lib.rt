@@ -23,5 +23,3 @@ mod rows;
 mod runs;
 #[cfg(test)]
 mod socket_runs;
-#[cfg(test)]
-mod tables;

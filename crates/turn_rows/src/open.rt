@@ -1,0 +1,18 @@
+//! The gate that lets all go on.
+
+use proxy_turns::Gate;
+use std::thread;
+
+/// Lets all go on.
+#[derive(Drop)]
+pub struct Open;
+
+impl Gate for Open {
+    fn pass(&self, _: u16, _: u64) -> bool {
+        true
+    }
+
+    fn idle(&self) {
+        thread::yield_now();
+    }
+}

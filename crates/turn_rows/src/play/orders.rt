@@ -1,0 +1,95 @@
+//! Orders of a play, as a line has them.
+
+use crate::play::stage::Plays;
+use layer_rows::{CallFault, Line};
+use node_model::Verdict;
+use resp_wire::Bytes;
+use slot_hash::Slot;
+use slot_map::NodeId;
+use std::str;
+use turn_play::{Move, Order, PlayFault};
+
+/// Adds the next order of a line. Which key moves is seen once all orders before are obeyed, so these are obeyed first.
+pub fn add_next<P: Plays>(
+    play: &mut P,
+    orders: &mut Vec<Order>,
+    line: &mut Line,
+) -> Result<Result<(), PlayFault>, CallFault> {
+    let Some(word) = line.read::<Bytes>() else {
+        return Err(CallFault::MissingWord);
+    };
+    match str::from_utf8(word.as_slice()).unwrap_or("") {
+        "all" => add_rounds(orders, line)?,
+        "movekey" => return move_key(play, orders, line),
+        name => add_one(orders, name, line)?,
+    }
+    Ok(Ok(()))
+}
+
+fn add_one(orders: &mut Vec<Order>, name: &str, line: &mut Line) -> Result<(), CallFault> {
+    match order_of(name, line) {
+        Some(order) => Ok(orders.push(order)?),
+        None => Err(CallFault::UnknownWord),
+    }
+}
+
+fn order_of(name: &str, line: &mut Line) -> Option<Order> {
+    match name {
+        "carrier" => Some(Order::Carrier),
+        "worker" => Some(Order::Worker(usize::from(line.read::<u16>()?))),
+        "break" => Some(Order::Break(line.read()?)),
+        "serve" => Some(Order::Serve(line.read()?, Verdict::Plain)),
+        _ => Some(Order::Move(step_of(name, line)?)),
+    }
+}
+
+fn step_of(name: &str, line: &mut Line) -> Option<Move> {
+    let slot = line.read::<Slot>()?;
+    match name {
+        "import" => Some(Move::Import(slot, line.read()?)),
+        "migrate" => Some(Move::Migrate(slot)),
+        "own" => Some(Move::Own(slot)),
+        "release" => Some(Move::Release(slot)),
+        _ => None,
+    }
+}
+
+/// A turn of each worker, one of the carrier, and a request served by each node, so many times.
+fn add_rounds(orders: &mut Vec<Order>, line: &mut Line) -> Result<(), CallFault> {
+    let Some(count) = line.read::<u16>() else {
+        return Err(CallFault::MissingWord);
+    };
+    for _ in 0..count {
+        orders.push(Order::Worker(0))?;
+        orders.push(Order::Worker(1))?;
+        orders.push(Order::Carrier)?;
+        add_serving(orders)?;
+    }
+    Ok(())
+}
+
+fn add_serving(orders: &mut Vec<Order>) -> Result<(), CallFault> {
+    for number in 0..3 {
+        if let Some(node) = NodeId::new(number) {
+            orders.push(Order::Serve(node, Verdict::Plain))?;
+        }
+    }
+    Ok(())
+}
+
+/// Obeys the orders before, and then moves a key of the slot, where one is left.
+fn move_key<P: Plays>(
+    play: &mut P,
+    orders: &mut Vec<Order>,
+    line: &mut Line,
+) -> Result<Result<(), PlayFault>, CallFault> {
+    let Some(slot) = line.read::<Slot>() else {
+        return Err(CallFault::MissingWord);
+    };
+    let before = play.play(orders.as_slice());
+    orders.clear();
+    if let Some(key) = play.rest_key(slot) {
+        orders.push(Order::Move(Move::Key(slot, key.copy(line.alloc)?)))?;
+    }
+    Ok(before)
+}

@@ -1,0 +1,100 @@
+//! A play, and what it will be made of.
+
+use crate::open::Open;
+use crate::proxy::client::SharedClient;
+use crate::proxy::memory::{MemoryCarrierEnds, MemoryEnds, newcomer_to};
+use crate::proxy::nodes::cluster_of_three;
+use crate::proxy::turned::Entrance;
+use crate::tables::{PORTS, table_at};
+use layer_rows::CallFault;
+use node_model::Cluster;
+use proxy_lanes::Naming;
+use resp_wire::{Bytes, NoMemory};
+use slot_hash::Slot;
+use slot_map::NodeTable;
+use std::alloc::Global;
+use std::sync::Wait;
+use turn_play::{Order, Play, PlayFault};
+
+/// What does as it is told.
+pub trait Plays {
+    /// Obeys these orders.
+    fn play(&mut self, orders: &[Order]) -> Result<(), PlayFault>;
+
+    /// A key of the slot that its migrating node holds.
+    fn rest_key(&self, slot: Slot) -> Option<&Bytes>;
+}
+
+/// What begins over such ends.
+pub trait Begins<'g, E>: Sized {
+    fn begin(
+        alloc: Global,
+        gate: &'g Open,
+        ends: E,
+        outside: PlayOutside,
+    ) -> Result<Self, NoMemory>;
+}
+
+/// The ends of the lanes of a play that has not begun.
+#[derive(Drop)]
+pub struct Ends<J: Naming, R: Wait + Drop> {
+    pub workers: Vec<MemoryEnds<J>>,
+    pub carrier: MemoryCarrierEnds<J, R>,
+}
+
+impl<J: Naming, R: Wait + Drop> Entrance for Ends<J, R> {
+    fn hand(&mut self, worker: u16, number: u32, port: SharedClient) -> Result<bool, CallFault> {
+        newcomer_to(&mut self.carrier, worker, number, port)
+    }
+}
+
+/// The nodes of a play, and the tables in which they stand.
+#[derive(Drop)]
+pub struct PlayOutside {
+    seeds: NodeTable,
+    cluster: Cluster,
+    nodes: NodeTable,
+}
+
+impl PlayOutside {
+    pub fn new(alloc: Global) -> Result<PlayOutside, NoMemory> {
+        Ok(PlayOutside {
+            seeds: table_at(alloc, &PORTS)?,
+            cluster: cluster_of_three(alloc)?,
+            nodes: table_at(alloc, &PORTS)?,
+        })
+    }
+}
+
+/// A play over ends in memory.
+pub type MemoryPlay<'g, J, R> = Play<'g, SharedClient, J, R, Open>;
+
+impl<'g, J: Naming, R: Wait + Drop> Begins<'g, Ends<J, R>> for MemoryPlay<'g, J, R> {
+    fn begin(
+        alloc: Global,
+        gate: &'g Open,
+        ends: Ends<J, R>,
+        outside: PlayOutside,
+    ) -> Result<MemoryPlay<'g, J, R>, NoMemory> {
+        Play::new(
+            alloc,
+            gate,
+            None,
+            ends.workers,
+            ends.carrier,
+            outside.seeds,
+            outside.cluster,
+            outside.nodes,
+        )
+    }
+}
+
+impl<'g, J: Naming, R: Wait + Drop> Plays for MemoryPlay<'g, J, R> {
+    fn play(&mut self, orders: &[Order]) -> Result<(), PlayFault> {
+        self.play(orders)
+    }
+
+    fn rest_key(&self, slot: Slot) -> Option<&Bytes> {
+        self.cluster().rest_key(slot)
+    }
+}

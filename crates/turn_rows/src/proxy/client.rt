@@ -1,0 +1,85 @@
+//! A client in memory, which the driver still sees while a worker serves it.
+
+use crate::proxy::made::shared;
+use key_split::{Ended, Ticket};
+use node_link::Flow;
+use proxy_turns::{ClientPort, Script};
+use resp_wire::{Bytes, NoMemory};
+use std::alloc::{AllocError, Global};
+use std::cell::RefCell;
+use std::rc::Rc;
+
+/// A script that two hold: the worker and the driver.
+#[derive(Drop)]
+pub struct SharedClient {
+    script: Rc<RefCell<Script>>,
+}
+
+impl SharedClient {
+    /// A client that sends these bytes.
+    pub fn new(alloc: Global, client: u32, bytes: Bytes) -> Result<SharedClient, NoMemory> {
+        let script = shared(alloc, Script::new(alloc, client, bytes))?;
+        Ok(SharedClient { script })
+    }
+
+    /// The same client.
+    pub fn again(&self) -> Result<SharedClient, AllocError> {
+        let script = self.script.clone()?;
+        Ok(SharedClient { script })
+    }
+
+    /// The client holds these bytes, as if they had been replied.
+    pub fn hears(&self, bytes: &[u8]) -> bool {
+        match self.script.try_borrow_mut() {
+            Ok(mut script) => script.push(bytes, &[]).is_ok(),
+            Err(_) => false,
+        }
+    }
+
+    /// Takes away what the client holds, and how many ends were noted.
+    pub fn take_held(&self, alloc: Global) -> Option<(Bytes, usize)> {
+        let empty = Script::new(alloc, 0, Bytes::new(Vec::new(alloc)));
+        let script = self.script.try_replace(empty).ok()?;
+        let (_, replies, ends) = script.into_parts();
+        Some((replies, ends.len()))
+    }
+}
+
+impl ClientPort for SharedClient {
+    // It promises nothing: the rows look at what it holds.
+    ghost moves = { λ old pulled pushed noted new. Unit {0} };
+
+    fn pull(&mut self, buffer: &mut [u8]) -> Result<Flow, NoMemory> {
+        let Ok(mut script) = self.script.try_borrow_mut() else {
+            return Err(NoMemory);
+        };
+        match script.pull(buffer)? {
+            Flow::Bytes(count) => Ok(Flow::Bytes(count)),
+            Flow::Nothing => Ok(Flow::Nothing),
+            Flow::Gone => Ok(Flow::Gone),
+        }
+    }
+
+    fn push(&mut self, first: &[u8], second: &[u8]) -> Result<Flow, NoMemory> {
+        let Ok(mut script) = self.script.try_borrow_mut() else {
+            return Err(NoMemory);
+        };
+        match script.push(first, second)? {
+            Flow::Bytes(count) => Ok(Flow::Bytes(count)),
+            Flow::Nothing => Ok(Flow::Nothing),
+            Flow::Gone => Ok(Flow::Gone),
+        }
+    }
+
+    fn note(&mut self, ticket: Ticket, end: &Ended) -> Result<(), NoMemory> {
+        let Ok(mut script) = self.script.try_borrow_mut() else {
+            return Err(NoMemory);
+        };
+        match script.note(ticket, end) {
+            Ok(()) => Ok(()),
+            Err(NoMemory) => Err(NoMemory),
+        }
+    }
+
+    fn close(&mut self) {}
+}

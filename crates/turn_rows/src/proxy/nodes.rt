@@ -1,0 +1,146 @@
+//! Three nodes in memory, whose slots move.
+
+use crate::proxy::made::shared;
+use crate::tables::{PORTS, table_at};
+use key_split::{Batch, Told};
+use layer_rows::written;
+use node_model::{Cluster, MoveFault, Verdict};
+use resp_wire::{Bytes, NoMemory, write_value};
+use slot_hash::Slot;
+use slot_map::{MapOp, NodeId, NodeTable, SlotMap};
+use std::alloc::Global;
+use std::cell::RefCell;
+use std::rc::Rc;
+
+/// The nodes of a cluster, and how they can be reached.
+#[derive(Drop)]
+pub struct Nodes {
+    alloc: Global,
+    cluster: Cluster,
+    table: NodeTable,
+    /// How many commands came.
+    pub served: u64,
+    /// Whether a node refuses some that it could serve.
+    pub refuses: bool,
+    /// Whether a node listens.
+    pub listens: bool,
+    /// How many calls a new connection stands.
+    pub calls: u64,
+    /// How many commands may go behind the first of a run over a new connection.
+    pub behind: u16,
+}
+
+pub type SharedNodes = Rc<RefCell<Nodes>>;
+
+/// A cluster whose slots are all the last node's.
+pub fn cluster_of_three(alloc: Global) -> Result<Cluster, NoMemory> {
+    let (Some(first), Some(last), Some(owner)) = (Slot::new(0), Slot::new(16383), NodeId::new(2))
+    else {
+        return Err(NoMemory);
+    };
+    let Ok(mut owners) = SlotMap::new(alloc) else {
+        return Err(NoMemory);
+    };
+    owners.apply(MapOp::SetRange(first, last, owner));
+    match Cluster::new(alloc, 3, &owners) {
+        Ok(cluster) => Ok(cluster),
+        Err(_) => Err(NoMemory),
+    }
+}
+
+/// Three nodes that listen, whose slots are all the last one's.
+pub fn three_nodes(alloc: Global) -> Result<SharedNodes, NoMemory> {
+    shared(
+        alloc,
+        Nodes {
+            alloc,
+            cluster: cluster_of_three(alloc)?,
+            table: table_at(alloc, &PORTS)?,
+            served: 0,
+            refuses: false,
+            listens: true,
+            calls: u64::MAX,
+            behind: 0,
+        },
+    )
+}
+
+/// The node that listens at a port.
+pub fn node_at(port: u16) -> Option<NodeId> {
+    match port {
+        7001 => NodeId::new(0),
+        7002 => NodeId::new(1),
+        7003 => NodeId::new(2),
+        _ => None,
+    }
+}
+
+impl Nodes {
+    pub fn cluster(&mut self) -> &mut Cluster {
+        &mut self.cluster
+    }
+
+    /// Moves a key of a slot on.
+    pub fn move_a_key(&mut self, slot: Slot) -> Result<(), MoveFault> {
+        let Some(key) = self.rest_key(slot) else {
+            return Err(MoveFault::NotNow);
+        };
+        self.cluster.move_key(slot, &key)
+    }
+
+    fn rest_key(&self, slot: Slot) -> Option<Bytes> {
+        let key = self.cluster.rest_key(slot)?;
+        key.copy(self.alloc).ok()
+    }
+
+    // What the node says to its command, and sometimes a refusal that any node may give.
+    fn verdict(&self, node: NodeId) -> Verdict {
+        if !self.refuses {
+            return Verdict::Plain;
+        }
+        if self.served % 41 == 0 {
+            return Verdict::TryAgain;
+        }
+        if self.served % 67 == 0 {
+            return Verdict::ClusterDown;
+        }
+        match NodeId::new((node.number() + 1) % 3) {
+            Some(other) if self.served % 97 == 0 => Verdict::Moved(other),
+            _ => Verdict::Plain,
+        }
+    }
+
+    /// The bytes of the node's reply.
+    pub fn answer(&mut self, at: NodeId, batch: &Batch) -> Result<Vec<u8>, NoMemory> {
+        self.served = self.served.wrapping_add(1);
+        let verdict = self.verdict(at);
+        let mut out = Vec::new(self.alloc);
+        match self.cluster.serve(at, batch.asking, &batch.part, verdict) {
+            Ok(told) => self.write_told(told, &mut out)?,
+            Err(_) => return Err(NoMemory),
+        }
+        Ok(out)
+    }
+
+    fn write_told(&self, told: Told, out: &mut Vec<u8>) -> Result<(), NoMemory> {
+        let written = match &told {
+            Told::Reply(value) => write_value(out, value),
+            _ => self.write_refusal(&told, out),
+        };
+        drop(told);
+        written
+    }
+
+    fn write_refusal(&self, told: &Told, out: &mut Vec<u8>) -> Result<(), NoMemory> {
+        match written(self.alloc, told, &self.table) {
+            Ok(value) => write_value(out, &value),
+            Err(_) => Err(NoMemory),
+        }
+    }
+
+    /// Writes what CLUSTER SLOTS says.
+    pub fn write_slots(&self, out: &mut Vec<u8>) -> Result<(), NoMemory> {
+        let slots = self.cluster.slots_value(&self.table)?;
+        write_value(out, &slots)
+    }
+}
