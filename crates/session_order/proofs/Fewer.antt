@@ -186,27 +186,55 @@ next_replied (suc i) owed (Parts how m ∷ rs) stages ends value n at le is =
     few_left true first m count i le = omega (arith, le)
     few_left false first m count i le = absurd (omega (arith, le))
 
--- one more of the requests has its reply, behind these many parts
-pub record OneMore (i next p n : ℕ) (requests : List PendingReply) (stages : List PartStage) (ends : List Ended) (value : Value) : Type 0 where
-  pub spelled : replies (take next requests) stages ends [] ≡ replies (take i requests) stages ends [] ++ value ∷ []
-  pub parts : p + n ≡ parts_of (take next requests)
-  pub bound : p + n ≤ length stages
-  pub counted : parts_of (drop next requests) ≡ length (drop (p + n) stages)
+-- how many have their reply from a request on that has its reply, or has none
+abbrev counts_at : Option (Value × ℕ) → (ℕ → ℕ × ℕ) → ℕ × ℕ
+counts_at found rest = elim found [ Some reply ↦ (suc (rest reply.1).0, reply.1 + (rest reply.1).1) | None ↦ (0, 0) ]
 
-pub one_more_replied : (i next : ℕ) (owed : PendingReply) (requests : List PendingReply) (stages : List PartStage) (ends own : List Ended) (p : ℕ) (value : Value) (n : ℕ)
-    → next ≡ suc i → slice_get requests i ≡ Some owed → i ≤ (replied requests stages ends).0 → p ≡ parts_of (take i requests) → own ≡ ends
+-- a request that has its reply is one of those that have theirs
+one_less : (i : ℕ) (owed : PendingReply) (requests : List PendingReply) (stages : List PartStage) (ends : List Ended) (value : Value) (n : ℕ) → slice_get requests i ≡ Some owed
+    → reply_of owed stages ends ≡ Some (value, n) → (replied (drop i requests) stages ends).0 ≡ suc (replied (drop (suc i) requests) (drop n stages) (drop n ends)).0
+one_less i owed [] stages ends value n at is = absurd (cc)
+one_less zero owed (first ∷ rs) stages ends value n at is =
+    let same : first ≡ owed = cc in
+    let own : reply_of first stages ends ≡ Some (value, n) = subst (λ o. reply_of o stages ends ≡ Some (value, n)) (sym same) is in
+    ap (λ (found : Option (Value × ℕ)). (counts_at found (λ k. replied rs (drop k stages) (drop k ends))).0) own
+one_less (suc i) owed (first ∷ rs) stages ends value n at is = one_less i owed rs stages ends value n at is
+
+-- and the others are those behind it
+left_behind : (i p n : ℕ) (owed : PendingReply) (requests : List PendingReply) (stages : List PartStage) (ends : List Ended) (value : Value) → slice_get requests i ≡ Some owed
+    → reply_of owed (drop p stages) (drop p ends) ≡ Some (value, n) → i + (replied (drop i requests) (drop p stages) (drop p ends)).0 ≡ (replied requests stages ends).0
+    → (i + 1) + (replied (drop (i + 1) requests) (drop (p + n) stages) (drop (p + n) ends)).0 ≡ (replied requests stages ends).0
+left_behind i p n owed requests stages ends value at is so_far =
+    let less = one_less i owed requests (drop p stages) (drop p ends) value n at is in
+    let step : i + 1 ≡ suc i = omega arith in
+    let same : (replied (drop (i + 1) requests) (drop (p + n) stages) (drop (p + n) ends)).0 ≡ (replied (drop (suc i) requests) (drop n (drop p stages)) (drop n (drop p ends))).0 =
+    λ k. (replied (drop (step k) requests) (drop_more p n stages k) (drop_more p n ends k)).0 in
+    omega (arith, so_far, less, same)
+
+-- one more of the requests has its reply, behind these many parts
+pub record OneMore (i p n : ℕ) (requests : List PendingReply) (stages : List PartStage) (ends : List Ended) (value : Value) : Type 0 where
+  pub spelled : replies (take (i + 1) requests) stages ends [] ≡ replies (take i requests) stages ends [] ++ value ∷ []
+  pub parts : p + n ≡ parts_of (take (i + 1) requests)
+  pub bound : p + n ≤ length stages
+  pub counted : parts_of (drop (i + 1) requests) ≡ length (drop (p + n) stages)
+  pub left : (i + 1) + (replied (drop (i + 1) requests) (drop (p + n) stages) (drop (p + n) ends)).0 ≡ (replied requests stages ends).0
+
+pub one_more_replied : (i : ℕ) (owed : PendingReply) (requests : List PendingReply) (stages : List PartStage) (ends own : List Ended) (p : ℕ) (value : Value) (n : ℕ)
+    → slice_get requests i ≡ Some owed → i + (replied (drop i requests) (drop p stages) (drop p ends)).0 ≡ (replied requests stages ends).0 → p ≡ parts_of (take i requests) → own ≡ ends
     → parts_of requests ≡ length stages → reply_of owed (drop p stages) (drop p own) ≡ Some (value, n)
-    → OneMore i next p n requests stages ends value
-one_more_replied i next owed requests stages ends own p value n step at le parts same counted is =
-    let found = subst (λ (k : ℕ). reply_of owed (drop k stages) (drop k ends) ≡ Some (value, n)) parts
-    (subst (λ (es : List Ended). reply_of owed (drop p stages) (drop p es) ≡ Some (value, n)) same is) in
-    let more = next_replied i owed requests stages ends value n at le found in
-    let sum : p + n ≡ parts_of (take next requests) = omega (arith, more.1, parts, ap (λ (k : ℕ). parts_of (take k requests)) step) in
+    → OneMore i p n requests stages ends value
+one_more_replied i owed requests stages ends own p value n at so_far parts same counted is =
+    let here = subst (λ (es : List Ended). reply_of owed (drop p stages) (drop p es) ≡ Some (value, n)) same is in
+    let found = subst (λ (k : ℕ). reply_of owed (drop k stages) (drop k ends) ≡ Some (value, n)) parts here in
+    let more = next_replied i owed requests stages ends value n at (omega (arith, so_far)) found in
+    let step : i + 1 ≡ suc i = omega arith in
+    let sum : p + n ≡ parts_of (take (i + 1) requests) = omega (arith, more.1, parts, ap (λ (k : ℕ). parts_of (take k requests)) step) in
     record {
       spelled = ap (λ (k : ℕ). replies (take k requests) stages ends []) step ∙ more.0;
       parts = sum;
-      bound = omega (arith, sum, parts_split next requests, counted);
-      counted = omega (arith, sum, parts_split next requests, counted, length-drop (p + n) stages);
+      bound = omega (arith, sum, parts_split (i + 1) requests, counted);
+      counted = omega (arith, sum, parts_split (i + 1) requests, counted, length-drop (p + n) stages);
+      left = left_behind i p n owed requests stages ends value at here so_far;
     }
 
 -- what was written grows by a reply
@@ -247,10 +275,6 @@ still_few most i requests stages ends before out others so_far less few fewer be
         let same : i ≡ fewer = grind (arith, nat_tests, is, below) in
         subst (λ (k : ℕ). length (bytes_of (first_replies k requests stages ends [])) < most) same
         (subst (λ (vs : List Value). length (bytes_of vs) < most) (sym (none_last i requests stages ends [] less)) now)
-
--- how many have their reply from a request on that has its reply, or has none
-abbrev counts_at : Option (Value × ℕ) → (ℕ → ℕ × ℕ) → ℕ × ℕ
-counts_at found rest = elim found [ Some reply ↦ (suc (rest reply.1).0, reply.1 + (rest reply.1).1) | None ↦ (0, 0) ]
 
 -- a request that has no reply ends them
 pub none_replied : (i : ℕ) (owed : PendingReply) (requests : List PendingReply) (stages : List PartStage) (ends : List Ended) → slice_get requests i ≡ Some owed

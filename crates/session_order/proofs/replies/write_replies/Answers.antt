@@ -1,11 +1,11 @@
-use Rattle.std.proofs.Common.{◌≡◌, ◌<◌, ◌≤◌, ◌+◌, ◌-◌, ◌∙◌, [], None, ℕ, suc, ap, arith, drop, length, length-drop, refl, subst, sym, take}
+use Rattle.std.proofs.Common.{◌≡◌, ◌<◌, ◌≤◌, ◌+◌, ◌-◌, ◌∙◌, [], None, ℕ, ap, arith, drop, length, length-drop, refl, subst, sym, take}
 use Rattle.std.proofs.lemmas.List.{append-nil}
-use Rattle.std.proofs.lemmas.Grind.{common_steps}
 use Rattle.session_order.specs.Turn.{is_done}
 use Rattle.session_order.proofs.Lists.{all_take}
+use Rattle.session_order.proofs.Draining.{joinable_drop}
 use Rattle.session_order.proofs.Fewer.{at_place, has_parts, none_left, none_replied, one_more_replied, still_few, written_more, written_so_far}
 use Rattle.session_order.proofs.Tail.{copied_so_far, ended_by_tail, still_grown, tail_enough}
-use Rattle.session_order.specs.Replies.{bytes_of, parts_of, replied, replies, reply_of}
+use Rattle.session_order.specs.Replies.{bytes_of, parts_of, replies, reply_of}
 use Rattle.session_order.proofs.replies.write_replies.Goals as goal
 
 pub loop-i-preserved : goal.loop-i-preserved
@@ -17,22 +17,20 @@ loop-i-preserved c =
     let stages = c.args.queue.now.stages in
     let ends = c.args.ends.now.items in
     let below : c.loop-i.i < length requests = omega (arith, c.args.requests.now.ok.0, c.len-i-end.ensures) in
-    let le : c.loop-i.i ≤ (replied requests stages ends).0 = omega (arith, so_far.request_count) in
     let next = c.loop-i.i + 1 in
-    let step : next ≡ suc c.loop-i.i = omega arith in
-    let more = one_more_replied c.loop-i.i next c.index.result.now requests stages ends c.loop-i.ends.items c.loop-i.parts does.0 c.in-Whole.count step
-    (at_place requests c.loop-i.i c.index.result.now below c.index.ensures) le so_far.parts so_far.same c.requires.counted does.1 in
+    let more = one_more_replied c.loop-i.i c.index.result.now requests stages ends c.loop-i.ends.items c.loop-i.parts does.0 c.in-Whole.count
+    (at_place requests c.loop-i.i c.index.result.now below c.index.ensures) so_far.request_count so_far.parts so_far.same c.requires.counted does.1 in
     let few : length c.loop-i.out.items - length c.args.out.now.items < c.args.most = omega (arith, c.if-len-start.false, c.len.ensures, c.len-start.ensures, c.loop-i.out.ok.0, c.args.out.now.ok.0) in
     record {
       same = c.write_reply.ensures.ends ∙ so_far.same;
       bound = more.bound;
       known = all_take is_done c.args.queue.now.stages c.loop-i.parts c.in-Whole.count _ refl so_far.known done;
       counted = more.counted;
-      joinable = grind (arith, common_steps);
+      joinable = joinable_drop requests next c.requires.joinable;
       written = written_more c.args.out.now.items c.loop-i.out.items c.write_reply.new.out.items (replies (take c.loop-i.i requests) stages ends [])
           (replies (take next requests) stages ends []) does.0 so_far.written does.2 more.spelled;
       parts = more.parts;
-      request_count = grind (arith, common_steps);
+      request_count = more.left;
       no_more = still_few c.args.most c.loop-i.i requests stages ends c.args.out.now.items c.loop-i.out.items so_far.no_more so_far.written below few;
     }
 
@@ -76,16 +74,12 @@ returns-in-Head-clause-written c =
     let stages = c.args.queue.now.stages in
     let ends = c.args.ends.now.items in
     let below : c.loop-i.i < length requests = omega (arith, c.args.requests.now.ok.0, c.len-i-end.ensures) in
-    let le : c.loop-i.i ≤ (replied requests stages ends).0 = omega (arith, so_far.request_count) in
     let next = c.loop-i.i + 1 in
-    let step : next ≡ suc c.loop-i.i = omega arith in
-    let parts = c.loop-i.parts + c.in-Head.count in
-    let more = one_more_replied c.loop-i.i next c.index.result.now requests stages ends c.loop-i.ends.items c.loop-i.parts does.0 c.in-Head.count step
-    (at_place requests c.loop-i.i c.index.result.now below c.index.ensures) le so_far.parts so_far.same c.requires.counted does.1 in
+    let more = one_more_replied c.loop-i.i c.index.result.now requests stages ends c.loop-i.ends.items c.loop-i.parts does.0 c.in-Head.count
+    (at_place requests c.loop-i.i c.index.result.now below c.index.ensures) so_far.request_count so_far.parts so_far.same c.requires.counted does.1 in
     let few : length c.loop-i.out.items - length c.args.out.now.items < c.args.most = omega (arith, c.if-len-start.false, c.len.ensures, c.len-start.ensures, c.loop-i.out.ok.0, c.args.out.now.ok.0) in
-    let left : next + (replied (drop next requests) (drop parts stages) (drop parts ends)).0 ≡ (replied requests stages ends).0 = grind (arith, common_steps) in
     ended_by_tail c.args.most next _ requests stages ends c.args.out.now.items c.loop-i.out.items _ does.2.0 c.in-Head.tail
-    (replies (take c.loop-i.i requests) stages ends []) does.0 left so_far.written does.2.1 does.2.2 more.spelled
+    (replies (take c.loop-i.i requests) stages ends []) does.0 more.left so_far.written does.2.1 does.2.2 more.spelled
     (tail_enough c.args.most c.args.least c.in-Head.tail c.requires.enough large)
     (still_few c.args.most c.loop-i.i requests stages ends c.args.out.now.items c.loop-i.out.items so_far.no_more so_far.written below few)
 
@@ -97,11 +91,8 @@ returns-in-Head-clause-parts c =
     let stages = c.args.queue.now.stages in
     let ends = c.args.ends.now.items in
     let below : c.loop-i.i < length requests = omega (arith, c.args.requests.now.ok.0, c.len-i-end.ensures) in
-    let le : c.loop-i.i ≤ (replied requests stages ends).0 = omega (arith, so_far.request_count) in
-    let next = c.loop-i.i + 1 in
-    let step : next ≡ suc c.loop-i.i = omega arith in
-    (one_more_replied c.loop-i.i next c.index.result.now requests stages ends c.loop-i.ends.items c.loop-i.parts does.0 c.in-Head.count step
-    (at_place requests c.loop-i.i c.index.result.now below c.index.ensures) le so_far.parts so_far.same c.requires.counted does.1).parts
+    (one_more_replied c.loop-i.i c.index.result.now requests stages ends c.loop-i.ends.items c.loop-i.parts does.0 c.in-Head.count
+    (at_place requests c.loop-i.i c.index.result.now below c.index.ensures) so_far.request_count so_far.parts so_far.same c.requires.counted does.1).parts
 
 pub returns-in-Head-clause-grown : goal.returns-in-Head-clause-grown
 returns-in-Head-clause-grown c =
@@ -158,9 +149,8 @@ overflow_add-parts c =
     let stages = c.args.queue.now.stages in
     let ends = c.args.ends.now.items in
     let below : c.loop-i.i < length requests = omega (arith, c.args.requests.now.ok.0, c.len-i-end.ensures) in
-    let le : c.loop-i.i ≤ (replied requests stages ends).0 = omega (arith, so_far.request_count) in
-    let bound = (one_more_replied c.loop-i.i (suc c.loop-i.i) c.index.result.now requests stages ends c.loop-i.ends.items c.loop-i.parts does.0 c.in-Whole.count refl
-    (at_place requests c.loop-i.i c.index.result.now below c.index.ensures) le so_far.parts so_far.same c.requires.counted does.1).bound in
+    let bound = (one_more_replied c.loop-i.i c.index.result.now requests stages ends c.loop-i.ends.items c.loop-i.parts does.0 c.in-Whole.count
+    (at_place requests c.loop-i.i c.index.result.now below c.index.ensures) so_far.request_count so_far.parts so_far.same c.requires.counted does.1).bound in
     omega (arith, bound, c.requires.places, c.args.ends.now.ok.0, c.args.ends.now.small)
 
 pub write_reply-requires-clause-known : goal.write_reply-requires-clause-known
@@ -217,7 +207,6 @@ overflow_add-result-in-Head c =
     let stages = c.args.queue.now.stages in
     let ends = c.args.ends.now.items in
     let below : c.loop-i.i < length requests = omega (arith, c.args.requests.now.ok.0, c.len-i-end.ensures) in
-    let le : c.loop-i.i ≤ (replied requests stages ends).0 = omega (arith, so_far.request_count) in
-    let bound = (one_more_replied c.loop-i.i (suc c.loop-i.i) c.index.result.now requests stages ends c.loop-i.ends.items c.loop-i.parts does.0 c.in-Head.count refl
-    (at_place requests c.loop-i.i c.index.result.now below c.index.ensures) le so_far.parts so_far.same c.requires.counted does.1).bound in
+    let bound = (one_more_replied c.loop-i.i c.index.result.now requests stages ends c.loop-i.ends.items c.loop-i.parts does.0 c.in-Head.count
+    (at_place requests c.loop-i.i c.index.result.now below c.index.ensures) so_far.request_count so_far.parts so_far.same c.requires.counted does.1).bound in
     omega (arith, bound, c.requires.places, c.args.ends.now.ok.0, c.args.ends.now.small)
