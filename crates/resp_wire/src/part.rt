@@ -78,9 +78,9 @@ impl Part {
     pub(crate) fn with_line_end(&self) -> Option<Part>
         ensures { IfSome result (λ line. line ≡ self.now ++ cr ∷ lf ∷ []) }
     {
-        let [b'\r', b'\n', ..] = &self.whole[self.end..] else {
+        if !self.whole[self.end..].starts_with(b"\r\n") {
             return None;
-        };
+        }
         let whole = Arc::try_clone(&self.whole).ok()?;
         Some(Part {
             whole,
