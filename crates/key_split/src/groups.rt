@@ -1,6 +1,7 @@
 //! The groups that the keys of a request make: those of one slot together.
 
 ghost use Rattle.std.specs.Prelude.{◌≡◌, IsTrue, IfOk, map};
+ghost use Rattle.slot_hash.specs.Slot.{slot_of};
 ghost use Rattle.key_split.specs.PartModel.{takes_group};
 ghost use Rattle.key_split.specs.Groups.{alone, group_numbers, pairs_of, parts_of};
 
@@ -46,7 +47,7 @@ pub fn grouped(alloc: Global, op: Op, pairs: Vec<Pair>) -> Result<(Parts, Places
     let mut places: Vec<u32> = Vec::with_capacity(alloc, pairs.len())?;
     let mut numbers: BTreeMap<u16, u32> = BTreeMap::new(alloc);
     for (key, value) in pairs {
-        let slot = slot_of(key.as_slice()).number();
+        let slot = slot_number(&key);
         let number = match numbers.get(&slot) {
             Some(number) => {
                 parts[*number as usize].push(key, value)?;
@@ -62,4 +63,11 @@ pub fn grouped(alloc: Global, op: Op, pairs: Vec<Pair>) -> Result<(Parts, Places
         places.push(number)?;
     }
     Ok((Parts::new(parts), Places::new(places)))
+}
+
+/// The number of a key's slot.
+fn slot_number(key: &Bytes) -> u16
+    ensures { result ≡ slot_of key.now }
+{
+    slot_of(key.as_slice()).number()
 }

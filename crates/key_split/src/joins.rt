@@ -1,10 +1,10 @@
 //! The reply that the ends of a request's parts become.
 
-ghost use Rattle.std.specs.Prelude.{◌≡◌, ◌==◌, ◌<◌, All, drop, option_map, IfOk, IsTrue, length, map, ◌++◌, ◌+ℤ◌, FitsSigned, IfSome};
+ghost use Rattle.std.specs.Prelude.{◌≡◌, ◌==◌, ◌<◌, All, drop, option_map, IfOk, IsTrue, length, map, ◌++◌, [], ◌+ℤ◌, FitsSigned, IfSome, slice_index_or};
 ghost use Rattle.std.specs.Int.{w64, w128};
 ghost use Rattle.std.specs.List.{find, list_all, slice_get};
 ghost use Rattle.resp_wire.specs.Seen.{data_of};
-ghost use Rattle.key_split.specs.Woven.{woven};
+ghost use Rattle.key_split.specs.Woven.{advanced, woven};
 ghost use Rattle.key_split.specs.Join.{arrays_in, bulks_in, CanJoin, integer_in, is_bulk, woven_reply, is_error, total_in_range, is_ok_line, join_of, joined, reply_of, unexpected};
 
 use crate::lines::{error_line, simple_line};
@@ -144,13 +144,10 @@ fn woven(
     let mut items = Vec::new(alloc);
     let mut rest = numbers;
     while let [number, further @ ..] = rest {
-        let place = *number as usize;
-        let (first, later) = first_and_later(lists[place]);
-        let Some(first) = first else {
+        let Some(item) = next_item(&mut lists, *number as usize) else {
             return Ok(None);
         };
-        items.push(first.copy(alloc)?)?;
-        lists[place] = later;
+        items.push(item.copy(alloc)?)?;
         rest = further;
     }
     if all_empty(&lists) {
@@ -158,6 +155,18 @@ fn woven(
     } else {
         Ok(None)
     }
+}
+
+/// Takes the first item off the list at that place.
+fn next_item<'a>(lists: &mut [&'a [Value]], place: usize) -> Option<&'a Value>
+    requires { place < length lists.old }
+    ensures first { option_map (λ item. data_of item.now) result ≡ slice_get (slice_index_or (map (λ list. map data_of list.now) lists.old) place []) 0 }
+    ensures later { map (λ list. map data_of list.now) lists.new ≡ advanced (map (λ list. map data_of list.now) lists.old) place }
+    ensures count { length lists.new ≡ length lists.old }
+{
+    let (first, later) = first_and_later(lists[place]);
+    lists[place] = later;
+    first
 }
 
 /// The first of the items, and those behind it.

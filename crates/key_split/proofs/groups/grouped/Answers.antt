@@ -3,21 +3,20 @@ use Rattle.std.specs.Ordering.{nat_cmp}
 use Rattle.std.specs.Map.{lookup}
 use Rattle.std.specs.BTreeMap.{is_at}
 use Rattle.key_split.specs.PartModel.{takes_group}
-use Rattle.slot_hash.specs.Slot.{slot_of}
 use Rattle.key_split.proofs.groups.grouped.Goals.{in-Some-get+in_ok-push-in-Some-get, in-None-get+in_ok-insert-in-None-get+in_ok-push-in-None-get}
 use Rattle.key_split.proofs.Grouping.{part-at, few-slots, made-own, made-new, length-parts}
 use Rattle.key_split.proofs.groups.grouped.Goals as goal
 
 pub push-requires-clause-same_slot : goal.push-requires-clause-same_slot
 push-requires-clause-same_slot c =
-    let at = part-at c.args.op c.loop-key.yielded c.number-slot.result c.in-Some-get.number.now c.loop-key.parts.items c.index_mut.result.now
-    (sym (c.loop-key.invariant.2 c.number-slot.result) ∙ sym c.in-Some-get.ensures.value) c.loop-key.invariant.0 c.index_mut.ensures.value in
-    sym (at.slot ∙ c.number-slot.ensures.value ∙ c.slot_of.ensures.value ∙ ap slot_of c.as_slice.ensures)
+    let at = part-at c.args.op c.loop-key.yielded c.slot_number-slot.result c.in-Some-get.number.now c.loop-key.parts.items c.index_mut.result.now
+    (sym (c.loop-key.invariant.2 c.slot_number-slot.result) ∙ sym c.in-Some-get.ensures.value) c.loop-key.invariant.0 c.index_mut.ensures.value in
+    sym (at.slot ∙ c.slot_number-slot.ensures)
 
 pub push-requires-clause-group : goal.push-requires-clause-group
 push-requires-clause-group c =
-    let at = part-at c.args.op c.loop-key.yielded c.number-slot.result c.in-Some-get.number.now c.loop-key.parts.items c.index_mut.result.now
-    (sym (c.loop-key.invariant.2 c.number-slot.result) ∙ sym c.in-Some-get.ensures.value) c.loop-key.invariant.0 c.index_mut.ensures.value in
+    let at = part-at c.args.op c.loop-key.yielded c.slot_number-slot.result c.in-Some-get.number.now c.loop-key.parts.items c.index_mut.result.now
+    (sym (c.loop-key.invariant.2 c.slot_number-slot.result) ∙ sym c.in-Some-get.ensures.value) c.loop-key.invariant.0 c.index_mut.ensures.value in
     ap takes_group at.op ∙ c.requires
 
 pub overflow_cast-number-in-None-get : goal.overflow_cast-number-in-None-get
@@ -29,10 +28,10 @@ overflow_cast-number-in-None-get c =
 
 pub loop-key-preserved : goal.loop-key-preserved
 loop-key-preserved c =
-    let slot = c.number-slot.ensures.value ∙ c.slot_of.ensures.value ∙ ap slot_of c.as_slice.ensures in
+    let slot = c.slot_number-slot.ensures in
     elim c.match-get.branch [
       | in-Some-get+in_ok-push-in-Some-get w ↦
-          made-own c.args.op c.loop-key.yielded (c.in-Some.key, c.in-Some.value) c.number-slot.result w.in-Some-get.number.now
+          made-own c.args.op c.loop-key.yielded (c.in-Some.key, c.in-Some.value) c.slot_number-slot.result w.in-Some-get.number.now
           c.loop-key.parts.items c.match-get.parts.items w.index_mut.result.now w.push.new.self
           c.loop-key.places.items c.push-in-loop-key.new.self.items
           (λ t. lookup (is_at (nat_cmp t)) c.loop-key.numbers.entries) (λ t. lookup (is_at (nat_cmp t)) c.match-get.numbers.entries)
@@ -40,7 +39,7 @@ loop-key-preserved c =
           (ap (λ v. v.items) w.parts-is) (c.in_ok-push.ensures.items ∙ ap (λ k. c.loop-key.places.items ++ k ∷ []) w.number-is)
           (λ t. ap (λ m. lookup (is_at (nat_cmp t)) m.entries) w.numbers-is)
       | in-None-get+in_ok-insert-in-None-get+in_ok-push-in-None-get w ↦
-          made-new c.args.op c.loop-key.yielded (c.in-Some.key, c.in-Some.value) c.number-slot.result w.len-number.result
+          made-new c.args.op c.loop-key.yielded (c.in-Some.key, c.in-Some.value) c.slot_number-slot.result w.len-number.result
           c.loop-key.parts.items c.match-get.parts.items
           c.loop-key.places.items c.push-in-loop-key.new.self.items
           (λ t. lookup (is_at (nat_cmp t)) c.loop-key.numbers.entries) (λ t. lookup (is_at (nat_cmp t)) c.match-get.numbers.entries)
