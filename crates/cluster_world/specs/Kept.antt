@@ -115,6 +115,12 @@ pub record Notes (old : List EntryModel) (ticket : Ticket) (part : PartModel) (m
   pub longer : (count : ℕ) → count < length old → count < length new
   pub same : (place : ℕ) → place < length old → reply_at new place ≡ reply_at old place
 
+-- a command is noted, and the link keeps what it was told
+pub record NotesFor (old : List EntryModel) (line : LinkModel) (ticket : Ticket) (part : PartModel) (moment : ℕ) (told : Told) (new : List EntryModel) (line' : LinkModel) : Type 0 where
+  pub kept : Kept
+  pub notes : Notes old ticket part moment told new kept
+  pub is_kept : line' ≡ keeps line kept
+
 -- Runs.
 
 -- a command of a run that was served

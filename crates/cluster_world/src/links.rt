@@ -5,7 +5,7 @@ ghost use Rattle.std.specs.Borrow.{Bor};
 ghost use Rattle.std.specs.Option.{option_map};
 ghost use Rattle.std.specs.Vec.{vec_len, vec_capacity};
 ghost use Rattle.node_model.specs.Runs.{HaveOneSlot};
-ghost use Rattle.cluster_world.specs.Kept.{served_in, shown, KeepsBelow, Notes, NotesAll};
+ghost use Rattle.cluster_world.specs.Kept.{served_in, shown, KeepsBelow, Notes, NotesAll, NotesFor};
 ghost use Rattle.cluster_world.specs.Links.{There, Begins, BeginsRun, Carries, Closes, Discards, Fetches, FirstIs, HasReply, Welcomes, LinkExecutes};
 ghost use Rattle.cluster_world.specs.Rests.{LineRests, LinkRests};
 ghost use Rattle.world_laws.specs.World.{IsNode};
@@ -237,10 +237,27 @@ fn note_all(
         let Some(told) = tolds.pop_front() else {
             return;
         };
-        let kept = note(history, *ticket, part, moment, told);
-        link.keep(kept);
+        note_for(history, link, *ticket, part, moment, told);
         rest = later;
     }
+}
+
+// Notes in the history what a node replied to, and has the link keep what the command was told.
+fn note_for(
+    history: &mut Vec<Entry>,
+    link: &mut Link,
+    ticket: Ticket,
+    part: Part,
+    moment: u64,
+    told: Told,
+)
+    requires entry { vec_len history.old < vec_capacity history.old }
+    requires reply { length link.old.backs < link.old.room }
+    ensures notes { NotesFor history.old.items link.old ticket part moment told history.new.items link.new }
+    ensures room { (vec_len history.new ≤ vec_len history.old + 1) × (vec_capacity history.new ≡ vec_capacity history.old) }
+{
+    let kept = note(history, ticket, part, moment, told);
+    link.keep(kept);
 }
 
 // Notes in the history what a node replied to, and gives what its link keeps of it.

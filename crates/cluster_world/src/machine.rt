@@ -4,7 +4,7 @@ ghost use Rattle.std.specs.Prelude.{◌≡◌, ◌==◌, ◌↔◌, ◌<◌, All
 ghost use Rattle.key_split.specs.declared.travel.Told.TheVariants as told_of;
 ghost use Rattle.cluster_world.specs.Machine.{run_limit, state_of, HaveSlots, MachineAnswers, MayServe};
 ghost use Rattle.world_laws.specs.State.{start};
-ghost use Rattle.world_laws.specs.World.{IsNode, lies_in as lies_in_lane};
+ghost use Rattle.world_laws.specs.World.{last_moment, IsNode, lies_in as lies_in_lane};
 ghost use Rattle.command_future.specs.declared.stage.Stage.TheVariants.{Awaits};
 ghost use Rattle.world_laws.specs.declared.event.Event.TheVariants as event;
 
@@ -91,6 +91,13 @@ impl Machine {
             answers: Vec::new(alloc),
             moment: 0,
         }
+    }
+
+    /// Whether a moment is left for one more event.
+    pub(crate) fn has_time(&self) -> bool
+        ensures { IsTrue result ↔ (self.now.moment < last_moment) }
+    {
+        self.moment < u64::MAX
     }
 
     /// Makes an event, where there are so many nodes.

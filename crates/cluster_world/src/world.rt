@@ -128,7 +128,7 @@ impl World {
         world_laws::laws::runs_have_one_slot();
         world_laws::laws::nothing_is_stuck();
         world_laws::laws::sizes_stay();
-        if self.machine.moment == u64::MAX {
+        if !self.machine.has_time() {
             return Err(WorldFault::NotNow);
         }
         self.machine.moment += 1;

@@ -31,23 +31,24 @@ returns-in_default-pop_front-2 c =
     onward-end c.args.history.now.items c.loop-rest.history.items c.args.link.now c.loop-rest.link (served_in c.args.tickets.now c.args.parts.items c.args.tolds.items) (served_in c.loop-rest.rest.now c.loop-rest.parts.items c.loop-rest.tolds.items) c.args.moment
     (no-told c.loop-rest.rest.now c.loop-rest.parts.items c.loop-rest.tolds.items (omega (arith, len, c.in_default-pop_front-2.ensures.cases.0))) c.loop-rest.invariant.0
 
-pub note-kept-requires : goal.note-kept-requires
-note-kept-requires c = omega (arith, c.loop-rest.invariant.1, ap length c.in-Some-pop_front.ensures.items)
+pub note_for-requires-clause-entry : goal.note_for-requires-clause-entry
+note_for-requires-clause-entry c = omega (arith, c.loop-rest.invariant.1, ap length c.in-Some-pop_front.ensures.items)
 
-pub keep-requires : goal.keep-requires
-keep-requires c = omega (arith, c.loop-rest.invariant.2, ap length c.in-Some-pop_front.ensures.items)
+pub note_for-requires-clause-reply : goal.note_for-requires-clause-reply
+note_for-requires-clause-reply c = omega (arith, c.loop-rest.invariant.2, ap length c.in-Some-pop_front.ensures.items)
 
 pub loop-rest-preserved : goal.loop-rest-preserved
 loop-rest-preserved c =
     let rest : List Ticket = c.loop-rest.rest.now in
     let tail : List Ticket = take (length rest - 1) (drop 1 rest) in
     let first : rest ≡ (head_of rest) ∷ tail = by-head rest c.in-len1-up.len_at_least in
-    let room = keeps-room c.loop-rest.link c.note-kept.result in
-    let kept : c.keep.new.self ≡ keeps c.loop-rest.link c.note-kept.result = c.keep.ensures in (
-      onward-next c.args.history.now.items c.loop-rest.history.items c.note-kept.new.history.items c.args.link.now c.loop-rest.link c.keep.new.self (served_in c.args.tickets.now c.args.parts.items c.args.tolds.items)
-          (served_in rest c.loop-rest.parts.items c.loop-rest.tolds.items) (served_in tail c.pop_front.new.self.items c.pop_front-in-len1-up.new.self.items) c.args.moment (head_of rest) c.in-Some.part c.in-Some-pop_front.told c.note-kept.result
-          (λ i. served_in (first i) (c.in-Some.ensures.items i) (c.in-Some-pop_front.ensures.items i)) c.note-kept.ensures.notes c.keep.ensures c.loop-rest.invariant.0,
-      omega (arith, c.loop-rest.invariant.1, ap length c.in-Some-pop_front.ensures.items, c.note-kept.ensures.room.0, c.note-kept.ensures.room.1),
+    let noted = c.note_for.ensures.notes in
+    let room = keeps-room c.loop-rest.link noted.kept in
+    let kept : c.note_for.new.link ≡ keeps c.loop-rest.link noted.kept = noted.is_kept in (
+      onward-next c.args.history.now.items c.loop-rest.history.items c.note_for.new.history.items c.args.link.now c.loop-rest.link c.note_for.new.link (served_in c.args.tickets.now c.args.parts.items c.args.tolds.items)
+          (served_in rest c.loop-rest.parts.items c.loop-rest.tolds.items) (served_in tail c.pop_front.new.self.items c.pop_front-in-len1-up.new.self.items) c.args.moment (head_of rest) c.in-Some.part c.in-Some-pop_front.told noted.kept
+          (λ i. served_in (first i) (c.in-Some.ensures.items i) (c.in-Some-pop_front.ensures.items i)) noted.notes kept c.loop-rest.invariant.0,
+      omega (arith, c.loop-rest.invariant.1, ap length c.in-Some-pop_front.ensures.items, c.note_for.ensures.room.0, c.note_for.ensures.room.1),
       omega (arith, c.loop-rest.invariant.2, ap length c.in-Some-pop_front.ensures.items, room.0, room.1, ap (λ (l : LinkModel). length l.backs) kept, ap (λ (l : LinkModel). l.room) kept),
     )
 

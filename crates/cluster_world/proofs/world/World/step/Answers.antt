@@ -1,4 +1,4 @@
-use Rattle.std.proofs.Common.{rules, ◌≡◌, ℕ, ◌+◌, ◌-◌, ◌<◌, length, refl, sym, ap, ◌∙◌, subst}
+use Rattle.std.proofs.Common.{◌≡◌, ℕ, ◌+◌, ◌-◌, ◌<◌, length, refl, sym, ap, ◌∙◌, subst}
 use Rattle.world_laws.specs.Headline.{IsReached}
 use Rattle.world_laws.specs.State.{WorldModel}
 use Rattle.world_laws.specs.World.{WorldStep, last_moment}
@@ -16,7 +16,7 @@ happen-requires-clause-slots c = λ link l tickets rest at first. c.runs_have_on
 pub happen-requires-clause-serves : goal.happen-requires-clause-serves
 happen-requires-clause-serves c = λ link verdict l first rest at is fits. (
     let w : WorldModel = state_of c.self.inside.machine in
-    let lt : w.moment < last_moment = search rules in
+    let lt : w.moment < last_moment = c.if-not-has_time.ensures.0 refl in
     let a = c.nothing_is_stuck.ensures.serve w link verdict l first rest c.self.invariant.reached lt at is (fits-so (record w { moment = w.moment + 1 }) w verdict first refl fits) in
     (a.0, a.1.1))
 
@@ -24,7 +24,7 @@ pub invariant_of-self : goal.invariant_of-self
 invariant_of-self c =
     let w : WorldModel = state_of c.self.inside.machine in
     let w' : WorldModel = state_of c.happen.new.self in
-    let lt : w.moment < last_moment = search rules in
+    let lt : w.moment < last_moment = c.if-not-has_time.ensures.0 refl in
     let step : WorldStep w c.args.event.now w' = (lt, c.in-Ok.ensures) in
     let sizes : (w'.workers ≡ w.workers) × (length w'.cluster.stores ≡ length w.cluster.stores) = c.sizes_stay.ensures w w' c.args.event.now step in
     record {
@@ -46,7 +46,7 @@ invariant_of-self-in-Err c =
 pub returns-in-Err : goal.returns-in-Err
 returns-in-Err c =
     let w : WorldModel = state_of c.self.inside.machine in
-    let lt : w.moment < last_moment = search rules in (
+    let lt : w.moment < last_moment = c.if-not-has_time.ensures.0 refl in (
       subst (λ (v : WorldModel). RefusedFor v c.args.event.now c.in-Err.fault) c.self.view_is (refused-for Unit w (state_of c.happen.new.self) c.args.event.now c.in-Err.fault lt c.in-Err.ensures),
       undone Unit w (state_of c.happen.new.self) c.args.event.now c.in-Err.fault c.in-Err.ensures ∙ c.self.view_is,
     )
