@@ -25,12 +25,14 @@ class Edit:
     A file `*.edit` has lines `file: PATH`, `old: TEXT` and `new: TEXT`, and `fn: NAME` where the function that has to be
     refused can't be told from the place of the text, as for a constant. A line `callees: kept` says that the function's goals
     wait until all that it calls is proved. A line `open: NAME` names a goal of the function that the edit leaves open: it counts by
-    that one.
+    that one. A line `impl: NAME` names an impl of the crate that its round checks beside it: where a check comes upon certain impls that
+    it was not asked for, it reads all libraries a second time.
     """
 
     name: str
     pairs: list = field(default_factory=list)
     named: list = field(default_factory=list)
+    impls: list = field(default_factory=list)
     keeps_callees: bool = False
     open: str = ""
 
@@ -58,6 +60,8 @@ def read(path):
             file = line.removeprefix("file: ").strip()
         elif line.startswith("fn: "):
             edit.named.append(line.removeprefix("fn: ").strip())
+        elif line.startswith("impl: "):
+            edit.impls.append(line.removeprefix("impl: ").strip())
         elif line.startswith("open: "):
             edit.open = line.removeprefix("open: ").strip()
         elif line.strip() == "callees: kept":
@@ -76,6 +80,7 @@ def read(path):
 
 HEAD = re.compile(r"^( *)(?:pub(?:\([^)]*\))? )?(?:const )?(?:unsafe )?fn (\w+)", re.M)
 BLOCK = re.compile(r"^(?:pub(?:\([^)]*\))? )?(impl|trait)\b([^{;]*)\{", re.M)
+CONSTANT = re.compile(r"^(?:pub(?:\([^)]*\))? )?const (\w+): .*?;$", re.M | re.S)
 
 
 def module_of(file):
@@ -124,12 +129,30 @@ def function_at(file, text, at):
 
 
 def is_apart(edit, folder):
-    """Whether it changes what stands in no function, so that others may fail for it: a constant or a struct."""
+    """Whether it changes what stands in no function, so that others may fail for it: a constant that several use, or a struct."""
     for pair in edit.pairs:
         text = (Path(folder) / pair.file).read_text(encoding="utf-8")
-        if not pair.old.startswith("use ") and function_at(pair.file, text, text.find(pair.old)) is None:
+        at = text.find(pair.old)
+        if not pair.old.startswith("use ") and function_at(pair.file, text, at) is None and users_of(constant_at(text, at), folder) != edit.named:
             return True
     return False
+
+
+def constant_at(text, at):
+    """The name of the constant whose item has this place, or None."""
+    found = [it for it in CONSTANT.finditer(text) if it.start() <= at < it.end()]
+    return found[0][1] if found else None
+
+
+def users_of(constant, folder):
+    """The functions that name a constant, or None where it is named elsewhere too."""
+    found = set()
+    for path in sorted(Path(folder).glob("src/**/*.rt")):
+        file, text = str(path.relative_to(folder)), path.read_text(encoding="utf-8")
+        for it in re.finditer(rf"\b{constant}\b", text):
+            if constant_at(text, it.start()) != constant:
+                found.add(function_at(file, text, it.start()))
+    return None if None in found else sorted(found)
 
 
 def in_full(name, names):

@@ -187,6 +187,10 @@ class Round:
         """The functions that are checked."""
         return {name for it in self.taken for name in it.stands_in} | {*self.controls.values()}
 
+    def impls(self):
+        """The impls that are checked beside them."""
+        return {name for it in self.taken for name in it.edit.impls}
+
     def stubbed(self, crate, names):
         """The round's texts, with stubs for the functions that no edit touches. An edit of a definition stands among whole ones: past
         holes a check does not say what rests on a lemma that it refused."""
@@ -277,7 +281,8 @@ def try_all(crate, crates, where, from_folder, names):
             made = next_round(waiting, crate)
             changed = made.stubbed(crate, names)
             is_alone = not waiting and outcome.rounds == 0
-            said, seconds = checks.check(crate, crates, where, changed, sorted(made.asked()), None if is_alone else kept)
+            asked = sorted(made.asked() | made.impls())
+            said, seconds = checks.check(crate, crates, where, changed, asked, None if is_alone else kept)
             answer = verdicts.read(crate.name, said)
             outcome.rounds += 1
             outcome.seconds += seconds

@@ -19,11 +19,14 @@ OPAQUE = re.compile(r"\) -> [^{]*\bimpl\b")
 # The attribute of a function in a cycle of calls.
 CYCLE = re.compile(r"^ *#\[cycle\((\w+)\)\]\n", re.M)
 
-HOLE = """\
+# A hole prints its goal, so there is one for all stubs.
+NODE, ANY, HOLE = "proofs/Lib.antt", "proofs/AnyProof.antt", "pub any : {A : Type 2} → A\nany = ?\n"
+PROOF = """\
 use Rattle.{crate}.proofs.{module}.Statement.{{statement}}
+use Rattle.{crate}.proofs.AnyProof.{{any}}
 
 pub {name}_spec : {{M : Type 1}} → statement M
-{name}_spec = ?
+{name}_spec = any
 """
 
 
@@ -90,7 +93,9 @@ def stubs_in(file, text, names, kept):
 
 def stubbed(texts, crate, names, kept):
     """The crate with these texts and stubs in place of all functions but those kept, of which `names` has the prover's names."""
-    made = Stubs(dict(texts))
+    made, node = Stubs(dict(texts)), crate.folder / NODE
+    above = texts.get(NODE) or (node.read_text(encoding="utf-8") if node.exists() else "")
+    made.texts |= {NODE: f"{above.rstrip()}\npub mod AnyProof\n".lstrip(), ANY: HOLE}
     for path in sorted(crate.folder.glob("src/**/*.rt")):
         file = str(path.relative_to(crate.folder))
         text = texts.get(file) or path.read_text(encoding="utf-8")
@@ -100,5 +105,5 @@ def stubbed(texts, crate, names, kept):
             made.removed += twins.places_of(it.name)
             if it.cycle:
                 made.removed.append(Path("proofs", *filter(None, edits.module_of(file).split("::")), f"+{it.cycle}"))
-            made.texts[str(Path("proofs", *above, last, "Proof.antt"))] = HOLE.format(crate=crate.name, module=".".join([*above, last]), name=last)
+            made.texts[str(Path("proofs", *above, last, "Proof.antt"))] = PROOF.format(crate=crate.name, module=".".join([*above, last]), name=last)
     return made

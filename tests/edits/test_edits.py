@@ -436,7 +436,9 @@ fn odd(count: u8) -> bool {
             make_repository(Path(folder), {})
             crate = checks.crates_of(folder)["sample"]
             made = stubs.stubbed({}, crate, {"raised", "raised_again"}, {"raised"})
-            self.assertIn("raised_again_spec = ?", made.texts["proofs/raised_again/Proof.antt"])
+            self.assertIn("raised_again_spec = any", made.texts["proofs/raised_again/Proof.antt"])
+            self.assertIn("any = ?", made.texts["proofs/AnyProof.antt"])
+            self.assertIn("pub mod AnyProof", made.texts["proofs/Lib.antt"])
             self.assertNotIn("proofs/raised/Proof.antt", made.texts)
             self.assertIn(Path("proofs/raised_again"), made.removed)
 
@@ -457,6 +459,12 @@ class Lemmas(unittest.TestCase):
         }.items():
             answer = verdicts.read("sample", "\n".join([*said, "fn sample::f: not proved", "only=1 holes=0", ""]))
             self.assertEqual(verdicts.verdict_of(answer, "f")[0] is verdicts.Verdict.REFUSED, counts, said)
+
+    def test_a_function_that_stands_on_a_refused_lemma(self):
+        for text, counts in {"the two types differ": True, "`once` is not in scope": False}.items():
+            said = f"proofs/A.antt:1:1: error: `a`: {text}\nfn sample::f: not proved; it stands on `Rattle.sample.proofs.A.a`, which antt refuses"
+            answer = verdicts.read("sample", f"{said}\nonly=1 holes=0\n")
+            self.assertEqual(verdicts.verdict_of(answer, "f")[0] is verdicts.Verdict.REFUSED, counts, text)
 
 
 class Functions(unittest.TestCase):
@@ -494,6 +502,15 @@ fn free() {
         }.items():
             place = re.search(re.escape(text), self.TEXT).start()
             self.assertEqual(edits.function_at("src/a/b.rt", self.TEXT, place), wanted)
+
+    def test_an_edit_of_a_constant_that_one_function_names(self):
+        for users, is_apart in {("f",): False, ("f", "g"): True}.items():
+            with tempfile.TemporaryDirectory() as folder:
+                functions = "".join(f"\nfn {it}() -> u8 {{\n    SIZES[0]\n}}\n" for it in users)
+                (Path(folder) / "src").mkdir()
+                (Path(folder) / "src/lib.rt").write_text(f"const SIZES: [u8; 2] = [\n    4, 5,\n];\n{functions}", encoding="utf-8")
+                edit = edits.Edit("wrong", [edits.Pair("src/lib.rt", "    4, 5,", "    4, 6,")], ["f"])
+                self.assertEqual(edits.is_apart(edit, folder), is_apart, users)
 
 
 if __name__ == "__main__":

@@ -28,6 +28,7 @@ class Fault:
 MISSING = re.compile(r"has no field|is not in scope|has no `|is no name|no constructor|is not exported|cannot be imported")
 # What is said of what rests on something that was refused.
 RESTS = re.compile(r"depends? on `([^`]+)`, which was (?:rejected|not admitted)[^:]*: (.*)", re.S)
+STANDS_ON = re.compile(r"stands on `(?:[^`]*\.)?([^`.]+)`, which antt refuses")
 LEFT_OUT = re.compile(r" and \d+ more\b")
 OPEN = re.compile(r"`search` did not prove ((?:`[^`]+`(?:, )?)+)")
 CALLS = re.compile(r"it calls (.*?), which (?:is|are) not proved")
@@ -127,6 +128,9 @@ def verdict_of(answer, function):
             return Verdict.REFUSED, f"`{rests[1]}`, which its proof cites"
         if not rests and not MISSING.search(fault.text):
             return Verdict.REFUSED, fault.text.partition(":")[0]
+    stands = STANDS_ON.search(line)
+    if stands and lemma_refused(answer, stands[1], set()):
+        return Verdict.REFUSED, f"`{stands[1]}`, which its proof cites"
     if any(MISSING.search(it.text) for it in own):
         return Verdict.NAMES, next(it.text for it in own if MISSING.search(it.text))
     if CALLS.search(line):
