@@ -1,6 +1,6 @@
 //! How the proxy dials the nodes.
 
-ghost use Rattle.std.specs.Prelude.{◌≡◌, IfOk};
+ghost use Rattle.std.specs.Prelude.{◌≡◌, ◌<◌, ◌+◌, ◌-◌, ◌^◌, IfOk};
 ghost use Rattle.node_dial.specs.NewPort.{IsUnused};
 
 use crate::cluster_notes::{ClusterNotes, SharedNotes};
@@ -126,9 +126,17 @@ impl<'b, R: Clock + Net<Listener = TcpListener, Stream = TcpStream>> Dial for So
         if noted.is_err() {
             return Err(DialFault::NoMemory);
         }
-        self.failures += 1;
+        self.failures = one_more(self.failures);
         Err(DialFault::Failed)
     }
+}
+
+/// So many failures, and the one just now.
+fn one_more(failures: u64) -> u64
+    requires { failures < 2 ^ 64 - 1 }
+    ensures { result ≡ failures + 1 }
+{
+    failures + 1
 }
 
 /// Nodes of which nothing is known.

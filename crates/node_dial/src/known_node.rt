@@ -94,6 +94,20 @@ impl KnownNode {
                 }
             }
         }
+        self.begin_rested(connector, host, port, now)
+    }
+
+    /// Begins a dial, unless the node is still left alone.
+    fn begin_rested<R>(
+        &mut self,
+        connector: &Connector<'_, R>,
+        host: &[u8],
+        port: u16,
+        now: u64,
+    ) -> io::Result<Option<PendingDial>>
+    where
+        R: Clock + Net<Listener = TcpListener, Stream = TcpStream>,
+    {
         if !self.pause.may_dial(now) {
             return Ok(None);
         }
