@@ -2,8 +2,8 @@
 -- Nobody is called, so a dial is over at once.
 use Rattle.std.specs.Prelude.{◌≡◌, ℕ, Option, Some, None, Result, Ok, Err}
 use Rattle.slot_map.specs.Table.{Endpoint}
-use Rattle.proxy_turns.specs.declared.dial.DialFault.{DialFault}
-use Rattle.proxy_turns.specs.declared.dial.DialFault.TheVariants.{NoMemory, Failed}
+use Rattle.node_link.specs.declared.dial.DialFault.{DialFault}
+use Rattle.node_link.specs.declared.dial.DialFault.TheVariants.{NoMemory, Failed}
 use Rattle.local_cluster.specs.Addresses.{IsListedAt, address}
 use Rattle.local_cluster.specs.Conversation.{LocalPortModel, fresh_with}
 

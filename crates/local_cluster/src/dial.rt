@@ -1,12 +1,12 @@
 //! How connections to the nodes of a cluster in one process are opened.
 
 ghost use Rattle.std.specs.Prelude.{◌≡◌};
-ghost use Rattle.proxy_turns.specs.Dialling.{OpenOutcome};
+ghost use Rattle.node_link.specs.Dialling.{OpenOutcome};
 ghost use Rattle.local_cluster.specs.Dialled.{DialledLocally, IsNewAt};
 
 use crate::cluster::LocalCluster;
 use crate::port::LocalPort;
-use proxy_turns::{Dial, DialFault};
+use node_link::{Dial, DialFault};
 use slot_map::NodeId;
 use std::alloc::Global;
 use std::sync::Wait;

@@ -1,4 +1,5 @@
 pub mod Port
+pub mod Dialling
 pub mod FuseModel
 pub mod Stream
 pub mod Line

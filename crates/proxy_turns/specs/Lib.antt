@@ -12,7 +12,6 @@ pub mod Arrivals
 pub mod WorkerRest
 pub mod WorkerState
 pub mod Worker
-pub mod Dialling
 pub mod Backend
 pub mod Growing
 pub mod Sending

@@ -11,11 +11,10 @@ ghost use Rattle.proxy_turns.specs.PendingRun.{GiveOutcome};
 ghost use Rattle.slot_map.specs.declared.ops.MapOp.{MapOp};
 
 use crate::backend_step::BackendStep;
-use crate::dial::{Dial, DialFault};
 use crate::pending_run::deliver;
 use crate::place::put;
 use key_split::{Run, Ticket, Told};
-use node_link::{Got, Link, LinkFault, NodePort, RunPort};
+use node_link::{Dial, DialFault, Got, Link, LinkFault, NodePort, RunPort};
 use proxy_lanes::{CarrierEnds, Naming, Publisher};
 use resp_wire::{NoMemory, Value};
 use slot_map::{MapFault, MapOp, MapOps, NodeId, NodeTable, ops_of};

@@ -6,10 +6,10 @@ ghost use Rattle.proxy_turns.specs.Backend.{has_open_link};
 
 use crate::all_backends::{add_backends, any_unanswered, first_open};
 use crate::backend::{Backend, Dialled, MapTask, RunStep};
-use crate::dial::{Dial, seed};
 use crate::pending_run::{PendingRun, add_places};
 use crate::place::put;
-use node_link::RunPort;
+use crate::seed::seed;
+use node_link::{Dial, RunPort};
 use proxy_lanes::{CarrierEnds, Naming, Publisher};
 use resp_wire::NoMemory;
 use slot_map::{NodeId, NodeTable};

@@ -3,7 +3,7 @@
 ghost use Rattle.turn_play.specs.Port.{IsFresh};
 
 use crate::port::PlayPort;
-use proxy_turns::{Dial, DialFault};
+use node_link::{Dial, DialFault};
 use slot_map::NodeId;
 use std::alloc::Global;
 

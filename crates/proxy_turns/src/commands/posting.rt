@@ -11,7 +11,7 @@ ghost use Rattle.proxy_turns.specs.ClientRest.{HasNoPlace, IfStill};
 ghost use Rattle.proxy_turns.specs.Commands.{AreOneRun, GoesTo, GoesWith, Looks, PostOutcome, PostsAtResult, PostsFreshResult, PostsRun, WantsPostAt, commanded, in_table, node_looked_up, run_of, with_posted};
 
 use crate::client_limits::KEPT_COMMANDS;
-use crate::dial::seed;
+use crate::seed::seed;
 use command_future::{Command, Want};
 use key_split::{Batch, Run};
 use proxy_lanes::{MapView, Naming, Outlet};

@@ -1,11 +1,10 @@
 //! Connections that fail.
 
 ghost use Rattle.std.specs.Prelude.{◌≡◌, IfOk};
-ghost use Rattle.proxy_turns.specs.Dialling.{OpenOutcome};
+ghost use Rattle.node_link.specs.Dialling.{OpenOutcome};
 ghost use Rattle.script_runs.specs.FusedDial.{IsNewUnder};
 
-use node_link::Fuse;
-use proxy_turns::{Dial, DialFault};
+use node_link::{Dial, DialFault, Fuse};
 use slot_map::NodeId;
 
 /// Opens connections that each pass so many calls on, and then fail.

@@ -4,8 +4,7 @@ ghost use Rattle.std.specs.Prelude.{⊤};
 
 use crate::proxy::nodes::{SharedNodes, node_at};
 use crate::proxy::port::MemoryPort;
-use node_link::Fuse;
-use proxy_turns::{Dial, DialFault};
+use node_link::{Dial, DialFault, Fuse};
 use slot_map::NodeId;
 use std::alloc::Global;
 

@@ -2,9 +2,9 @@
 
 ghost use Rattle.std.specs.Prelude.{◌≡◌, ℕ, false, ⊤};
 ghost use Rattle.slot_map.specs.Table.{Endpoint};
-ghost use Rattle.proxy_turns.specs.Dialling.{OpenOutcome};
+ghost use Rattle.node_link.specs.Dialling.{OpenOutcome};
 
-use node_link::RunPort;
+use crate::run_port::RunPort;
 use slot_map::NodeId;
 use thiserror::Error;
 
@@ -17,13 +17,6 @@ pub enum DialFault {
     /// No connection to the node stands: the dial failed, or is under way, or may not begin yet.
     #[error("the node does not answer")]
     Failed,
-}
-
-/// The first node of the table, which is dialled first.
-pub(crate) fn seed() -> NodeId
-    ensures { result ≡ 0 }
-{
-    NodeId::new(0).unwrap()
 }
 
 /// Opens connections to nodes.

@@ -1,11 +1,10 @@
 -- What a dial says: a port that it gives is a new connection to the endpoint that was dialled, and the count of its failures
 -- rises exactly where it failed.
--- A dial that is under way, or may not begin yet, counts as failed: no connection stands. Who is told Unsent after a failure is
--- said in Sending.antt and PendingRun.antt.
+-- A dial that is under way, or may not begin yet, counts as failed: no connection stands.
 use Rattle.std.specs.Prelude.{◌≡◌, ◌<◌, ℕ, Result, Ok, Err}
 use Rattle.slot_map.specs.Table.{Endpoint}
-use Rattle.proxy_turns.specs.declared.dial.DialFault.{DialFault}
-use Rattle.proxy_turns.specs.declared.dial.DialFault.TheVariants.{NoMemory, Failed}
+use Rattle.node_link.specs.declared.dial.DialFault.{DialFault}
+use Rattle.node_link.specs.declared.dial.DialFault.TheVariants.{NoMemory, Failed}
 
 abbrev pub OpenOutcome : {P : Type 0} → (Endpoint → P → Type 0) → Endpoint → ℕ → Result P DialFault → ℕ → Type 0
 OpenOutcome opens at before (Ok port) now = opens at port × (now ≡ before)
