@@ -652,6 +652,8 @@ s/\(Rattle\.node_link\.specs\.\)State\([. ]\)/\1LinkModel\2/g
 /Rattle\.node_link\./s/\(crate::specs::\)State::/\1LinkModel::/g
 s/\b\(node_link::specs::\)State::/\1LinkModel::/g
 s/\(Rattle\.node_link\.specs\.\)Fused\([. ]\)/\1FuseModel\2/g
+s/\(Rattle\.\)proxy_turns\(\.specs\.Dialling\b\)/\1node_link\2/g
+s/\(Rattle\.\)proxy_turns\(\.specs\.declared\.dial\b\)/\1node_link\2/g
 /Rattle\.node_link\./s/\(crate::specs::\)Fused::/\1FuseModel::/g
 s/\b\(node_link::specs::\)Fused::/\1FuseModel::/g
 s/\(Rattle\.proxy_turns\.specs\.\)Floor\([. ]\)/\1WorkerModel\2/g
