@@ -13,22 +13,38 @@ use std::alloc::Global;
 pub const LANE_PLACES: usize = 1024;
 
 /// An item with its number in the lane, from 0.
-#[derive(Drop)]
-pub struct Numbered<T> {
+pub struct Numbered<T: Drop> {
     pub number: u64,
     pub item: T,
+}
+
+// By hand, as are those of the ends, so that the crates above prove one call.
+impl<T: Drop> Drop for Numbered<T> {
+    fn drop(self) {
+        let Numbered { number: _, item } = self;
+        drop(item);
+    }
+}
+
+impl<T: Drop> Numbered<T> {
+    /// The item alone.
+    fn into_item(self) -> T
+        ensures { result ≡ self.item }
+    {
+        let Numbered { number: _, item } = self;
+        item
+    }
 }
 
 /// The k-th item carries the number k.
 #[derive(Clone, Copy)]
 pub struct InOrder;
 
-impl<T> Protocol<Numbered<T>> for InOrder {
+impl<T: Drop> Protocol<Numbered<T>> for InOrder {
     ghost allows = { λ before x. x.number ≡ length before };
 }
 
 /// The end at which items go in.
-#[derive(Drop)]
 pub struct Outlet<T: Drop> {
     producer: Producer<Numbered<T>, Global, InOrder>,
     next: u64,
@@ -36,10 +52,23 @@ pub struct Outlet<T: Drop> {
     ghost room: { 1024 ≤ known_free producer + length (sent producer) },
 }
 
+impl<T: Drop> Drop for Outlet<T> {
+    fn drop(self) {
+        let Outlet { producer, next: _ } = self;
+        drop(producer);
+    }
+}
+
 /// The end at which items come out.
-#[derive(Drop)]
 pub struct Inlet<T: Drop> {
     consumer: Consumer<Numbered<T>, Global, InOrder>,
+}
+
+impl<T: Drop> Drop for Inlet<T> {
+    fn drop(self) {
+        let Inlet { consumer } = self;
+        drop(consumer);
+    }
 }
 
 /// Shows all that was posted, once nothing more can be.
@@ -107,8 +136,7 @@ impl<T: Drop> Inlet<T> {
         ensures taken { taken self.new ≡ taken self.old ++ numbered (length (taken self.old)) result ∷ [] }
         ensures held { held self.old ≡ numbered (length (taken self.old)) result ∷ held self.new }
     {
-        let Numbered { number: _, item } = self.consumer.pop_known();
-        item
+        self.consumer.pop_known().into_item()
     }
 
     /// How many items are left. With those that were taken they are all that was ever posted, and the next takes give them.

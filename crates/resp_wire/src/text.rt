@@ -9,9 +9,16 @@ use std::alloc::Global;
 use std::marker::Model;
 
 /// A text with no CR or LF in it.
-#[derive(Drop)]
 pub struct Line {
     bytes: Bytes,
+}
+
+// By hand, so that the crates above prove one call.
+impl Drop for Line {
+    fn drop(self) {
+        let Line { bytes } = self;
+        drop(bytes);
+    }
 }
 
 impl Model for Line {
