@@ -461,10 +461,10 @@ class Lemmas(unittest.TestCase):
             self.assertEqual(verdicts.verdict_of(answer, "f")[0] is verdicts.Verdict.REFUSED, counts, said)
 
     def test_a_function_that_stands_on_a_refused_lemma(self):
-        for text, counts in {"the two types differ": True, "`once` is not in scope": False}.items():
-            said = f"proofs/A.antt:1:1: error: `a`: {text}\nfn sample::f: not proved; it stands on `Rattle.sample.proofs.A.a`, which antt refuses"
+        for at, counts in {"A.antt:1:1: error: `a`: the two types differ": True, "A.antt:1:1: error: `a`: `once` is not in scope": False, "B.antt:1:1: error: `a`: the two types differ": False}.items():
+            said = f"proofs/{at}\nfn sample::f: not proved; it stands on `Rattle.sample.proofs.A.a`, which antt refuses"
             answer = verdicts.read("sample", f"{said}\nonly=1 holes=0\n")
-            self.assertEqual(verdicts.verdict_of(answer, "f")[0] is verdicts.Verdict.REFUSED, counts, text)
+            self.assertEqual(verdicts.verdict_of(answer, "f")[0] is verdicts.Verdict.REFUSED, counts, at)
 
 
 class Functions(unittest.TestCase):

@@ -28,7 +28,7 @@ class Fault:
 MISSING = re.compile(r"has no field|is not in scope|has no `|is no name|no constructor|is not exported|cannot be imported")
 # What is said of what rests on something that was refused.
 RESTS = re.compile(r"depends? on `([^`]+)`, which was (?:rejected|not admitted)[^:]*: (.*)", re.S)
-STANDS_ON = re.compile(r"stands on `(?:[^`]*\.)?([^`.]+)`, which antt refuses")
+STANDS_ON = re.compile(r"stands on `Rattle\.\w+\.([^`]+)\.([^`.]+)`, which antt refuses")
 LEFT_OUT = re.compile(r" and \d+ more\b")
 OPEN = re.compile(r"`search` did not prove ((?:`[^`]+`(?:, )?)+)")
 CALLS = re.compile(r"it calls (.*?), which (?:is|are) not proved")
@@ -90,6 +90,11 @@ def is_left_out(answer):
     return cut and bool(causes) and not any(MISSING.search(it.text) for it in causes)
 
 
+def is_refused_itself(answer, file, name):
+    """Whether the declaration of this name in this file was refused, and not for a name that is missing."""
+    return any(it.file == file and it.text.startswith(f"`{name}`:") and not MISSING.search(it.text) for it in answer.faults)
+
+
 def lemma_refused(answer, name, seen):
     """Whether a lemma was refused by itself, or what it rests on was."""
     if name in seen:
@@ -129,8 +134,8 @@ def verdict_of(answer, function):
         if not rests and not MISSING.search(fault.text):
             return Verdict.REFUSED, fault.text.partition(":")[0]
     stands = STANDS_ON.search(line)
-    if stands and lemma_refused(answer, stands[1], set()):
-        return Verdict.REFUSED, f"`{stands[1]}`, which its proof cites"
+    if stands and is_refused_itself(answer, f"{stands[1].replace('.', '/')}.antt", stands[2]):
+        return Verdict.REFUSED, f"`{stands[2]}`, which its proof cites"
     if any(MISSING.search(it.text) for it in own):
         return Verdict.NAMES, next(it.text for it in own if MISSING.search(it.text))
     if CALLS.search(line):
