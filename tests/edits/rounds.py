@@ -100,8 +100,11 @@ class Round:
     kept: set
     taken: list = field(default_factory=list)
     texts: dict = field(default_factory=dict)
-    # The functions that are changed in their places.
+    # The functions that are changed in their places, those of them that a constant changes, of which a twin would be changed too, and
+    # those that have twins.
     changed: set = field(default_factory=set)
+    by_constant: set = field(default_factory=set)
+    twinned: set = field(default_factory=set)
     # The controls beside twins, by function and goal, and those beside copies, by function and files.
     controls: dict = field(default_factory=dict)
     # The copies of each edit that stands in such.
@@ -124,25 +127,28 @@ class Round:
         if functions & (self.kept | self.changed) and self.place_in_twin(it, crate):
             return True
         wanted = set().union(*(other.apart for other in self.taken))
-        if functions & (self.changed | wanted):
+        by_constant = set() if it.touched else functions
+        if functions & (self.changed | wanted) or by_constant & self.twinned:
             return False
         try:
             self.texts = it.edit.applied(self.texts, crate.folder)
         except edits.Misfit:
             return self.place_in_twin(it, crate)
         self.changed |= functions
+        self.by_constant |= by_constant
         self.answer(it, crate)
         return True
 
     def place_in_twin(self, it, crate):
         """Puts an edit into a twin of its function, with a control beside its first twin."""
-        if len(it.functions) != 1 or it.in_place:
+        if len(it.functions) != 1 or it.in_place or self.by_constant & {*it.functions}:
             return False
         (function,) = it.functions
         twin = twins.twin_of(it.edit, function, self.texts, crate, len(self.taken))
         if twin is None:
             return False
         self.texts, it.stands_in = self.texts | twin.texts, [twin.name]
+        self.twinned.add(function)
         self.answer(it, crate)
         it.control = self.control(it, function, crate)
         return True

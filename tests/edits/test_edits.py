@@ -125,12 +125,17 @@ EDITS = {
     ),
     "same_meaning": (["old:     count < LARGEST", "new:     LARGEST > count"], "NOT REFUSED"),
     "text_that_is_not_there": (["old:     count + 2", "new:     count"], "BAD EDIT: an 'old:' text stands in src/lib.rt 0 times"),
-    "text_that_does_not_compile": (["old:     raised(raised(count))", "new:     raised(true)"], "BAD EDIT: the edited text does not compile"),
     "only_a_callee": (["fn: raised_twice", "old:     count + 1", "new:     count + 0"], "NOT COUNTED: it is refused only because a function"),
     "only_a_name": (
         ["old:     let once = raised(count);", "new:     let first = raised(count); let once = first;"],
         "NOT COUNTED: it is refused only because a proof names",
     ),
+}
+
+# The same of an edit beside which no other can be tried.
+NOT_READ = {
+    "text_that_does_not_compile": (["old:     raised(raised(count))", "new:     raised(true)"], "BAD EDIT: the edited text does not compile"),
+    "raised_by_none_beside_it": (["old:     count + 1", "new:     count"], "refused by raised: "),
 }
 
 # The same of edits of which one wants the functions that its own calls to stay as they are: the others stand in twins.
@@ -188,15 +193,27 @@ def make_repository(root, wanted):
 class Rounds(unittest.TestCase):
     """What is said of each edit."""
 
+    @classmethod
+    def setUpClass(cls):
+        """Proves the small repository, once for all its edits."""
+        folder = tempfile.TemporaryDirectory()
+        cls.addClassCleanup(folder.cleanup)
+        tree, cls.proved, cls.log = (Path(folder.name) / it for it in ("tree", "proved", "log"))
+        tree.mkdir()
+        make_repository(tree, {})
+        gate.copy_tree(tree, cls.proved)
+        with contextlib.redirect_stdout(io.StringIO()) as said:
+            status = gate.Gate(tree, cls.proved).run(1)
+        assert status == 0, said.getvalue()
+        cls.log.write_text(said.getvalue(), encoding="utf-8")
+
     def outcome_of(self, wanted):
         """What came of these edits, each of which has to be reported as what it is."""
-        with tempfile.TemporaryDirectory() as tree, tempfile.TemporaryDirectory() as room:
+        with tempfile.TemporaryDirectory() as tree:
             make_repository(Path(tree), wanted)
-            gate.copy_tree(tree, room)
-            tried = gate.Gate(tree, room)
-            with contextlib.redirect_stdout(io.StringIO()) as said:
-                status = tried.run(1)
-            self.assertEqual(status, 0, said.getvalue())
+            tried = gate.Gate(tree, self.proved)
+            with contextlib.redirect_stdout(io.StringIO()):
+                tried.run(1, log=self.log)
             found = {it.edit: it for it in tried.outcomes["sample"].tried}
             for name, (_, text) in wanted.items():
                 self.assertTrue(found[name].text.startswith(text), f"{name}: {found[name].text}")
@@ -207,6 +224,10 @@ class Rounds(unittest.TestCase):
 
     def test_each_edit_is_reported_as_what_it_is(self):
         self.outcome_of(EDITS)
+
+    def test_an_edit_that_does_not_compile_leaves_the_others_to_be_tried(self):
+        # The second and third rounds have each of them alone.
+        self.assertEqual(self.outcome_of(NOT_READ).rounds, 3)
 
     def test_edits_of_what_an_edited_function_calls_stand_in_twins(self):
         # The second round has the one that no twin refused, in its place.
