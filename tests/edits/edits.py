@@ -25,8 +25,8 @@ class Edit:
     A file `*.edit` has lines `file: PATH`, `old: TEXT` and `new: TEXT`, and `fn: NAME` where the function that has to be
     refused can't be told from the place of the text, as for a constant. A line `callees: kept` says that the function's goals
     wait until all that it calls is proved. A line `open: NAME` names a goal of the function that the edit leaves open: it counts by
-    that one. A line `impl: NAME` names an impl of the crate that its round checks beside it: where a check comes upon certain impls that
-    it was not asked for, it reads all libraries a second time.
+    that one. A line `impl: NAME` names an impl of the crate, or a function that a trait of it has for all impls, which its round checks
+    beside it: where a check comes upon certain ones that it was not asked for, it reads all libraries a second time.
     """
 
     name: str

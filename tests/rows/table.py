@@ -25,16 +25,14 @@ class Row:
         self.wanted.append(wanted)
 
 
+# How each byte stands in a word in quotes.
+LETTERS = {byte: chr(byte) if 32 <= byte < 127 else f"\\x{byte:02x}" for byte in range(256)}
+LETTERS |= {13: "\\r", 10: "\\n", 34: '\\"', 92: "\\\\"}
+
+
 def quoted(data):
     """Bytes as a word in quotes."""
-    return '"' + "".join(letter(byte) for byte in data) + '"'
-
-
-def letter(byte):
-    escapes = {13: "\\r", 10: "\\n", 34: '\\"', 92: "\\\\"}
-    if byte in escapes:
-        return escapes[byte]
-    return chr(byte) if 32 <= byte < 127 else f"\\x{byte:02x}"
+    return '"' + data.decode("latin-1").translate(LETTERS) + '"'
 
 
 def word(data):

@@ -32,6 +32,11 @@ less-one n = omega arith
 pub undone : (U : Type 0) (w w' : WorldModel) (e : Event) (fault : WorldFault) → MachineAnswers {U = U} (record w { moment = w.moment + 1 }) e (Err fault) w' → record w' { moment = w'.moment - 1 } ≡ w
 undone U w w' e fault h = ap (λ (v : WorldModel). record v { moment = v.moment - 1 }) (unchanged U (record w { moment = w.moment + 1 }) w' e fault h) ∙ ap (λ n. record w { moment = n }) (less-one w.moment)
 
+pub one-later : (U : Type 0) (w w' : WorldModel) (e : Event) (fault : WorldFault) → MachineAnswers {U = U} (record w { moment = w.moment + 1 }) e (Err fault) w' → 1 ≤ w'.moment
+one-later U w w' e fault h =
+    let later : 1 ≤ w.moment + 1 = omega arith in
+    subst (λ (v : WorldModel). 1 ≤ v.moment) (sym (unchanged U (record w { moment = w.moment + 1 }) w' e fault h)) later
+
 pub refused-for : (U : Type 0) (w w' : WorldModel) (e : Event) (fault : WorldFault) → w.moment < last_moment → MachineAnswers {U = U} (record w { moment = w.moment + 1 }) e (Err fault) w' → RefusedFor w e fault
 refused-for U w w' e NotNow lt h = λ v s. h.0 v s.1
 refused-for U w w' e NoMemory lt h = (h.0.0, (lt, h.0.1))

@@ -4,7 +4,7 @@ use Rattle.world_laws.specs.State.{WorldModel}
 use Rattle.world_laws.specs.World.{WorldStep, last_moment}
 use Rattle.cluster_world.specs.Machine.{state_of}
 use Rattle.cluster_world.specs.Steps.{RefusedFor}
-use Rattle.cluster_world.proofs.Stepping.{fits-so, undone, refused-for}
+use Rattle.cluster_world.proofs.Stepping.{fits-so, undone, one-later, refused-for}
 use Rattle.cluster_world.proofs.world.World.step.Goals as goal
 
 pub happen-requires-clause-links : goal.happen-requires-clause-links
@@ -50,3 +50,11 @@ returns-in-Err c =
       subst (λ (v : WorldModel). RefusedFor v c.args.event.now c.in-Err.fault) c.self.view_is (refused-for Unit w (state_of c.happen.new.self) c.args.event.now c.in-Err.fault lt c.in-Err.ensures),
       undone Unit w (state_of c.happen.new.self) c.args.event.now c.in-Err.fault c.in-Err.ensures ∙ c.self.view_is,
     )
+
+pub overflow_sub-self : goal.overflow_sub-self
+overflow_sub-self c = one-later Unit (state_of c.self.inside.machine) (state_of c.happen.new.self) c.args.event.now c.in-Err.fault c.in-Err.ensures
+
+pub returns-in-Ok : goal.returns-in-Ok
+returns-in-Ok c =
+    let lt : c.self.inside.machine.moment < last_moment = c.if-not-has_time.ensures.0 refl in
+    subst (λ (w : WorldModel). WorldStep w c.args.event.now (state_of c.happen.new.self)) c.self.view_is (lt, c.in-Ok.ensures)
