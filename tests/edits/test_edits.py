@@ -135,7 +135,7 @@ EDITS = {
 # The same of an edit beside which no other can be tried.
 NOT_READ = {
     "text_that_does_not_compile": (["old:     raised(raised(count))", "new:     raised(true)"], "BAD EDIT: the edited text does not compile"),
-    "raised_by_none_beside_it": (["old:     count + 1", "new:     count"], "refused by raised: "),
+    "raised_by_none_beside_it": (["open: returns", "old:     count + 1", "new:     count"], "refused by raised: `returns`"),
 }
 
 # The same of edits of which one wants the functions that its own calls to stay as they are: the others stand in twins.
@@ -229,13 +229,9 @@ class Rounds(unittest.TestCase):
         # The second and third rounds have each of them alone.
         self.assertEqual(self.outcome_of(NOT_READ).rounds, 3)
 
-    def test_edits_of_what_an_edited_function_calls_stand_in_twins(self):
-        # The second round has the one that no twin refused, in its place.
-        self.assertEqual(self.outcome_of(KEPT).rounds, 2)
-
-    def test_edits_count_by_the_goal_that_they_name(self):
-        # The second round has those that do not count so.
-        self.assertEqual(self.outcome_of(OPEN).rounds, 2)
+    def test_edits_count_by_the_goal_that_they_name_and_those_of_what_a_kept_one_calls_stand_in_twins(self):
+        # The second round has those that do not count by their goal, and the one that no twin refused, each in its place.
+        self.assertEqual(self.outcome_of(KEPT | OPEN).rounds, 2)
 
     def test_edits_of_definitions_stand_in_copies(self):
         # The second and third rounds have those that no copy refused, each in its place.

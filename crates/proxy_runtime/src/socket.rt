@@ -60,11 +60,6 @@ impl Socket {
         self.reason
     }
 
-    /// Whether the connection is made, as far as the system tells.
-    pub fn is_made(&self) -> bool {
-        self.stream.peer_addr().is_ok()
-    }
-
     /// Ends the connection both ways, as far as the system goes along.
     pub fn shut(&self) {
         let _ = self.stream.shutdown(Shutdown::Both);
