@@ -1,6 +1,6 @@
 # The commands of this repository. `rt` is Rattle's command, on the PATH of a machine that has the kit.
 
-.PHONY: run test bench
+.PHONY: run test rounds proofs rows inputs bench
 
 program = crates/cluster_proxy/out/cluster_proxy
 sources = crates.txt $(shell find crates -name out -prune -o -name '*.rt' -print -o -name '*.antt' -print)
@@ -14,16 +14,27 @@ $(program): $(sources)
 	cd crates/cluster_proxy && rt run -- one <stdin >/dev/null
 	@touch $@
 
-# The gate: every proof from nothing, every test and program, and the edits that must be refused; then rows of the layers, and
-# the program of that build on whole inputs, in the example, and before a real cluster.
+# The gate: every proof from nothing, every test and program, and the edits that must be refused, while the rounds of these are
+# tried on themselves; then, by that build, rows of the layers beside the program on whole inputs, the program in the example, and
+# before a real cluster.
 test:
-	tests/edits/run --itself
-	tests/edits/run
-	tests/rows/run
-	tests/program/run
+	@$(MAKE) --no-print-directory --jobs=2 rounds proofs
+	@$(MAKE) --no-print-directory --jobs=2 rows inputs
 	examples/run --once
 	tests/real/run
 	@tests/edits/run --took
+
+rounds:
+	tests/edits/run --itself
+
+proofs:
+	tests/edits/run
+
+rows:
+	tests/rows/run
+
+inputs:
+	tests/program/run
 
 # Measures the program beside one server and beside another proxy.
 bench:

@@ -18,19 +18,21 @@ class Meter(threading.Thread):
 
     def run(self):
         while not self.is_over.wait(PAUSE):
-            for process in Path("/proc").glob("[0-9]*"):
+            for number in filter(str.isdigit, os.listdir("/proc")):
                 try:
-                    self.look(process)
+                    self.look(number)
                 except OSError:
                     pass  # it has ended
 
-    def look(self, process):
-        """Notes for which crate a process works, and what it has taken so far."""
-        words = (process / "cmdline").read_bytes().split(b"\0")
-        if b"--crate-name" in words and self.folder in (process / "cwd").readlink().parents:
-            said = (process / "stat").read_text(encoding="ascii", errors="replace").rpartition(") ")[2].split()
+    def look(self, number):
+        """Notes for which crate the process of this number works, and what it has taken so far."""
+        with open(f"/proc/{number}/cmdline", "rb") as file:
+            words = file.read().split(b"\0")
+        if b"--crate-name" in words and self.folder in Path(os.readlink(f"/proc/{number}/cwd")).parents:
+            with open(f"/proc/{number}/stat", encoding="ascii", errors="replace") as file:
+                said = file.read().rpartition(") ")[2].split()
             name, began = words[words.index(b"--crate-name") + 1].decode(), said[19]
-            self.found[process.name, began] = name, (int(said[11]) + int(said[12])) / TICKS
+            self.found[number, began] = name, (int(said[11]) + int(said[12])) / TICKS
 
     def end(self):
         """Ends the looks, and gives the seconds of each crate, the dearest first."""

@@ -12,7 +12,7 @@ PROGRAM = os.environ["PROXY"]
 # Seconds that one run may take, as a last resort.
 LIMIT = 60
 
-# The seconds that each sweep took, by what it is. All together, with those of tests/rows, are to take less than five minutes.
+# The seconds that each sweep took, by what it is.
 SWEEPS = {}
 
 # Bytes that `one`, `simulate` and `local` read at the most.

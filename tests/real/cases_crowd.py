@@ -30,8 +30,8 @@ def shared_counters(world):
             given = {key: [] for key in range(10)}
             for turn in range(20):
                 client.send(b"".join(request("INCR", f"shared{key}") for key in given))
-                for key, numbers in given.items():
-                    numbers.append(value_of(client.reply()))
+                for numbers, reply in zip(given.values(), client.lines(len(given))):
+                    numbers.append(value_of(reply))
             return given
 
     results = together(CLIENTS, work)
@@ -51,7 +51,7 @@ def shared_logs(world):
             for turn in range(10):
                 tokens = [(key, b"%d.%d.%s;" % (number, turn * len(keys) + place, key.encode())) for place, key in enumerate(keys)]
                 client.send(b"".join(request("APPEND", key, token) for key, token in tokens))
-                answered += [(key, token, value_of(client.reply())) for key, token in tokens]
+                answered += [(key, token, value_of(reply)) for (key, token), reply in zip(tokens, client.lines(len(tokens)))]
         return answered
 
     results = together(CLIENTS, work)

@@ -14,6 +14,8 @@ from replicas import Replicated
 from writers import GAVE_UP, LOST, Writers
 
 CLIENTS, KEYS = 8, [b"key%d" % number for number in range(120)]
+# Seconds between two requests of a client.
+PAUSE = 0.01
 # Seconds that the proxy may take, and after which a case ends that took longer.
 MOST_SECONDS, PATIENCE = 1.0, 10.0
 # What the proxy may cost with nothing to do; on a slow machine, what so many commands a second cost.
@@ -49,7 +51,7 @@ class Service:
         else:
             check(reply in (LOST, GAVE_UP), f"SET {key} was answered {reply!r}")
             self.refused.append(now)
-        time.sleep(0.002)
+        time.sleep(PAUSE)
 
     def __enter__(self):
         self.writers.__enter__()
@@ -98,6 +100,7 @@ class Service:
                 bad = [it for it in client.replies(len(keys)) if it[:1] != b"$"]
                 self.check_none(bad, f"keys of another node were answered {bad[:1]}")
                 slowest = max(slowest, time.monotonic() - round_began)
+                time.sleep(PAUSE)
         return time.monotonic() - began, slowest
 
     def slowest_rounds(self):

@@ -36,8 +36,8 @@ def counters_and_killed_connections(world):
 
     def turn(client, number, count):
         client.send(b"".join(request("INCR", counter) for counter in counters * 3))
-        for counter in counters * 3:
-            ends.add(number, counter, client.reply())
+        for counter, reply in zip(counters * 3, client.lines(len(counters) * 3)):
+            ends.add(number, counter, reply)
 
     with Writers(world.proxy, CLIENTS, turn) as writers:
         killed = kill_often(world, writers)

@@ -48,8 +48,8 @@ def counters_in_moves(world):
 
     def turn(client, number, count):
         client.send(b"".join(request("INCR", counter) for counter in counters))
-        for counter in counters:
-            ends.add(number, counter, client.reply())
+        for counter, reply in zip(counters, client.lines(len(counters))):
+            ends.add(number, counter, reply)
 
     with Writers(world.proxy, CLIENTS, turn) as writers:
         moves = move_round(world, writers, tags, rounds=9, seconds=5)

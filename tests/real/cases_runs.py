@@ -42,8 +42,8 @@ def increments(counters, ends, at_once):
     def turn(client, number, count):
         asked = counters * (at_once // len(counters))
         client.send(b"".join(request("INCR", counter) for counter in asked))
-        for counter in asked:
-            ends.add(number, counter, client.reply())
+        for counter, reply in zip(asked, client.lines(len(asked))):
+            ends.add(number, counter, reply)
 
     return turn
 
@@ -97,8 +97,8 @@ def append_all(log, ends, at_once):
     def turn(client, number, count):
         tokens = [b"%d.%d.%d;" % (number, count, place) for place in range(at_once)]
         client.send(b"".join(request("APPEND", log, token) for token in tokens))
-        for token in tokens:
-            ends.add(number, (log, token), client.reply())
+        for token, reply in zip(tokens, client.lines(at_once)):
+            ends.add(number, (log, token), reply)
 
     return turn
 

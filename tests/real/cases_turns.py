@@ -71,7 +71,7 @@ def wide_requests_leave_room(world):
             wide = request("MGET", *keys_of_slots(0, 16383, width))
             asking = Together(WIDE, ask)
             time.sleep(1)
-            (taken,) = waits([late], ("GET", "late"), b"$-1\r\n", 40)
+            (taken,) = waits([late], ("GET", "late"), b"$-1\r\n", 20)
         stop.set()
         asking.join()
     finally:

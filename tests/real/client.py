@@ -16,15 +16,8 @@ class ReplyError(Exception):
 
 def request(*words):
     """The bytes of one request."""
-    pieces = [b"*%d\r\n" % len(words)]
-    for word in words:
-        word = bytes_of(word)
-        pieces.append(b"$%d\r\n%s\r\n" % (len(word), word))
-    return b"".join(pieces)
-
-
-def bytes_of(word):
-    return word if isinstance(word, bytes) else str(word).encode()
+    words = [word if isinstance(word, bytes) else str(word).encode() for word in words]
+    return b"*%d\r\n" % len(words) + b"".join([b"$%d\r\n%s\r\n" % (len(word), word) for word in words])
 
 
 def end_of_reply(held, start):
@@ -121,6 +114,14 @@ class Client:
 
     def replies(self, count):
         return [self.reply() for _ in range(count)]
+
+    def lines(self, count):
+        """So many replies, each of which is one line."""
+        while self.held.count(b"\r\n", self.taken) < count:
+            self.fill()
+        *lines, rest = bytes(self.held[self.taken :]).split(b"\r\n", count)
+        self.taken = len(self.held) - len(rest)
+        return [line + b"\r\n" for line in lines]
 
     def ask(self, *words):
         """One request and the bytes of its reply."""

@@ -5,6 +5,7 @@ import signal
 import subprocess
 import sys
 import time
+from binascii import crc_hqx
 
 from client import Client, Closed
 from harness import check
@@ -22,12 +23,7 @@ def slot_of(key):
     closed = key.find(b"}", opened + 1)
     if opened >= 0 and closed > opened + 1:
         key = key[opened + 1 : closed]
-    crc = 0
-    for byte in key:
-        crc ^= byte << 8
-        for _ in range(8):
-            crc = (crc << 1 ^ 0x1021 if crc & 0x8000 else crc << 1) & 0xFFFF
-    return crc % SLOTS
+    return crc_hqx(key, 0) % SLOTS
 
 
 def tag_of_slot(wanted):

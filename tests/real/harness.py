@@ -50,7 +50,8 @@ def shown(value):
 def check_each_same(found, wanted, requests):
     """Compares replies one by one, and names the first request whose reply differs."""
     for place, (one, other, words) in enumerate(zip(found, wanted, requests)):
-        check_same(one, other, f"reply {place}, to {shown(words)}")
+        if one != other:
+            check_same(one, other, f"reply {place}, to {shown(words)}")
     check_same(len(found), len(wanted), "count of replies")
 
 

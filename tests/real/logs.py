@@ -1,6 +1,6 @@
 """Logs that clients wrote by APPEND: each token begins with its client's number and its place there, as `3.17.` does."""
 
-from harness import check, check_same
+from harness import Failed, check
 
 
 def check_log(log, answered, lost=()):
@@ -16,9 +16,12 @@ def check_log(log, answered, lost=()):
     for mine in answered:
         place = 0
         for token, length in mine:
-            check_same(counts.pop(token, 0), 1, f"how often {token!r} stands in the log")
-            check(log.endswith(token, 0, length), f"{token!r} does not end at {length}, as its reply said")
-            check(length > place, f"{token!r} stands before a token of its client that was answered earlier")
+            if counts.pop(token, 0) != 1:
+                raise Failed(f"{token!r} does not stand in the log once")
+            if not log.endswith(token, 0, length):
+                raise Failed(f"{token!r} does not end at {length}, as its reply said")
+            if length <= place:
+                raise Failed(f"{token!r} stands before a token of its client that was answered earlier")
             place = length
     for token in lost:
         check(counts.pop(token, 0) <= 1, f"{token!r}, whose connection was lost, stands twice")

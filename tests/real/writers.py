@@ -74,14 +74,14 @@ class Ends:
         self.lost, self.gave_up = [], []
 
     def add(self, number, what, reply):
-        if reply == LOST:
+        if reply[:1] != b"-":
+            self.answered[number].append((what, value_of(reply)))
+        elif reply == LOST:
             self.lost.append(what)
         elif reply == GAVE_UP:
             self.gave_up.append(what)
-        elif reply[:1] == b"-":
-            raise Failed(f"{what!r} was answered {reply!r}")
         else:
-            self.answered[number].append((what, value_of(reply)))
+            raise Failed(f"{what!r} was answered {reply!r}")
 
     def check_all_answered(self):
         check_same(self.lost[:3], [], "requests that ended lost, though no connection did")
@@ -103,8 +103,8 @@ def appends(logs, ends, at_once):
     def turn(client, number, count):
         tokens = [(log, b"%d.%d.%d;" % (number, count, place)) for place in range(at_once) for log in logs]
         client.send(b"".join(request("APPEND", log, token) for log, token in tokens))
-        for log, token in tokens:
-            ends.add(number, (log, token), client.reply())
+        for what, reply in zip(tokens, client.lines(len(tokens))):
+            ends.add(number, what, reply)
 
     return turn
 

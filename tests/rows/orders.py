@@ -8,6 +8,7 @@ In every other ten connections stand so many calls alone, so that commands are l
 import random
 import re
 from collections import Counter
+from functools import cache
 
 from answers import Fitting, one_of, slot_of, spelled
 from store import Store
@@ -16,6 +17,9 @@ from table import Row, quoted, request
 ORDERS, TOGETHER = 10_000, 10
 # So many things happen in an order at random, and so many turns of all take it to its end.
 STEPS, TO_THE_END = 40, 100
+# What may come next, and what is answered.
+WHATS = ["worker 0", "worker 1", "carrier", "carrier", "move"]
+MOVED_OR_RESTS, DONE_OR_NOT_NOW = one_of("moved", "rests"), one_of("ok", "NotNow")
 # The numbers of the first order's clients, with their workers, and how far the next one's are from them: there are four workers to
 # which clients are dealt by their numbers.
 CLIENTS, NEXT_CLIENTS = [(0, 0), (1, 1), (4, 0)], 8
@@ -33,10 +37,15 @@ OWN = [
 SHARED = ["INCR {p}a," * 4 + "INCR {p}a", "INCR {p}a,INCR {q}n," * 2 + "INCR {p}a", "INCR {q}n," * 3 + "INCR {q}n"]
 
 
+@cache
+def marked(text):
+    """A script with a mark in each key."""
+    return re.sub(r"(?<=[ ,])(\{?)([a-z])", r"\g<1>#\g<2>", text)
+
+
 def script_of(text, order):
     """The commands of a script, on keys that no other order has."""
-    named = re.sub(r"(?<=[ ,])(\{?)([a-z])", rf"\g<1>{order}\g<2>", text)
-    return [line.split() for line in named.split(",")]
+    return [line.split() for line in marked(text).replace("#", str(order)).split(",")]
 
 
 def steps_of_moves(chance, order):
@@ -60,13 +69,12 @@ def add_order(row, chance, order, scripts):
     for (number, worker), script in zip(clients_of(order), scripts):
         data = b"".join(request(*(word.encode() for word in each)) for each in script)
         row.call(f"turns client {worker} {number} {quoted(data)}")
-    for _ in range(STEPS):
-        what = chance.choice(["worker 0", "worker 1", "carrier", "carrier", "move"])
+    for what in chance.choices(WHATS, k=STEPS):
         if what != "move":
-            row.call(f"turns {what}", one_of("moved", "rests"))
+            row.call(f"turns {what}", MOVED_OR_RESTS)
         elif steps:
-            row.call(f"nodes {steps.pop(0)}", one_of("ok", "NotNow"))
-    row.call(f"turns all {TO_THE_END}", one_of("moved", "rests"))
+            row.call(f"nodes {steps.pop(0)}", DONE_OR_NOT_NOW)
+    row.call(f"turns all {TO_THE_END}", MOVED_OR_RESTS)
     row.call("turns all 4", "rests")
 
 

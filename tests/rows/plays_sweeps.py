@@ -26,8 +26,7 @@ BREAKS = [*WORDS, "break 2"]
 def orders_of(chance, play, words):
     """Orders at random, among them the steps of moves in their order."""
     steps, orders = steps_of_moves(chance, play), []
-    for _ in range(ORDERS):
-        word = chance.choice(words)
+    for word in chance.choices(words, k=ORDERS):
         if word != "move":
             orders.append(word)
         elif steps:

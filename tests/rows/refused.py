@@ -6,6 +6,7 @@ import re
 import subprocess
 import tempfile
 import time
+from bisect import bisect_left
 from collections import Counter
 
 from driver import answers_in, driver
@@ -81,6 +82,7 @@ class Sweep:
 
     def __init__(self):
         self.growths = Growths()
+        self.environment = {**os.environ, **self.growths.variables}
         self.again = self.of_driver = self.unneeded = 0
         # the kinds of calls that were made, those that found no memory, and the growths of lines that make no call
         self.made, self.refused, self.of_words = set(), set(), {}
@@ -90,28 +92,30 @@ class Sweep:
 
     def answers(self, calls, number):
         """The answers to these calls with this growth refused, or None where the driver does not end, or not well."""
-        environment = {**os.environ, **self.growths.variables}
         # a file, which is read alike each time
         with tempfile.TemporaryFile() as given:
             given.write("".join(call + "\n" for call in [FIRST, *calls]).encode())
             given.seek(0)
             self.growths.refuse(number)
             try:
-                ran = subprocess.run(driver(), stdin=given, stdout=subprocess.PIPE, env=environment, timeout=LIMIT, check=True)
+                ran = subprocess.run(driver(), stdin=given, stdout=subprocess.PIPE, env=self.environment, timeout=LIMIT, check=True)
             except subprocess.SubprocessError:
                 return None
         return answers_in(ran.stdout)[1:]
 
     def failures(self, row):
         """A line for each growth of the row whose refusal leads to something else."""
-        first = self.growths_of([])
         if self.answers(row.calls, 0) != row.wanted:
             return [f"{row.name}: is answered otherwise while there is memory"]
-        last = self.growths.count
+        ends = [self.growths_of(row.calls[:count]) for count in range(len(row.calls) + 1)]
         places = Counter()
-        failures = list(filter(None, (self.failure(row, number, places) for number in range(first + 1, last + 1))))
+        numbers = range(ends[0] + 1, ends[-1] + 1)
+        failures = list(filter(None, (self.failure(row, number, bisect_left(ends, number) - 1, places) for number in numbers)))
         self.made.update(map(kind_of, row.calls))
-        self.refused.update(kind_of(row.calls[at]) for at, count in places.items() if count > self.growths_of_words(row.calls[at]))
+        for at, count in places.items():
+            kind = kind_of(row.calls[at])
+            if kind not in self.refused and count > self.growths_of_words(row.calls[at]):
+                self.refused.add(kind)
         return failures
 
     def growths_of(self, calls):
@@ -125,8 +129,12 @@ class Sweep:
             self.of_words[words] = self.growths_of([words]) - self.growths_of([])
         return self.of_words[words]
 
-    def failure(self, row, number, places):
-        """A line where this refusal leads to something else. Where the call at a place finds no memory, it is counted there."""
+    def failure(self, row, number, likely, places):
+        """A line where this refusal leads to something else, most likely at the call of that place. Where the call at a place finds no
+        memory, it is counted there."""
+        if self.is_made_again(row, number, likely):
+            places[likely] += 1
+            return None
         found = self.answers(row.calls, number)
         if found == row.wanted:
             self.unneeded += 1
@@ -134,17 +142,23 @@ class Sweep:
         if found is None or len(found) != len(row.wanted):
             return f"{row.name}: growth {number}: the driver does not end well"
         at = next(place for place, answer in enumerate(found) if answer != row.wanted[place])
+        if at != likely and self.is_made_again(row, number, at):
+            places[at] += 1
+            return None
         odd, wanted = found[at], row.wanted[at]
-        if odd in REFUSALS or odd.startswith("back "):
-            again = self.answers(row.calls[: at + 1] + row.calls[at:], number)
-            if again == row.wanted[:at] + [odd] + row.wanted[at:]:
-                self.again += 1
-                places[at] += 1
-                return None
         if self.is_of_driver(odd, wanted, found[at + 1 :], row.wanted[at + 1 :]):
             self.of_driver += 1
             return None
         return f"{row.name}: growth {number}, at {row.calls[at][:80]}: found {odd[:80]}, wanted {wanted[:80]}"
+
+    def is_made_again(self, row, number, at):
+        """Whether the call at this place finds no memory, and made again it and all behind it are answered as the row wants it."""
+        found = self.answers(row.calls[: at + 1] + row.calls[at:], number)
+        if found is None or len(found) <= at or found[at] == row.wanted[at]:
+            return False
+        is_refusal = found[at] in REFUSALS or found[at].startswith("back ")
+        self.again += (is_again := is_refusal and found == row.wanted[:at] + [found[at]] + row.wanted[at:])
+        return is_again
 
     def is_of_driver(self, odd, wanted, found, behind):
         """Whether the call was made, and the driver could not show its answer, or not all its tickets; or its stream in memory

@@ -18,10 +18,6 @@ mod maps;
 #[cfg(test)]
 mod numbered;
 #[cfg(test)]
-mod play;
-#[cfg(test)]
-mod report;
-#[cfg(test)]
 mod rows;
 #[cfg(test)]
 mod runs;
