@@ -127,6 +127,7 @@ def a_node_that_stops_for_a_while(world):
                 began = time.monotonic()
                 client.value("INCR", others[number % 2])
                 slowest, count = max(slowest, time.monotonic() - began), count + 1
+                time.sleep(0.002)
         return slowest, count
 
     stopped.stop()

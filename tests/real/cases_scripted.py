@@ -9,6 +9,9 @@ from harness import Together, case, check_same, check_time
 from scripted import DeafNode, ScriptedNode, bulk, slots_reply
 from writers import GAVE_UP, LOST
 
+# Seconds between two requests of a client that asks beside others.
+PAUSE = 0.002
+
 TRYAGAIN = b"-TRYAGAIN Multiple keys request during rehashing of slot\r\n"
 
 
@@ -201,6 +204,7 @@ def dials_that_hang(world):
             began = time.monotonic()
             check_same(client.ask("GET", "b"), bulk(b"b"), "GET beside the dials")
             slowest, count = max(slowest, time.monotonic() - began), count + 1
+            time.sleep(PAUSE)
         check_time(slowest < 1.0, f"a command of another node waited {slowest:.2f} seconds")
         check_same(stuck.replies(2), [GAVE_UP] * 2, "GETs at nodes that take no connection")
     return f"{count} commands beside them, the slowest {1000 * slowest:.0f} ms"
@@ -222,6 +226,7 @@ def a_host_name_that_is_not_found(world):
             began = time.monotonic()
             check_same(client.ask("GET", here), bulk(here), "GET beside those of the name")
             taken.append(time.monotonic() - began)
+            time.sleep(PAUSE)
         given_up, waits = zip(*(it for mine in ended.join() for it in mine))
     check_same(set(given_up), {GAVE_UP}, "GETs at the node that is not found")
     note = f"{len(given_up)} given up within {max(waits):.1f} s, {len(taken)} commands beside them, the slowest {1000 * max(taken):.0f} ms"

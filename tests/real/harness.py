@@ -15,11 +15,14 @@ class Slow(Failed):
     """What took longer than it may. A machine that had a pause of its own may be the reason, so the case is run again."""
 
 
-def case(function=None, *, limit=LIMIT):
-    """Adds a case, named as its function, which may take so many seconds. It may return a few words to print beside it."""
+def case(function=None, *, limit=LIMIT, beside=False):
+    """Adds a case, named as its function, which may take so many seconds. It may return a few words to print beside it.
+
+    One that mostly waits, and has nothing of the world but its room and its program, may be run beside the others.
+    """
 
     def add(function):
-        function.limit = limit
+        function.limit, function.beside = limit, beside
         CASES.append(function)
         return function
 

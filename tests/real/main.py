@@ -1,10 +1,12 @@
 """Runs the cases. Words: the folder of the run, the program, and the cases to run (none: all)."""
 
+import contextlib
 import os
 import signal
 import sys
 import time
 import traceback
+from concurrent.futures import ThreadPoolExecutor
 
 # in the order in which they run
 import cases_commands
@@ -61,6 +63,20 @@ def stop(limit):
     raise Failed(f"not done after {limit} seconds")
 
 
+@contextlib.contextmanager
+def limited(case):
+    """Ends a case after its limit. What is run beside the others has only the limits of its sockets."""
+    if case.beside:
+        yield
+        return
+    signal.signal(signal.SIGALRM, lambda *_: stop(case.limit))
+    signal.alarm(case.limit)
+    try:
+        yield
+    finally:
+        signal.alarm(0)
+
+
 def place_of(fault):
     """The last line of a case's file that the fault went through."""
     frames = traceback.extract_tb(fault.__traceback__)
@@ -74,7 +90,7 @@ def run_case(world, case):
     for left in reversed(range(TRIES)):
         if word == "slow":
             word, note = try_case(world, case, "slow" if left else "FAIL")
-    if word == "FAIL":
+    if word == "FAIL" and not case.beside:
         # what it left under way is not the next one's
         end(world.proxy.process)
     return None if word == "ok" else note
@@ -83,13 +99,13 @@ def run_case(world, case):
 def try_case(world, case, if_slow):
     """Runs a case once, prints its line, and gives the line's word and its end."""
     began = time.monotonic()
-    signal.signal(signal.SIGALRM, lambda *_: stop(case.limit))
-    signal.alarm(case.limit)
     try:
-        world.tidy()
-        note = case(world)
-        if world.proxy.has_ended():
-            raise Failed(f"the proxy ended: {world.proxy.said()}")
+        with limited(case):
+            if not case.beside:
+                world.tidy()
+            note = case(world)
+            if not case.beside and world.proxy.has_ended():
+                raise Failed(f"the proxy ended: {world.proxy.said()}")
         word, note = "ok", f"  ({note})" if note else ""
     except Slow as fault:
         word, note = if_slow, f": {fault}"
@@ -97,8 +113,6 @@ def try_case(world, case, if_slow):
         word, note = "FAIL", f": {fault}"
     except Exception as fault:
         word, note = "FAIL", f": {type(fault).__name__} {fault}, at {place_of(fault)}; proxy {world.proxy.said()}"
-    finally:
-        signal.alarm(0)
     print(f"{word:4} {case.__name__} {time.monotonic() - began:.1f} s{note}", flush=True)
     return word, note
 
@@ -110,7 +124,11 @@ def main(folder, program, *names):
     room = Room(folder)
     try:
         world = World(room, program)
-        failed = [(it.__name__, note) for it in cases if (note := run_case(world, it))]
+        with ThreadPoolExecutor() as threads:
+            later = [(it, threads.submit(run_case, world, it)) for it in cases if it.beside]
+            now = [(it, run_case(world, it)) for it in cases if not it.beside]
+            notes = [*now, *((it, ran.result()) for it, ran in later)]
+        failed = [(it.__name__, note) for it, note in notes if note]
     except Exception as fault:
         failed = [(it.__name__, f": not run, for the servers: {type(fault).__name__} {fault}") for it in cases]
     finally:
