@@ -16,7 +16,6 @@ mod nodes;
 mod notation;
 mod objects;
 mod plans;
-mod reports;
 mod round;
 mod row;
 mod sessions;
@@ -25,7 +24,7 @@ mod stores;
 mod stream;
 mod wire;
 
-pub use held::{Held, is_done, put};
+pub use held::{Held, is_done, keep, put};
 pub use lanes::show_node;
 pub use maps::written;
 pub use notation::{Answer, CallFault, Line, Object, Rows, Shown, Word};

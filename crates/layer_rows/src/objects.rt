@@ -6,10 +6,8 @@ use crate::links::LinkObjects;
 use crate::maps::MapObjects;
 use crate::notation::{CallFault, Line, Object};
 use crate::plans::{self, PlanObjects};
-use crate::reports::new_report;
 use crate::wire::call_of_value;
 use crate::{commands, local, nodes, slots};
-use cluster_world::RunReport;
 use command_future::Command;
 use key_split::{Ended, Part};
 use local_cluster::LocalState;
@@ -56,7 +54,6 @@ pub struct RowObjects {
     store: Store,
     cluster: Held<Cluster>,
     links: LinkObjects,
-    report: RunReport,
     state: Held<LocalState>,
 }
 
@@ -72,7 +69,6 @@ impl RowObjects {
             store: Store::new(alloc),
             cluster: Held::none(),
             links: LinkObjects::new(alloc),
-            report: new_report(alloc),
             state: Held::none(),
         }
     }
@@ -98,7 +94,6 @@ impl Object for RowObjects {
             "command" => commands::call(&mut self.command, line),
             "session" => self.session.call(line),
             "store" => self.store.call(line),
-            "report" => self.report.call(line),
             "reader" => self.reader.call(line),
             "value" => call_of_value(&mut self.value, line),
             "slot" => slots::call(line),

@@ -18,6 +18,10 @@ mod maps;
 #[cfg(test)]
 mod numbered;
 #[cfg(test)]
+mod play;
+#[cfg(test)]
+mod report;
+#[cfg(test)]
 mod rows;
 #[cfg(test)]
 mod runs;

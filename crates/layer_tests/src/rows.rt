@@ -1,11 +1,11 @@
-//! The rows of tests/rows, which come on standard input: over the objects of the layers, and over a play and a proxy that are
-//! turned by hand (`turn_rows`).
+//! The rows of tests/rows, which come on standard input: over the objects of the layers (`layer_rows`), a proxy that is turned by
+//! hand (`turn_rows`), a play, and the report of a run.
 //!
 //! tests/rows has a table for each layer, and runs this test.
 
+use crate::play::PlayRow;
 use layer_rows::{Rows, answer_rows};
 use std::io::{self, BufReader, BufWriter};
-use turn_rows::PlayRow;
 
 #[test]
 fn of_standard_input(rt: HostRuntime) -> io::Result<()> {

@@ -2,7 +2,7 @@
 
 ghost use Rattle.std.specs.Prelude.{◌^◌, ◌+◌};
 
-use crate::proxy::nodes::SharedNodes;
+use crate::nodes::SharedNodes;
 use key_split::{Batch, Run};
 use node_link::{NodePort, PortFault, RunPort};
 use resp_wire::{Limits, NoMemory, Reader, Value};

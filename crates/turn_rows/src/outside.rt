@@ -1,7 +1,7 @@
 //! What the carrier of a row is connected with.
 
-use crate::proxy::dial::MemoryDial;
-use crate::proxy::nodes::{SharedNodes, three_nodes};
+use crate::dial::MemoryDial;
+use crate::nodes::{SharedNodes, three_nodes};
 use crate::tables::table_at;
 use layer_rows::CallFault;
 use slot_map::NodeTable;

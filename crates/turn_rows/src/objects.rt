@@ -1,10 +1,10 @@
 //! The objects of a row, by name.
 
-use crate::proxy::clients::Clients;
-use crate::proxy::future::RunsWorker;
-use crate::proxy::nodes::SharedNodes;
-use crate::proxy::turned::{Entrance, Turned, Turns};
-use crate::proxy::{future, steps, timing, turns};
+use crate::clients::Clients;
+use crate::future::RunsWorker;
+use crate::nodes::SharedNodes;
+use crate::turned::{Entrance, Turned, Turns};
+use crate::{future, steps, timing, turns};
 use layer_rows::{Line, Object};
 use std::alloc::AllocGlobal;
 use std::random::RandomSource;

@@ -3,17 +3,15 @@
 ghost use Rattle.std.specs.Prelude.{◌≡◌};
 ghost use Rattle.proxy_lanes.specs.Opened.{book_of};
 
-use crate::open::Open;
 use crate::play::objects::PlayObjects;
 use crate::play::stage::{Begins, Ends, MemoryPlay, Plays};
-use crate::proxy;
-use crate::proxy::client::SharedClient;
-use crate::proxy::turned::Entrance;
+use crate::report::ReportObject;
 use layer_rows::{AnswersRow, Object, RowHost, Rows};
 use proxy_lanes::{Naming, Opened, lanes};
 use proxy_turns::Newcomer;
 use std::io::{self, BufRead, Write};
 use std::marker::Brand;
+use turn_rows::{Entrance, Open, SharedClient, answer_row};
 
 /// How many workers there are in a play.
 const WORKERS: u16 = 2;
@@ -27,7 +25,8 @@ impl AnswersRow for PlayRow {
         layers: O,
         rows: &mut Rows<B, W>,
     ) -> io::Result<bool> {
-        row_named::<Brand, R, B, W, O>(rt, Opened::new(), layers, rows)
+        let objects = ReportObject::new(rt.alloc(), layers);
+        row_named::<Brand, R, B, W, ReportObject<O>>(rt, Opened::new(), objects, rows)
     }
 }
 
@@ -72,5 +71,5 @@ where
     P: Plays + Begins<'g, E> + Drop,
 {
     let objects = PlayObjects::<'g, E, P, O>::new(rt.alloc(), gate, ends, others);
-    proxy::answer_row(rt, objects, rows)
+    answer_row(rt, objects, rows)
 }

@@ -1,5 +1,5 @@
 use Rattle.proxy_lanes.specs.Opened.{book_of}
-use Rattle.turn_rows.proofs.play.row.PlayRowAnswersRow.answer_row.Given as goal
+use Rattle.layer_tests.proofs.play.row.PlayRowAnswersRow.answer_row.Given as goal
 
 -- the history that was just opened
 abbrev pub ghosts-row_named : goal.ghosts-row_named

@@ -2,8 +2,8 @@
 
 ghost use Rattle.std.specs.Prelude.{⊤};
 
-use crate::proxy::nodes::{SharedNodes, node_at};
-use crate::proxy::port::MemoryPort;
+use crate::nodes::{SharedNodes, node_at};
+use crate::port::MemoryPort;
 use node_link::{Dial, DialFault, Fuse};
 use slot_map::NodeId;
 use std::alloc::Global;

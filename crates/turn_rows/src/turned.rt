@@ -1,6 +1,6 @@
 //! What can be turned, and workers and a carrier that are.
 
-use crate::proxy::client::SharedClient;
+use crate::client::SharedClient;
 use layer_rows::CallFault;
 use resp_wire::NoMemory;
 use std::cell::RefCell;

@@ -1,11 +1,5 @@
 //! A play, and what it will be made of.
 
-use crate::open::Open;
-use crate::proxy::client::SharedClient;
-use crate::proxy::memory::{MemoryCarrierEnds, MemoryEnds, newcomer_to};
-use crate::proxy::nodes::cluster_of_three;
-use crate::proxy::turned::Entrance;
-use crate::tables::{PORTS, table_at};
 use layer_rows::CallFault;
 use node_model::Cluster;
 use proxy_lanes::Naming;
@@ -15,6 +9,10 @@ use slot_map::NodeTable;
 use std::alloc::Global;
 use std::sync::Wait;
 use turn_play::{Order, Play, PlayFault};
+use turn_rows::{
+    Entrance, MemoryCarrierEnds, MemoryEnds, Open, PORTS, SharedClient, cluster_of_three,
+    newcomer_to, table_at,
+};
 
 /// What does as it is told.
 pub trait Plays {

@@ -1,7 +1,7 @@
 //! The clients of a row, by their numbers.
 
-use crate::proxy::client::SharedClient;
-use crate::proxy::turned::Entrance;
+use crate::client::SharedClient;
+use crate::turned::Entrance;
 use layer_rows::{CallFault, Line};
 use resp_wire::Bytes;
 use std::alloc::Global;

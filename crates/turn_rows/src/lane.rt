@@ -1,7 +1,7 @@
 //! `lane`: a worker's ends without a worker.
 
-use crate::proxy::made::MadeOf;
-use crate::proxy::memory::MemoryEnds;
+use crate::made::MadeOf;
+use crate::memory::MemoryEnds;
 use key_split::{Batch, Run};
 use layer_rows::{CallFault, Held, Line, Object, is_done, show_node};
 use proxy_lanes::{Naming, Outlet};

@@ -1,10 +1,10 @@
 //! `future`: a worker that runs to its end, as a future.
 
-use crate::proxy::clients::Clients;
-use crate::proxy::gate::{InjectedReply, TurningGate};
-use crate::proxy::lane::Lane;
-use crate::proxy::memory::MemoryEnds;
-use crate::proxy::turned::Turned;
+use crate::clients::Clients;
+use crate::gate::{InjectedReply, TurningGate};
+use crate::lane::Lane;
+use crate::memory::MemoryEnds;
+use crate::turned::Turned;
 use futures::executor::block_on;
 use layer_rows::{CallFault, Line};
 use proxy_lanes::Naming;

@@ -1,6 +1,6 @@
 //! `nodes`: how the nodes can be reached, how slots move, and how many commands came.
 
-use crate::proxy::nodes::{Nodes, SharedNodes};
+use crate::nodes::{Nodes, SharedNodes};
 use layer_rows::{CallFault, Line, Object};
 
 pub fn call(nodes: &SharedNodes, line: &mut Line) {

@@ -1,6 +1,6 @@
 //! A client in memory, which the driver still sees while a worker serves it.
 
-use crate::proxy::made::shared;
+use crate::made::shared;
 use key_split::{Ended, Ticket};
 use node_link::Flow;
 use proxy_turns::{ClientPort, Script};

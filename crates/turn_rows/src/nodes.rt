@@ -1,6 +1,6 @@
 //! Three nodes in memory, whose slots move.
 
-use crate::proxy::made::shared;
+use crate::made::shared;
 use crate::tables::{PORTS, table_at};
 use key_split::{Batch, Told};
 use layer_rows::written;

@@ -1,7 +1,7 @@
 //! A gate that turns the carrier.
 
-use crate::proxy::client::SharedClient;
-use crate::proxy::turned::Turned;
+use crate::client::SharedClient;
+use crate::turned::Turned;
 use proxy_turns::Gate;
 use resp_wire::Bytes;
 use std::cell::{Cell, RefCell};

@@ -1,13 +1,11 @@
 //! `play`: clients that come, the play's beginning, and orders.
 
-use crate::open::Open;
 use crate::play::orders::add_next;
 use crate::play::stage::{Begins, PlayOutside, Plays};
-use crate::proxy::clients::Clients;
-use crate::proxy::turned::Entrance;
 use layer_rows::{CallFault, Held, Line, Object};
 use std::alloc::Global;
 use turn_play::PlayFault;
+use turn_rows::{Clients, Entrance, Open};
 
 /// A play, or the ends that it will have, with its clients, beside other objects.
 #[derive(Drop)]

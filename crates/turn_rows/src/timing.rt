@@ -1,6 +1,6 @@
 //! `time`: what a turn costs that moves nothing.
 
-use crate::proxy::turned::{Turned, Turns};
+use crate::turned::{Turned, Turns};
 use layer_rows::{CallFault, Line};
 use resp_wire::NoMemory;
 use std::time::{Clock, Instant};

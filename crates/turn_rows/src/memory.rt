@@ -1,11 +1,11 @@
 //! Workers and a carrier of the proxy, between clients and nodes in memory.
 
+use crate::client::SharedClient;
+use crate::dial::MemoryDial;
+use crate::made::MadeOf;
 use crate::open::Open;
-use crate::proxy::client::SharedClient;
-use crate::proxy::dial::MemoryDial;
-use crate::proxy::made::MadeOf;
-use crate::proxy::port::MemoryPort;
-use crate::proxy::turned::{Entrance, Turned};
+use crate::port::MemoryPort;
+use crate::turned::{Entrance, Turned};
 use layer_rows::{CallFault, is_done};
 use node_link::Fuse;
 use proxy_lanes::{CarrierEnds, Naming, Publisher, WorkerEnds};

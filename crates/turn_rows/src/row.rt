@@ -3,20 +3,18 @@
 ghost use Rattle.std.specs.Prelude.{◌≡◌};
 ghost use Rattle.proxy_lanes.specs.Opened.{book_of};
 
+use crate::client::SharedClient;
+use crate::clients::Clients;
+use crate::dial::MemoryDial;
+use crate::future::RunsWorker;
+use crate::lane::Lane;
+use crate::made::MadeOf;
+use crate::memory::{MemoryCarrier, MemoryCarrierEnds, MemoryEnds, MemoryWorker, workers_for};
+use crate::nodes::SharedNodes;
+use crate::objects::TurnObjects;
 use crate::open::Open;
-use crate::proxy::client::SharedClient;
-use crate::proxy::clients::Clients;
-use crate::proxy::dial::MemoryDial;
-use crate::proxy::future::RunsWorker;
-use crate::proxy::lane::Lane;
-use crate::proxy::made::MadeOf;
-use crate::proxy::memory::{
-    MemoryCarrier, MemoryCarrierEnds, MemoryEnds, MemoryWorker, workers_for,
-};
-use crate::proxy::nodes::SharedNodes;
-use crate::proxy::objects::TurnObjects;
-use crate::proxy::outside::Outside;
-use crate::proxy::turned::{Entrance, Turned, Turns};
+use crate::outside::Outside;
+use crate::turned::{Entrance, Turned, Turns};
 use layer_rows::{CallFault, Object, RowHost, Rows};
 use proxy_lanes::{Naming, Opened, lanes};
 use proxy_turns::Newcomer;

@@ -1,7 +1,7 @@
 //! `turns`: clients that come, and turns of the workers and the carrier.
 
-use crate::proxy::clients::Clients;
-use crate::proxy::turned::{Entrance, Turned, Turns};
+use crate::clients::Clients;
+use crate::turned::{Entrance, Turned, Turns};
 use layer_rows::{CallFault, Line};
 use resp_wire::NoMemory;
 
