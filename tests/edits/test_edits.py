@@ -136,7 +136,7 @@ NOT_READ = {
     "raised_again_by_none_beside_it": (["open: returns", "old:     once", "new:     count"], "refused by raised_again: `returns`"),
 }
 
-# The same of edits of which one wants the functions that its own calls to stay as they are: the others stand in twins.
+# The same of one that wants the functions that its own calls to stay as they are, and of edits of these, which stand in twins.
 KEPT = {
     "raised_twice_by_one_over_kept_callees": (
         ["callees: kept", "old:     raised(raised(count))", "new:     if count == 3 { return 4; } raised(raised(count))"],
@@ -221,15 +221,12 @@ class Rounds(unittest.TestCase):
             return tried.outcomes["sample"]
 
     def test_each_edit_is_reported_as_what_it_is(self):
-        self.outcome_of(EDITS)
+        # The second round has those that do not count by their goal, the third those that no twin refused, each in its place.
+        self.assertEqual(self.outcome_of(EDITS | KEPT | OPEN).rounds, 3)
 
     def test_an_edit_that_does_not_compile_leaves_the_others_to_be_tried(self):
         # The second and third rounds have each of them alone.
         self.assertEqual(self.outcome_of(NOT_READ).rounds, 3)
-
-    def test_edits_count_by_the_goal_that_they_name_and_those_of_what_a_kept_one_calls_stand_in_twins(self):
-        # The second round has those that do not count by their goal, and the one that no twin refused, each in its place.
-        self.assertEqual(self.outcome_of(KEPT | OPEN).rounds, 2)
 
     def test_edits_of_definitions_stand_in_copies(self):
         # The second and third rounds have those that no copy refused, each in its place.

@@ -1,6 +1,8 @@
 """The log: lines on standard error."""
 
+import atexit
 import contextlib
+import functools
 import os
 import re
 import resource
@@ -235,11 +237,27 @@ class Unreached(Counted):
         heard(at, GET)
 
 
+@functools.cache
+def counted():
+    """A proxy of each kind, until the program ends."""
+    made = []
+    for kind in Counted, Unreached:
+        made.append(kind())
+        atexit.register(made[-1].stack.close)
+    return made
+
+
+def load_tests(_loader, tests, _pattern):
+    """Starts them before any test is run: the figures of their first minute are wanted."""
+    counted()
+    return tests
+
+
 class TheFigures(Lines, unittest.TestCase):
     """The lines of figures, which come a minute after the start. The other tests run meanwhile."""
 
     def test_they_add_up(self):
-        figures = COUNTED.wait_for_figures(self)
+        figures = counted()[0].wait_for_figures(self)
         wanted = {"clients": 4, "clients_gone": 4, "requests": 2 + 7 + 2, "parts": 3 + 7, "gave_up": 0, "lost": 0, "dials_failed": 0, "links": 3, "links_gone": 0}
         self.assertEqual({name: figures[name] for name in wanted}, wanted)
         self.assertGreaterEqual(figures["sent"], wanted["parts"])
@@ -248,17 +266,6 @@ class TheFigures(Lines, unittest.TestCase):
 
     def test_what_could_not_be_sent(self):
         """The first try and sixteen more."""
-        figures = UNREACHED.wait_for_figures(self)
+        figures = counted()[1].wait_for_figures(self)
         wanted = {"clients": 2, "requests": 2, "parts": 1, "gave_up": 1, "lost": 0, "sent": 0, "unsent": 17, "links": 0}
         self.assertEqual({name: figures[name] for name in wanted}, wanted)
-
-
-def setUpModule():
-    global COUNTED, UNREACHED
-    COUNTED = Counted()
-    UNREACHED = Unreached()
-
-
-def tearDownModule():
-    COUNTED.stack.close()
-    UNREACHED.stack.close()

@@ -215,7 +215,6 @@ def a_group_at_two_nodes_for_a_while(world):
         words = ("MSET", keys[0], mark, keys[1], mark) if number % 2 else ("MGET", *keys)
         ends.add(number, words[0], client.ask(*words))
         slowest[0] = max(slowest[0], time.monotonic() - began)
-        time.sleep(0.002)
 
     with world.client() as client:
         client.value("MSET", keys[0], "0", keys[1], "0")

@@ -38,7 +38,7 @@ class Service:
         self.proxy = Proxy(world.room, world.program, seed.port, name="failover")
         self.answered, self.values, self.refused, self.well_since = {}, {}, [], 0.0
         self.was_down = self.cluster.refusals()
-        self.writers = Writers(self.proxy, CLIENTS, self.turn)
+        self.writers = Writers(self.proxy, CLIENTS, self.turn, PAUSE)
 
     def turn(self, client, number, count):
         """Each client has keys of its own, and writes one at a time."""
@@ -51,7 +51,6 @@ class Service:
         else:
             check(reply in (LOST, GAVE_UP), f"SET {key} was answered {reply!r}")
             self.refused.append(now)
-        time.sleep(PAUSE)
 
     def __enter__(self):
         self.writers.__enter__()

@@ -117,7 +117,7 @@ def new_groups_in_moves(world):
         words = [word for name in (b"x", b"y") for word in (key(tag, b"%s.%d.%d" % (name, number, count)), b"1")]
         ends.add(number, (number, count), client.ask("MSET", *words))
 
-    with Writers(world.proxy, CLIENTS, turn) as writers:
+    with Writers(world.proxy, CLIENTS, turn, pause=0) as writers:
         for target in (1, 2, 0):
             world.cluster.move(slot_of(tag), target, pause=0.01, at_once=100)
             writers.wait_for_turns()
@@ -144,7 +144,7 @@ def pipelines_in_moves(world):
         scripts[number] += requests
         found[number] += client.replies(len(requests))
 
-    with Writers(world.proxy, CLIENTS, turn) as writers:
+    with Writers(world.proxy, CLIENTS, turn, pause=0.01) as writers:
         moves = move_round(world, writers, tags, rounds=9, seconds=5, at_once=3)
     for requests, replies in zip(scripts, found):
         with world.plain.client() as plain:

@@ -17,6 +17,8 @@ from writers import Ends, Writers, log_of
 
 # How many clients there are, how many commands each has under way at once, the fewest, and the seconds that a turn of all may take.
 CLIENTS, AT_ONCE, FEWEST, TURN = 20, 1000, 200, 2.0
+# The seconds that a client pauses between two turns.
+PAUSE = 0.1
 # For how many seconds the slot moves, and how often at least; how often connections are killed, and how often at least.
 SECONDS, MOVES, KILLS, FEWEST_KILLS = 4, 3, 10, 3
 # So many commands of a client go to a node together at most.
@@ -73,7 +75,7 @@ def counted_in_moves(world, names):
     tag = tag_of_slot(range(*world.cluster.ranges()[0]))
     counters, ends = [key(tag, name) for name in names], Ends(CLIENTS)
     at_once = commands_at_once(world, counters[0])
-    with Writers(world.proxy, CLIENTS, increments(counters, ends, at_once)) as writers:
+    with Writers(world.proxy, CLIENTS, increments(counters, ends, at_once), PAUSE) as writers:
         moves = move_to_and_fro(world, writers, tag)
     check_counts(world, counters, ends)
     return f"{moves} moves, {at_once} at once, {ends.counts()}"
@@ -116,7 +118,7 @@ def pipelines_on_one_key_and_killed_connections(world):
     """A thousand APPENDs to one key at once by each client, while connections are killed: ten times, or for some seconds."""
     log, ends, killed, times = key(tag_of_slot(range(*world.cluster.ranges()[0])), b"log"), Ends(CLIENTS), 0, 0
     at_once, until = commands_at_once(world, log), time.monotonic() + 4 * SECONDS
-    with Writers(world.proxy, CLIENTS, append_all(log, ends, at_once)) as writers:
+    with Writers(world.proxy, CLIENTS, append_all(log, ends, at_once), PAUSE) as writers:
         while times < FEWEST_KILLS or times < KILLS and time.monotonic() < until:
             time.sleep(0.1)
             killed += kill_connections(world.cluster.nodes[0])
@@ -138,7 +140,7 @@ def pipelines_on_one_key_and_a_killed_node(world):
     kill_and_start()
     try:
         at_once = commands_at_once(world, log)
-        with Writers(world.proxy, CLIENTS, append_all(log, ends, at_once)) as writers:
+        with Writers(world.proxy, CLIENTS, append_all(log, ends, at_once), PAUSE) as writers:
             for _ in range(FEWEST_KILLS):
                 writers.wait_for_turns(1)
                 time.sleep(0.1)

@@ -4,6 +4,9 @@ import socket
 
 # Seconds that a socket waits before a case fails: only a reply that never comes takes as long, on a slow machine too.
 LIMIT = 60.0
+# The bytes of the shortest reply, and the most for which a client that reads many replies sleeps: each time that one is woken costs more
+# than what it reads then.
+SHORTEST, MOST_AWAITED = 4, 4096
 
 
 class Closed(Exception):
@@ -79,6 +82,7 @@ class Client:
         self.socket.setsockopt(socket.IPPROTO_TCP, socket.TCP_NODELAY, 1)
         self.held = bytearray()
         self.taken = 0
+        self.awaited = 1
 
     def __enter__(self):
         return self
@@ -89,7 +93,12 @@ class Client:
     def send(self, data):
         self.socket.sendall(data)
 
-    def fill(self):
+    def fill(self, replies=0):
+        """Takes in what came, once there is enough for so many replies behind the next one, or for the end."""
+        awaited = min(1 + SHORTEST * replies, MOST_AWAITED)
+        if awaited != self.awaited:
+            self.awaited = awaited
+            self.socket.setsockopt(socket.SOL_SOCKET, socket.SO_RCVLOWAT, awaited)
         try:
             piece = self.socket.recv(1 << 18)
         except TimeoutError:
@@ -102,23 +111,23 @@ class Client:
             self.taken = 0
         self.held += piece
 
-    def reply(self):
-        """The bytes of the next reply."""
+    def reply(self, others=0):
+        """The bytes of the next reply, behind which the caller reads so many others."""
         while True:
             end = end_of_reply(self.held, self.taken)
             if end is not None:
                 reply = bytes(self.held[self.taken : end])
                 self.taken = end
                 return reply
-            self.fill()
+            self.fill(others)
 
     def replies(self, count):
-        return [self.reply() for _ in range(count)]
+        return [self.reply(others) for others in reversed(range(count))]
 
     def lines(self, count):
         """So many replies, each of which is one line."""
-        while self.held.count(b"\r\n", self.taken) < count:
-            self.fill()
+        while (missing := count - self.held.count(b"\r\n", self.taken)) > 0:
+            self.fill(missing - 1)
         *lines, rest = bytes(self.held[self.taken :]).split(b"\r\n", count)
         self.taken = len(self.held) - len(rest)
         return [line + b"\r\n" for line in lines]

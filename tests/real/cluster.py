@@ -138,9 +138,10 @@ class Server:
         self.start()
 
     def start(self, keeps="no"):
-        """Starts it anew at its port, with its folder, where what it executes is kept if `keeps` says `yes`."""
+        """Starts it anew at its port, with its folder, where what it executes is kept if `keeps` says `yes`: the system has it before it
+        is answered. With an fsync each second it would not, while one is under way."""
         words = ["redis-server", "--port", self.port, "--bind", "127.0.0.1", "--dir", self.folder]
-        words += ["--save", "", "--appendonly", keeps, "--daemonize", "no", *self.options]
+        words += ["--save", "", "--appendonly", keeps, "--appendfsync", "no", "--daemonize", "no", *self.options]
         self.process = self.room.start([str(it) for it in words], f"{self.name}.log")
         wait_until(lambda: does_answer(self.port, self.password), f"{self.name} to answer")
 

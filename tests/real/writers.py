@@ -1,4 +1,4 @@
-"""Clients that write without a pause while slots move or nodes fail, and what each of their requests ended with."""
+"""Clients that write again and again while slots move or nodes fail, and what each of their requests ended with."""
 
 import socket
 import time
@@ -9,6 +9,9 @@ from harness import Failed, Together, check, check_same, check_time
 LOST = b"-ERR proxy: connection lost, outcome unknown\r\n"
 GAVE_UP = b"-ERR proxy: gave up, not executed\r\n"
 
+# Seconds that a client pauses between two turns: clients that never do so mostly wait for each other's turn in this program.
+PAUSE = 0.002
+
 # Seconds for which a group of keys may be at two nodes and none of its commands be given up: they wait two seconds.
 LONGEST_SPLIT = 1.0
 
@@ -16,8 +19,8 @@ LONGEST_SPLIT = 1.0
 class Writers:
     """So many clients, each of which calls `turn(client, number, count)` again and again until the end of the `with`."""
 
-    def __init__(self, proxy, count, turn):
-        self.proxy, self.turn, self.stopped, self.clients = proxy, turn, False, []
+    def __init__(self, proxy, count, turn, pause=PAUSE):
+        self.proxy, self.turn, self.pause, self.stopped, self.clients = proxy, turn, pause, False, []
         self.turns = [0] * count
         self.together = Together(count, self.work)
 
@@ -51,6 +54,7 @@ class Writers:
             while not self.stopped:
                 self.turn(client, number, self.turns[number])
                 self.turns[number] += 1
+                time.sleep(self.pause)
 
     def check_faults(self):
         if self.together.faults:
@@ -74,7 +78,9 @@ class Ends:
         self.lost, self.gave_up = [], []
 
     def add(self, number, what, reply):
-        if reply[:1] != b"-":
+        if reply[:1] == b":":
+            self.answered[number].append((what, int(reply[1:])))
+        elif reply[:1] != b"-":
             self.answered[number].append((what, value_of(reply)))
         elif reply == LOST:
             self.lost.append(what)
