@@ -239,7 +239,7 @@ class Unreached(Counted):
 
 @functools.cache
 def counted():
-    """A proxy of each kind, until the program ends."""
+    """A proxy of each kind, until all tests have ended."""
     made = []
     for kind in Counted, Unreached:
         made.append(kind())

@@ -4,8 +4,8 @@ import socket
 
 # Seconds that a socket waits before a case fails: only a reply that never comes takes as long, on a slow machine too.
 LIMIT = 60.0
-# The bytes of the shortest reply, and the most for which a client that reads many replies sleeps: each time that one is woken costs more
-# than what it reads then.
+# The bytes of the shortest reply, and the most bytes for which a client of many replies waits at once: to wake it for each piece costs
+# more than to read the piece.
 SHORTEST, MOST_AWAITED = 4, 4096
 
 
@@ -94,7 +94,7 @@ class Client:
         self.socket.sendall(data)
 
     def fill(self, replies=0):
-        """Takes in what came, once there is enough for so many replies behind the next one, or for the end."""
+        """Waits for as many bytes as the next reply and so many behind it have at least, or for the end, and takes in what came."""
         awaited = min(1 + SHORTEST * replies, MOST_AWAITED)
         if awaited != self.awaited:
             self.awaited = awaited

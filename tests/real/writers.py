@@ -9,7 +9,7 @@ from harness import Failed, Together, check, check_same, check_time
 LOST = b"-ERR proxy: connection lost, outcome unknown\r\n"
 GAVE_UP = b"-ERR proxy: gave up, not executed\r\n"
 
-# Seconds that a client pauses between two turns: clients that never do so mostly wait for each other's turn in this program.
+# Seconds that a client pauses between two turns: threads of Python that never do so mostly wait for each other.
 PAUSE = 0.002
 
 # Seconds for which a group of keys may be at two nodes and none of its commands be given up: they wait two seconds.
