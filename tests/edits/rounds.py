@@ -197,10 +197,14 @@ class Round:
         """The impls that are checked beside them."""
         return {name for it in self.taken for name in it.edit.impls}
 
+    def is_whole(self):
+        """Whether nothing is a stub. An edit of a definition stands among whole functions: past holes a check does not say what rests on
+        a lemma that it refused."""
+        return any(it.alone for it in self.taken)
+
     def stubbed(self, crate, names):
-        """The round's texts, with stubs for the functions that no edit touches. An edit of a definition stands among whole ones: past
-        holes a check does not say what rests on a lemma that it refused."""
-        if any(it.alone for it in self.taken):
+        """The round's texts, with stubs for the functions that no edit touches."""
+        if self.is_whole():
             return stubs.Stubs(self.texts)
         kept = self.asked().union(*(it.touched for it in self.taken if it.stands_in == it.functions))
         closures = {file: text for it in self.taken if it.answered for file, text in answers.of_closures(it, names).items()}
@@ -278,15 +282,16 @@ def judged(answer, crate, it, made):
 
 
 def try_all(crate, crates, where, from_folder, names):
-    """Tries all edits of the folder, in as few rounds as their functions allow. Where there are several, they share kept work of this
-    run alone; for a single one it would cost more than it brings."""
+    """Tries all edits of the folder, in as few rounds as their functions allow. Several among stubs, or several among whole functions,
+    share kept work of this run alone; for a single one it would cost more than it brings."""
     waiting, bad = read_all(crate, from_folder, names)
-    outcome = Outcome(bad)
+    outcome, begun = Outcome(bad), set()
     with tempfile.TemporaryDirectory(prefix="edits-kept-") as kept:
         while waiting:
             made = next_round(waiting, crate)
             changed = made.stubbed(crate, names)
-            is_alone = not waiting and outcome.rounds == 0
+            is_alone = made.is_whole() not in begun and all(it.alone != made.is_whole() for it in waiting)
+            begun.add(made.is_whole())
             asked = sorted(made.asked() | made.impls())
             said, seconds = checks.check(crate, crates, where, changed, asked, None if is_alone else kept)
             answer = verdicts.read(crate.name, said)

@@ -1,5 +1,6 @@
 """Ports of this machine for servers of a test."""
 
+import contextlib
 import random
 import socket
 
@@ -16,3 +17,11 @@ def free_ports(count):
         except OSError:
             pass  # it is taken
     return list(ports)
+
+
+@contextlib.contextmanager
+def refused_port():
+    """A port of loopback that refuses each connection, and that nobody else gets meanwhile: it is bound, and not listened on."""
+    with socket.socket() as it:
+        it.bind(("127.0.0.1", 0))
+        yield it.getsockname()[1]

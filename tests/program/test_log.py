@@ -12,6 +12,7 @@ import tempfile
 import time
 import unittest
 
+from ports import refused_port
 from program import LIMIT, PROGRAM
 from sockets import connection, free_ports, heard, nodes, request
 
@@ -231,7 +232,7 @@ class Unreached(Counted):
     """The same before a seed that is not there: one command, which is tried as often as any."""
 
     def seed(self):
-        return free_ports(1)[0]
+        return self.stack.enter_context(refused_port())
 
     def serve(self, at):
         heard(at, GET)
