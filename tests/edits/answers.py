@@ -1,7 +1,8 @@
 """Edits that count by one goal.
 
 An edit may name, in a line `open:`, a goal that it leaves open. What else is to be shown of its function says nothing of it: in the
-edit's round no tactic is tried on the other goals, and those that have answers get holes in their place. Where the goal itself has
+edit's round no tactic is tried on the other goals, and those that have answers are answered by the one hole of all stubs, since each
+hole would print its goal. Where the goal itself has
 no answer, a check would go on to look for values that refute it, and for what it could offer; an answer that fails is only refused.
 So it is answered twice, by each of the two tactics that the prover tries on a goal without an answer, and both have to fail. An edit
 that does not count so is tried again with its function's answers as they stand.
@@ -50,9 +51,10 @@ def file_of(function):
     return str(Path("proofs", *function.split("::"), "Answers.antt"))
 
 
-def with_holes(text, kept):
-    """The text of a function's answers with holes in place of all but one."""
-    return ANSWER.sub(lambda it: it[0] if it[1] == kept else f"pub {it[1]} : {it[2]}\n{it[1]} c = ?\n\n", text)
+def with_one(text, kept, crate):
+    """The text of a function's answers with the hole of the stubs in place of all but one."""
+    made = ANSWER.sub(lambda it: it[0] if it[1] == kept else f"pub {it[1]} : {it[2]}\n{it[1]} = any\n\n", text)
+    return text if made == text else f"use Rattle.{crate}.proofs.AnyProof.{{any}}\n{made}"
 
 
 def named_in(attributes, word, crate):
@@ -100,7 +102,7 @@ def answered(edit, function, texts, crate):
     begin = twins.begin_of(texts[source], head)
     attributes = texts[source][begin : head.start()]
     has_answer = edit.open in {it[1] for it in ANSWER.finditer(text)}
-    text, tactics = with_holes(text, edit.open), {}
+    text, tactics = with_one(text, edit.open, crate.name), {}
     if not has_answer:
         text, tactics = with_tactics(text, edit.open, function, crate, attributes)
     none = ATTRIBUTE.sub("", attributes) + f"{head[1]}#[tactic(none)]\n"

@@ -20,7 +20,7 @@ OPAQUE = re.compile(r"\) -> [^{]*\bimpl\b")
 CYCLE = re.compile(r"^ *#\[cycle\((\w+)\)\]\n", re.M)
 
 # A hole prints its goal, so there is one for all stubs.
-NODE, ANY, HOLE = "proofs/Lib.antt", "proofs/AnyProof.antt", "pub any : {A : Type 2} → A\nany = ?\n"
+NODE, ANY, HOLE = "proofs/Lib.antt", "proofs/AnyProof.antt", "pub any {ℓ} : {A : Type ℓ} → A\nany = ?\n"
 PROOF = """\
 use Rattle.{crate}.proofs.{module}.Statement.{{statement}}
 use Rattle.{crate}.proofs.AnyProof.{{any}}

@@ -272,7 +272,7 @@ class Controls(unittest.TestCase):
 
 
 class Answers(unittest.TestCase):
-    """An edit counts by the goal that it names: the other answers of its function give way to holes."""
+    """An edit counts by the goal that it names: the other answers of its function give way to the hole of the stubs."""
 
     TEXT = """\
 use Rattle.sample.proofs.f.Goals as goal
@@ -293,10 +293,12 @@ unfolding doubled
 returns-in-Err c = twice 4
 """
 
-    def test_other_answers_give_way_to_holes(self):
-        left = self.TEXT.replace("c = record {\n  first = refl;\n}\n", "c = ?\n")
-        self.assertEqual(answers.with_holes(self.TEXT, "returns-in-Err"), left)
-        self.assertEqual(answers.with_holes(self.TEXT, "returns-in-Ok"), self.TEXT.replace("unfolding doubled\nreturns-in-Err c = twice 4\n", "returns-in-Err c = ?\n\n"))
+    def test_other_answers_give_way_to_one_hole(self):
+        use = "use Rattle.sample.proofs.AnyProof.{any}\n"
+        left = self.TEXT.replace("returns-in-Ok c = record {\n  first = refl;\n}\n", "returns-in-Ok = any\n")
+        self.assertEqual(answers.with_one(self.TEXT, "returns-in-Err", "sample"), use + left)
+        left = self.TEXT.replace("unfolding doubled\nreturns-in-Err c = twice 4\n", "returns-in-Err = any\n\n")
+        self.assertEqual(answers.with_one(self.TEXT, "returns-in-Ok", "sample"), use + left)
 
     def test_an_answered_goal_and_both_tactics(self):
         at = "proofs/f/Answers.antt:1:1: error: `returns"
