@@ -1,6 +1,6 @@
 # The commands of this repository. `rt` is Rattle's command, on the PATH of a machine that has the kit.
 
-.PHONY: run test rounds proofs rows inputs bench
+.PHONY: run test rounds proofs rows inputs cluster bench
 
 program = crates/cluster_proxy/out/cluster_proxy
 sources = crates.txt $(shell find crates -name out -prune -o -name '*.rt' -print -o -name '*.antt' -print)
@@ -15,13 +15,10 @@ $(program): $(sources)
 	@touch $@
 
 # The gate: every proof from nothing, every test and program, and the edits that must be refused, while the rounds of these are
-# tried on themselves; then, by that build, rows of the layers beside the program on whole inputs, the program in the example, and
-# before a real cluster.
+# tried on themselves; then, by that build, the program on whole inputs, beside rows of the layers, the example and a real cluster.
 test:
 	@$(MAKE) --no-print-directory --jobs=2 rounds proofs
-	@$(MAKE) --no-print-directory --jobs=2 rows inputs
-	examples/run --once
-	tests/real/run
+	@$(MAKE) --no-print-directory --jobs=2 inputs cluster
 	@tests/edits/run --took
 
 rounds:
@@ -30,11 +27,16 @@ rounds:
 proofs:
 	tests/edits/run
 
-rows:
-	tests/rows/run
-
 inputs:
 	tests/program/run
+
+# (One after another: what is timed before a real cluster has one other test beside it, not two.)
+cluster: rows
+	examples/run --once
+	tests/real/run
+
+rows:
+	tests/rows/run
 
 # Measures the program beside one server and beside another proxy.
 bench:

@@ -141,20 +141,20 @@ def lose_one(world, lost, seed):
     return note
 
 
-@case
+@case(beside="failover")
 def a_primary_is_lost(world):
     """Another than the seed."""
     lost, seed, _ = replicated_cluster(world).primaries()
     return lose_one(world, lost, seed)
 
 
-@case
+@case(beside="failover")
 def the_seed_is_lost(world):
     lost = replicated_cluster(world).primaries()[1]
     return lose_one(world, lost, lost)
 
 
-@case
+@case(beside="failover")
 def two_primaries_are_lost(world):
     """One after another, the seed first; the replica that took over for the first votes for the second's. Then both come back."""
     one, other, _ = replicated_cluster(world).primaries()

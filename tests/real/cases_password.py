@@ -44,7 +44,7 @@ def check_serves(logged):
     check("level=warn" not in "".join(logged.lines()), f"a warning: {logged.lines()}")
 
 
-@case
+@case(beside="password")
 def nodes_with_a_password(world):
     cluster = locked_cluster(world)
     with Logged(world, cluster.nodes[0].port, "password", variables_of(PASSWORD)) as logged:
@@ -52,7 +52,7 @@ def nodes_with_a_password(world):
         check_silent(logged, PASSWORD)
 
 
-@case
+@case(beside="password")
 def nodes_with_a_user(world):
     cluster, password = locked_cluster(world), "opens-for-the-user"
     for node in cluster.nodes:
@@ -62,7 +62,7 @@ def nodes_with_a_user(world):
         check_silent(logged, password)
 
 
-@case
+@case(beside="password")
 def a_wrong_password(world):
     """Each command is given up unsent, and the log has the node's words."""
     cluster, password = locked_cluster(world), "not-the-password"
@@ -72,7 +72,7 @@ def a_wrong_password(world):
         check_silent(logged, password)
 
 
-@case
+@case(beside="password")
 def no_password_where_one_is_wanted(world):
     """Nothing goes before the commands, and the node's error is passed on."""
     cluster = locked_cluster(world)
@@ -113,7 +113,7 @@ def after(seconds, reply):
     return answer
 
 
-@case
+@case(beside="password")
 def auth_goes_first(world):
     """Once on each connection, and its reply is no command's, also where both come at once."""
     for seconds in [0, 0.3]:
@@ -124,7 +124,7 @@ def auth_goes_first(world):
             check_silent(logged, PASSWORD)
 
 
-@case
+@case(beside="password")
 def auth_is_answered_late(world):
     """Nothing goes to the node before its answer; a refusal ends the connection, with the node's words in the log."""
     gate = Gate(after(0.3, b"-ERR not today 'sesame-7c1f09'\r\n"))
@@ -135,7 +135,7 @@ def auth_is_answered_late(world):
         check_silent(logged, PASSWORD)
 
 
-@case
+@case(beside="password")
 def auth_over_a_connection_that_is_made_late(world):
     """The queue of a node is full while it is dialled, and has room when the system tries again."""
     deaf = DeafNode()
@@ -153,7 +153,7 @@ def auth_over_a_connection_that_is_made_late(world):
     return f"{reply}"
 
 
-@case
+@case(beside="password")
 def auth_is_not_answered(world):
     """After two seconds the connection is given up."""
     gate = Gate(after(30, b"+OK\r\n"))
@@ -164,7 +164,7 @@ def auth_is_not_answered(world):
         logged.wait_for("seed_unreachable", "level=warn", 'reason="no reply to AUTH in time"')
 
 
-@case
+@case(beside="password")
 def auth_is_answered_by_something_else(world):
     """Neither OK nor an error, and a line that does not end."""
     for reply in [b"$2\r\nOK\r\n", b"+" + b"x" * 600]:
@@ -174,7 +174,7 @@ def auth_is_answered_by_something_else(world):
             logged.wait_for("seed_unreachable", "level=warn", 'reason="the node answers AUTH with neither OK nor an error"')
 
 
-@case
+@case(beside="password")
 def a_password_that_is_repeated(world):
     """A node that says the password in its words: they are not shown."""
     gate = Gate(after(0, b"-ERR " + PASSWORD.encode() + b" is wrong\r\n"))

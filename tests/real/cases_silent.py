@@ -29,7 +29,7 @@ CROWDED, CROWD = 64, 200
 MOST_WAITED, MOST_TIMES, MOST_PERCENT, MOST_COMMANDS = 100, 20, 10, 20
 
 
-@case(limit=2 * HANGS, beside=True)
+@case(limit=2 * HANGS, beside="a_node_that_never_answers")
 def a_node_that_never_answers(world):
     """Clients that are gone give their descriptors back at once; one that stays is told after thirty seconds.
 
@@ -95,7 +95,7 @@ def what_a_client_left_behind_a_command(world):
     return note
 
 
-@case(limit=2 * HANGS, beside=True)
+@case(limit=2 * HANGS, beside="a_node_that_never_lists_its_slots")
 def a_node_that_never_lists_its_slots(world):
     """It sends a command on, and never answers the CLUSTER SLOTS that follows: once it is given up another node is asked."""
     ended = threading.Event()

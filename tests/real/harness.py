@@ -15,10 +15,11 @@ class Slow(Failed):
     """What took longer than it may. A machine that had a pause of its own may be the reason, so the case is run again."""
 
 
-def case(function=None, *, limit=LIMIT, beside=False):
+def case(function=None, *, limit=LIMIT, beside=None):
     """Adds a case, named as its function, which may take so many seconds. It may return a few words to print beside it.
 
-    One that mostly waits, and has nothing of the world but its room and its program, may be run beside the others.
+    One that mostly waits, and has nothing of the world but its room and its program, may be run beside the others; behind one another
+    those that have the same name for it.
     """
 
     def add(function):

@@ -117,6 +117,19 @@ def try_case(world, case, if_slow):
     return word, note
 
 
+def run_cases(world, cases):
+    """Runs one case after the other, and gives each with what was wrong."""
+    return [(it, run_case(world, it)) for it in cases]
+
+
+def lanes_of(cases):
+    """The cases that run beside the others: those of one name in one list."""
+    lanes = {}
+    for it in filter(lambda it: it.beside, cases):
+        lanes.setdefault(it.beside, []).append(it)
+    return lanes.values()
+
+
 def main(folder, program, *names):
     for number in (signal.SIGTERM, signal.SIGINT):
         signal.signal(number, lambda number, _: sys.exit(128 + number))
@@ -125,9 +138,9 @@ def main(folder, program, *names):
     try:
         world = World(room, program)
         with ThreadPoolExecutor() as threads:
-            later = [(it, threads.submit(run_case, world, it)) for it in cases if it.beside]
-            now = [(it, run_case(world, it)) for it in cases if not it.beside]
-            notes = [*now, *((it, ran.result()) for it, ran in later)]
+            later = [threads.submit(run_cases, world, lane) for lane in lanes_of(cases)]
+            notes = run_cases(world, [it for it in cases if not it.beside])
+            notes += [it for ran in later for it in ran.result()]
         failed = [(it.__name__, note) for it, note in notes if note]
     except Exception as fault:
         failed = [(it.__name__, f": not run, for the servers: {type(fault).__name__} {fault}") for it in cases]

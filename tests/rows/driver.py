@@ -22,21 +22,26 @@ def driver():
     return [program, "rows::of_standard_input"]
 
 
+def text_of(lines):
+    """These lines, each with its end."""
+    return "\n".join([*lines, ""])
+
+
 def answers_in(written):
     """The lines of answers in what the test's program wrote."""
     return written.decode().removesuffix(PASSED).splitlines()
 
 
-def answers_to(lines):
-    """The lines that the driver answers to these, and the seconds that it took."""
+def answers_to(text):
+    """What the driver writes for the lines of a text, and the seconds that it took."""
     with tempfile.TemporaryFile() as given, tempfile.TemporaryFile() as found:
-        given.write("".join(line + "\n" for line in lines).encode())
+        given.write(text.encode())
         given.seek(0)
         start = time.monotonic()
         subprocess.run(driver(), stdin=given, stdout=found, check=True)
         seconds = time.monotonic() - start
         found.seek(0)
-        return answers_in(found.read()), seconds
+        return found.read(), seconds
 
 
 # How often a row is made before what it took counts as a fault: a machine that had a pause of its own may be the reason.
@@ -68,10 +73,17 @@ def is_slow(failure):
 
 
 def failures_in(rows):
-    lines = []
+    written, seconds = answers_to("".join(text_of([*row.calls, "reset"]) * row.times for row in rows))
+    wanted = "".join(text_of([*row.wanted, "ok"]) * row.times for row in rows) + PASSED
+    failures = {} if written == wanted.encode() else differences(rows, answers_in(written))
     for row in rows:
-        lines += (row.calls + ["reset"]) * row.times
-    found, seconds = answers_to(lines)
+        if row.seconds is not None and seconds > row.seconds:
+            failures.setdefault(row.name, f"{row.name}: took {seconds:.3f} s, wanted at most {row.seconds} s")
+    return failures
+
+
+def differences(rows, found):
+    """The rows that are answered otherwise by these lines, each with a line that says how."""
     failures = {}
     at = 0
     for row in rows:
@@ -81,8 +93,6 @@ def failures_in(rows):
             if failure:
                 failures.setdefault(row.name, failure)
             at = end + 1
-        if row.seconds is not None and seconds > row.seconds:
-            failures.setdefault(row.name, f"{row.name}: took {seconds:.3f} s, wanted at most {row.seconds} s")
     return failures
 
 

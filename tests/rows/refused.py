@@ -1,7 +1,6 @@
 """Each growth of a row refused in turn: the call that finds no memory says so, and made again it gives the row's answer, as do all
 calls behind it."""
 
-import os
 import re
 import subprocess
 import tempfile
@@ -9,7 +8,7 @@ import time
 from bisect import bisect_left
 from collections import Counter
 
-from driver import answers_in, driver
+from driver import answers_in, driver, text_of
 from growths import Growths, compiler
 
 # The rows of a table that are made, but for generated ones and these.
@@ -82,7 +81,6 @@ class Sweep:
 
     def __init__(self):
         self.growths = Growths()
-        self.environment = {**os.environ, **self.growths.variables}
         self.again = self.of_driver = self.unneeded = 0
         # the kinds of calls that were made, those that found no memory, and the growths of lines that make no call
         self.made, self.refused, self.of_words = set(), set(), {}
@@ -94,11 +92,11 @@ class Sweep:
         """The answers to these calls with this growth refused, or None where the driver does not end, or not well."""
         # a file, which is read alike each time
         with tempfile.TemporaryFile() as given:
-            given.write("".join(call + "\n" for call in [FIRST, *calls]).encode())
+            given.write(text_of([FIRST, *calls]).encode())
             given.seek(0)
             self.growths.refuse(number)
             try:
-                ran = subprocess.run(driver(), stdin=given, stdout=subprocess.PIPE, env=self.environment, timeout=LIMIT, check=True)
+                ran = subprocess.run(driver(), stdin=given, stdout=subprocess.PIPE, env=self.growths.variables, timeout=LIMIT, check=True)
             except subprocess.SubprocessError:
                 return None
         return answers_in(ran.stdout)[1:]

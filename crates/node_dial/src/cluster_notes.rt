@@ -3,7 +3,7 @@
 use crate::lost_nodes::{LostNodes, is_lost, note_lost};
 use crate::plain_nodes::PlainNodes;
 use crate::slot_owners::SlotOwners;
-use proxy_report::{Event, Figure, NodeName, ThreadReport};
+use event_log::{Event, Figure, NodeName, ThreadReport};
 use resp_wire::NoMemory;
 use slot_map::NodeId;
 use std::alloc::Global;

@@ -3,7 +3,7 @@
 use crate::connector::Connector;
 use crate::handshake::{Handshake, HandshakeOutcome};
 use mio::net::TcpStream;
-use polled_sockets::PolledSocket;
+use proxy_runtime::PolledSocket;
 use std::io;
 use std::io::ErrorKind;
 use std::net::{self, Net};

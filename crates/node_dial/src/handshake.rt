@@ -2,7 +2,7 @@
 
 use crate::credentials::Credentials;
 use node_link::{Flow, Stream};
-use polled_sockets::PolledSocket;
+use proxy_runtime::PolledSocket;
 use std::alloc::Global;
 use std::io;
 use std::io::ErrorKind;

@@ -7,7 +7,7 @@ use crate::connection::Connection;
 use crate::connector::Connector;
 use crate::dial_pause::DialPause;
 use crate::place::put;
-use polled_sockets::PolledSocket;
+use proxy_runtime::PolledSocket;
 use std::alloc::Global;
 use std::io;
 use std::io::ErrorKind;

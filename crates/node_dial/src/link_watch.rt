@@ -1,8 +1,8 @@
 //! Whether a node owes replies for too long.
 
 use crate::cluster_notes::{ClusterNotes, SharedNotes, share};
-use polled_sockets::ReadySet;
-use proxy_report::ThreadReport;
+use event_log::ThreadReport;
+use proxy_runtime::ReadySet;
 use resp_wire::NoMemory;
 use std::alloc::Global;
 use std::cell::Cell;

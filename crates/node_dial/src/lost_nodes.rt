@@ -1,7 +1,7 @@
 //! The nodes that were lost: another is then asked for CLUSTER SLOTS.
 
 use crate::ask_schedule::AskSchedule;
-use proxy_report::NodeName;
+use event_log::NodeName;
 use resp_wire::{NoMemory, Value};
 use slot_map::NodeId;
 use std::alloc::Global;

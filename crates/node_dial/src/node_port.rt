@@ -3,9 +3,9 @@
 ghost use Rattle.std.specs.Prelude.{◌≡◌};
 
 use crate::node_notes::NodeNotes;
+use event_log::Figure;
 use key_split::{Batch, Run};
 use node_link::{NodePort, PortFault, RunPort};
-use proxy_report::Figure;
 use resp_wire::Value;
 
 /// A port that counts what is sent and what the node refuses, and reports what it tells of its slots.

@@ -4,9 +4,9 @@ ghost use Rattle.std.specs.Prelude.{◌≡◌, ◌≤◌};
 
 use crate::link_watch::LinkWatch;
 use crate::lost_nodes::{LostNodes, note_lost};
+use event_log::{Event, Figure, NodeName};
 use node_link::{Flow, Stream};
-use polled_sockets::PolledSocket;
-use proxy_report::{Event, Figure, NodeName};
+use proxy_runtime::PolledSocket;
 use std::cell::RefCell;
 use std::io;
 use std::io::ErrorKind;

@@ -1,10 +1,10 @@
 //! What accepts clients.
 
 use crate::client_room::ClientRoom;
+use event_log::{Event, Figure};
 use mio::net::{TcpListener, TcpStream};
 use mio::{Interest, Registry};
-use polled_sockets::Registration;
-use proxy_report::{Event, Figure};
+use proxy_runtime::Registration;
 use std::io;
 use std::io::ErrorKind;
 use std::net::{Net, SocketAddr, ToSocketAddrs};

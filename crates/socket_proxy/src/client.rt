@@ -1,10 +1,10 @@
 //! A client's end over a socket.
 
 use crate::unfinished::UnfinishedRequest;
+use event_log::{Event, Figure, ThreadReport};
 use key_split::{Ended, Ticket};
 use node_link::{Flow, Stream};
-use polled_sockets::PolledSocket;
-use proxy_report::{Event, Figure, ThreadReport};
+use proxy_runtime::PolledSocket;
 use proxy_turns::ClientPort;
 use resp_wire::NoMemory;
 use session_order::SessionFault;

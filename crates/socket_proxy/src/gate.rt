@@ -2,7 +2,7 @@
 
 use crate::lookout::Lookout;
 use crate::shared::{Shared, ThreadHandle};
-use polled_sockets::Poller;
+use proxy_runtime::Poller;
 use proxy_turns::Gate;
 use std::cell::{Cell, RefCell};
 use std::time::Clock;

@@ -2,10 +2,9 @@
 
 use crate::shared::{Shared, ThreadHandle};
 use crate::unfinished::Unfinished;
+use event_log::ThreadReport;
 use mio::Registry;
-use polled_sockets::{Poller, ReadySet};
-use proxy_report::ThreadReport;
-use proxy_runtime::WireRunFault;
+use proxy_runtime::{Poller, ReadySet, WireRunFault};
 use resp_wire::NoMemory;
 use std::alloc::Global;
 use std::net::Net;

@@ -2,10 +2,10 @@
 
 use crate::client::SocketClient;
 use crate::unfinished::{Unfinished, UnfinishedRequest};
+use event_log::{Figure, ThreadReport};
 use mio::Registry;
 use mio::net::TcpStream;
-use polled_sockets::{Parker, PolledSocket, ReadySet, Registration};
-use proxy_report::{Figure, ThreadReport};
+use proxy_runtime::{Parker, PolledSocket, ReadySet, Registration};
 use resp_wire::NoMemory;
 use std::alloc::Global;
 use std::io;

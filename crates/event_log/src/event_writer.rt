@@ -2,8 +2,11 @@
 
 use crate::event::{EVENT_LIMITS, Event, pair_shown};
 use crate::journal::EVENTS_WAITING;
+use crate::line::Line;
+use crate::rate_limit::RateLimit;
+use crate::stream::ErrorStream;
 use crate::thread_report::ThreadReport;
-use event_log::{ErrorStream, Line, RateLimit, utc_text};
+use crate::time::utc_text;
 use resp_wire::NoMemory;
 use std::alloc::{AllocError, Global};
 use std::time::Clock;

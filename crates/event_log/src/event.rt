@@ -1,6 +1,6 @@
 //! What the log tells of.
 
-use event_log::Line;
+use crate::line::Line;
 use resp_wire::NoMemory;
 use session_order::SessionFault;
 use slot_map::NodeId;

@@ -2,8 +2,8 @@
 
 use crate::parker::Parker;
 use crate::ready_set::ReadySet;
+use crate::wire_fault::WireRunFault;
 use mio::{Events, Poll, Registry, Token, Waker};
-use proxy_runtime::WireRunFault;
 use std::alloc::Global;
 use std::net::Net;
 use std::time::Duration;

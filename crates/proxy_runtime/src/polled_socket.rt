@@ -4,11 +4,11 @@ ghost use Rattle.std.specs.Prelude.{◌≡◌, ◌≤◌};
 
 use crate::keepalive::keep_alive;
 use crate::ready_set::Registration;
+use crate::socket::Socket;
+use event_log::{Event, Figure};
 use mio::Registry;
 use mio::net::TcpStream;
 use node_link::{Flow, Stream};
-use proxy_report::{Event, Figure};
-use proxy_runtime::Socket;
 use std::io;
 use std::io::ErrorKind;
 

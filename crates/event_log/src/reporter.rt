@@ -3,8 +3,10 @@
 use crate::event::pair_shown;
 use crate::event_writer::EventWriter;
 use crate::figures::{FIGURE_NAMES, FIGURES};
+use crate::line::Line;
+use crate::stream::ErrorStream;
 use crate::thread_report::ThreadReport;
-use event_log::{ErrorStream, Line, utc_text};
+use crate::time::utc_text;
 use resp_wire::NoMemory;
 use std::alloc::{AllocError, Global};
 use std::sync::Arc;

@@ -1,8 +1,8 @@
 //! Which sockets of a thread are ready, and what time it is there.
 
+use crate::socket::Socket;
+use event_log::{Event, Figure, ThreadReport};
 use mio::{Registry, Token, event};
-use proxy_report::{Event, Figure, ThreadReport};
-use proxy_runtime::Socket;
 use resp_wire::NoMemory;
 use std::alloc::Global;
 use std::io;
