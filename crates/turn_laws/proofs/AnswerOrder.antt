@@ -13,10 +13,11 @@ use Rattle.world_laws.specs.declared.history.Answer.{Answer}
 use Rattle.world_laws.proofs.Recorded.{all_taken, at-last, at-set, before-last, last, one_at}
 use Rattle.world_laws.proofs.Counted.{ticket-after_told}
 use Rattle.world_laws.proofs.Lives.{does-moment}
-use Rattle.world_laws.proofs.Runs.{Sound, does-sound, start-sound, headline}
-use Rattle.turn_laws.specs.Walks.{Walk, IsWalked, ticked}
+use Rattle.shared_laws.specs.Shared.{Step}
+use Rattle.shared_laws.proofs.SharedRuns.{Steady, does-steady, shared-headline, start-steady}
+use Rattle.turn_laws.specs.Walks.{IsWalked, SharedWalk, ticked}
 use Rattle.turn_laws.specs.LogHeadline.{At, IsIn}
-use Rattle.turn_laws.proofs.Walks.{walked-sound}
+use Rattle.turn_laws.proofs.Walks.{walked-steady}
 use Rattle.turn_laws.proofs.Elements.{nothing-there}
 
 pub record InTurn (commands : List Arrival) (answers : List Answer) (moment : ℕ) : Type 0 where
@@ -97,7 +98,7 @@ module _ (w w' : WorldModel) (h : AreInTurn w) where
   stays : w'.moment ≡ w.moment + 1 → w'.commands ≡ w.commands → w'.answers ≡ w.answers → AreInTurn w'
   stays moment commands answers = goes moment w.commands commands answers (λ i c at. inl (same-refl w.commands i c at))
 
-  module _ (sound : Sound w) where
+  module _ (n : ℕ) (sound : Steady n w) where
     answer : (client : ℕ) → WorldDoes (ticked w) (ev.Answer client) w' → AreInTurn w'
     answer client d = subst (λ (x : WorldModel). AreInTurn x) (sym d.8) (record {
       past = λ a is. ⊎_elim (λ (z : At w.answers is.0 a). let p = h.past a (is.0, z) in omega (arith, p)) (λ (z : (is.0 ≡ length w.answers) × (a ≡ a0)). omega (arith, ap (λ (x : Answer). x.answered) z.1)) (at-last w.answers a0 is.0 a is.1);
@@ -119,7 +120,7 @@ module _ (w w' : WorldModel) (h : AreInTurn w) where
           let r = h.turned i j x.0 d' lt x.1 z.1 (ap (λ (t : Ticket). t.client) x.2 ∙ one) marked a (is.0, y) of in
           (r.0, more r.0 r.1, r.2 ∙ x.2, r.3))
           (λ (y : (is.0 ≡ length w.answers) × (a ≡ a0)).
-          absurd (z.0 ((headline w sound).own_ticket j i0 d' c0 z.1 at0 (sym of ∙ ap (λ (x : Answer). x.ticket) y.1))))
+          absurd (z.0 ((shared-headline n w sound).own_ticket j i0 d' c0 z.1 at0 (sym of ∙ ap (λ (x : Answer). x.ticket) y.1))))
           (at-last w.answers a0 is.0 a is.1))
           (at-set w.commands i0 c' j d' at-d);
     })
@@ -157,7 +158,7 @@ module _ (w w' : WorldModel) (h : AreInTurn w) where
         untold : (a : Answer) → IsIn w.answers a → a.ticket ≡ (d.1).command.ticket → ⊥
         untold a is of =
             let b = (sound.lists).told is.0 a is.1 in
-            let same : b.1 ≡ d.1 = one_at w.commands b.0 d.0 b.1 d.1 b.2 d.3 ((headline w sound).own_ticket b.0 d.0 b.1 d.1 b.2 d.3 (b.3 ∙ of)) in
+            let same : b.1 ≡ d.1 = one_at w.commands b.0 d.0 b.1 d.1 b.2 d.3 ((shared-headline n w sound).own_ticket b.0 d.0 b.1 d.1 b.2 d.3 (b.3 ∙ of)) in
             false≢true (sym d.5 ∙ ap (λ (x : Arrival). x.answered) (sym same) ∙ b.6)
 
         marked-was : (i : ℕ) (c : Arrival) → At (slice_set w.commands d.0 (record (d.1) { answered = true })) i c → (x : Arrival) × At w.commands i x × (x.command.ticket ≡ c.command.ticket)
@@ -198,9 +199,15 @@ module _ (w w' : WorldModel) (h : AreInTurn w) where
 
 -- ---- a walk
 
-walk : (es : List Event) (w w' : WorldModel) → Sound w → AreInTurn w → Walk w es w' → AreInTurn w'
-walk [] w w' sound h r = subst AreInTurn (sym r) h
-walk (e ∷ es) w w' sound h r = walk es r.0 w' (does-sound e w r.0 sound r.1) (does w r.0 h sound e r.1) r.2
+walk : (n : ℕ) (ss : List Step) (w w' : WorldModel) → Steady n w → AreInTurn w → SharedWalk w ss w' → AreInTurn w'
+walk n [] w w' sound h r = subst AreInTurn (sym r) h
+walk n (Step.Ours e ∷ ss) w w' sound h r = walk n ss r.0 w' (does-steady n (Step.Ours e) w r.0 sound r.1) (does w r.0 h n sound e r.1) r.2
+walk n (Step.Theirs node asking es ∷ ss) w w' sound h r =
+    walk n ss r.0 w' (does-steady n (Step.Theirs node asking es) w r.0 sound r.1)
+    (stays w r.0 h (ap (λ (x : WorldModel). x.moment) r.1.2) (ap (λ (x : WorldModel). x.commands) r.1.2) (ap (λ (x : WorldModel). x.answers) r.1.2)) r.2
+walk n (Step.Passes ∷ ss) w w' sound h r =
+    walk n ss r.0 w' (does-steady n Step.Passes w r.0 sound r.1)
+    (stays w r.0 h (ap (λ (x : WorldModel). x.moment) r.1) (ap (λ (x : WorldModel). x.commands) r.1) (ap (λ (x : WorldModel). x.answers) r.1)) r.2
 
 none : InTurn [] [] 0
 none = record {
@@ -211,7 +218,7 @@ none = record {
 }
 
 in-turn : (w : WorldModel) → IsWalked w → AreInTurn w
-in-turn w h = walk h.3 (start h.0 h.1 h.2) w (start-sound h.0 h.1 h.2 h.4) none h.5
+in-turn w h = walk h.0 h.3 (start h.0 h.1 h.2) w (start-steady h.0 h.1 h.2 h.4) none h.5
 
 order : (i j : ℕ) → (i < j) ⊎ ((i ≡ j) ⊎ (j < i))
 order i j = grind arith
@@ -224,7 +231,7 @@ answered-late w h = (in-turn w h).late
 pub answered-behind : (w : WorldModel) → IsWalked w → (a : Answer) → IsIn w.answers a → (c : Arrival) → IsIn w.commands c → c.command.ticket.client ≡ a.ticket.client → c.arrived < a.arrived
     → (b : Answer) × IsIn w.answers b × (b.ticket ≡ c.command.ticket) × (b.answered < a.answered)
 answered-behind w h a is c (i, at) one lt =
-    let lists = (walked-sound w h).lists in
+    let lists = (walked-steady w h).lists in
     let d = lists.told is.0 a is.1 in
     let first : i < d.0 = ⊎_elim
     (λ (z : i < d.0). z)

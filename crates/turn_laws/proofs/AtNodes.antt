@@ -15,8 +15,7 @@ use Rattle.turn_laws.specs.Refines.{Simulates}
 use Rattle.turn_laws.proofs.AtLanes.{short}
 use Rattle.turn_laws.proofs.Discarding.{clears}
 use Rattle.turn_laws.proofs.NoneAsking.{none-asks-there}
-use Rattle.turn_laws.proofs.Walks.{walked-sound, walks_join}
-use Rattle.turn_laws.proofs.Leading.{walked-on}
+use Rattle.turn_laws.proofs.Walks.{walked-on, walked-stands, walks_join}
 
 module _ {C J : Type 0} where
   -- the nodes alone step
@@ -59,7 +58,7 @@ module _ {C J : Type 0} where
   imports : (slot target : ℕ) (s : System C J) (w : WorldModel) (k : ClusterModel) → IsShadow s w → IsWalked w → MovesOn s (core.Import slot target) k → Ready s w (core.Import slot target) k
   imports slot target s w k h walked m =
       let r = clears s target (m.0).broken (length w.links) w h in
-      let none : NoneAsks r.1 slot target = none-asks-there s r.1 r.3 (walked-sound r.1 (walked-on w r.1 r.0 walked r.2)).placed slot target m.0
+      let none : NoneAsks r.1 slot target = none-asks-there s r.1 r.3 (walked-stands r.1 (walked-on w r.1 r.0 walked r.2)) slot target m.0
       (λ i l e. r.5 i l (omega (arith, short r.1.links i l e, r.4)) e) in
       (r.0, r.1, r.2, r.3, (none, subst (λ c. MayImport c slot target) (sym (r.3).cluster) m.1, λ i. with_nodes (ticked r.1) ((m.2 ∙ ap (λ c. import_done c slot target) (sym (r.3).cluster)) i)))
 

@@ -33,7 +33,7 @@ use Rattle.turn_laws.specs.Walks.{Walk, IsWalked}
 use Rattle.turn_laws.specs.Steps.{AtWorker, WorkerStep}
 use Rattle.turn_laws.specs.Refines.{Simulates}
 use Rattle.turn_laws.proofs.Downs.{Pair}
-use Rattle.turn_laws.proofs.Walks.{walked-sound}
+use Rattle.turn_laws.proofs.Walks.{walked-stands}
 use Rattle.turn_laws.proofs.Standing.{order-on}
 use Rattle.turn_laws.proofs.Told.{Fitting, fitting}
 use Rattle.turn_laws.proofs.Rising.{Rising, walked-rising}
@@ -279,7 +279,7 @@ module _ (C J : Type 0) where
       (now : client' ≡ record client { session = client'.session; commands = record (client.commands) { fresh = client.commands.fresh ++ fresh ticket part ∷ [] } })
       (outlet : (on.new).outlet ≡ (on.old).outlet) (goes : on.new ≡ record (on.old) { clients = insert (on.old).clients number client'; outlet = (on.new).outlet; view = (on.new).view }) where
     fits : Fitting s.workers (length s.carrier.lanes) w.workers (downs_of s) w.commands
-    fits = fitting s w (walked-sound w walked).placed h
+    fits = fitting s w (walked-stands w walked) h
 
     old : ClientShadow (downs_of s) k number client w.commands
     old = (h.clients k on.old number client on.at got).1

@@ -29,7 +29,7 @@ use Rattle.turn_laws.proofs.Frames.{down-fits}
 use Rattle.turn_laws.proofs.Bags.{refusals, debts}
 use Rattle.turn_laws.proofs.Tables.{nat_eq_by, same_number}
 use Rattle.turn_laws.proofs.AtWorkers.{put-cases, rings-same}
-use Rattle.turn_laws.proofs.Walks.{walked-sound}
+use Rattle.turn_laws.proofs.Walks.{walked-stands}
 use Rattle.turn_laws.proofs.Told.{Fitting, fitting}
 use Rattle.turn_laws.proofs.Clients.{worker-frame, unseen-step, held-in}
 use Rattle.turn_laws.proofs.Ending.{none-some}
@@ -91,7 +91,7 @@ module _ (C J : Type 0) where
       let seat : seat_of model ≡ (k, w.workers) = h.numbered k model on.at in
       let home : model.worker ≡ k = ap (λ (x : ℕ × ℕ). x.0) seat in
       let dealt : number % w.workers ≡ k = ap (λ n. number % n) (sym (ap (λ (x : ℕ × ℕ). x.1) seat)) ∙ d.4.0.1 ∙ home in
-      let fits = fitting s w (walked-sound w walked).placed h in
+      let fits = fitting s w (walked-stands w walked) h in
       let none = (h.unseen k model number on.at dealt is-new.0).0 in
       let shadow : ClientShadow (downs_of s) k number client w.commands = subst (λ n. ClientShadow (downs_of s) n number client w.commands) home (new-shadow (downs_of s) model.worker number (d.0).port w.commands none) in
       let rings : downs_in (slice_set s.workers k model') s.carrier.lanes ≡ downs_in s.workers s.carrier.lanes = rings-same s.workers s.carrier.lanes k model model' on.at (λ o. ap (down_in o) inlet) in

@@ -34,7 +34,7 @@ use Rattle.turn_laws.proofs.Bags.{refusals, debts, bag-parts}
 use Rattle.turn_laws.proofs.Carriers.{not-up}
 use Rattle.turn_laws.proofs.Openings.{one-backend, one-connection}
 use Rattle.turn_laws.proofs.Throwing.{not-mine}
-use Rattle.turn_laws.proofs.Walks.{walked-sound}
+use Rattle.turn_laws.proofs.Walks.{walked-stands}
 use Rattle.turn_laws.proofs.Settled.{Goes, settled-frame, settles-so}
 use Rattle.turn_laws.proofs.Seen.{seen-broken}
 
@@ -227,7 +227,7 @@ module _ {C J : Type 0} (s s' : System C J) (w : WorldModel) (h : IsShadow s w) 
         w,
         refl,
         subst (λ (ps : List Pair). IsShadow s' (record w { downs = ps })) (sym h.told)
-            (settled-frame s s' w w.ups w.links [] w.commands w.moment (omega arith) (walked-sound w walked).placed h goes
+            (settled-frame s s' w w.ups w.links [] w.commands w.moment (omega arith) (walked-stands w walked) h goes
             (shown w.links (links-broken s.nodes s.carrier s'.carrier s.closed s.opened w h.links w.links o.k o.link wire working now (seen-broken s.carrier s'.carrier s.closed o.k o.backend o.backend' o.here o.backends o.link wire o.was o.id) o.id refl
             (inr (subst (IsUnnumbered (h.links).ids) (sym o.id) un, quiet)) (λ n other m p ne e. e)))
             refl same

@@ -36,7 +36,7 @@ use Rattle.turn_laws.specs.Refines.{Simulates}
 use Rattle.turn_laws.proofs.Downs.{Pair}
 use Rattle.turn_laws.proofs.Elements.{nothing-there}
 use Rattle.turn_laws.proofs.Standing.{order-on}
-use Rattle.turn_laws.proofs.Walks.{walked-sound}
+use Rattle.turn_laws.proofs.Walks.{walked-stands}
 use Rattle.turn_laws.proofs.Told.{Fitting, fitting}
 use Rattle.turn_laws.proofs.Clients.{unseen-step, one-client}
 
@@ -144,7 +144,7 @@ module _ (C J : Type 0) where
       let now : client' ≡ record client { commands = record (client.commands) { fresh = [] } } = ap (λ (x : ClientContext C). x.client) d.3.3 in
       let outlet : (on.new).outlet ≡ (on.old).outlet = ap (λ (x : ClientContext C). x.outlet) d.3.3 in
       let e = d.4 in
-      let fits = fitting s w (walked-sound w walked).placed h in
+      let fits = fitting s w (walked-stands w walked) h in
       let old : ClientShadow (downs_of s) k number client w.commands = (h.clients k on.old number client on.at d.2).1 in
       let alone : (f : CommandModel) → IsAtFirst client.commands f → (i : ℕ) (told : Told) → slice_get (downs_of s) i ≡ Some (f.ticket, told) → ⊥ = λ f has i told x.
       let begun = (old.commands).fresh f has in
@@ -374,7 +374,7 @@ module _ (C J : Type 0) where
       let f : CommandModel = d.3.0.0 in
       let has : get client.commands.posted ticket.part ≡ Some f = d.3.0.1 in
       let over : f.stage ≡ Over end = d.3.0.3 in
-      let fits = fitting s w (walked-sound w walked).placed h in
+      let fits = fitting s w (walked-stands w walked) h in
       let old : ClientShadow (downs_of s) k number client w.commands = (h.clients k on.old number client on.at d.2).1 in
       let out = ((old.commands).posted ticket.part f has) in
       let alone : (i : ℕ) (told : Told) → slice_get (downs_of s) i ≡ Some (f.ticket, told) → ⊥ = λ i told x.

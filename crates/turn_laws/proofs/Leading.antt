@@ -9,7 +9,7 @@ use Rattle.command_future.specs.CommandModel.{CommandModel}
 use Rattle.proxy_lanes.specs.Lane.{posted, taken}
 use Rattle.proxy_turns.specs.ClientModel.{ClientModel}
 use Rattle.proxy_turns.specs.WorkerModel.{WorkerModel}
-use Rattle.world_laws.specs.State.{WorldModel, start}
+use Rattle.world_laws.specs.State.{WorldModel}
 use Rattle.world_laws.specs.declared.event.Event.{Event}
 use Rattle.world_laws.proofs.Recorded.{set-same}
 use Rattle.turn_laws.specs.Walks.{Walk, IsWalked}
@@ -21,9 +21,6 @@ use Rattle.turn_laws.proofs.Carried.{set-twice}
 use Rattle.turn_laws.proofs.Tables.{put-same, put-other, put-apart}
 use Rattle.turn_laws.proofs.Ending.{one-of}
 use Rattle.turn_laws.proofs.Walks.{walks_join}
-
-pub walked-on : (w v : WorldModel) (es : List Event) → IsWalked w → Walk w es v → IsWalked v
-walked-on w v es h r = (h.0, h.1, h.2, h.3 ++ es, h.4, walks_join h.3 es (start h.0 h.1 h.2) w v h.5 r)
 
 set-self : {X : Type 0} (xs : List X) (k : ℕ) (x : X) → slice_get xs k ≡ Some x → slice_set xs k x ≡ xs
 set-self [] k x e = refl

@@ -34,7 +34,7 @@ use Rattle.world_laws.specs.World.{NoneAsks, lies_in}
 use Rattle.world_laws.proofs.Tally.{total-one}
 use Rattle.world_laws.proofs.Kept.{is-refl}
 use Rattle.world_laws.proofs.Counted.{here}
-use Rattle.world_laws.proofs.Placed.{Placed}
+use Rattle.world_laws.proofs.Placed.{Standing}
 use Rattle.world_laws.proofs.Allowed.{awaited}
 use Rattle.turn_laws.specs.Wire.{Wire, Item, Part, Asks, Runs, Lists, heard_in, tickets_for}
 use Rattle.turn_laws.specs.System.{System}
@@ -176,7 +176,7 @@ front-get [] ys i x e = absurd (nothing-there i x e)
 front-get (z ∷ xs) ys zero x e = e
 front-get (z ∷ xs) ys (suc i) x e = front-get xs ys i x e
 
-module _ {C J : Type 0} (s : System C J) (w : WorldModel) (h : IsShadow s w) (placed : Placed w) (slot node : ℕ) (none : NoneAsksIn s slot node)
+module _ {C J : Type 0} (s : System C J) (w : WorldModel) (h : IsShadow s w) (placed : Standing w) (slot node : ℕ) (none : NoneAsksIn s slot node)
     (tidy : (i : ℕ) (l : Link) → slice_get w.links i ≡ Some l → l.is_open ≡ false → l.node ≡ node → l.requests ≡ [])
     (a : ℕ) (c : Arrival) (at : slice_get w.commands a ≡ Some c) (for-slot : slot_for c.command.part ≡ slot) where
   abbrev t : Ticket
@@ -372,7 +372,7 @@ all-of P (z ∷ xs) h = All-cons P z xs (h 0 z refl) (all-of P xs (λ i x e. h (
 
 module _ {C J : Type 0} where
   -- in the machine none asks, where its closed links to the node have no requests
-  pub none-asks-there : (s : System C J) (w : WorldModel) → IsShadow s w → Placed w → (slot node : ℕ) → NoneAsksIn s slot node
+  pub none-asks-there : (s : System C J) (w : WorldModel) → IsShadow s w → Standing w → (slot node : ℕ) → NoneAsksIn s slot node
       → ((i : ℕ) (l : Link) → slice_get w.links i ≡ Some l → l.is_open ≡ false → l.node ≡ node → l.requests ≡ []) → NoneAsks w slot node
   none-asks-there s w h placed slot node none tidy =
       all-of (λ (c : Arrival). slot_for c.command.part ≡ slot → tally (asks node c.command.ticket) w ≡ 0) w.commands

@@ -27,7 +27,7 @@ use Rattle.turn_laws.proofs.Downs.{Pair}
 use Rattle.turn_laws.proofs.Ending.{one-item}
 use Rattle.turn_laws.proofs.Standing.{order-on}
 use Rattle.turn_laws.proofs.Told.{fitting}
-use Rattle.turn_laws.proofs.Walks.{walked-sound}
+use Rattle.turn_laws.proofs.Walks.{walked-stands}
 
 -- each of so many is that one
 each-same : {X : Type 0} (x : X) (n i : ℕ) → i < n → slice_get (replicate n x) i ≡ Some x
@@ -105,6 +105,6 @@ module _ (C J : Type 0) where
       let old : ClientShadow (downs_of s) k number client w.commands = (h.clients k on.old number client on.at d.2).1 in
       unseen-step k (Did number Parted) s s' w on on.seen.4
       (one-client s w h k number on.old on.new client client' on.at d.2 (ap seat_of e) (ap (λ (x : WorkerModel C J). x.newest) e) outlet (ap (λ (x : WorkerModel C J). x.inlet) e) (ap (λ (x : WorkerModel C J). x.clients) e)
-      (fitting s w (walked-sound w walked).placed h) (subst (λ (c : ClientModel C). ClientShadow (downs_of s) k number c w.commands) (sym now) (parted-shadow (downs_of s) k number client client'.session w.commands old hangs))
+      (fitting s w (walked-stands w walked) h) (subst (λ (c : ClientModel C). ClientShadow (downs_of s) k number c w.commands) (sym now) (parted-shadow (downs_of s) k number client client'.session w.commands old hangs))
       (λ part c p q. ap (λ (x : ClientModel C). get x.commands.posted part) now ∙ p)
       (λ part c p. inl (c, ap (λ (x : ClientModel C). get x.commands.posted part) now ∙ p, refl)))

@@ -23,7 +23,7 @@ use Rattle.turn_laws.specs.System.{System, Mark, Answered, IsInStep}
 use Rattle.turn_laws.specs.Shadow.{IsShadow, ClientShadow, LogShadow, StandsAt, ticket_at, ListShadow}
 use Rattle.turn_laws.specs.Underway.{downs_of, ups_in}
 use Rattle.turn_laws.proofs.Downs.{Pair}
-use Rattle.turn_laws.proofs.Leading.{Leads, walked-on}
+use Rattle.turn_laws.proofs.Leading.{Leads}
 use Rattle.turn_laws.proofs.Logs.{log-one, answers_of}
 use Rattle.turn_laws.proofs.Onward.{AwaitsStill, fitting-on, others-set, worker-goes}
 use Rattle.turn_laws.proofs.Popping.{popped, first-stands, waits, before, popped-shadow}
@@ -31,7 +31,7 @@ use Rattle.turn_laws.proofs.Posting.{all-before}
 use Rattle.turn_laws.proofs.Rising.{walked-rising}
 use Rattle.turn_laws.proofs.Telling.{count-set}
 use Rattle.turn_laws.proofs.Told.{Fitting, fitting, own-set, SameParts, parts-set, lists-still}
-use Rattle.turn_laws.proofs.Walks.{walked-sound}
+use Rattle.turn_laws.proofs.Walks.{walked-on, walked-stands}
 
 -- ---- one part
 
@@ -42,7 +42,7 @@ module _ {C J : Type 0} (s : System C J) (w : WorldModel) (h : IsShadow s w) (wa
   downs = downs_of s
 
   fits : Fitting s.workers (length s.carrier.lanes) w.workers downs w.commands
-  fits = fitting s w (walked-sound w walked).placed h
+  fits = fitting s w (walked-stands w walked) h
 
   shadow : ClientShadow downs k number client w.commands
   shadow = (h.clients k model number client at got).1

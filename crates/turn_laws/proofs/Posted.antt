@@ -29,7 +29,7 @@ use Rattle.world_laws.specs.World.{WorldDoes, Way, IsAmong, MayRun, lies_in}
 use Rattle.world_laws.specs.declared.event.Event.{Event}
 use Rattle.world_laws.specs.declared.event.Event.TheVariants.{Post}
 use Rattle.world_laws.proofs.Recorded.{set-same}
-use Rattle.world_laws.proofs.Runs.{Sound}
+use Rattle.world_laws.proofs.Placed.{Standing}
 use Rattle.turn_laws.specs.Walks.{ticked, Walk}
 use Rattle.turn_laws.specs.System.{System, between, IsInStep, seat_of}
 use Rattle.turn_laws.specs.Shadow.{IsShadow, ClientShadow, HasPart, IsUnderWay, RunShadow, lying, ListShadow}
@@ -48,7 +48,7 @@ use Rattle.turn_laws.proofs.Rising.{Rising, walked-rising}
 use Rattle.turn_laws.proofs.Settled.{log-on}
 use Rattle.turn_laws.proofs.Told.{Fitting, fitting, lists-still}
 use Rattle.turn_laws.proofs.RunsLead.{posts-there}
-use Rattle.turn_laws.proofs.Walks.{walked-sound}
+use Rattle.turn_laws.proofs.Walks.{walked-stands}
 
 not-empty : (t : Ticket) (ts : List Ticket) → t ∷ ts ≢ []
 not-empty t ts e = cc
@@ -89,7 +89,7 @@ at-place P [] i x all e = absurd (none-some None x refl e)
 at-place P (y ∷ xs) zero x all e = let same : y ≡ x = cc in subst P same (all 0 y (omega arith))
 at-place P (y ∷ xs) (suc i) x all e = at-place P xs i x (λ n z lt. all (suc n) z (omega (arith, lt))) e
 
-module _ {C J : Type 0} (k number : ℕ) (run : RunModel) (s s' : System C J) (w : WorldModel) (h : IsShadow s w) (sound : Sound w) (rising : Rising w.commands) (on : WorkerStep s k (Did number (Posted run)) s') (there : run.first.node < length s.cluster.stores) where
+module _ {C J : Type 0} (k number : ℕ) (run : RunModel) (s s' : System C J) (w : WorldModel) (h : IsShadow s w) (stands : Standing w) (rising : Rising w.commands) (on : WorkerStep s k (Did number (Posted run)) s') (there : run.first.node < length s.cluster.stores) where
   abbrev holder : ClientModel C
   holder = on.does.0
 
@@ -115,7 +115,7 @@ module _ {C J : Type 0} (k number : ℕ) (run : RunModel) (s s' : System C J) (w
   downs = downs_of s
 
   fits : Fitting s.workers (length s.carrier.lanes) w.workers downs w.commands
-  fits = fitting s w sound.placed h
+  fits = fitting s w stands h
 
   shadow : ClientShadow downs k number holder w.commands
   shadow = (h.clients k on.old number holder on.at on.does.2).1
@@ -328,4 +328,4 @@ module _ (C J : Type 0) where
   posted k number run s s' w h names walked on =
       let there : run.first.node < length s.nodes =
       posts-there any_moves (length s.nodes) number run on.old on.new s.carrier.published names.seed names.published on.shown (λ n client e part c f. names.posted k on.old n client part c on.at e f) on.does in
-      posts k number run s s' w h (walked-sound w walked) (walked-rising w walked) on (omega (arith, there, names.each))
+      posts k number run s s' w h (walked-stands w walked) (walked-rising w walked) on (omega (arith, there, names.each))

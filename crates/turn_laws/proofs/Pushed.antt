@@ -20,7 +20,7 @@ use Rattle.turn_laws.specs.System.{System, Mark, Arrived, IsInStep}
 use Rattle.turn_laws.specs.Shadow.{IsShadow, ClientShadow, LogShadow, ticket_at, ListShadow}
 use Rattle.turn_laws.specs.Underway.{downs_of, ups_in}
 use Rattle.turn_laws.proofs.Downs.{Pair}
-use Rattle.turn_laws.proofs.Leading.{Leads, walked-on}
+use Rattle.turn_laws.proofs.Leading.{Leads}
 use Rattle.turn_laws.proofs.Logs.{log-one, arrivals_of}
 use Rattle.turn_laws.proofs.Onward.{AwaitsStill, fitting-on, worker-goes}
 use Rattle.turn_laws.proofs.Posted.{not-same}
@@ -28,7 +28,7 @@ use Rattle.turn_laws.proofs.Pushing.{pushed, next_of, count-more, pushed-shadow,
 use Rattle.turn_laws.proofs.Rising.{above-all, map-more}
 use Rattle.turn_laws.proofs.Telling.{wants-no}
 use Rattle.turn_laws.proofs.Told.{Fitting, AreOwn, PartsStay, fitting, lists-still}
-use Rattle.turn_laws.proofs.Walks.{walked-sound}
+use Rattle.turn_laws.proofs.Walks.{walked-on, walked-stands}
 use Rattle.turn_laws.proofs.Holding.{plain-asks}
 
 module _ {C J : Type 0} (s : System C J) (w : WorldModel) (h : IsShadow s w) (walked : IsWalked w) (k number : ℕ) (model : WorkerModel C J) (client : ClientModel C)
@@ -37,7 +37,7 @@ module _ {C J : Type 0} (s : System C J) (w : WorldModel) (h : IsShadow s w) (wa
   downs = downs_of s
 
   fits : Fitting s.workers (length s.carrier.lanes) w.workers downs w.commands
-  fits = fitting s w (walked-sound w walked).placed h
+  fits = fitting s w (walked-stands w walked) h
 
   shadow : ClientShadow downs k number client w.commands
   shadow = (h.clients k model number client at got).1
@@ -88,7 +88,7 @@ module _ {C J : Type 0} (s : System C J) (w : WorldModel) (h : IsShadow s w) (wa
       (at-last w.commands y i a p)
     where
       beyond : (i : ℕ) (a : Arrival) → slice_get w.commands i ≡ Some a → a.command.ticket ≡ y.command.ticket → ⊥
-      beyond i a u e = let lt = above-all w (walked-sound w walked).placed number i a u (ap (λ (t : Ticket). t.client) e) in omega (arith, lt, ap (λ (t : Ticket). t.part) e)
+      beyond i a u e = let lt = above-all w (walked-stands w walked) number i a u (ap (λ (t : Ticket). t.client) e) in omega (arith, lt, ap (λ (t : Ticket). t.part) e)
 
   client-now : ClientShadow downs k number client2 commands'
   client-now = pushed-shadow downs k number client w.commands shadow here part y refl ticketed refl

@@ -1,14 +1,14 @@
 -- From the start, over every list of steps.
-use Rattle.std.proofs.Common.{List, [], ◌∷◌, ◌++◌, subst}
+use Rattle.std.proofs.Common.{List, [], ◌∷◌, subst}
 use Rattle.std.specs.List.{FoldsTo}
-use Rattle.world_laws.specs.State.{WorldModel, start}
-use Rattle.turn_laws.specs.Walks.{IsWalked}
+use Rattle.world_laws.specs.State.{WorldModel}
+use Rattle.turn_laws.specs.Walks.{IsWalkedAlone}
 use Rattle.turn_laws.specs.System.{System}
 use Rattle.turn_laws.specs.Shadow.{IsShadow}
 use Rattle.turn_laws.specs.Naming.{NamesNodes}
 use Rattle.turn_laws.specs.Steps.{SystemEvent, AtWorker, AtCarrier, AtNode, AtBroken, Thrown, Moved, SystemStep}
 use Rattle.turn_laws.specs.Refines.{SimulatesNaming, Refines}
-use Rattle.turn_laws.proofs.Walks.{every_walk, walks_join}
+use Rattle.turn_laws.proofs.Walks.{alone-on, alone-walked, every_walk}
 use Rattle.turn_laws.proofs.Simulates.{anyhow, carrier-step, worker-step}
 use Rattle.turn_laws.proofs.NamesStay.{names-stay}
 use Rattle.turn_laws.proofs.AtNodes.{moved}
@@ -19,7 +19,7 @@ use Rattle.turn_laws.proofs.ServedLate.{served-late}
 use Rattle.key_split.specs.Laws.{PlansArePlain}
 
 module _ (C J : Type 0) (plain : PlansArePlain) where
-  simulates : (step : SystemEvent) → SimulatesNaming C J step
+  pub simulates : (step : SystemEvent) → SimulatesNaming C J step
   simulates (AtWorker k event) = worker-step C J plain k event
   simulates (AtCarrier event) = anyhow C J (AtCarrier event) (carrier-step C J event)
   simulates (AtNode k verdict) = anyhow C J (AtNode k verdict) (served C J k verdict)
@@ -27,11 +27,11 @@ module _ (C J : Type 0) (plain : PlansArePlain) where
   simulates (Thrown j) = anyhow C J (Thrown j) (thrown C J j)
   simulates (Moved event) = anyhow C J (Moved event) (moved C J event)
 
-  all : (steps : List SystemEvent) (s s' : System C J) (w : WorldModel) → IsShadow s w → NamesNodes s → IsWalked w → FoldsTo SystemStep s steps s' → (w' : WorldModel) × IsWalked w' × IsShadow s' w'
+  all : (steps : List SystemEvent) (s s' : System C J) (w : WorldModel) → IsShadow s w → NamesNodes s → IsWalkedAlone w → FoldsTo SystemStep s steps s' → (w' : WorldModel) × IsWalkedAlone w' × IsShadow s' w'
   all [] s s' w h names r f = (w, r, subst (λ x. IsShadow x w) f h)
   all (step ∷ steps) s s' w h names r f =
-      let one = simulates step s f.0 w h names r f.1 in
-      all steps f.0 s' one.1 one.3 (names-stay C J step s f.0 w h names f.1) (r.0, r.1, r.2, r.3 ++ one.0, r.4, walks_join r.3 one.0 (start r.0 r.1 r.2) w one.1 r.5 one.2) f.2
+      let one = simulates step s f.0 w h names (alone-walked w r) f.1 in
+      all steps f.0 s' one.1 one.3 (names-stay C J step s f.0 w h names f.1) (alone-on w one.1 one.0 r one.2) f.2
 
   pub refines : Refines C J
   refines s s' steps h f =

@@ -14,12 +14,13 @@ use Rattle.world_laws.specs.declared.event.Event.TheVariants.{Arrive, Post, Carr
 use Rattle.world_laws.proofs.Counted.{one_if, owned, ticket-after_told}
 use Rattle.world_laws.proofs.Kept.{numbers-so}
 use Rattle.world_laws.proofs.Allowed.{ticked as placed-ticked}
-use Rattle.world_laws.proofs.Placed.{Placed, numbered_so, owned_by, total-zero, in_requests-tickets, in_backs-tickets}
+use Rattle.world_laws.proofs.Placed.{Standing, numbered_so, owned_by, total-zero, in_requests-tickets, in_backs-tickets}
 use Rattle.world_laws.proofs.Recorded.{at-last}
 use Rattle.world_laws.proofs.Tally.{total-one}
-use Rattle.world_laws.proofs.Runs.{Sound, does-sound, start-sound}
+use Rattle.shared_laws.specs.Shared.{Step}
+use Rattle.shared_laws.proofs.SharedRuns.{Steady, does-steady, start-steady, steady-stands}
 use Rattle.world_laws.specs.State.{sent_of, answered_of}
-use Rattle.turn_laws.specs.Walks.{ticked, Walk, IsWalked}
+use Rattle.turn_laws.specs.Walks.{IsWalked, SharedWalk, ticked}
 use Rattle.turn_laws.proofs.Elements.{nothing-there}
 use Rattle.turn_laws.proofs.Told.{map-set}
 
@@ -103,7 +104,7 @@ total-counts : {X : Type 0} (q : X → Bool) (xs : List X) → total (λ x. one_
 total-counts q [] = refl
 total-counts q (x ∷ xs) = omega (arith, total-counts q xs, sum_by-cons (λ x. one_if (q x)) x xs)
 
-pub above-all : (w : WorldModel) → Placed w → (client j : ℕ) (d : Arrival) → slice_get w.commands j ≡ Some d → d.command.ticket.client ≡ client → d.command.ticket.part < (next_ticket w client).part
+pub above-all : (w : WorldModel) → Standing w → (client j : ℕ) (d : Arrival) → slice_get w.commands j ≡ Some d → d.command.ticket.client ≡ client → d.command.ticket.part < (next_ticket w client).part
 above-all w h client j d at of =
     let part : ℕ = d.command.ticket.part in
     let one : one_if (numbered_so client part d.command.ticket) ≡ 1 = ap one_if (numbers-so d.command.ticket client part of refl) in
@@ -119,7 +120,7 @@ above-all w h client j d at of =
         either : (a b : ℕ) → (a < b) ⊎ (b ≤ a)
         either a b = grind arith
 
-rising-does : (e : Event) (w w' : WorldModel) → Placed w → AreRising (tickets w.commands) → WorldDoes w e w' → AreRising (tickets w'.commands)
+rising-does : (e : Event) (w w' : WorldModel) → Standing w → AreRising (tickets w.commands) → WorldDoes w e w' → AreRising (tickets w'.commands)
 rising-does e w w' h r d = ⊎_elim
     (λ (x : tickets w'.commands ≡ tickets w.commands). subst AreRising (sym x) r)
     (λ (x : (client : ℕ) × (tickets w'.commands ≡ tickets w.commands ++ next_ticket w client ∷ [])). subst AreRising (sym x.1) (more x.0))
@@ -141,11 +142,13 @@ rising-does e w w' h r d = ⊎_elim
         (at-last (tickets w.commands) (next_ticket w client) j u q))
         (at-last (tickets w.commands) (next_ticket w client) i t p)
 
-rising-walk : (es : List Event) (w w' : WorldModel) → Sound w → AreRising (tickets w.commands) → Walk w es w' → AreRising (tickets w'.commands)
-rising-walk [] w w' s r x = subst (λ (v : WorldModel). AreRising (tickets v.commands)) (sym x) r
-rising-walk (e ∷ es) w w' s r x = rising-walk es x.0 w' (does-sound e w x.0 s x.1) (rising-does e (ticked w) x.0 (placed-ticked w s.placed) r x.1) x.2
+rising-walk : (n : ℕ) (ss : List Step) (w w' : WorldModel) → Steady n w → AreRising (tickets w.commands) → SharedWalk w ss w' → AreRising (tickets w'.commands)
+rising-walk n [] w w' s r x = subst (λ (v : WorldModel). AreRising (tickets v.commands)) (sym x) r
+rising-walk n (Step.Ours e ∷ ss) w w' s r x = rising-walk n ss x.0 w' (does-steady n (Step.Ours e) w x.0 s x.1) (rising-does e (ticked w) x.0 (placed-ticked w (steady-stands n w s)) r x.1) x.2
+rising-walk n (Step.Theirs node asking es ∷ ss) w w' s r x = rising-walk n ss x.0 w' (does-steady n (Step.Theirs node asking es) w x.0 s x.1) (subst (λ (v : WorldModel). AreRising (tickets v.commands)) (sym x.1.2) r) x.2
+rising-walk n (Step.Passes ∷ ss) w w' s r x = rising-walk n ss x.0 w' (does-steady n Step.Passes w x.0 s x.1) (subst (λ (v : WorldModel). AreRising (tickets v.commands)) (sym x.1) r) x.2
 
 pub walked-rising : (w : WorldModel) → IsWalked w → Rising w.commands
 walked-rising w h i j c d p q lt same =
-    rising-walk h.3 (start h.0 h.1 h.2) w (start-sound h.0 h.1 h.2 h.4) (λ i j t u p. absurd (nothing-there i t p)) h.5 i j c.command.ticket d.command.ticket
+    rising-walk h.0 h.3 (start h.0 h.1 h.2) w (start-steady h.0 h.1 h.2 h.4) (λ i j t u p. absurd (nothing-there i t p)) h.5 i j c.command.ticket d.command.ticket
     (map-at (λ (c : Arrival). c.command.ticket) w.commands i c p) (map-at (λ (c : Arrival). c.command.ticket) w.commands j d q) lt same

@@ -15,7 +15,7 @@ use Rattle.proxy_turns.specs.declared.newcomer.Newcomer.{Newcomer}
 use Rattle.proxy_turns.specs.declared.pending_run.PendingRun.{PendingRun}
 use Rattle.proxy_turns.specs.declared.backend.Backend.{Backend}
 use Rattle.proxy_turns.specs.CarrierModel.{CarrierModel, Sent}
-use Rattle.world_laws.specs.State.{WorldModel, start}
+use Rattle.world_laws.specs.State.{WorldModel}
 use Rattle.world_laws.specs.declared.event.Event.{Event}
 use Rattle.world_laws.proofs.Recorded.{set-same}
 use Rattle.turn_laws.specs.Walks.{Walk, IsWalked}
@@ -26,7 +26,7 @@ use Rattle.turn_laws.specs.Steps.{AtCarrier, CarrierStep}
 use Rattle.turn_laws.specs.PortsMay.{any_failures, any_garbled}
 use Rattle.turn_laws.specs.Refines.{Simulates}
 use Rattle.turn_laws.proofs.Waiting.{same-closed}
-use Rattle.turn_laws.proofs.Walks.{walks_join}
+use Rattle.turn_laws.proofs.Walks.{walked-on, walks_join}
 use Rattle.turn_laws.proofs.Listed.{set-listed, still-listed}
 use Rattle.turn_laws.proofs.Settled.{Goes, goes-of}
 use Rattle.turn_laws.proofs.Items.{requests-append}
@@ -166,7 +166,7 @@ module _ {C J : Type 0} (s s' : System C J) (w : WorldModel) (h : IsShadow s w) 
   })
 
   then-walked : IsWalked first.1
-  then-walked = (walked.0, walked.1, walked.2, walked.3 ++ first.0, walked.4, walks_join walked.3 first.0 (start walked.0 walked.1 walked.2) w first.1 walked.5 first.2)
+  then-walked = walked-on w first.1 first.0 walked first.2
 
   breaks : (why : Failure) → link2.failure ≡ Some why → SendsAllOrNone Exchanges link.port (requests_of_run held) link2.port → link2.due ≡ link.due ++ map due_of (requests_of_run held) → Result'
   breaks why failed sends' dues =

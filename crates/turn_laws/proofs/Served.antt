@@ -37,7 +37,7 @@ use Rattle.turn_laws.proofs.Listed.{set-listed}
 use Rattle.turn_laws.proofs.Lines.{backend-changes}
 use Rattle.turn_laws.proofs.Answering.{quiet-backend}
 use Rattle.turn_laws.proofs.Openings.{one-connection}
-use Rattle.turn_laws.proofs.Walks.{walked-sound}
+use Rattle.turn_laws.proofs.Walks.{walked-stands}
 use Rattle.turn_laws.proofs.Serving.{all-first, all-later, some-request, log-nothing, log-served, entries_at, serves-run, node-frame}
 use Rattle.turn_laws.proofs.ServedRuns.{as-many-values, each-told}
 use Rattle.turn_laws.proofs.Seen.{seen-set}
@@ -244,7 +244,7 @@ module _ {C J : Type 0} (s s' : System C J) (w : WorldModel) (h : IsShadow s w) 
     replies i l numbers at open' =
         let l' : Link = record l { requests = requests_in rest; backs = l.backs ++ backs_in s.nodes link.node (dues_of (Runs parts)) more; asking = wire.asking } in
         let links' : List Link = slice_set w.links i l' in
-        let r = serves-run w (walked-sound w walked).placed s.cluster s'.cluster i l link.port.node link.port.asking parts verdict tolds (requests_in rest) at h.cluster (open'.node ∙ sym open'.wired) open'.asking
+        let r = serves-run w (walked-stands w walked) s.cluster s'.cluster i l link.port.node link.port.asking parts verdict tolds (requests_in rest) at h.cluster (open'.node ∙ sym open'.wired) open'.asking
         (open'.requests ∙ ap requests_in first) (all-first (IsKnown w.commands) (Runs parts) rest (subst (All (IsKnown w.commands)) first open'.known)) names does in
         let m = r.0 in
         let history' : List EntryModel = w.history ++ entries_at (w.moment + 1) (executions parts tolds) in

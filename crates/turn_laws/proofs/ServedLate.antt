@@ -24,7 +24,7 @@ use Rattle.turn_laws.specs.System.{System}
 use Rattle.turn_laws.specs.Shadow.{IsShadow, LinksShadow, LogShadow, WireShadow, ClosedShadow, IsKnown, IsUnnumbered, Numbers, requests_in}
 use Rattle.turn_laws.specs.Steps.{AtBroken, ServesLate, log_of}
 use Rattle.turn_laws.specs.Refines.{Simulates}
-use Rattle.turn_laws.proofs.Walks.{walked-sound}
+use Rattle.turn_laws.proofs.Walks.{walked-stands}
 use Rattle.turn_laws.proofs.Throwing.{wire-changes, not-mine}
 use Rattle.turn_laws.proofs.Serving.{all-first, all-later, some-request, log-nothing, log-served, entries_at, serves-run, node-frame}
 
@@ -118,7 +118,7 @@ module _ {C J : Type 0} (s s' : System C J) (w : WorldModel) (h : IsShadow s w) 
         let known : All (IsKnown w.commands) old.items → All (IsKnown w.commands) rest = λ all. all-later (IsKnown w.commands) (Runs parts) rest (subst (All (IsKnown w.commands)) first all) in
         let l' : Link = link' rest (asked.Runs (tickets_for parts)) false is (ap requests_in first) known i l numbers at closed in
         let links' : List Link = slice_set w.links i l' in
-        let r = serves-run w (walked-sound w walked).placed s.cluster s'.cluster i l old.node old.asking parts verdict tolds
+        let r = serves-run w (walked-stands w walked) s.cluster s'.cluster i l old.node old.asking parts verdict tolds
         (later rest (asked.Runs (tickets_for parts)) false is (ap requests_in first) known i l numbers at closed) at h.cluster closed.node closed.asking
         (front rest (asked.Runs (tickets_for parts)) false is (ap requests_in first) known i l numbers at closed)
         (all-first (IsKnown w.commands) (Runs parts) rest (subst (All (IsKnown w.commands)) first closed.known)) names does in

@@ -19,7 +19,7 @@ use Rattle.world_laws.specs.declared.state.Arrival.{Arrival}
 use Rattle.world_laws.specs.World.{WorldDoes, AreOf, IsOf, NamesNode, entry_of, entries_of}
 use Rattle.world_laws.specs.declared.event.Event.TheVariants.{Serve}
 use Rattle.world_laws.specs.Places.{is}
-use Rattle.world_laws.proofs.Placed.{Placed}
+use Rattle.world_laws.proofs.Placed.{Standing}
 use Rattle.world_laws.proofs.Allowed.{found}
 use Rattle.turn_laws.specs.Walks.{ticked}
 use Rattle.turn_laws.specs.Wire.{Wire, Part, Execution, executed, executions, parts_in, tickets_for}
@@ -62,7 +62,7 @@ log-served log w w' (one ∷ later) h commands answers moment history =
     (ap (map (λ (a : _). (a.ticket, a.ended, a.answered))) answers ∙ sym (append-nil _))
 
 -- the command of a ticket, as the machine finds it
-pub of-part : (w : WorldModel) → Placed w → (ticket : Ticket) (part : PartModel) → HasPart w.commands ticket part
+pub of-part : (w : WorldModel) → Standing w → (ticket : Ticket) (part : PartModel) → HasPart w.commands ticket part
     → (i : ℕ) × (c : Arrival) × IsOf c.command.ticket w.commands i c × (c.command.ticket ≡ ticket) × (c.command.part ≡ part)
 of-part w placed ticket part h =
     let f = found w placed (h.1).command.ticket h.0 h.1 h.2 ((same_ticket-Decides (h.1).command.ticket (h.1).command.ticket).1 refl) in
@@ -90,7 +90,7 @@ pub record MachineRun (commands : List Arrival) (parts : List Part) (tolds : Lis
   pub are_of : AreOf run commands
   pub entries : (moment : ℕ) → entries_of moment run ≡ entries_at moment (executions parts tolds)
 
-machine-run : (w : WorldModel) → Placed w → (parts : List Part) (tolds : List Told) → length (parts_in parts) ≡ length tolds → All (λ (part : Part). HasPart w.commands part.0 part.1) parts → MachineRun w.commands parts tolds
+pub machine-run : (w : WorldModel) → Standing w → (parts : List Part) (tolds : List Told) → length (parts_in parts) ≡ length tolds → All (λ (part : Part). HasPart w.commands part.0 part.1) parts → MachineRun w.commands parts tolds
 machine-run w placed [] [] e known = record { run = []; tickets = refl; parts_are = refl; tolds_are = refl; are_of = tt; entries = λ moment. refl }
 machine-run w placed [] (told ∷ tolds) e known = absurd (omega (arith, e))
 machine-run w placed (part ∷ parts) [] e known = absurd (omega (arith, e))
@@ -111,7 +111,7 @@ machine-run w placed (part ∷ parts) (told ∷ tolds) e known =
     }
 
 -- a run is served: the machine's event
-pub serves-run : (w : WorldModel) → Placed w → (k k' : ClusterModel) (i : ℕ) (l : Link) (node : ℕ) (asking : Bool) (parts : List Part) (verdict : Verdict) (tolds : List Told) (rest : List LinkRequest)
+pub serves-run : (w : WorldModel) → Standing w → (k k' : ClusterModel) (i : ℕ) (l : Link) (node : ℕ) (asking : Bool) (parts : List Part) (verdict : Verdict) (tolds : List Told) (rest : List LinkRequest)
     → slice_get w.links i ≡ Some l → w.cluster ≡ k → l.node ≡ node → l.asking ≡ asking → l.requests ≡ Runs (tickets_for parts) ∷ rest
     → All (λ (part : Part). HasPart w.commands part.0 part.1) parts → NamesNode k verdict
     → DoesRun (deed_for k node asking (parts_in parts) verdict) k node (parts_in parts) tolds k'

@@ -13,7 +13,7 @@ use Rattle.world_laws.specs.declared.state.Posted.{Posted}
 use Rattle.world_laws.specs.declared.state.Arrival.{Arrival}
 use Rattle.world_laws.specs.World.{WorldDoes}
 use Rattle.world_laws.specs.declared.event.Event.{Event}
-use Rattle.world_laws.proofs.Placed.{Placed}
+use Rattle.world_laws.proofs.Placed.{Standing}
 use Rattle.world_laws.proofs.Lives.{does-moment}
 use Rattle.turn_laws.specs.Walks.{ticked, Walk, IsWalked}
 use Rattle.turn_laws.specs.Settling.{TellsAll}
@@ -25,7 +25,7 @@ use Rattle.turn_laws.specs.Steps.{CarrierStep, UpsInStep}
 use Rattle.turn_laws.proofs.Downs.{Pair, SameBag}
 use Rattle.turn_laws.proofs.Frames.{DownFits, Seats, beside}
 use Rattle.turn_laws.proofs.Listed.{still-listed}
-use Rattle.turn_laws.proofs.Walks.{walked-sound}
+use Rattle.turn_laws.proofs.Walks.{walked-stands}
 use Rattle.turn_laws.proofs.Settling.{settling-after}
 use Rattle.turn_laws.proofs.Told.{Fitting, fitting, fitting-same, tell-all, SameParts, parts-told, links-told, lists-still}
 
@@ -68,7 +68,7 @@ goes-of {C} {J} event s s' step = record {
 
 module _ {C J : Type 0} where
   pub settled-frame : (s s' : System C J) (w : WorldModel) (ups' : List Posted) (links' : List Link) (pairs : List Pair) (commands' : List Arrival) (moment' : ℕ)
-      → w.moment ≤ moment' → Placed w → IsShadow s w → Goes s s'
+      → w.moment ≤ moment' → Standing w → IsShadow s w → Goes s s'
       → LinksShadow s.nodes s'.carrier s'.closed s'.opened (record w { links = links' })
       → TellsAll w.commands pairs commands' → SameBag (downs_of s ++ pairs) (downs_of s')
       → Seats s s'
@@ -135,7 +135,7 @@ module _ {C J : Type 0} where
         core ∷ r.0,
         w',
         subst (λ x. Walk w (core ∷ r.0) x) is r.2,
-        settled-frame s s' w ups' links' said r.3.0 r.3.1 later (walked-sound w walked).placed h step links tells bag lanes steps ups,
+        settled-frame s s' w ups' links' said r.3.0 r.3.1 later (walked-stands w walked) h step links tells bag lanes steps ups,
       )
 
   -- where the workers will hear just that

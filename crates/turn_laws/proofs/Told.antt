@@ -19,7 +19,7 @@ use Rattle.world_laws.specs.State.{WorldModel, Link, after_told}
 use Rattle.world_laws.specs.declared.state.Arrival.{Arrival}
 use Rattle.world_laws.specs.Places.{total, is}
 use Rattle.world_laws.proofs.Tally.{total-append, total-found, total-one}
-use Rattle.world_laws.proofs.Placed.{Placed}
+use Rattle.world_laws.proofs.Placed.{Standing}
 use Rattle.world_laws.proofs.Lives.{same_place}
 use Rattle.world_laws.proofs.Recorded.{at-set, set-same, set-other}
 use Rattle.turn_laws.specs.Wire.{Wire, Item, Asks, Runs, Lists}
@@ -36,7 +36,7 @@ use Rattle.turn_laws.proofs.Telling.{told-no, own-awaits, count-set, told-client
 abbrev pub AreOwn : List Arrival → Type 0
 AreOwn commands = (i j : ℕ) (x y : Arrival) → slice_get commands i ≡ Some x → slice_get commands j ≡ Some y → x.command.ticket ≡ y.command.ticket → i ≡ j
 
-pub own-placed : (w : WorldModel) → Placed w → AreOwn w.commands
+pub own-placed : (w : WorldModel) → Standing w → AreOwn w.commands
 own-placed w placed i j x y p q e = same_place w placed i j x y p q e
 
 -- a command in place of one of its ticket
@@ -77,7 +77,7 @@ module _ {C J : Type 0} where
     pub waiting : (j : ℕ) (c : Arrival) → slice_get commands j ≡ Some c → c.command.stage ≡ Awaits → Holds workers c.command.ticket c.command
     pub asking : (j : ℕ) (c : Arrival) (node : ℕ) → slice_get commands j ≡ Some c → c.command.stage ≡ WantsAsking node → (d : CommandModel) × Holds workers c.command.ticket d
 
-  pub fitting : (s : System C J) (w : WorldModel) → Placed w → IsShadow s w → Fitting s.workers (length s.carrier.lanes) w.workers (downs_of s) w.commands
+  pub fitting : (s : System C J) (w : WorldModel) → Standing w → IsShadow s w → Fitting s.workers (length s.carrier.lanes) w.workers (downs_of s) w.commands
   fitting s w placed h = record {
     sides = h.sides;
     own = own-placed w placed;

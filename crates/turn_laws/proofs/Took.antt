@@ -38,7 +38,7 @@ use Rattle.turn_laws.proofs.Frames.{DownFits}
 use Rattle.turn_laws.proofs.Bags.{refusals, debts}
 use Rattle.turn_laws.proofs.Lanes.{between-take}
 use Rattle.turn_laws.proofs.Elements.{nothing-there}
-use Rattle.turn_laws.proofs.Walks.{walked-sound}
+use Rattle.turn_laws.proofs.Walks.{walked-stands}
 use Rattle.turn_laws.proofs.Told.{Fitting, fitting, more-cases, none-down}
 use Rattle.turn_laws.proofs.Clients.{worker-frame, unseen-step, held-in, put-holds, put-none}
 use Rattle.turn_laws.proofs.Tables.{put-same, put-other, put-apart}
@@ -375,4 +375,4 @@ module _ {C J : Type 0} where
 module _ (C J : Type 0) where
   pub took : (k : ℕ) (ticket : Ticket) (told : Told) → Simulates C J (AtWorker k (Took ticket told))
   took k ticket told s s' w h walked on =
-      unseen-step k (Took ticket told) s s' w on on.seen (takes k ticket told s s' w h (fitting s w (walked-sound w walked).placed h) on)
+      unseen-step k (Took ticket told) s s' w on on.seen (takes k ticket told s s' w h (fitting s w (walked-stands w walked) h) on)

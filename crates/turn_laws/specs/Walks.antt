@@ -5,6 +5,8 @@ use Rattle.world_laws.specs.State.{WorldModel, start}
 use Rattle.world_laws.specs.World.{WorldDoes}
 use Rattle.world_laws.specs.Headline.{Headline, IsNew}
 use Rattle.world_laws.specs.declared.event.Event.{Event}
+use Rattle.shared_laws.specs.Shared.{SharedDoes, Step}
+use Rattle.shared_laws.specs.SharedHeadline.{SharedHeadline}
 
 -- the moment counts one event more
 abbrev pub ticked : WorldModel → WorldModel
@@ -15,10 +17,22 @@ abbrev pub Walk : WorldModel → List Event → WorldModel → Type 0
 Walk w [] w' = w' ≡ w
 Walk w (e ∷ es) w' = (mid : WorldModel) × WorldDoes (ticked w) e mid × Walk mid es w'
 
--- a world to which events lead, from settled slots and no keys
+-- these steps, ours and others', one after another
+abbrev pub SharedWalk : WorldModel → List Step → WorldModel → Type 0
+SharedWalk w [] w' = w' ≡ w
+SharedWalk w (s ∷ ss) w' = (mid : WorldModel) × SharedDoes (ticked w) s mid × SharedWalk mid ss w'
+
+-- a world to which steps lead, ours and others', from settled slots and no keys
 abbrev pub IsWalked : WorldModel → Type 0
-IsWalked w = (workers : ℕ) × (run_limit : ℕ) × (cluster : ClusterModel) × (events : List Event) × IsNew cluster × Walk (start workers run_limit cluster) events w
+IsWalked w = (workers : ℕ) × (run_limit : ℕ) × (cluster : ClusterModel) × (steps : List Step) × IsNew cluster × SharedWalk (start workers run_limit cluster) steps w
+
+-- the same where nobody else acts
+abbrev pub IsWalkedAlone : WorldModel → Type 0
+IsWalkedAlone w = (workers : ℕ) × (run_limit : ℕ) × (cluster : ClusterModel) × (events : List Event) × IsNew cluster × Walk (start workers run_limit cluster) events w
 
 -- the headline holds after all of them
 abbrev pub EveryWalk : Type 0
-EveryWalk = (w : WorldModel) → IsWalked w → Headline w
+EveryWalk = (w : WorldModel) → IsWalkedAlone w → Headline w
+
+abbrev pub EverySharedWalk : Type 0
+EverySharedWalk = (w : WorldModel) → IsWalked w → SharedHeadline w

@@ -8,6 +8,9 @@ ghost use Rattle.turn_laws.specs.AnyPort.{AnyClients, AnyClientTurns, AnyPorts, 
 ghost use Rattle.turn_laws.specs.Scripts.{GivesBack, LosesCommands, MisreadsLines, MovesUnderUse, PairsCommands};
 ghost use Rattle.turn_laws.specs.Refines.{CarrierRefines, MovesRefine, NamesStay, NodesRefine, Refines, StartsRefine, ThrownRefine, WorkersRefine};
 ghost use Rattle.turn_laws.specs.LogHeadline.{HeadlineOfLogs, LogsAreHeld};
+ghost use Rattle.turn_laws.specs.SharedLog.{HeadlineOfSharedLogs, SharedLogsAreHeld};
+ghost use Rattle.turn_laws.specs.Sharing.{SharedRefines};
+ghost use Rattle.turn_laws.specs.Fleet.{EveryFleet, FleetFollows};
 ghost use Rattle.turn_laws.specs.Unclear.{HeardAlike, UnclearIsRefusal};
 ghost use Rattle.turn_laws.specs.Writing.{NamedIsReadBack, NewSlotsStand, SlotsStay, WrittenIsHeard};
 
@@ -97,6 +100,25 @@ pub fn refines<C: Drop, J: Naming>()
 pub fn headline_of_logs<C: Drop, J: Naming>()
     ensures headline { HeadlineOfLogs C J }
     ensures held { LogsAreHeld C J }
+{
+    parts_of_plans_are_plain();
+}
+
+/// The same where other clients of the cluster act between its steps: other proxies, scripts, keys that expire. The headline holds
+/// of the system's own commands, in one legal history of everybody's.
+pub fn headline_beside_others<C: Drop, J: Naming>()
+    ensures refines { SharedRefines C J }
+    ensures headline { HeadlineOfSharedLogs C J }
+    ensures held { SharedLogsAreHeld C J }
+{
+    parts_of_plans_are_plain();
+}
+
+/// Several proxies before one cluster, each a system of its own, beside clients that are none: the headline holds of each one's
+/// commands, in one legal history of everybody's. What a proxy may do alone it may do there, if an import waits for all.
+pub fn headline_of_fleets<C: Drop, J: Naming>()
+    ensures headline { EveryFleet C J }
+    ensures follows { FleetFollows C J }
 {
     parts_of_plans_are_plain();
 }

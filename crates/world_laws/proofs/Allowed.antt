@@ -22,13 +22,14 @@ use Rattle.world_laws.specs.declared.state.LinkRequest.TheVariants.{Asking, Runs
 use Rattle.world_laws.specs.declared.state.LinkReply.TheVariants.{Welcome, To}
 use Rattle.world_laws.specs.Places.{Item, total, in_requests, in_backs, in_lane, in_link, tally, is}
 use Rattle.world_laws.specs.Places.Item.{Stands, Lies, Sent, Comes}
-use Rattle.world_laws.specs.World.{IsFirst, IsOf, AreOf, entries_of}
-use Rattle.world_laws.specs.declared.event.Event.TheVariants.{Serve}
+use Rattle.node_model.specs.declared.role.Verdict.{Verdict}
+use Rattle.world_laws.specs.World.{IsFirst, IsOf, AreOf, entries_of, last_moment}
+use Rattle.world_laws.specs.declared.event.Event.TheVariants.{Serve, Take}
 use Rattle.world_laws.specs.Headline.{At}
 use Rattle.world_laws.specs.Allowed.{IsAllowed, TakeIsAllowed, Fits, RunsHaveOneSlot, ServeIsAllowed}
 use Rattle.world_laws.proofs.Tally.{total-one, total-found, tally-le}
 use Rattle.world_laws.proofs.Counted.{if_awaits, here, awaits, stray, ran, owned}
-use Rattle.world_laws.proofs.Placed.{Placed}
+use Rattle.world_laws.proofs.Placed.{Standing, standing-of}
 use Rattle.world_laws.proofs.Kept.{is-refl, unique}
 use Rattle.world_laws.proofs.Flow.{all_at, of-ticket}
 use Rattle.world_laws.proofs.Turns.{AreRuns}
@@ -103,7 +104,7 @@ is-so t u lt = go (same_ticket t u) lt
     go true lt = refl
     go false lt = absurd (omega arith)
 
-module _ (w : WorldModel) (h : Placed w) where
+module _ (w : WorldModel) (h : Standing w) where
   pub awaited : (t : Ticket) → 0 < tally (awaits t) w → (i : ℕ) × (c : Arrival) × At w.commands i c × (c.command.stage ≡ Awaits) × (same_ticket t c.command.ticket ≡ true)
   awaited t lt =
       let f = total-found (λ c. awaits t (Stands c)) w.commands (omega (arith, commands-alone (awaits t) (λ _ _ _. refl) (λ _ _ _ _. refl) (λ _ _. refl) w)) in
@@ -163,7 +164,7 @@ awaits-owned t (Comes u told) = omega arith
 nothing : (w : WorldModel) → tally (λ _. 0) w ≡ 0
 nothing w = omega (arith, commands-alone (λ _. 0) (λ _ _ _. refl) (λ _ _ _ _. refl) (λ _ _. refl) w, no-total w.commands)
 
-module _ (w : WorldModel) (h : Placed w) where
+module _ (w : WorldModel) (h : Standing w) where
   -- who stands somewhere has a command
   pub owner : (t : Ticket) → 1 ≤ tally (here t) w + tally (stray t) w → (i : ℕ) × (c : Arrival) × At w.commands i c × (same_ticket t c.command.ticket ≡ true)
   owner t lt =
@@ -171,7 +172,7 @@ module _ (w : WorldModel) (h : Placed w) where
         arith,
         lt,
         h.place t,
-        h.once t,
+        h.strays t,
         nothing w,
         tally-le (ran t) (λ _. 0) (owned (same_ticket t)) (here t) (ran-owned t) w,
         tally-le (awaits t) (λ _. 0) (owned (same_ticket t)) (λ _. 0) (awaits-owned t) w,
@@ -233,7 +234,7 @@ served : (commands cs : List Arrival) (k : ClusterModel) (node : ℕ) (deed : De
 served commands cs k node Executes h = let r = executed commands cs (store_at k node) h in (r.0, r.1, r.2, r.3, with_store k node (store_after_all (store_at k node) (parts_told r.0)), (r.4, refl))
 served commands cs k node (Says said) h = let r = refused commands cs said h in (r.0, r.1, r.2, r.3, k, (r.4, refl))
 
-module _ (w : WorldModel) (h : Placed w) where
+module _ (w : WorldModel) (h : Standing w) where
   known : (ts : List Ticket) → ((k : ℕ) (t : Ticket) → slice_get ts k ≡ Some t → 1 ≤ tally (here t) w + tally (stray t) w) → Known w.commands ts
   known [] f = ([], refl, tt)
   known (t ∷ ts) f =
@@ -245,13 +246,14 @@ module _ (w : WorldModel) (h : Placed w) where
 
 -- the laws
 
-pub ticked : (w : WorldModel) → Placed w → Placed (record w { moment = w.moment + 1 })
-ticked w x = record { single = x.single; below = x.below; place = x.place; once = x.once; replied = x.replied; tidy = x.tidy }
+pub ticked : (w : WorldModel) → Standing w → Standing (record w { moment = w.moment + 1 })
+ticked w x = record { single = x.single; below = x.below; place = x.place; strays = x.strays; tidy = x.tidy }
 
-pub take-is-allowed : TakeIsAllowed
-take-is-allowed w lane i ticket told reached lt first =
+pub take-allowed : (w : WorldModel) (lane i : ℕ) (ticket : Ticket) (told : Told) → Standing w → w.moment < last_moment
+    → IsFirst (λ (x : Ticket × Told). x.0.worker == lane) w.downs i (ticket, told) → IsAllowed w (Take lane)
+take-allowed w lane i ticket told stands lt first =
     let w1 : WorldModel = record w { moment = w.moment + 1 } in
-    let h : Placed w1 = ticked w (reached-sound w reached).placed in
+    let h : Standing w1 = ticked w stands in
     let a = awaited w1 h ticket (omega (arith, h.place ticket, down-here w1 i ticket told first.1)) in
     let o = found w1 h ticket a.0 a.1 a.2 a.4 in
     let same : ticket ≡ (a.1).command.ticket = sym (ticket-is ticket (a.1).command.ticket a.4) in (
@@ -271,14 +273,18 @@ take-is-allowed w lane i ticket told reached lt first =
       ),
     )
 
-pub serve-is-allowed : ServeIsAllowed
-serve-is-allowed w link v l first rest reached lt at_l r fits = go first r fits
+pub take-is-allowed : TakeIsAllowed
+take-is-allowed w lane i ticket told reached lt first = take-allowed w lane i ticket told (standing-of w w.history (reached-sound w reached).placed) lt first
+
+pub serve-allowed : (w : WorldModel) (link : ℕ) (verdict : Verdict) (l : Link) (first : LinkRequest) (rest : List LinkRequest) → Standing w → w.moment < last_moment
+    → slice_get w.links link ≡ Some l → l.requests ≡ first ∷ rest → Fits w verdict first → IsAllowed w (Serve link verdict)
+serve-allowed w link v l first rest stands lt at_l r fits = go first r fits
   where
     w1 : WorldModel
     w1 = record w { moment = w.moment + 1 }
 
-    h : Placed w1
-    h = ticked w (reached-sound w reached).placed
+    h : Standing w1
+    h = ticked w stands
 
     go : (first : LinkRequest) → l.requests ≡ first ∷ rest → Fits w v first → IsAllowed w (Serve link v)
     go Asking r fits = (record w1 { links = slice_set w1.links link (replied (record l { requests = rest; asking = true }) Welcome) }, (lt, (l, at_l, inl (rest, r, fits, refl))))
@@ -293,6 +299,9 @@ serve-is-allowed w link v l first rest reached lt at_l r fits = go first r fits
           (lt, (l, at_l, inr (rest, s.0, s.4, r ∙ ap (λ u. Runs u ∷ rest) same, s.3, fits, did, refl))),
         )
 
+pub serve-is-allowed : ServeIsAllowed
+serve-is-allowed w link v l first rest reached lt at_l r fits = serve-allowed w link v l first rest (standing-of w w.history (reached-sound w reached).placed) lt at_l r fits
+
 -- the commands of a run have one slot
 pub one-slot : RunsHaveOneSlot
 one-slot w link l tickets rest reached at_l first =
@@ -302,6 +311,6 @@ one-slot w link l tickets rest reached at_l first =
       (both.0).0,
       λ ticket i c among of.
           let g = (both.0).1 among.0 ticket among.1 in
-          let same : g.1 ≡ c = same_command w s.placed g.0 i g.1 c g.2 of.1 (g.3 ∙ sym (of-ticket ticket w.commands i c of)) in
+          let same : g.1 ≡ c = same_command w (standing-of w w.history s.placed) g.0 i g.1 c g.2 of.1 (g.3 ∙ sym (of-ticket ticket w.commands i c of)) in
           ap (λ (z : Arrival). slot_for z.command.part) (sym same) ∙ g.4,
     )

@@ -32,7 +32,7 @@ use Rattle.world_laws.specs.declared.event.Event.TheVariants as ev
 use Rattle.world_laws.proofs.Tally.{total-two, tally-le}
 use Rattle.world_laws.proofs.Flow.{all_at, IsTidy, arrive-flow, post-flow, refuse-flow, take-flow, answer-flow, carry-flow, fetch-flow, discard-flow, drop-flow, welcome-flow}
 use Rattle.world_laws.proofs.Counted.{one_if, if_ran, if_awaits, if_ran_told, here, awaits, stray, ran, owned, stood, ticket-after_told, part-after_told}
-use Rattle.world_laws.proofs.Placed.{Placed, numbered_so, new-free, total-same}
+use Rattle.world_laws.proofs.Placed.{Standing, numbered_so, new-free, total-same}
 use Rattle.node_model.specs.Laws.{Among}
 use Rattle.world_laws.specs.Homes.{IsHome, is_bad}
 
@@ -119,7 +119,7 @@ abbrev if_asking : Bool → ℕ → ℕ → ℕ → ℕ
 if_asking asking node n x = if asking && (node == n) then x else 0
 
 -- commands that go out keep what stays with them
-gone-out : (P : Ticket → PartModel → Type 0) (way : Way) (node : ℕ) (before ts : List Ticket) (cs cs' : List Arrival) → GoOut way node before ts cs cs' → All (λ (c : Arrival). P c.command.ticket c.command.part) cs → All (λ (c : Arrival). P c.command.ticket c.command.part) cs'
+pub gone-out : (P : Ticket → PartModel → Type 0) (way : Way) (node : ℕ) (before ts : List Ticket) (cs cs' : List Arrival) → GoOut way node before ts cs cs' → All (λ (c : Arrival). P c.command.ticket c.command.part) cs → All (λ (c : Arrival). P c.command.ticket c.command.part) cs'
 gone-out P way node before [] cs cs' d h = subst (All (λ (c : Arrival). P c.command.ticket c.command.part)) (sym d) h
 gone-out P way node before (t ∷ ts) cs cs' d h =
     gone-out P way node (before ++ t ∷ []) ts (slice_set cs d.0 (awaiting d.1)) cs' d.5
@@ -228,7 +228,7 @@ is-le-owned t u = go (same_ticket t u) refl
     go true e = let n = ticket-numbers t u e in let y : numbered_so t.client t.part u ≡ true = numbers-so u t.client t.part (sym n.0) (sym n.1) in omega (arith, ap one_if y)
 
 -- two commands of one ticket are one
-pub unique : (w : WorldModel) → Placed w → (i j : ℕ) (c d : Arrival) → slice_get w.commands i ≡ Some c → slice_get w.commands j ≡ Some d → same_ticket c.command.ticket d.command.ticket ≡ true → c ≡ d
+pub unique : (w : WorldModel) → Standing w → (i j : ℕ) (c d : Arrival) → slice_get w.commands i ≡ Some c → slice_get w.commands j ≡ Some d → same_ticket c.command.ticket d.command.ticket ≡ true → c ≡ d
 unique w h i j c d p q e = ⊎_elim
     (λ (x : ((i == j) ≡ true) × (i ≡ j)). let same : slice_get w.commands i ≡ slice_get w.commands j = ap (slice_get w.commands) x.1 in cc)
     (λ (x : ((i == j) ≡ false) × (i ≢ j)).
@@ -302,7 +302,7 @@ ran-le t (Sent o m a u) = omega arith
 ran-le t (Comes u told) = omega (arith, if_ran_told-le told (is t u))
 
 -- a ticket has run at most as often as it has commands
-pub ran-owned : (w : WorldModel) → Placed w → (t : Ticket) → tally (ran t) w ≤ tally (owned (numbered_so t.client t.part)) w
+pub ran-owned : (w : WorldModel) → Standing w → (t : Ticket) → tally (ran t) w ≤ tally (owned (numbered_so t.client t.part)) w
 ran-owned w h t = omega (arith, h.place t, tally-le (ran t) (awaits t) (here t) (owned (numbered_so t.client t.part)) (ran-le t) w)
 
 -- who has no command stands nowhere
@@ -312,11 +312,11 @@ awaits-le t (Lies m a u) = omega arith
 awaits-le t (Sent o m a u) = omega arith
 awaits-le t (Comes u told) = omega arith
 
-pub free-asks : (w : WorldModel) → Placed w → (n : ℕ) (t : Ticket) → tally (owned (numbered_so t.client t.part)) w ≡ 0 → tally (asks n t) w ≡ 0
+pub free-asks : (w : WorldModel) → Standing w → (n : ℕ) (t : Ticket) → tally (owned (numbered_so t.client t.part)) w ≡ 0 → tally (asks n t) w ≡ 0
 free-asks w h n t free = omega (
   arith,
   h.place t,
-  h.once t,
+  h.strays t,
   ran-owned w h t,
   tally-le (asks n t) (λ _. 0) (λ i. here t i + stray t i) (owned (numbered_so t.client t.part)) (asks-le n t) w,
   tally-le (λ i. here t i + stray t i) (λ _. 0) (here t) (stray t) (λ i. omega arith) w,
@@ -345,7 +345,7 @@ free-asks w h n t free = omega (
         links [] = refl
         links (l ∷ ls) = omega (arith, reqs l.is_open l.node l.asking l.requests, backs l.backs, links ls)
 
-pub arrive-kept : (w w' : WorldModel) → Placed w → Kept w → (client : ℕ) (part : PartModel) → WorldDoes w (Arrive client part) w' → Kept w'
+pub arrive-kept : (w w' : WorldModel) → Standing w → Kept w → (client : ℕ) (part : PartModel) → WorldDoes w (Arrive client part) w' → Kept w'
 arrive-kept w w' h s client part d =
     let c : Arrival = arrival w client part in
     let k : w'.cluster ≡ w.cluster = ap (λ (v : WorldModel). v.cluster) d.1 in

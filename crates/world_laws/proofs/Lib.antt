@@ -20,7 +20,7 @@ pub mod Lives
 pub mod Runs
 pub mod Single
 pub mod Allowed
-mod Sizes
+pub mod Sizes
 pub mod Alone
 mod RunOfTwo
 pub mod Bare

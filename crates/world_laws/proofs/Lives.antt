@@ -29,7 +29,7 @@ use Rattle.world_laws.specs.declared.event.Event.TheVariants as ev
 use Rattle.world_laws.specs.declared.history.Answer.{Answer}
 use Rattle.world_laws.proofs.Tally.{total-one, total-two, total-found, tally-le, tally-rest}
 use Rattle.world_laws.proofs.Counted.{one_if, if_awaits, if_ran, if_replied, here, awaits, stray, ran, replied_by, owned, entry_by, ticket-after_told, part-after_told, arrived-after_told}
-use Rattle.world_laws.proofs.Placed.{Placed, numbered_so, new-free}
+use Rattle.world_laws.proofs.Placed.{Placed, Standing, standing-of, numbered_so, new-free}
 use Rattle.world_laws.proofs.Kept.{is-refl, ran-le, awaits-le, ticket-numbers, numbers-so}
 use Rattle.world_laws.proofs.Recorded.{Recorded, HasEarlier, one_at, set-same, waited, grown, gone-on, entered, replied-to, at-last, before-last, last}
 use Rattle.world_laws.specs.Headline.{At}
@@ -48,7 +48,7 @@ ticket-is t u e =
     let wk : t.worker ≡ u.worker = grind (arith, nat_tests) in
     λ j. record { worker = sym wk j; client = sym n.0 j; part = sym n.1 j }
 
-module _ (w : WorldModel) (h : Placed w) where
+module _ (w : WorldModel) (h : Standing w) where
   pub same_place : (i j : ℕ) (c d : Arrival) → At w.commands i c → At w.commands j d → c.command.ticket ≡ d.command.ticket → i ≡ j
   same_place i j c d p q e = ⊎_elim (λ (x : ((i == j) ≡ true) × (i ≡ j)). x.1)
       (λ (x : ((i == j) ≡ false) × (i ≢ j)).
@@ -72,13 +72,14 @@ module _ (w : WorldModel) (h : Placed w) where
       let one_c : one_if (numbered_so c.command.ticket.client c.command.ticket.part c.command.ticket) ≡ 1 = ap one_if (numbers-so c.command.ticket c.command.ticket.client c.command.ticket.part refl refl) in
       omega (arith, tally-rest (ran c.command.ticket) (awaits c.command.ticket) (here c.command.ticket) (owned (numbered_so c.command.ticket.client c.command.ticket.part)) (ran-le c.command.ticket) w i c p, one_c, h.single c.command.ticket.client c.command.ticket.part, h.place c.command.ticket)
 
+module _ (w : WorldModel) (h : Placed w) where
   -- an entry counts
   pub entry-counts : (t : Ticket) (k : ℕ) (e : EntryModel) → At w.history k e → e.ticket ≡ t → 1 ≤ total (λ (x : EntryModel). is t x.ticket) w.history
   entry-counts t k e p te = omega (arith, total-one (λ (x : EntryModel). is t x.ticket) w.history k e p, ap (is t) te, is-refl t)
 
   -- a command that wants to be posted, or was given up, has no entry
   pub no-entry : (i : ℕ) (c : Arrival) → At w.commands i c → if_ran c.command.stage 1 + if_awaits c.command.stage 1 ≡ 0 → (k : ℕ) (e : EntryModel) → At w.history k e → e.ticket ≡ c.command.ticket → ⊥
-  no-entry i c p z k e q te = absurd (omega (arith, ran-bound i c p, is-same, h.once c.command.ticket, entry-counts c.command.ticket k e q te, z))
+  no-entry i c p z k e q te = absurd (omega (arith, ran-bound w (standing-of w w.history h) i c p, is-same, h.once c.command.ticket, entry-counts c.command.ticket k e q te, z))
     where
       is-same : if_ran c.command.stage (is c.command.ticket c.command.ticket) + if_awaits c.command.stage (is c.command.ticket c.command.ticket) ≡ if_ran c.command.stage 1 + if_awaits c.command.stage 1
       is-same = ap (λ n. if_ran c.command.stage n + if_awaits c.command.stage n) (is-refl c.command.ticket)
@@ -157,7 +158,7 @@ module _ (w w' : WorldModel) (h : Placed w) (m : ℕ) (now : w.moment ≡ suc m)
           let b = r.born k e p in
           let t : (b.1).command.ticket ≡ next_ticket w client = b.3 ∙ te in
           let one_c : one_if (numbered_so client new (b.1).command.ticket) ≡ 1 = ap one_if (numbers-so (b.1).command.ticket client new (ap (λ (u : Ticket). u.client) t) (ap (λ (u : Ticket). u.part) t)) in
-          absurd (omega (arith, new-free w h client, total-one (λ (z : Arrival). one_if (numbered_so client new z.command.ticket)) w.commands b.0 b.1 b.2, one_c))
+          absurd (omega (arith, new-free w (standing-of w w.history h) client, total-one (λ (z : Arrival). one_if (numbered_so client new z.command.ticket)) w.commands b.0 b.1 b.2, one_c))
 
   out-lists : (way : Way) (node : ℕ) (before ts : List Ticket) (cs cs' : List Arrival) → GoOut way node before ts cs cs' → Recorded w.moment cs w.history w.answers → Recorded w.moment cs' w.history w.answers
   out-lists way node before [] cs cs' d x = subst (λ z. Recorded w.moment z w.history w.answers) (sym d) x
@@ -194,7 +195,7 @@ module _ (w w' : WorldModel) (h : Placed w) (m : ℕ) (now : w.moment ≡ suc m)
       untold : (k : ℕ) (a : Answer) → At w.answers k a → a.ticket ≡ (d.1).command.ticket → ⊥
       untold k a p te =
           let b = r.told k a p in
-          let same : b.1 ≡ d.1 = same_command w h b.0 d.0 b.1 d.1 b.2 d.3 (b.3 ∙ te) in
+          let same : b.1 ≡ d.1 = same_command w (standing-of w w.history h) b.0 d.0 b.1 d.1 b.2 d.3 (b.3 ∙ te) in
           let marked : (d.1).answered ≡ true = subst (λ (z : Arrival). z.answered ≡ true) same b.6 in
           let unmarked : (d.1).answered ≡ false = d.5 in
           cc
@@ -203,10 +204,10 @@ module _ (w w' : WorldModel) (h : Placed w) (m : ℕ) (now : w.moment ≡ suc m)
       found v is' =
           let f = has-entry w h d.0 d.1 v d.3 (d.6 ∙ ap Over is') in
           let b = r.born f.0 f.1 f.2 in
-          let c : b.1 ≡ d.1 = same_command w h b.0 d.0 b.1 d.1 b.2 d.3 (b.3 ∙ f.3) in
+          let c : b.1 ≡ d.1 = same_command w (standing-of w w.history h) b.0 d.0 b.1 d.1 b.2 d.3 (b.3 ∙ f.3) in
           (f.0, f.1, f.2, f.3, f.4, subst (λ (z : Arrival). z.arrived < (f.1).moment) c b.5)
 
-no-more : {X : Type 0} (xs : List X) → xs ++ [] ≡ xs
+pub no-more : {X : Type 0} (xs : List X) → xs ++ [] ≡ xs
 no-more [] = refl
 no-more (x ∷ xs) = ap (λ ys. x ∷ ys) (no-more xs)
 
@@ -260,7 +261,7 @@ module _ (w w' : WorldModel) (h : Placed w) (h' : Placed w') (m : ℕ) (now : w.
       subst (λ z. Recorded w.moment w.commands z w.answers) (joined hs e0 more ∙ ap (λ z. hs ++ z) (sym now-more))
       (enter-all ps (before ++ u ∷ []) hs1 (store_after store p.0.command.part) (full ∙ sym (joined before u (tickets_told ps))) whole1 (omega (arith, le, longer hs e0)) of.1 did.1 seen1 ours1
       (entered w.moment w.commands hs w.answers e0 of.0.0 p.0 of.0.1.1 refl refl refl (omega (arith, r.early of.0.0 p.0 of.0.1.1, now))
-      (λ i c q te. same_place w h i of.0.0 c p.0 q of.0.1.1 te)
+      (λ i c q te. same_place w (standing-of w w.history h) i of.0.0 c p.0 q of.0.1.1 te)
       first (λ k e q same. let o = ours k e q same in (o.0 ∙ sym mine.0, o.1 ∙ sym mine.1)) (late of.0.0 p.0 (length hs) e0 of.0.1.1 le at_e0 refl) behind x))
     where
       u : Ticket
@@ -299,7 +300,7 @@ module _ (w w' : WorldModel) (h : Placed w) (h' : Placed w') (m : ℕ) (now : w.
 
       its : (goes.0 ≡ of.0.0) × (goes.1 ≡ p.0)
       its =
-          let place : goes.0 ≡ of.0.0 = same_place w h goes.0 of.0.0 goes.1 p.0 goes.2 of.0.1.1 goes.3 in
+          let place : goes.0 ≡ of.0.0 = same_place w (standing-of w w.history h) goes.0 of.0.0 goes.1 p.0 goes.2 of.0.1.1 goes.3 in
           let there : slice_get w.commands goes.0 ≡ slice_get w.commands of.0.0 = ap (slice_get w.commands) place in
           let a : slice_get w.commands goes.0 ≡ Some goes.1 = goes.2 in
           let b : slice_get w.commands of.0.0 ≡ Some p.0 = of.0.1.1 in

@@ -21,7 +21,7 @@ use Rattle.world_laws.specs.declared.event.Event.{Event}
 use Rattle.world_laws.specs.declared.event.Event.TheVariants.{Arrive, Post, Carry, Refuse, Serve, Fetch, Take, Drop, Discard, Import, Migrate, MoveKey, Own, Release, Forget, Stay}
 use Rattle.world_laws.specs.declared.event.Event.TheVariants as ev
 use Rattle.world_laws.proofs.Flow.{all_at}
-use Rattle.world_laws.proofs.Placed.{Placed}
+use Rattle.world_laws.proofs.Placed.{Standing}
 use Rattle.node_model.specs.Laws.{Among}
 use Rattle.node_model.proofs.Keys.{key_tells}
 use Rattle.world_laws.proofs.Stores.{all-among}
@@ -186,7 +186,7 @@ module _ (w w' : WorldModel) (t : There w) (s : Kept w) where
           is x = ap (standing_at w.cluster) (sym (all-among (λ q. slot_of q ≡ slot_for c.command.part) (keys_of c.command.part) b.0 one b.1) ∙ ap slot_of (sym x)) ∙ here
 
 -- every event keeps it
-pub does-kept : (e : Event) (w w' : WorldModel) → Placed w → There w → Turned w → Kept w → WorldDoes w e w' → Kept w'
+pub does-kept : (e : Event) (w w' : WorldModel) → Standing w → There w → Turned w → Kept w → WorldDoes w e w' → Kept w'
 does-kept (Arrive client part) w w' h t u s d = arrive-kept w w' h s client part d
 does-kept (Post tickets node) w w' h t u s d = post-kept w w' s tickets node d
 does-kept (Carry lane link) w w' h t u s d = carry-kept w w' s lane link h.tidy d

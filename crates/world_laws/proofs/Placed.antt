@@ -40,6 +40,18 @@ pub record Placed (w : WorldModel) : Type 0 where
   -- an open link does not end with ASKING
   pub tidy : All IsTidy w.links
 
+-- where commands stand, whatever the history has
+pub record Standing (w : WorldModel) : Type 0 where
+  pub single : (client part : ℕ) → tally (owned (numbered_so client part)) w ≤ 1
+  pub below : (client part : ℕ) → tally (owned (owned_by client)) w ≤ part → tally (owned (numbered_so client part)) w ≡ 0
+  pub place : (t : Ticket) → tally (here t) w ≡ tally (awaits t) w
+  -- who has a request in a closed link was told a reply or Told.Lost
+  pub strays : (t : Ticket) → tally (stray t) w ≤ tally (ran t) w
+  pub tidy : All IsTidy w.links
+
+pub standing-of : (w : WorldModel) (history : List EntryModel) → Placed (record w { history = history }) → Standing w
+standing-of w history h = record { single = h.single; below = h.below; place = h.place; strays = λ t. omega (arith, h.once t); tidy = h.tidy }
+
 pub total-zero : {X : Type 0} (xs : List X) → total (λ (x : X). 0) xs ≡ 0
 total-zero [] = refl
 total-zero (x ∷ xs) = omega (arith, total-zero xs)
@@ -165,7 +177,7 @@ new_below : (T N new client client' part : ℕ) → (N ≤ part → T ≡ 0) →
 new_below T N new client client' part b e le = grind (arith, nat_tests)
 
 -- nothing has the client's next number yet
-pub new-free : (w : WorldModel) → Placed w → (client : ℕ) → tally (owned (numbered_so client (count_by (λ (c : Arrival). c.command.ticket.client == client) w.commands))) w ≡ 0
+pub new-free : (w : WorldModel) → Standing w → (client : ℕ) → tally (owned (numbered_so client (count_by (λ (c : Arrival). c.command.ticket.client == client) w.commands))) w ≡ 0
 new-free w h client = h.below client (count_by (λ (c : Arrival). c.command.ticket.client == client) w.commands) (omega (arith, tally-owned (owned_by client) w, total-count (λ (c : Arrival). c.command.ticket.client == client) w.commands))
 
 pub arrive-keeps : (w w' : WorldModel) → Placed w → (client : ℕ) (part : PartModel) → WorldDoes w (Arrive client part) w' → Placed w'

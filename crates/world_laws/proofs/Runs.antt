@@ -1,7 +1,7 @@
 -- What every event keeps holds after every run; and it says the headline.
-use Rattle.std.proofs.Common.{◌≡◌, ◌≢◌, ◌⊎◌, ⊎_elim, ℕ, ◌+◌, ◌<◌, ◌==◌, true, false, List, [], ◌∷◌, ◌++◌, Some, None, refl, sym, ap, ◌∙◌, subst, arith}
+use Rattle.std.proofs.Common.{◌≡◌, ◌≢◌, ◌⊎◌, ◌↔◌, ⊎_elim, ℕ, ◌+◌, ◌<◌, ◌==◌, true, false, List, [], ◌∷◌, ◌++◌, Some, None, refl, sym, ap, ◌∙◌, subst, arith}
 use Rattle.std.proofs.lemmas.Bool.Decides.{eqb_tells}
-use Rattle.std.specs.FinMap.{get-empty}
+use Rattle.std.specs.FinMap.{get, get-empty}
 use Rattle.std.specs.Ordering.{nat_cmp}
 use Rattle.std.specs.Cmp.Lexicographic.{slice_cmp}
 use Rattle.slot_hash.specs.Slot.{slot_of}
@@ -17,14 +17,14 @@ use Rattle.world_laws.specs.World.{WorldDoes, WorldStep, WorldRun, SameTurn}
 use Rattle.world_laws.specs.declared.event.Event.{Event}
 use Rattle.world_laws.specs.declared.history.Answer.{Answer}
 use Rattle.world_laws.proofs.Counted.{if_ran, if_awaits}
-use Rattle.world_laws.proofs.Placed.{Placed, start-placed}
+use Rattle.world_laws.proofs.Placed.{Placed, standing-of, start-placed}
 use Rattle.world_laws.proofs.LinkEvents.{does-keeps}
 use Rattle.world_laws.specs.Homes.{home_in}
 use Rattle.world_laws.proofs.Kept.{Kept}
 use Rattle.world_laws.proofs.Moves.{does-kept}
 use Rattle.world_laws.proofs.Lives.{Lists, does-lists, does-moment, once-each, no-entry, has-entry, same_place, same_command}
 use Rattle.world_laws.proofs.Recorded.{one_at}
-use Rattle.world_laws.specs.Headline.{At, HasOne, IsNew, IsReached, Headline, EverySchedule}
+use Rattle.world_laws.specs.Headline.{At, HasOne, IsNew, IsReached, Headline, EverySchedule, store_of}
 use Rattle.world_laws.proofs.There.{There, does-there}
 use Rattle.world_laws.proofs.Turns.{Turned, does-turned}
 use Rattle.world_laws.proofs.Apart.{Short, does-short}
@@ -50,7 +50,7 @@ does-sound e w w' s d =
       placed = p';
       there = does-there e w1 w' t1 d;
       turned = does-turned e w1 w' u1 d;
-      kept = does-kept e w1 w' p1 t1 u1 k1 d;
+      kept = does-kept e w1 w' (standing-of w1 w1.history p1) t1 u1 k1 d;
       lists = subst (λ n. Lists n w') (sym (does-moment e w1 w' d)) (does-lists e w1 w' p1 p' u1 w.moment (omega arith) s.lists d);
       short = does-short e w1 w' h1 (λ k x p. let past = (s.lists).past k x p in omega (arith, past)) d;
     }
@@ -90,11 +90,59 @@ start-sound workers run_limit k new = record {
 }
 
 -- which comes first
-order : (i j : ℕ) → (i < j) ⊎ ((i ≡ j) ⊎ (j < i))
+pub order : (i j : ℕ) → (i < j) ⊎ ((i ≡ j) ⊎ (j < i))
 order i j = grind arith
 
 one_end : (x y : Ended) → Over x ≡ Over y → x ≡ y
 one_end x y e = cc
+
+-- what the commands, their entries and their answers say of one another
+module _ (w : WorldModel) (h : Placed w) (r : Lists w.moment w) where
+  pub once : (ticket : Ticket) → HasOne w ticket
+  once ticket k l e f p q te tf = once-each w h k l e f p q (te ∙ sym tf)
+
+  -- the entry comes after its command's arrival
+  pub after : (i : ℕ) (c : Arrival) → At w.commands i c → (k : ℕ) (e : EntryModel) → At w.history k e → e.ticket ≡ c.command.ticket → c.arrived < e.moment
+  after i c p k e q te =
+      let b = r.born k e q in
+      subst (λ (z : Arrival). z.arrived < e.moment) (same_command w (standing-of w w.history h) b.0 i b.1 c b.2 p (b.3 ∙ te)) b.5
+
+  -- and before the answer
+  pub before : (i : ℕ) (c : Arrival) (v : Value) → At w.commands i c → c.command.stage ≡ Over (Answered v) → (k : ℕ) (e : EntryModel) → At w.history k e → e.ticket ≡ c.command.ticket
+      → (l : ℕ) (a : Answer) → At w.answers l a → a.ticket ≡ c.command.ticket → e.moment < a.answered
+  before i c v p stage k e q te l a at_a ta =
+      let b = r.told l a at_a in
+      let same : b.1 ≡ c = same_command w (standing-of w w.history h) b.0 i b.1 c b.2 p (b.3 ∙ ta) in
+      let g = r.within l a v at_a (one_end a.ended (Answered v) (sym b.4 ∙ ap (λ (z : Arrival). z.command.stage) same ∙ stage)) in
+      let here : g.1 ≡ e = one_at w.history g.0 k g.1 e g.2 q (once-each w h g.0 k g.1 e g.2 q (g.3 ∙ ta ∙ sym te)) in
+      subst (λ (z : EntryModel). z.moment < a.answered) here g.6
+
+  pub ordered : (i j : ℕ) (c d : Arrival) → At w.commands i c → At w.commands j d → c.command.stage ≢ Over Ended.Lost → SameTurn d c → c.arrived < d.arrived
+      → (k l : ℕ) (e f : EntryModel) → At w.history k e → At w.history l f → e.ticket ≡ c.command.ticket → f.ticket ≡ d.command.ticket → k < l
+  ordered i j c d p q kept turn lt k l e f at_e at_f te tf = ⊎_elim
+      (λ (lt' : i < j). ⊎_elim (λ (x : k < l). x) (λ (x : c.command.stage ≡ Over Ended.Lost). absurd (kept x))
+      (r.ordered i j c d lt' p q turn k l e f at_e at_f te tf))
+      (λ (rest : (i ≡ j) ⊎ (j < i)). ⊎_elim
+      (λ (x : i ≡ j). absurd (omega (arith, lt, ap (λ (z : Arrival). z.arrived) (one_at w.commands i j c d p q x))))
+      (λ (x : j < i). absurd (omega (arith, lt, r.sorted j i d c x q p)))
+      rest)
+      (order i j)
+
+-- what the nodes hold together is what the history leaves
+module _ (w : WorldModel) (s : Kept w) where
+  pub at_home : (key : List ℕ) (n : ℕ) (a : List ℕ) → at w.cluster n key ≡ Some a → n ≡ home_in (standing_at w.cluster (slot_of key)) (λ x. at w.cluster x key)
+  at_home key n a p = ⊎_elim (λ (x : ((n == home_in (standing_at w.cluster (slot_of key)) (λ x. at w.cluster x key)) ≡ true) × (n ≡ home_in (standing_at w.cluster (slot_of key)) (λ x. at w.cluster x key))). x.1)
+      (λ (x : ((n == home_in (standing_at w.cluster (slot_of key)) (λ x. at w.cluster x key)) ≡ false) × (n ≢ home_in (standing_at w.cluster (slot_of key)) (λ x. at w.cluster x key))). let none : at w.cluster n key ≡ None = (s.data' key).others n x.1 in absurd (cc))
+      (eqb_tells n (home_in (standing_at w.cluster (slot_of key)) (λ x. at w.cluster x key)))
+
+  pub one-node : (key : List ℕ) (n m : ℕ) (a b : List ℕ) → at w.cluster n key ≡ Some a → at w.cluster m key ≡ Some b → n ≡ m
+  one-node key n m a b p q = at_home key n a p ∙ sym (at_home key m b q)
+
+  pub union-of : (key value : List ℕ) → (get (store_of w) key ≡ Some value) ↔ ((n : ℕ) × (at w.cluster n key ≡ Some value))
+  union-of key v = (
+    (λ p. (home_in (standing_at w.cluster (slot_of key)) (λ x. at w.cluster x key), sym (s.data' key).holds ∙ p)),
+    (λ p. (s.data' key).holds ∙ ap (λ x. at w.cluster x key) (sym (at_home key p.0 v p.1)) ∙ p.1),
+  )
 
 pub headline : (w : WorldModel) → Sound w → Headline w
 headline w s = record {
@@ -102,58 +150,20 @@ headline w s = record {
   timed = (s.lists).timed;
   together = (s.lists).together;
   apart = (s.short).apart;
-  one_node = λ key n m a b p q. at_home key n a p ∙ sym (at_home key m b q);
-  union = λ key v. (
-    (λ p. (home_in (standing_at w.cluster (slot_of key)) (λ x. at w.cluster x key), sym ((s.kept).data' key).holds ∙ p)),
-    (λ p. ((s.kept).data' key).holds ∙ ap (λ x. at w.cluster x key) (sym (at_home key p.0 v p.1)) ∙ p.1),
-  );
-  own_ticket = λ i j c d p q e. same_place w s.placed i j c d p q e;
+  one_node = one-node w s.kept;
+  union = union-of w s.kept;
+  own_ticket = λ i j c d p q e. same_place w (standing-of w w.history s.placed) i j c d p q e;
   told = λ a x. let b = (s.lists).told x.0 a x.1 in (b.1, ((b.0, b.2), b.4), b.3, b.5);
   answered_once = (s.lists).answered_once;
   arrived = λ e x. let b = (s.lists).born x.0 e x.1 in (b.1, (x, (b.0, b.2), sym b.3), sym b.4, b.5);
-  once = once;
+  once = once w s.placed s.lists;
   answered = λ c reply x.
       let f = has-entry w s.placed x.0.0 c reply x.0.1 x.1 in
-      (f.1, ((f.0, f.2), x.0, f.3), f.4, after x.0.0 c x.0.1 f.0 f.1 f.2 f.3, λ a y te. before x.0.0 c reply x.0.1 x.1 f.0 f.1 f.2 f.3 y.0 a y.1 te);
-  in_order = λ k l e f c d at_k at_l x y turn lt kept. ordered x.1.0 y.1.0 c d x.1.1 y.1.1 kept (sym turn.0, sym turn.1) lt k l e f at_k at_l x.2 y.2;
-  lost = λ c x. once c.command.ticket;
+      (f.1, ((f.0, f.2), x.0, f.3), f.4, after w s.placed s.lists x.0.0 c x.0.1 f.0 f.1 f.2 f.3, λ a y te. before w s.placed s.lists x.0.0 c reply x.0.1 x.1 f.0 f.1 f.2 f.3 y.0 a y.1 te);
+  in_order = λ k l e f c d at_k at_l x y turn lt kept. ordered w s.placed s.lists x.1.0 y.1.0 c d x.1.1 y.1.1 kept (sym turn.0, sym turn.1) lt k l e f at_k at_l x.2 y.2;
+  lost = λ c x. once w s.placed s.lists c.command.ticket;
   refused = λ c x e y. no-entry w s.placed x.0.0 c x.0.1 (ap (λ x. if_ran x 1 + if_awaits x 1) x.1) y.0.0 e y.0.1 y.2;
 }
-  where
-    once : (ticket : Ticket) → HasOne w ticket
-    once ticket k l e f p q te tf = once-each w s.placed k l e f p q (te ∙ sym tf)
-
-    at_home : (key : List ℕ) (n : ℕ) (a : List ℕ) → at w.cluster n key ≡ Some a → n ≡ home_in (standing_at w.cluster (slot_of key)) (λ x. at w.cluster x key)
-    at_home key n a p = ⊎_elim (λ (x : ((n == home_in (standing_at w.cluster (slot_of key)) (λ x. at w.cluster x key)) ≡ true) × (n ≡ home_in (standing_at w.cluster (slot_of key)) (λ x. at w.cluster x key))). x.1)
-        (λ (x : ((n == home_in (standing_at w.cluster (slot_of key)) (λ x. at w.cluster x key)) ≡ false) × (n ≢ home_in (standing_at w.cluster (slot_of key)) (λ x. at w.cluster x key))). let none : at w.cluster n key ≡ None = ((s.kept).data' key).others n x.1 in absurd (cc))
-        (eqb_tells n (home_in (standing_at w.cluster (slot_of key)) (λ x. at w.cluster x key)))
-
-    -- the entry comes after its command's arrival
-    after : (i : ℕ) (c : Arrival) → At w.commands i c → (k : ℕ) (e : EntryModel) → At w.history k e → e.ticket ≡ c.command.ticket → c.arrived < e.moment
-    after i c p k e q te =
-        let b = (s.lists).born k e q in
-        subst (λ (z : Arrival). z.arrived < e.moment) (same_command w s.placed b.0 i b.1 c b.2 p (b.3 ∙ te)) b.5
-
-    -- and before the answer
-    before : (i : ℕ) (c : Arrival) (v : Value) → At w.commands i c → c.command.stage ≡ Over (Answered v) → (k : ℕ) (e : EntryModel) → At w.history k e → e.ticket ≡ c.command.ticket
-        → (l : ℕ) (a : Answer) → At w.answers l a → a.ticket ≡ c.command.ticket → e.moment < a.answered
-    before i c v p stage k e q te l a at_a ta =
-        let b = (s.lists).told l a at_a in
-        let same : b.1 ≡ c = same_command w s.placed b.0 i b.1 c b.2 p (b.3 ∙ ta) in
-        let g = (s.lists).within l a v at_a (one_end a.ended (Answered v) (sym b.4 ∙ ap (λ (z : Arrival). z.command.stage) same ∙ stage)) in
-        let here : g.1 ≡ e = one_at w.history g.0 k g.1 e g.2 q (once-each w s.placed g.0 k g.1 e g.2 q (g.3 ∙ ta ∙ sym te)) in
-        subst (λ (z : EntryModel). z.moment < a.answered) here g.6
-
-    ordered : (i j : ℕ) (c d : Arrival) → At w.commands i c → At w.commands j d → c.command.stage ≢ Over Ended.Lost → SameTurn d c → c.arrived < d.arrived
-        → (k l : ℕ) (e f : EntryModel) → At w.history k e → At w.history l f → e.ticket ≡ c.command.ticket → f.ticket ≡ d.command.ticket → k < l
-    ordered i j c d p q kept turn lt k l e f at_e at_f te tf = ⊎_elim
-        (λ (lt' : i < j). ⊎_elim (λ (x : k < l). x) (λ (x : c.command.stage ≡ Over Ended.Lost). absurd (kept x))
-        ((s.lists).ordered i j c d lt' p q turn k l e f at_e at_f te tf))
-        (λ (rest : (i ≡ j) ⊎ (j < i)). ⊎_elim
-        (λ (x : i ≡ j). absurd (omega (arith, lt, ap (λ (z : Arrival). z.arrived) (one_at w.commands i j c d p q x))))
-        (λ (x : j < i). absurd (omega (arith, lt, (s.lists).sorted j i d c x q p)))
-        rest)
-        (order i j)
 
 pub every_schedule : EverySchedule
 every_schedule workers run_limit k events w new r = headline w (run-sound events (start workers run_limit k) w (start-sound workers run_limit k new) r)

@@ -28,7 +28,7 @@ use Rattle.world_laws.specs.World.{IsNode}
 use Rattle.world_laws.specs.World.{ServesRun, AreOf, entry_of, entries_of}
 use Rattle.node_model.specs.Runs.{deed_for, AllTold, AreReplies, store_after_all, keys_in, first_key, have_one_key}
 use Rattle.world_laws.proofs.Flow.{all_at, if_open, serve-flow}
-use Rattle.world_laws.proofs.Placed.{Placed}
+use Rattle.world_laws.proofs.Placed.{Standing}
 use Rattle.world_laws.specs.Homes.{IsHome, home_in, is_bad}
 use Rattle.world_laws.proofs.Histories.{legal-append, left_by-append, is_reply, role-no_reply}
 use Rattle.world_laws.proofs.Homes.{bad-back, bad-says, exec-home, executes-home, home-same, if_says}
@@ -49,7 +49,7 @@ use Rattle.world_laws.proofs.Stores.{all-among, after-other, answer-alike, all-h
 -- the keys of a run
 
 -- a key of a command of the run is one of the run, and the other way round
-among-in : (q : List ℕ) (run : List (Arrival × Told)) (k : ℕ) (p : Arrival × Told) → slice_get run k ≡ Some p → Among q (keys_of p.0.command.part) → Among q (keys_in (parts_told run))
+pub among-in : (q : List ℕ) (run : List (Arrival × Told)) (k : ℕ) (p : Arrival × Told) → slice_get run k ≡ Some p → Among q (keys_of p.0.command.part) → Among q (keys_in (parts_told run))
 among-in q [] k p e h = absurd (cc)
 among-in q (x ∷ xs) zero p e h = let same : p ≡ x = cc in among-left q (keys_of x.0.command.part) (keys_in (parts_told xs)) (subst (λ (z : Arrival × Told). Among q (keys_of z.0.command.part)) same h)
 among-in q (x ∷ xs) (suc k) p e h = among-right q (keys_of x.0.command.part) (keys_in (parts_told xs)) (among-in q xs k p e h)
@@ -60,7 +60,7 @@ among-of q (x ∷ xs) h = ⊎_elim (λ (y : Among q (keys_of x.0.command.part)).
     (λ (y : Among q (keys_in (parts_told xs))). let r = among-of q xs y in (suc r.0, r.1, r.2, r.3))
     (among-either q (keys_of x.0.command.part) (keys_in (parts_told xs)) h)
 
-agree-after : (K : List (List ℕ)) (s t : StoreModel) (c : PartModel) → ((q : List ℕ) → Among q (keys_of c) → Among q K) → Agree K s t → Agree K (store_after s c) (store_after t c)
+pub agree-after : (K : List (List ℕ)) (s t : StoreModel) (c : PartModel) → ((q : List ℕ) → Among q (keys_of c) → Among q K) → Agree K s t → Agree K (store_after s c) (store_after t c)
 agree-after K s t c sub h q x = ⊎_elim
     (λ (y : Among q (keys_of c)). (answer-alike s t c (λ q z. h q (sub q z))).1 q y)
     (λ (y : Among q (keys_of c) → ⊥). after-other s c q y ∙ h q x ∙ sym (after-other t c q y))
@@ -107,7 +107,7 @@ are-of [] cs h k p e = absurd (cc)
 are-of (x ∷ xs) cs h zero p e = let same : x ≡ p = cc in (h.0.0, h.0.1.1 ∙ ap (λ (z : Arrival × Told). Some z.0) same)
 are-of (x ∷ xs) cs h (suc k) p e = are-of xs cs h.1 k p e
 
-ticket-at : (run : List (Arrival × Told)) (k : ℕ) (p : Arrival × Told) → slice_get run k ≡ Some p → slice_get (tickets_told run) k ≡ Some p.0.command.ticket
+pub ticket-at : (run : List (Arrival × Told)) (k : ℕ) (p : Arrival × Told) → slice_get run k ≡ Some p → slice_get (tickets_told run) k ≡ Some p.0.command.ticket
 ticket-at [] k p e = absurd (cc)
 ticket-at (x ∷ xs) zero p e = let same : x ≡ p = cc in ap (λ (z : Arrival × Told). Some z.0.command.ticket) same
 ticket-at (x ∷ xs) (suc k) p e = ticket-at xs k p e
@@ -184,7 +184,7 @@ open_zero : (o : Bool) (n : ℕ) → n ≡ 0 → if_open o n ≡ 0
 open_zero true n e = e
 open_zero false n e = refl
 
-module _ (w w' : WorldModel) (h : Placed w) (t : There w) (s : Kept w) (u : Turned w) (link : ℕ) (l : Link) (v : Verdict) (at_l : slice_get w.links link ≡ Some l) (d : ServesRun w link l v w') where
+module _ (w w' : WorldModel) (h : Standing w) (t : There w) (s : Kept w) (u : Turned w) (link : ℕ) (l : Link) (v : Verdict) (at_l : slice_get w.links link ≡ Some l) (d : ServesRun w link l v w') where
   -- the slot of the run, and its keys
   abbrev slot : ℕ
   slot = slot_of (first_key (parts_told d.1))
@@ -198,17 +198,17 @@ module _ (w w' : WorldModel) (h : Placed w) (t : There w) (s : Kept w) (u : Turn
   how : ((deed_for w.cluster l.node l.asking (parts_told d.1) v ≡ Executes) × ExecutedAll w.cluster l.node (parts_told d.1) (tolds_of d.1) d.2) ⊎ SaidAll (deed_for w.cluster l.node l.asking (parts_told d.1) v) w.cluster (parts_told d.1) (tolds_of d.1) d.2
   how = runs w.cluster d.2 l.node (parts_told d.1) (tolds_of d.1) (deed_for w.cluster l.node l.asking (parts_told d.1) v) d.6
 
-  run : IsRun w.commands (tickets_told d.1)
+  pub run : IsRun w.commands (tickets_told d.1)
   run =
       let here : AreRuns w.commands l.requests = all_at (λ (x : Link). AreRuns w.commands x.requests) w.links link l at_l u.links in
       let both : AreRuns w.commands (Runs (tickets_told d.1) ∷ d.0) = subst (AreRuns w.commands) d.3 here in
       both.0
 
   -- a command of the run: its place, and its slot
-  place : (k : ℕ) (p : Arrival × Told) → slice_get d.1 k ≡ Some p → (i : ℕ) × (slice_get w.commands i ≡ Some p.0)
+  pub place : (k : ℕ) (p : Arrival × Told) → slice_get d.1 k ≡ Some p → (i : ℕ) × (slice_get w.commands i ≡ Some p.0)
   place k p e = are-of d.1 w.commands d.4 k p e
 
-  slotted : (k : ℕ) (p : Arrival × Told) → slice_get d.1 k ≡ Some p → slot_for p.0.command.part ≡ slot
+  pub slotted : (k : ℕ) (p : Arrival × Told) → slice_get d.1 k ≡ Some p → slot_for p.0.command.part ≡ slot
   slotted = one-slot w.commands d.1 run.0 its
     where
       its : (k : ℕ) (p : Arrival × Told) → slice_get d.1 k ≡ Some p → slot_for p.0.command.part ≡ run.0
@@ -218,10 +218,10 @@ module _ (w w' : WorldModel) (h : Placed w) (t : There w) (s : Kept w) (u : Turn
           let same : g.1 ≡ p.0 = unique w h g.0 o.0 g.1 p.0 g.2 o.1 (ap (λ z. same_ticket z p.0.command.ticket) g.3 ∙ itself p.0.command.ticket) in
           ap (λ (z : Arrival). slot_for z.command.part) (sym same) ∙ g.4
 
-  standing : (k : ℕ) (p : Arrival × Told) → slice_get d.1 k ≡ Some p → slot_here w.cluster p.0.command.part ≡ sl
+  pub standing : (k : ℕ) (p : Arrival × Told) → slice_get d.1 k ≡ Some p → slot_here w.cluster p.0.command.part ≡ sl
   standing k p e = ap (standing_at w.cluster) (slotted k p e)
 
-  asked-of : (k : ℕ) (p : Arrival × Told) → slice_get d.1 k ≡ Some p → IsAsked w p.0.command.ticket p.0.command.part
+  pub asked-of : (k : ℕ) (p : Arrival × Told) → slice_get d.1 k ≡ Some p → IsAsked w p.0.command.ticket p.0.command.part
   asked-of k p e = let o = place k p e in all_at (λ (x : Arrival). IsAsked w x.command.ticket x.command.part) w.commands o.0 p.0 o.1 s.asked
 
   -- nobody is told an ASK that is bad
@@ -274,6 +274,35 @@ module _ (w w' : WorldModel) (h : Placed w) (t : There w) (s : Kept w) (u : Turn
         asked = subst (All (λ (x : Arrival). IsAsked w' x.command.ticket x.command.part)) (sym cs) (all_from (λ (x : Arrival). IsAsked w' x.command.ticket x.command.part) w.commands (λ j c at_c. asked-after c j at_c (λ _. subst (λ x. BadAsk x c.command.part) k) (ap (λ x. (slot_here x c.command.part).target) k)));
       }
 
+  -- the slot of each of its keys
+  pub slot-is : (q : List ℕ) → Among q keys → slot_of q ≡ slot
+  slot-is q x =
+      let m = among-of q d.1 x in
+      all-among (λ z. slot_of z ≡ slot_for (m.1).0.command.part) (keys_of (m.1).0.command.part) q (asked-of m.0 m.1 m.2).0 m.3 ∙ slotted m.0 m.1 m.2
+
+  -- an ASK that this serve met is good
+  pub good : ExecutedAll w.cluster l.node (parts_told d.1) (tolds_of d.1) d.2 → (q : List ℕ) → Among q keys → l.asking ≡ true → l.node ≡ sl.target → is_bad sl.phase (is_some (at w.cluster sl.source q)) ≡ false
+  good did q x a to = go (is_bad sl.phase (is_some (at w.cluster sl.source q))) refl
+    where
+      go : (b : Bool) → is_bad sl.phase (is_some (at w.cluster sl.source q)) ≡ b → is_bad sl.phase (is_some (at w.cluster sl.source q)) ≡ false
+      go false y = y
+      go true y =
+          let m = among-of q d.1 x in
+          let c : Ticket = (m.1).0.command.ticket in
+          let same : slot_here w.cluster (m.1).0.command.part ≡ sl = standing m.0 m.1 m.2 in
+          let bad : BadAsk w.cluster (m.1).0.command.part = (q, m.3, subst (λ (z : SlotStandingModel). is_bad z.phase (is_some (at w.cluster z.source q)) ≡ true) (sym same) y) in
+          let none : tally (asks sl.target c) w ≡ 0 = subst (λ (z : SlotStandingModel). tally (asks z.target c) w ≡ 0) same ((asked-of m.0 m.1 m.2).1 bad) in
+          let met : asks sl.target c (Sent l.is_open l.node l.asking c) ≡ 1 = ap (λ b. if b && (l.node == sl.target) then is c c else 0) a ∙ there c (l.node == sl.target) (eqb_tells l.node sl.target) in
+          let one : asks sl.target c (Sent l.is_open l.node l.asking c) ≤ total (λ z. asks sl.target c (Sent l.is_open l.node l.asking z)) (tickets_told d.1) = total-one (λ (z : Ticket). asks sl.target c (Sent l.is_open l.node l.asking z)) (tickets_told d.1) m.0 c (ticket-at d.1 m.0 m.1 m.2) in
+          let quiet : if_open l.is_open (total (λ p. asks_in_told sl.target p.1 (is c p.0.command.ticket)) d.1) ≡ 0 = open_zero l.is_open _ (total-none (λ (p : Arrival × Told). asks_in_told sl.target p.1 (is c p.0.command.ticket)) d.1
+          (λ k p e. ap (λ z. asks_in_told sl.target z (is c p.0.command.ticket)) (replied-at (store_at w.cluster l.node) d.1 did.0 k p e).1)) in
+          absurd (omega (arith, serve-flow (asks sl.target c) w w' link l v at_l d, none, met, one, quiet))
+        where
+          there : (c : Ticket) (b : Bool) → ((b ≡ true) × (l.node ≡ sl.target)) ⊎ ((b ≡ false) × (l.node ≢ sl.target)) → (if b then is c c else 0) ≡ 1
+          there c true z = is-refl c
+          there c false (inl z) = absurd (cc)
+          there c false (inr z) = absurd (z.1 to)
+
   executes-kept : deed_for w.cluster l.node l.asking (parts_told d.1) v ≡ Executes → ExecutedAll w.cluster l.node (parts_told d.1) (tolds_of d.1) d.2 → Kept w'
   executes-kept e did = record {
     apart = subst (λ c. (slot : ℕ) → (standing_at c slot).phase ≢ Settled → (standing_at c slot).source ≢ (standing_at c slot).target) (sym is-k) s.apart;
@@ -306,42 +335,13 @@ module _ (w w' : WorldModel) (h : Placed w) (t : There w) (s : Kept w) (u : Turn
       is-node : IsNode w.cluster l.node
       is-node = all_at (λ (x : Link). IsNode w.cluster x.node) w.links link l at_l t.links
 
-      -- the slot of each of its keys
-      slot-is : (q : List ℕ) → Among q keys → slot_of q ≡ slot
-      slot-is q x =
-          let m = among-of q d.1 x in
-          all-among (λ z. slot_of z ≡ slot_for (m.1).0.command.part) (keys_of (m.1).0.command.part) q (asked-of m.0 m.1 m.2).0 m.3 ∙ slotted m.0 m.1 m.2
-
-      -- an ASK that this serve met is good
-      good : (q : List ℕ) → Among q keys → l.asking ≡ true → l.node ≡ sl.target → is_bad sl.phase (is_some (at w.cluster sl.source q)) ≡ false
-      good q x a to = go (is_bad sl.phase (is_some (at w.cluster sl.source q))) refl
-        where
-          go : (b : Bool) → is_bad sl.phase (is_some (at w.cluster sl.source q)) ≡ b → is_bad sl.phase (is_some (at w.cluster sl.source q)) ≡ false
-          go false y = y
-          go true y =
-              let m = among-of q d.1 x in
-              let c : Ticket = (m.1).0.command.ticket in
-              let same : slot_here w.cluster (m.1).0.command.part ≡ sl = standing m.0 m.1 m.2 in
-              let bad : BadAsk w.cluster (m.1).0.command.part = (q, m.3, subst (λ (z : SlotStandingModel). is_bad z.phase (is_some (at w.cluster z.source q)) ≡ true) (sym same) y) in
-              let none : tally (asks sl.target c) w ≡ 0 = subst (λ (z : SlotStandingModel). tally (asks z.target c) w ≡ 0) same ((asked-of m.0 m.1 m.2).1 bad) in
-              let met : asks sl.target c (Sent l.is_open l.node l.asking c) ≡ 1 = ap (λ b. if b && (l.node == sl.target) then is c c else 0) a ∙ there c (l.node == sl.target) (eqb_tells l.node sl.target) in
-              let one : asks sl.target c (Sent l.is_open l.node l.asking c) ≤ total (λ z. asks sl.target c (Sent l.is_open l.node l.asking z)) (tickets_told d.1) = total-one (λ (z : Ticket). asks sl.target c (Sent l.is_open l.node l.asking z)) (tickets_told d.1) m.0 c (ticket-at d.1 m.0 m.1 m.2) in
-              let quiet : if_open l.is_open (total (λ p. asks_in_told sl.target p.1 (is c p.0.command.ticket)) d.1) ≡ 0 = open_zero l.is_open _ (total-none (λ (p : Arrival × Told). asks_in_told sl.target p.1 (is c p.0.command.ticket)) d.1
-              (λ k p e. ap (λ z. asks_in_told sl.target z (is c p.0.command.ticket)) (replied-at (store_at w.cluster l.node) d.1 did.0 k p e).1)) in
-              absurd (omega (arith, serve-flow (asks sl.target c) w w' link l v at_l d, none, met, one, quiet))
-            where
-              there : (c : Ticket) (b : Bool) → ((b ≡ true) × (l.node ≡ sl.target)) ⊎ ((b ≡ false) × (l.node ≢ sl.target)) → (if b then is c c else 0) ≡ 1
-              there c true z = is-refl c
-              there c false (inl z) = absurd (cc)
-              there c false (inr z) = absurd (z.1 to)
-
       was-home : (q : List ℕ) → Among q keys → IsHome sl (λ m. at w.cluster m q) (get (left_by empty w.history) q)
       was-home q x = subst (λ z. IsHome (standing_at w.cluster z) (λ m. at w.cluster m q) (get (left_by empty w.history) q)) (slot-is q x) (s.data' q)
 
       -- the node that executes is the home of each of the keys
       at_home : (q : List ℕ) → Among q keys → l.node ≡ home_in sl (λ m. at w.cluster m q)
       at_home q x = executes-home sl (λ m. at w.cluster m q) (get (left_by empty w.history) q) (held_of (store_at w.cluster l.node) keys) (have_one_key (parts_told d.1)) slot
-          v l.node l.asking (all-held (store_at w.cluster l.node) keys q x) (was-home q x) (s.apart slot) (good q x) e
+          v l.node l.asking (all-held (store_at w.cluster l.node) keys q x) (was-home q x) (s.apart slot) (good did q x) e
 
       -- so the store that the history leaves holds there what the node holds
       agree : Agree keys (left_by empty w.history) st

@@ -1,0 +1,270 @@
+-- What every step keeps, ours and theirs; and it says the headline.
+use Rattle.std.proofs.Common.{◌≡◌, ◌⊎◌, ⊎_elim, ℕ, suc, ◌+◌, ◌%◌, ◌<◌, Bool, true, false, List, [], ◌∷◌, ◌++◌, length, refl, sym, ap, ◌∙◌, subst, arith}
+use Rattle.key_split.specs.declared.travel.Ticket.{Ticket}
+use Rattle.node_model.specs.History.{EntryModel, left_by}
+use Rattle.node_model.specs.Nodes.{ClusterModel, store_at, with_store}
+use Rattle.world_laws.specs.State.{WorldModel, start}
+use Rattle.world_laws.specs.declared.state.Arrival.{Arrival}
+use Rattle.world_laws.specs.World.{WorldDoes, IsNode}
+use Rattle.world_laws.specs.Headline.{At, HasOne, IsIn, IsNew}
+use Rattle.world_laws.specs.declared.event.Event.{Event}
+use Rattle.world_laws.proofs.Apart.{Short, does-short}
+use Rattle.world_laws.proofs.Counted.{if_ran, if_awaits}
+use Rattle.world_laws.proofs.Flow.{all_at}
+use Rattle.world_laws.proofs.Kept.{Kept}
+use Rattle.world_laws.proofs.LinkEvents.{does-keeps}
+use Rattle.world_laws.proofs.Lives.{Lists, does-lists, does-moment, has-entry, no-entry, no-more, same_place}
+use Rattle.world_laws.proofs.Moves.{does-kept}
+use Rattle.world_laws.proofs.Nodes.{size-with_store}
+use Rattle.world_laws.proofs.Placed.{Placed, Standing, standing-of}
+use Rattle.world_laws.proofs.Recorded.{Recorded, waited}
+use Rattle.world_laws.proofs.Runs.{start-sound, order, once, after, before, ordered, one-node, union-of}
+use Rattle.world_laws.proofs.Sizes.{does-sizes}
+use Rattle.world_laws.proofs.There.{There, does-there}
+use Rattle.world_laws.proofs.Turns.{Turned, does-turned}
+use Rattle.shared_laws.specs.Shared.{Step, IsOurs, IsTheirs, OthersAct, SharedDoes, SharedStep, SharedRun, AloneIsShared}
+use Rattle.shared_laws.specs.SharedHeadline.{SharedHeadline, EverySharedSchedule}
+use Rattle.shared_laws.proofs.Chronicle.{Chronicle, IsAlike, lasted, lengthened}
+use Rattle.shared_laws.proofs.Mine.{Named, IsBorn, mine, keep, rank, keep-joins, keep-none, kept-at, of-keep, rank-up, is_ours, ours-no, ours-yes, yes-ours, born-ours, does-gain, does-mine, does-named}
+use Rattle.shared_laws.proofs.Theirs.{theirs-kept}
+
+-- the workers are n. What is ours is as without others; the history of all is legal, and in order
+pub record Steady (n : ℕ) (w : WorldModel) : Type 0 where
+  pub size : w.workers ≡ n
+  pub named : Named n w
+  pub placed : Placed (mine n w)
+  pub there : There w
+  pub turned : Turned w
+  pub kept : Kept w
+  pub lists : Lists w.moment (mine n w)
+  pub short : Short (mine n w)
+  pub chronicle : Chronicle n w.moment w.history
+
+abbrev own : ℕ → EntryModel → Bool
+own n e = is_ours n e.ticket
+
+-- where commands stand
+pub steady-stands : (n : ℕ) (w : WorldModel) → Steady n w → Standing w
+steady-stands n w s = standing-of w (keep (own n) w.history) s.placed
+
+plus_one : (m : ℕ) → m + 1 ≡ suc m
+plus_one m = omega arith
+
+-- an event of ours
+ours-steady : (n : ℕ) (e : Event) (w w' : WorldModel) → Steady n w → WorldDoes (record w { moment = w.moment + 1 }) e w' → Steady n w'
+ours-steady n e w w' s d = record {
+  size = (does-sizes e w1 w' d).0 ∙ s.size;
+  named = does-named n e w1 w' s.size s.named d;
+  placed = p';
+  there = does-there e w1 w' t1 d;
+  turned = does-turned e w1 w' u1 d;
+  kept = does-kept e w1 w' (standing-of (record w { moment = w.moment + 1 }) (keep (own n) w.history) p1) t1 u1 k1 d;
+  lists = subst (λ m. Lists m (mine n w')) (sym moment) lists';
+  short = does-short e (mine n w1) (mine n w') h1 (λ k x p. let past = (s.lists).past k x p in omega (arith, past)) d';
+  chronicle = subst (λ (z : ℕ × List EntryModel). Chronicle n z.0 z.1) (λ i. (sym (moment ∙ plus_one w.moment) i, sym gain.1 i))
+      (lengthened n w.moment w.history gain.0 (λ k x p. (gain.2 k x p).4 ∙ plus_one w.moment) alike s.chronicle);
+}
+  where
+    w1 : WorldModel
+    w1 = record w { moment = w.moment + 1 }
+
+    d' : WorldDoes (mine n (record w { moment = w.moment + 1 })) e (mine n w')
+    d' = does-mine n e (record w { moment = w.moment + 1 }) w' s.named d
+
+    p1 : Placed (mine n (record w { moment = w.moment + 1 }))
+    p1 = record { single = (s.placed).single; below = (s.placed).below; place = (s.placed).place; once = (s.placed).once; replied = (s.placed).replied; tidy = (s.placed).tidy }
+
+    t1 : There (record w { moment = w.moment + 1 })
+    t1 = record { ups = (s.there).ups; links = (s.there).links; targets = (s.there).targets }
+
+    h1 : Short (mine n (record w { moment = w.moment + 1 }))
+    h1 = record { ups = (s.short).ups; links = (s.short).links; apart = (s.short).apart }
+
+    u1 : Turned (record w { moment = w.moment + 1 })
+    u1 = record { ups = (s.turned).ups; links = (s.turned).links }
+
+    u1' : Turned (mine n (record w { moment = w.moment + 1 }))
+    u1' = record { ups = (s.turned).ups; links = (s.turned).links }
+
+    k1 : Kept (record w { moment = w.moment + 1 })
+    k1 = record { apart = (s.kept).apart; data' = (s.kept).data'; legal = (s.kept).legal; asked = (s.kept).asked }
+
+    p' : Placed (mine n w')
+    p' = does-keeps e (mine n (record w { moment = w.moment + 1 })) (mine n w') p1 d'
+
+    moment : w'.moment ≡ w.moment + 1
+    moment = does-moment e (record w { moment = w.moment + 1 }) w' d
+
+    lists' : Lists (w.moment + 1) (mine n w')
+    lists' = does-lists e (mine n (record w { moment = w.moment + 1 })) (mine n w') p1 p' u1' w.moment (plus_one w.moment) s.lists d'
+
+    gain : (es : List EntryModel) × (w'.history ≡ w.history ++ es) × ((k : ℕ) (x : EntryModel) → At es k x → IsBorn (record w { moment = w.moment + 1 }) x)
+    gain = does-gain e (record w { moment = w.moment + 1 }) w' d
+
+    its : (k : ℕ) (x : EntryModel) → At gain.0 k x → is_ours n x.ticket ≡ true
+    its k x p = born-ours n (record w { moment = w.moment + 1 }) s.named x (gain.2 k x p)
+
+    -- a new entry is one of ours in the new history
+    there' : (k : ℕ) (x : EntryModel) → At gain.0 k x → IsIn (mine n w').history x
+    there' k x p =
+        let at_x : At w'.history (length w.history + k) x = subst (λ z. At z (length w.history + k) x) (sym gain.1) (behind w.history gain.0 k x p) in
+        (rank (own n) w'.history (length w.history + k), kept-at (own n) w'.history (length w.history + k) x at_x (its k x p))
+      where
+        behind : (xs ys : List EntryModel) (k : ℕ) (x : EntryModel) → At ys k x → At (xs ++ ys) (length xs + k) x
+        behind [] ys k x p = let e : k ≡ 0 + k = omega arith in subst (λ m. At ys m x) e p
+        behind (z ∷ xs) ys k x p = let e : suc (length xs + k) ≡ suc (length xs) + k = omega arith in subst (λ m. At (z ∷ (xs ++ ys)) m x) e (behind xs ys k x p)
+
+    alike : (k l : ℕ) (x y : EntryModel) → At gain.0 k x → At gain.0 l y → IsAlike n x y
+    alike k l x y p q =
+        let a = there' k x p in
+        let b = there' l y q in
+        (lists'.together a.0 b.0 x y a.1 b.1 ((gain.2 k x p).4 ∙ sym (gain.2 l y q).4), its k x p ∙ sym (its l y q))
+
+-- a run of others
+theirs-steady : (n : ℕ) (node : ℕ) (asking : Bool) (es : List EntryModel) (w w' : WorldModel) → Steady n w → OthersAct (record w { moment = w.moment + 1 }) node asking es w' → Steady n w'
+theirs-steady n node asking es w w' s d = subst (Steady n) (sym (d.2 ∙ ap (λ k. record w { moment = w.moment + 1; cluster = k; history = w.history ++ es }) d.1.7)) (record {
+  size = s.size;
+  named = s.named;
+  placed = subst (λ hs. Placed (record w { cluster = k'; history = hs; moment = w.moment + 1 })) (sym same) (record { single = (s.placed).single; below = (s.placed).below; place = (s.placed).place; once = (s.placed).once; replied = (s.placed).replied; tidy = (s.placed).tidy });
+  there = record { ups = λ j b lt. on _ ((s.there).ups j b lt); links = λ j b lt. on _ ((s.there).links j b lt); targets = λ slot ne. on _ ((s.there).targets slot ne) };
+  turned = record { ups = (s.turned).ups; links = (s.turned).links };
+  kept = theirs-kept (record w { moment = w.moment + 1 }) (record { apart = (s.kept).apart; data' = (s.kept).data'; legal = (s.kept).legal; asked = (s.kept).asked }) node asking es d.1.0 d.1.1 d.1.2 d.1.3 d.1.4 d.1.5 d.1.6;
+  lists = subst (λ hs. Recorded (w.moment + 1) w.commands hs w.answers) (sym same) (waited w.moment (w.moment + 1) w.commands (keep (own n) w.history) w.answers (omega arith) s.lists);
+  short = subst (λ hs. Short (record w { cluster = k'; history = hs; moment = w.moment + 1 })) (sym same) (record { ups = (s.short).ups; links = (s.short).links; apart = (s.short).apart });
+  chronicle = subst (λ m. Chronicle n m (w.history ++ es)) (sym (plus_one w.moment)) (lengthened n w.moment w.history es (λ k e p. (its k e p).now ∙ plus_one w.moment) alike s.chronicle);
+})
+  where
+    k' : ClusterModel
+    k' = with_store w.cluster node (left_by (store_at w.cluster node) es)
+
+    on : (m : ℕ) → IsNode w.cluster m → IsNode (with_store w.cluster node (left_by (store_at w.cluster node) es)) m
+    on m lt = omega (arith, size-with_store w.cluster node (left_by (store_at w.cluster node) es), lt)
+
+    its : (k : ℕ) (e : EntryModel) → At es k e → IsTheirs w.workers (w.moment + 1) d.1.0 d.1.1 e
+    its k e p = all_at (IsTheirs w.workers (w.moment + 1) d.1.0 d.1.1) es k e p d.1.2
+
+    foreign : (k : ℕ) (e : EntryModel) → At es k e → is_ours n e.ticket ≡ false
+    foreign k e p = ours-no n e.ticket (λ x. (its k e p).theirs (x ∙ ap (λ m. e.ticket.client % m) (sym s.size)))
+
+    same : keep (own n) (w.history ++ es) ≡ keep (own n) w.history
+    same = keep-joins (own n) w.history es ∙ ap (λ hs. keep (own n) w.history ++ hs) (keep-none (own n) es foreign) ∙ no-more (keep (own n) w.history)
+
+    alike : (k l : ℕ) (x y : EntryModel) → At es k x → At es l y → IsAlike n x y
+    alike k l x y p q =
+        let a = its k x p in
+        let b = its l y q in
+        ((a.client_is ∙ sym b.client_is, a.slot_is ∙ sym b.slot_is), foreign k x p ∙ sym (foreign l y q))
+
+-- time passes
+passes-steady : (n : ℕ) (w : WorldModel) → Steady n w → Steady n (record w { moment = w.moment + 1 })
+passes-steady n w s = record {
+  size = s.size;
+  named = s.named;
+  placed = record { single = (s.placed).single; below = (s.placed).below; place = (s.placed).place; once = (s.placed).once; replied = (s.placed).replied; tidy = (s.placed).tidy };
+  there = record { ups = (s.there).ups; links = (s.there).links; targets = (s.there).targets };
+  turned = record { ups = (s.turned).ups; links = (s.turned).links };
+  kept = record { apart = (s.kept).apart; data' = (s.kept).data'; legal = (s.kept).legal; asked = (s.kept).asked };
+  lists = waited w.moment (w.moment + 1) w.commands (keep (own n) w.history) w.answers (omega arith) s.lists;
+  short = record { ups = (s.short).ups; links = (s.short).links; apart = (s.short).apart };
+  chronicle = subst (λ m. Chronicle n m w.history) (sym (plus_one w.moment)) (lasted n w.moment w.history s.chronicle);
+}
+
+pub does-steady : (n : ℕ) (st : Step) (w w' : WorldModel) → Steady n w → SharedDoes (record w { moment = w.moment + 1 }) st w' → Steady n w'
+does-steady n (Step.Ours e) w w' s d = ours-steady n e w w' s d
+does-steady n (Step.Theirs node asking es) w w' s d = theirs-steady n node asking es w w' s d
+does-steady n Step.Passes w w' s d = subst (Steady n) (sym d) (passes-steady n w s)
+
+pub step-steady : (n : ℕ) (st : Step) (w w' : WorldModel) → Steady n w → SharedStep w st w' → Steady n w'
+step-steady n st w w' s d = does-steady n st w w' s d.1
+
+pub run-steady : (n : ℕ) (sts : List Step) (w w' : WorldModel) → Steady n w → SharedRun w sts w' → Steady n w'
+run-steady n [] w w' s r = subst (Steady n) (sym r) s
+run-steady n (st ∷ sts) w w' s r = run-steady n sts r.0 w' (step-steady n st w r.0 s r.1) r.2
+
+pub start-steady : (workers run_limit : ℕ) (k : ClusterModel) → IsNew k → Steady workers (start workers run_limit k)
+start-steady workers run_limit k new =
+    let s = start-sound workers run_limit k new in
+    record {
+      size = refl;
+      named = λ j d lt. absurd (omega arith);
+      placed = s.placed;
+      there = s.there;
+      turned = s.turned;
+      kept = s.kept;
+      lists = s.lists;
+      short = s.short;
+      chronicle = record { past = λ j e p. absurd (cc); timed = λ k l e f p. absurd (cc); together = λ k l e f p. absurd (cc) };
+    }
+
+-- The headline.
+module _ (n : ℕ) (w : WorldModel) (s : Steady n w) where
+  -- an entry of ours, where our entries alone stand
+  in-mine : (k : ℕ) (e : EntryModel) → At w.history k e → is_ours n e.ticket ≡ true → At (mine n w).history (rank (own n) w.history k) e
+  in-mine k e p y = kept-at (own n) w.history k e p y
+
+  in-all : (e : EntryModel) → IsIn (mine n w).history e → IsIn w.history e
+  in-all e x = let r = of-keep (own n) w.history x.0 e x.1 in (r.0, r.1)
+
+  from-one : (k l : ℕ) (e f : EntryModel) → At w.history k e → At w.history l f → is_ours n e.ticket ≡ true → is_ours n f.ticket ≡ true → rank (own n) w.history k ≡ rank (own n) w.history l → k ≡ l
+  from-one k l e f p q x y same = ⊎_elim
+      (λ (lt : k < l). absurd (omega (arith, same, rank-up (own n) w.history k l e p x lt)))
+      (λ (rest : (k ≡ l) ⊎ (l < k)). ⊎_elim (λ (z : k ≡ l). z) (λ (lt : l < k). absurd (omega (arith, same, rank-up (own n) w.history l k f q y lt))) rest)
+      (order k l)
+
+  from-lt : (k l : ℕ) (e f : EntryModel) → At w.history k e → At w.history l f → is_ours n e.ticket ≡ true → is_ours n f.ticket ≡ true → rank (own n) w.history k < rank (own n) w.history l → k < l
+  from-lt k l e f p q x y less = ⊎_elim
+      (λ (lt : k < l). lt)
+      (λ (rest : (k ≡ l) ⊎ (l < k)). ⊎_elim (λ (z : k ≡ l). absurd (omega (arith, less, ap (rank (own n) w.history) z))) (λ (lt : l < k). absurd (omega (arith, less, rank-up (own n) w.history l k f q y lt))) rest)
+      (order k l)
+
+  of-command : (c : Arrival) → IsIn w.commands c → is_ours n c.command.ticket ≡ true
+  of-command c x = all_at (λ (c : Arrival). is_ours n c.command.ticket ≡ true) w.commands x.0 c x.1 s.named
+
+  of-entry : (e : EntryModel) (c : Arrival) → IsIn w.commands c → e.ticket ≡ c.command.ticket → is_ours n e.ticket ≡ true
+  of-entry e c x te = ap (is_ours n) te ∙ of-command c x
+
+  is : (t : Ticket) → IsOurs w t → is_ours n t ≡ true
+  is t x = ours-yes n t (x ∙ ap (λ m. t.client % m) s.size)
+
+  so : (t : Ticket) → is_ours n t ≡ true → IsOurs w t
+  so t y = yes-ours n t y ∙ ap (λ m. t.client % m) (sym s.size)
+
+  once-ours : (ticket : Ticket) → is_ours n ticket ≡ true → HasOne w ticket
+  once-ours ticket y k l e f p q te tf =
+      let ye : is_ours n e.ticket ≡ true = ap (is_ours n) te ∙ y in
+      let yf : is_ours n f.ticket ≡ true = ap (is_ours n) tf ∙ y in
+      from-one k l e f p q ye yf (once (mine n w) s.placed s.lists ticket (rank (own n) w.history k) (rank (own n) w.history l) e f (in-mine k e p ye) (in-mine l f q yf) te tf)
+
+  pub shared-headline : SharedHeadline w
+  shared-headline = record {
+    legal = (s.kept).legal;
+    timed = (s.chronicle).timed;
+    together = λ k l e f p q same.
+        let g = (s.chronicle).together k l e f p q same in
+        (g.0.0, g.0.1, ((λ x. so f.ticket (sym g.1 ∙ is e.ticket x)), (λ x. so e.ticket (g.1 ∙ is f.ticket x))));
+    apart = λ small k l e f p q x y lt. (s.short).apart small (rank (own n) w.history k) (rank (own n) w.history l) e f (in-mine k e p (is e.ticket x)) (in-mine l f q (is f.ticket y)) (rank-up (own n) w.history k l e p (is e.ticket x) lt);
+    one_node = one-node w s.kept;
+    union = union-of w s.kept;
+    ours = λ c x. so c.command.ticket (of-command c x);
+    own_ticket = λ i j c d p q e. same_place w (steady-stands n w s) i j c d p q e;
+    told = λ a x. let b = (s.lists).told x.0 a x.1 in (b.1, ((b.0, b.2), b.4), b.3, b.5);
+    answered_once = (s.lists).answered_once;
+    arrived = λ e x y. let b = (s.lists).born (rank (own n) w.history x.0) e (in-mine x.0 e x.1 (is e.ticket y)) in (b.1, (x, (b.0, b.2), sym b.3), sym b.4, b.5);
+    once = λ ticket y. once-ours ticket (is ticket y);
+    answered = λ c reply x.
+        let f = has-entry (mine n w) s.placed x.0.0 c reply x.0.1 x.1 in
+        (f.1, (in-all f.1 (f.0, f.2), x.0, f.3), f.4, after (mine n w) s.placed s.lists x.0.0 c x.0.1 f.0 f.1 f.2 f.3, λ a y te. before (mine n w) s.placed s.lists x.0.0 c reply x.0.1 x.1 f.0 f.1 f.2 f.3 y.0 a y.1 te);
+    in_order = λ k l e f c d at_k at_l x y turn lt kept.
+        let ye : is_ours n e.ticket ≡ true = of-entry e c x.1 x.2 in
+        let yf : is_ours n f.ticket ≡ true = of-entry f d y.1 y.2 in
+        from-lt k l e f at_k at_l ye yf (ordered (mine n w) s.placed s.lists x.1.0 y.1.0 c d x.1.1 y.1.1 kept (sym turn.0, sym turn.1) lt (rank (own n) w.history k) (rank (own n) w.history l) e f (in-mine k e at_k ye) (in-mine l f at_l yf) x.2 y.2);
+    lost = λ c x. once-ours c.command.ticket (of-command c x.0);
+    refused = λ c x e y. no-entry (mine n w) s.placed x.0.0 c x.0.1 (ap (λ x. if_ran x 1 + if_awaits x 1) x.1) (rank (own n) w.history y.0.0) e (in-mine y.0.0 e y.0.1 (of-entry e c x.0 y.2)) y.2;
+  }
+
+pub every_shared_schedule : EverySharedSchedule
+every_shared_schedule workers run_limit k steps w new r = shared-headline workers w (run-steady workers steps (start workers run_limit k) w (start-steady workers run_limit k new) r)
+
+pub alone_is_shared : AloneIsShared
+alone_is_shared [] w w' r = r
+alone_is_shared (e ∷ es) w w' r = (r.0, (r.1.0, r.1.1), alone_is_shared es r.0 w' r.2)

@@ -1,0 +1,58 @@
+-- Several proxies before one cluster, beside other clients that are none: each is a system of its own, with its workers, its carrier and its
+-- connections. They share the nodes, and know nothing of one another.
+-- A step of one changes what the others have of the nodes, and what their logs show executed; so each log shows its own arrivals and
+-- answers, and everybody's executions.
+-- One premise joins them: a slot is imported when no proxy has a command under way that an ASK sent to the node.
+use Rattle.std.specs.Prelude.{◌≡◌, ◌≢◌, ℕ, ◌+◌, ◌%◌, Bool, List, [], ◌∷◌, ◌++◌, length, map}
+use Rattle.world_laws.specs.declared.event.Event.TheVariants as core
+use Rattle.turn_laws.specs.Wire.{Execution}
+use Rattle.turn_laws.specs.System.{System}
+use Rattle.turn_laws.specs.Asking.{NoneAsksIn}
+use Rattle.turn_laws.specs.Steps.{SystemEvent, Moved, SystemStep, log_of}
+use Rattle.turn_laws.specs.Refines.{IsStart}
+use Rattle.turn_laws.specs.Sharing.{OthersDo}
+use Rattle.turn_laws.specs.LogHeadline.{IsHeld, history}
+use Rattle.turn_laws.specs.SharedLog.{SharedLogHeadline}
+
+-- an execution as another proxy sees it, of whom so many are workers: its ticket is none of theirs
+abbrev pub foreign : ℕ → Execution → Execution
+foreign workers e = record e { ticket = record (e.ticket) { worker = e.ticket.client % workers + 1 + e.ticket.worker } }
+
+-- a step of a proxy, or a run of a client that is none
+pub data FleetEvent : Type 0 where
+  By : (p : ℕ) (event : SystemEvent) → FleetEvent
+  Outside : (node : ℕ) (asking : Bool) (done : List Execution) → FleetEvent
+
+module _ (C J : Type 0) where
+  -- the proxies, by their numbers
+  abbrev pub Fleet : Type 0
+  Fleet = ℕ → System C J
+
+  abbrev pub FleetStep : Fleet → FleetEvent → Fleet → Type 0
+  FleetStep f (FleetEvent.By p event) f' =
+      SystemStep (f p) event (f' p)
+      × ((slot target : ℕ) → event ≡ Moved (core.Import slot target) → (q : ℕ) → NoneAsksIn (f q) slot target)
+      × (done : List Execution) × (history (f' p).log ≡ history (f p).log ++ done)
+      × ((q : ℕ) → q ≢ p → f' q ≡ record (f q) { cluster = (f' p).cluster; log = (f q).log ++ log_of (map (foreign (length (f q).workers)) done) })
+  FleetStep f (FleetEvent.Outside node asking done) f' =
+      ((q : ℕ) → OthersDo (f q) node asking (map (foreign (length (f q).workers)) done) (f' q)) × ((p q : ℕ) → (f' p).cluster ≡ (f' q).cluster)
+
+  abbrev pub FleetRun : Fleet → List FleetEvent → Fleet → Type 0
+  FleetRun f [] f' = f' ≡ f
+  FleetRun f (event ∷ events) f' = (mid : Fleet) × FleetStep f event mid × FleetRun mid events f'
+
+  -- nothing has happened, and the nodes are those of all
+  pub record IsFleetStart (f : Fleet) : Type 0 where
+    pub starts : (p : ℕ) → IsStart (f p)
+    pub shared : (p q : ℕ) → (f p).cluster ≡ (f q).cluster
+
+  -- the headline holds of each proxy's commands, and the nodes hold the store that its log leaves
+  abbrev pub EveryFleet : Type 0
+  EveryFleet = (f f' : Fleet) (events : List FleetEvent) → IsFleetStart f → FleetRun f events f'
+      → (p : ℕ) → SharedLogHeadline (length (f' p).workers) (f' p).log × IsHeld (f' p).log (f' p).cluster
+
+  -- a fleet takes no step away from its proxies: what a system may do, it may do there, if an import waits for all
+  abbrev pub FleetFollows : Type 0
+  FleetFollows = (f : Fleet) (p : ℕ) (event : SystemEvent) (s' : System C J) → SystemStep (f p) event s'
+      → ((slot target : ℕ) → event ≡ Moved (core.Import slot target) → (q : ℕ) → NoneAsksIn (f q) slot target)
+      → (f' : Fleet) × FleetStep f (FleetEvent.By p event) f' × (f' p ≡ s')
