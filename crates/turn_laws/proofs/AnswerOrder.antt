@@ -15,7 +15,7 @@ use Rattle.world_laws.proofs.Counted.{ticket-after_told}
 use Rattle.world_laws.proofs.Lives.{does-moment}
 use Rattle.shared_laws.specs.Shared.{Step}
 use Rattle.shared_laws.proofs.SharedRuns.{Steady, does-steady, shared-headline, start-steady}
-use Rattle.turn_laws.specs.Walks.{IsWalked, SharedWalk, ticked}
+use Rattle.turn_laws.specs.Walks.{IsSharedWalked, SharedWalk, ticked}
 use Rattle.turn_laws.specs.LogHeadline.{At, IsIn}
 use Rattle.turn_laws.proofs.Walks.{walked-steady}
 use Rattle.turn_laws.proofs.Elements.{nothing-there}
@@ -217,18 +217,18 @@ none = record {
   turned = λ i j c d lt at. absurd (nothing-there i c at);
 }
 
-in-turn : (w : WorldModel) → IsWalked w → AreInTurn w
+in-turn : (w : WorldModel) → IsSharedWalked w → AreInTurn w
 in-turn w h = walk h.0 h.3 (start h.0 h.1 h.2) w (start-steady h.0 h.1 h.2 h.4) none h.5
 
 order : (i j : ℕ) → (i < j) ⊎ ((i ≡ j) ⊎ (j < i))
 order i j = grind arith
 
 -- an answer comes after the arrival
-pub answered-late : (w : WorldModel) → IsWalked w → (a : Answer) → IsIn w.answers a → a.arrived < a.answered
+pub answered-late : (w : WorldModel) → IsSharedWalked w → (a : Answer) → IsIn w.answers a → a.arrived < a.answered
 answered-late w h = (in-turn w h).late
 
 -- and after the answers to the client's earlier commands
-pub answered-behind : (w : WorldModel) → IsWalked w → (a : Answer) → IsIn w.answers a → (c : Arrival) → IsIn w.commands c → c.command.ticket.client ≡ a.ticket.client → c.arrived < a.arrived
+pub answered-behind : (w : WorldModel) → IsSharedWalked w → (a : Answer) → IsIn w.answers a → (c : Arrival) → IsIn w.commands c → c.command.ticket.client ≡ a.ticket.client → c.arrived < a.arrived
     → (b : Answer) × IsIn w.answers b × (b.ticket ≡ c.command.ticket) × (b.answered < a.answered)
 answered-behind w h a is c (i, at) one lt =
     let lists = (walked-steady w h).lists in

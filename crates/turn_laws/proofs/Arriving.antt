@@ -33,7 +33,7 @@ use Rattle.proxy_turns.specs.ClientTurn.{ClientContext, Read}
 use Rattle.proxy_turns.specs.WorkerModel.{WorkerModel, Did}
 use Rattle.world_laws.specs.State.{WorldModel}
 use Rattle.world_laws.proofs.Recorded.{set-same}
-use Rattle.turn_laws.specs.Walks.{IsWalked}
+use Rattle.turn_laws.specs.Walks.{IsSharedWalked}
 use Rattle.turn_laws.specs.System.{System, Mark, Arrived, seat_of}
 use Rattle.turn_laws.specs.Shadow.{IsShadow, ClientShadow, ticket_at}
 use Rattle.turn_laws.specs.Underway.{downs_of}
@@ -71,7 +71,7 @@ next-more : (held : SessionModel) (part : PartModel) → next_of (pushed held pa
 next-more held part = omega (arith, length-append held.stages (Waiting part ∷ []))
 
 module _ {C J : Type 0} where
-  arrived-all : (parts : List PartModel) (s : System C J) (w : WorldModel) → IsShadow s w → IsWalked w → (k number : ℕ) (model : WorkerModel C J) (client : ClientModel C)
+  arrived-all : (parts : List PartModel) (s : System C J) (w : WorldModel) → IsShadow s w → IsSharedWalked w → (k number : ℕ) (model : WorkerModel C J) (client : ClientModel C)
       → slice_get s.workers k ≡ Some model → get model.clients number ≡ Some client → (parts ≡ []) ⊎ (client.gone ≡ false) → All HasOneSlot parts
       → (model' : WorkerModel C J) × Sits model number model' (record client { session = pushes parts client.session }) × Leads s w k model' (arrivals client.session (next_of client.session) (map Waiting parts))
   arrived-all [] s w h walked k number model client at got here slots = (model, (refl, refl, refl, refl, got, λ q ne. refl), stays s w k model h walked at)

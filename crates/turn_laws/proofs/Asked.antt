@@ -19,7 +19,7 @@ use Rattle.proxy_turns.specs.Backend.{BackendContext}
 use Rattle.proxy_turns.specs.CarrierModel.{CarrierModel, AtBackend}
 use Rattle.world_laws.specs.State.{WorldModel}
 use Rattle.world_laws.specs.declared.event.Event.{Event}
-use Rattle.turn_laws.specs.Walks.{Walk, IsWalked}
+use Rattle.turn_laws.specs.Walks.{Walk, IsSharedWalked}
 use Rattle.turn_laws.specs.Wire.{Wire, Exchanges, Lists}
 use Rattle.turn_laws.specs.System.{System}
 use Rattle.turn_laws.specs.Shadow.{IsShadow, LinksShadow, LaneShadow, OpenShadow, IsKnown, requests_in}
@@ -43,7 +43,7 @@ failed-not o why e f = cc
 all-slots : (commands : _) → All (IsKnown commands) (Lists ∷ [])
 all-slots commands = All-cons (IsKnown commands) Lists [] tt (All-nil (IsKnown commands))
 
-module _ {C J : Type 0} (s s' : System C J) (w : WorldModel) (h : IsShadow s w) (walked : IsWalked w) (on : CarrierStep s (AtBackend Asked) s') where
+module _ {C J : Type 0} (s s' : System C J) (w : WorldModel) (h : IsShadow s w) (walked : IsSharedWalked w) (on : CarrierStep s (AtBackend Asked) s') where
   abbrev k : ℕ
   k = on.does.0
 

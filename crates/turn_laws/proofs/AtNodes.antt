@@ -6,7 +6,7 @@ use Rattle.world_laws.specs.State.{WorldModel}
 use Rattle.world_laws.specs.World.{NoneAsks, WorldDoes, with_nodes}
 use Rattle.world_laws.specs.declared.event.Event.{Event}
 use Rattle.world_laws.specs.declared.event.Event.TheVariants as core
-use Rattle.turn_laws.specs.Walks.{Walk, IsWalked, ticked}
+use Rattle.turn_laws.specs.Walks.{Walk, IsSharedWalked, ticked}
 use Rattle.turn_laws.specs.System.{System}
 use Rattle.turn_laws.specs.Shadow.{IsShadow}
 use Rattle.turn_laws.specs.Steps.{MovesOn, Moved}
@@ -55,14 +55,14 @@ module _ {C J : Type 0} where
   at-once : (event : Event) (s : System C J) (w : WorldModel) (k : ClusterModel) → IsShadow s w → WorldDoes (ticked w) event (with_nodes (ticked w) k) → Ready s w event k
   at-once event s w k h does = ([], w, refl, h, does)
 
-  imports : (slot target : ℕ) (s : System C J) (w : WorldModel) (k : ClusterModel) → IsShadow s w → IsWalked w → MovesOn s (core.Import slot target) k → Ready s w (core.Import slot target) k
+  imports : (slot target : ℕ) (s : System C J) (w : WorldModel) (k : ClusterModel) → IsShadow s w → IsSharedWalked w → MovesOn s (core.Import slot target) k → Ready s w (core.Import slot target) k
   imports slot target s w k h walked m =
       let r = clears s target (m.0).broken (length w.links) w h in
       let none : NoneAsks r.1 slot target = none-asks-there s r.1 r.3 (walked-stands r.1 (walked-on w r.1 r.0 walked r.2)) slot target m.0
       (λ i l e. r.5 i l (omega (arith, short r.1.links i l e, r.4)) e) in
       (r.0, r.1, r.2, r.3, (none, subst (λ c. MayImport c slot target) (sym (r.3).cluster) m.1, λ i. with_nodes (ticked r.1) ((m.2 ∙ ap (λ c. import_done c slot target) (sym (r.3).cluster)) i)))
 
-  moves-core : (event : Event) (s : System C J) (w : WorldModel) (k : ClusterModel) → IsShadow s w → IsWalked w → MovesOn s event k → Ready s w event k
+  moves-core : (event : Event) (s : System C J) (w : WorldModel) (k : ClusterModel) → IsShadow s w → IsSharedWalked w → MovesOn s event k → Ready s w event k
   moves-core (core.Import slot target) s w k h walked m = imports slot target s w k h walked m
   moves-core (core.Migrate slot) s w k h walked m = at-once (core.Migrate slot) s w k h (subst (λ c. MayMigrate c slot) (sym h.cluster) m.0, λ i. with_nodes (ticked w) ((m.1 ∙ ap (λ c. migrate_done c slot) (sym h.cluster)) i))
   moves-core (core.MoveKey slot key) s w k h walked m = at-once (core.MoveKey slot key) s w k h (subst (λ c. MayMoveKey c slot key) (sym h.cluster) m.0, λ i. with_nodes (ticked w) ((m.1 ∙ ap (λ c. move_key_done c slot key) (sym h.cluster)) i))

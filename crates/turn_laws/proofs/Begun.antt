@@ -29,7 +29,7 @@ use Rattle.world_laws.proofs.Recorded.{at-last, at-set, before-last, last, set-s
 use Rattle.turn_laws.specs.Shadow.{IsShadow, ClientShadow, PartShadow, KeptShadow, IsLetGo, StandsAt, IsInOrder, StageShadow, HasCommand, IsAtFirst, ToldFrom, ticket_at}
 use Rattle.turn_laws.specs.System.{seat_of, System}
 use Rattle.turn_laws.specs.Underway.{downs_of}
-use Rattle.turn_laws.specs.Walks.{Walk, IsWalked}
+use Rattle.turn_laws.specs.Walks.{Walk, IsSharedWalked}
 use Rattle.turn_laws.specs.Steps.{AtWorker, WorkerStep}
 use Rattle.turn_laws.specs.Refines.{Simulates}
 use Rattle.turn_laws.proofs.Downs.{Pair}
@@ -271,7 +271,7 @@ module _ {C : Type 0} (downs : List Pair) (worker number : ℕ) (client : Client
 
 module _ (C J : Type 0) where
   -- a part is handed out, and its command goes behind those that were not posted yet
-  module _ (k number : ℕ) (event : WorkerEvent) (s s' : System C J) (w : WorldModel) (h : IsShadow s w) (walked : IsWalked w) (on : WorkerStep s k event s') (silent : on.marks ≡ [])
+  module _ (k number : ℕ) (event : WorkerEvent) (s s' : System C J) (w : WorldModel) (h : IsShadow s w) (walked : IsSharedWalked w) (on : WorkerStep s k event s') (silent : on.marks ≡ [])
       (client client' : ClientModel C) (got : get (on.old).clients number ≡ Some client) (there : client.gone ≡ false)
       (i : ℕ) (ticket : Ticket) (part : PartModel) (next : slice_get client.session.stages i ≡ Some (Waiting part)) (may : list_any (waits_for (slot_of part.key)) (take i client.session.stages) ≡ false)
       (is : ticket ≡ ticket_at client.session (client.session.first + i))

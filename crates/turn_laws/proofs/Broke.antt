@@ -17,7 +17,7 @@ use Rattle.proxy_turns.specs.Backend.{BackendContext}
 use Rattle.proxy_turns.specs.CarrierModel.{CarrierModel, AtBackend}
 use Rattle.world_laws.specs.State.{WorldModel, Link}
 use Rattle.world_laws.specs.declared.event.Event.{Event}
-use Rattle.turn_laws.specs.Walks.{Walk, IsWalked}
+use Rattle.turn_laws.specs.Walks.{Walk, IsSharedWalked}
 use Rattle.turn_laws.specs.Wire.{Wire, Exchanges}
 use Rattle.turn_laws.specs.System.{System}
 use Rattle.turn_laws.specs.Shadow.{IsShadow, OpenShadow, IsIdle, IsUnnumbered, Numbers, requests_in, IsKnown}
@@ -42,7 +42,7 @@ none-waits : (answered rest : List Due) (n : ℕ) → [] ≡ answered ++ rest �
 none-waits [] rest n e m = absurd (omega (arith, m))
 none-waits (d ∷ ds) rest n e m = absurd (cc)
 
-module _ {C J : Type 0} (s s' : System C J) (w : WorldModel) (h : IsShadow s w) (walked : IsWalked w) (on : CarrierStep s (AtBackend Broke) s') where
+module _ {C J : Type 0} (s s' : System C J) (w : WorldModel) (h : IsShadow s w) (walked : IsSharedWalked w) (on : CarrierStep s (AtBackend Broke) s') where
   abbrev k : ℕ
   k = on.does.0
 

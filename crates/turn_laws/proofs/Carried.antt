@@ -19,7 +19,7 @@ use Rattle.world_laws.specs.declared.event.Event.{Event}
 use Rattle.world_laws.specs.declared.event.Event.TheVariants.{Carry}
 use Rattle.world_laws.specs.Places.{total}
 use Rattle.world_laws.proofs.Recorded.{at-set, at-last, before-last}
-use Rattle.turn_laws.specs.Walks.{ticked, Walk, IsWalked}
+use Rattle.turn_laws.specs.Walks.{ticked, Walk, IsSharedWalked}
 use Rattle.turn_laws.specs.Wire.{Wire, Item, Asks, Runs, Lists, items_of}
 use Rattle.turn_laws.specs.System.{System}
 use Rattle.turn_laws.specs.Shadow.{IsShadow, LinksShadow, BackendShadow, OpenShadow, ClosedShadow, IsKnown, IsIdle, IsUnnumbered, Numbers, lying, backs_in, requests_in, dues_in, SeenIn}
@@ -178,7 +178,7 @@ pub record SendsAt {C J : Type 0} (s s' : System C J) : Type 0 where
   pub opened : s'.opened ≡ s.opened
   pub closed : s'.closed ≡ s.closed
 
-module _ {C J : Type 0} (s s' : System C J) (w : WorldModel) (h : IsShadow s w) (walked : IsWalked w) (goes : Goes s s') (o : SendsAt s s') where
+module _ {C J : Type 0} (s s' : System C J) (w : WorldModel) (h : IsShadow s w) (walked : IsSharedWalked w) (goes : Goes s s') (o : SendsAt s s') where
   abbrev run : RunModel
   run = o.run
 

@@ -11,7 +11,7 @@ use Rattle.proxy_turns.specs.ClientTurn.{ClientContext, Drained}
 use Rattle.proxy_turns.specs.WorkerModel.{WorkerModel, Did}
 use Rattle.world_laws.specs.State.{WorldModel}
 use Rattle.world_laws.proofs.Recorded.{set-same}
-use Rattle.turn_laws.specs.Walks.{IsWalked}
+use Rattle.turn_laws.specs.Walks.{IsSharedWalked}
 use Rattle.turn_laws.specs.System.{System, Mark, Answered, seat_of}
 use Rattle.turn_laws.specs.Shadow.{IsShadow, ClientShadow, ticket_at}
 use Rattle.turn_laws.specs.Underway.{downs_of}
@@ -56,7 +56,7 @@ first-mark held m n end (other ∷ ends) e =
     (λ i. Answered (ticket_at held n) (sym same i) ∷ answers-same held (suc n) (take m ends) i)
 
 module _ {C J : Type 0} where
-  answered-all : (m : ℕ) (s : System C J) (w : WorldModel) → IsShadow s w → IsWalked w → (k number : ℕ) (model : WorkerModel C J) (client : ClientModel C)
+  answered-all : (m : ℕ) (s : System C J) (w : WorldModel) → IsShadow s w → IsSharedWalked w → (k number : ℕ) (model : WorkerModel C J) (client : ClientModel C)
       → slice_get s.workers k ≡ Some model → get model.clients number ≡ Some client → client.gone ≡ false
       → ((i : ℕ) → i < m → slice_get client.session.stages i ≡ Some Done)
       → (model' : WorkerModel C J) × Sits model number model' (record client { session = pops m client.session }) × Leads s w k model' (answers client.session client.session.first (take m client.session.ends))

@@ -21,7 +21,7 @@ use Rattle.world_laws.specs.Places.{total}
 use Rattle.world_laws.proofs.Nodes.{set-size}
 use Rattle.world_laws.proofs.Tally.{total-append}
 use Rattle.world_laws.proofs.Recorded.{at-set, set-same, at-last}
-use Rattle.turn_laws.specs.Walks.{Walk, IsWalked}
+use Rattle.turn_laws.specs.Walks.{Walk, IsSharedWalked}
 use Rattle.turn_laws.specs.Wire.{Wire}
 use Rattle.turn_laws.specs.System.{System}
 use Rattle.turn_laws.specs.Shadow.{IsShadow, LinksShadow, WireShadow, OpenShadow, ClosedShadow, LaneShadow, IsKnown, IsIdle, IsUnnumbered, Numbers, backs_in, requests_in, dues_in, SeenIn}
@@ -148,7 +148,7 @@ pub record BreaksAt {C J : Type 0} (s s' : System C J) : Type 0 where
   pub requests : IsPrefix (requests_in link'.port.items) (requests_in link.port.items)
   pub known : (commands : List Arrival) → All (IsKnown commands) link.port.items → All (IsKnown commands) link'.port.items
 
-module _ {C J : Type 0} (s s' : System C J) (w : WorldModel) (h : IsShadow s w) (walked : IsWalked w) (goes : Goes s s') (o : BreaksAt s s') where
+module _ {C J : Type 0} (s s' : System C J) (w : WorldModel) (h : IsShadow s w) (walked : IsSharedWalked w) (goes : Goes s s') (o : BreaksAt s s') where
   abbrev wire : Wire
   wire = record o.link'.port { values = [] }
 

@@ -17,7 +17,7 @@ use Rattle.turn_laws.specs.Asking.{NoneAsksIn}
 use Rattle.turn_laws.specs.Shadow.{IsShadow, entry_at}
 use Rattle.turn_laws.specs.Naming.{NamesNodes}
 use Rattle.turn_laws.specs.Steps.{SystemEvent, Moved, MovesOn, SystemStep, log_of}
-use Rattle.turn_laws.specs.Walks.{IsWalked}
+use Rattle.turn_laws.specs.Walks.{IsSharedWalked}
 use Rattle.turn_laws.specs.LogHeadline.{IsHeld, history}
 use Rattle.turn_laws.specs.SharedLog.{SharedLogHeadline}
 use Rattle.turn_laws.specs.Sharing.{OthersDo, SharedEvent, SharedSystemStep}
@@ -54,7 +54,7 @@ module _ {C J : Type 0} where
   Goes s s' = (events : List SharedEvent) × FoldsTo SharedSystemStep s events s'
 
   -- a step of s, as t sees it
-  seen-step : (event : SystemEvent) (s s' t t' : System C J) (w : WorldModel) → IsShadow s w → IsWalked w → s.cluster ≡ t.cluster → ((slot target : ℕ) → event ≡ Moved (core.Import slot target) → NoneAsksIn t slot target)
+  seen-step : (event : SystemEvent) (s s' t t' : System C J) (w : WorldModel) → IsShadow s w → IsSharedWalked w → s.cluster ≡ t.cluster → ((slot target : ℕ) → event ≡ Moved (core.Import slot target) → NoneAsksIn t slot target)
       → SystemStep s event s' → (done : List Execution) → history s'.log ≡ history s.log ++ done → t' ≡ record t { cluster = s'.cluster; log = t.log ++ log_of (map (foreign (length t.workers)) done) } → Goes t t'
   seen-step event s s' t t' w h walked same waits x done is next = ⊎_elim
       (λ (y : RunImpact s.cluster s'.cluster done). ⊎_elim
@@ -89,7 +89,7 @@ module _ {C J : Type 0} where
   -- what is known of each proxy
   pub record Stands (s : System C J) : Type 0 where
     pub world : WorldModel
-    pub walked : IsWalked world
+    pub walked : IsSharedWalked world
     pub shadow : IsShadow s world
     pub names : NamesNodes s
 

@@ -31,7 +31,7 @@ use Rattle.turn_laws.specs.Wire.{Item, Part, Runs, Execution, ServesNext, execut
 use Rattle.turn_laws.specs.System.{System, Mark}
 use Rattle.turn_laws.specs.Shadow.{IsShadow, IsKnown, HasPart, OpenShadow, ClosedShadow, IsIdle, IsUnnumbered, Numbers, entry_at, requests_in}
 use Rattle.turn_laws.specs.Steps.{SystemEvent, AtWorker, AtCarrier, AtNode, AtBroken, Thrown, Moved, SystemStep, Serves, ServesLate, IsSeen, arrivals, answers, seen_at, log_of}
-use Rattle.turn_laws.specs.Walks.{IsWalked, ticked}
+use Rattle.turn_laws.specs.Walks.{IsSharedWalked, ticked}
 use Rattle.turn_laws.specs.LogHeadline.{executed_by, history}
 use Rattle.turn_laws.specs.Fleet.{foreign}
 use Rattle.turn_laws.proofs.ServedRuns.{each-told}
@@ -54,7 +54,7 @@ swap : (n m : ℕ) (es : List Execution) → map (as_foreign n) (map (entry_at m
 swap n m [] = refl
 swap n m (e ∷ es) = ap (λ xs. entry_at m (foreign n e) ∷ xs) (swap n m es)
 
-run-impact : (w : WorldModel) → IsWalked w → (k k' : ClusterModel) (i : ℕ) (l : Link) (node : ℕ) (asking : Bool) (parts : List Part) (verdict : Verdict) (tolds : List Told) (rest : List LinkRequest)
+run-impact : (w : WorldModel) → IsSharedWalked w → (k k' : ClusterModel) (i : ℕ) (l : Link) (node : ℕ) (asking : Bool) (parts : List Part) (verdict : Verdict) (tolds : List Told) (rest : List LinkRequest)
     → slice_get w.links i ≡ Some l → w.cluster ≡ k → l.node ≡ node → l.asking ≡ asking → l.requests ≡ asked.Runs (tickets_for parts) ∷ rest
     → All (λ (part : Part). HasPart w.commands part.0 part.1) parts → NamesNode k verdict
     → DoesRun (deed_for k node asking (parts_in parts) verdict) k node (parts_in parts) tolds k' → RunImpact k k' (executions parts tolds)
@@ -86,7 +86,7 @@ run-impact w walked k k' i l node asking parts verdict tolds rest at cluster on 
     y = (rest, m.run, k', requests ∙ ap (λ ts. asked.Runs ts ∷ rest) (sym m.tickets), m.are_of, subst (λ x. NamesNode x verdict) (sym cluster) names, does', refl)
 
 module _ {C J : Type 0} where
-  at-node : (s s' : System C J) (w : WorldModel) → IsShadow s w → IsWalked w → (k : ℕ) (verdict : Verdict) (on : Serves s k verdict s') → RunImpact s.cluster s'.cluster on.4
+  at-node : (s s' : System C J) (w : WorldModel) → IsShadow s w → IsSharedWalked w → (k : ℕ) (verdict : Verdict) (on : Serves s k verdict s') → RunImpact s.cluster s'.cluster on.4
   at-node s s' w h walked k verdict on = cases on.8
     where
       run : (rest : List Item) (parts : List Part) (tolds : List Told) → (on.1).port.items ≡ Runs parts ∷ rest → NamesNode s.cluster verdict
@@ -103,7 +103,7 @@ module _ {C J : Type 0} where
       cases (inr (inl x)) = subst (RunImpact s.cluster s'.cluster) (sym x.7) (run x.0 x.1 x.2 x.3 x.4 x.5)
       cases (inr (inr x)) = inl (x.4, x.5)
 
-  at-broken : (s s' : System C J) (w : WorldModel) → IsShadow s w → IsWalked w → (j : ℕ) (verdict : Verdict) (on : ServesLate s j verdict s') → RunImpact s.cluster s'.cluster on.3
+  at-broken : (s s' : System C J) (w : WorldModel) → IsShadow s w → IsSharedWalked w → (j : ℕ) (verdict : Verdict) (on : ServesLate s j verdict s') → RunImpact s.cluster s'.cluster on.3
   at-broken s s' w h walked j verdict on = cases on.5
     where
       run : (rest : List Item) (parts : List Part) (tolds : List Told) → (on.0).items ≡ Runs parts ∷ rest → NamesNode s.cluster verdict
@@ -176,7 +176,7 @@ module _ {C J : Type 0} where
   quiet : (s s' : System C J) (done : List Execution) → history s'.log ≡ history s.log ++ done → s'.log ≡ s.log → done ≡ []
   quiet s s' done is log = added s s' done [] [] is (log ∙ sym (append-nil s.log)) refl
 
-  pub step-impact : (event : SystemEvent) (s s' : System C J) (w : WorldModel) → IsShadow s w → IsWalked w → SystemStep s event s' → (done : List Execution) → history s'.log ≡ history s.log ++ done → Impact s event s' done
+  pub step-impact : (event : SystemEvent) (s s' : System C J) (w : WorldModel) → IsShadow s w → IsSharedWalked w → SystemStep s event s' → (done : List Execution) → history s'.log ≡ history s.log ++ done → Impact s event s' done
   step-impact (AtWorker k event) s s' w h walked x done is =
       inl (inl (ap (λ (z : System C J). z.cluster) x.leaves, added s s' done [] x.marks is (ap (λ (z : System C J). z.log) x.leaves) (worker-quiet event x.old x.new x.marks x.seen)))
   step-impact (AtCarrier event) s s' w h walked x done is = inl (inl (ap (λ (z : System C J). z.cluster) x.leaves, quiet s s' done is (ap (λ (z : System C J). z.log) x.leaves)))

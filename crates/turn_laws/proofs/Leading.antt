@@ -12,7 +12,7 @@ use Rattle.proxy_turns.specs.WorkerModel.{WorkerModel}
 use Rattle.world_laws.specs.State.{WorldModel}
 use Rattle.world_laws.specs.declared.event.Event.{Event}
 use Rattle.world_laws.proofs.Recorded.{set-same}
-use Rattle.turn_laws.specs.Walks.{Walk, IsWalked}
+use Rattle.turn_laws.specs.Walks.{Walk, IsSharedWalked}
 use Rattle.turn_laws.specs.System.{System, Mark, seat_of}
 use Rattle.turn_laws.specs.Shadow.{IsShadow}
 use Rattle.turn_laws.specs.Underway.{HasPosted}
@@ -34,9 +34,9 @@ module _ {C J : Type 0} where
 
   -- some events lead to a world for which it stands
   abbrev pub Leads : System C J → WorldModel → ℕ → WorkerModel C J → List Mark → Type 0
-  Leads s w k model marks = (events : List Event) × (v : WorldModel) × Walk w events v × IsWalked v × IsShadow (along s k model marks) v
+  Leads s w k model marks = (events : List Event) × (v : WorldModel) × Walk w events v × IsSharedWalked v × IsShadow (along s k model marks) v
 
-  pub stays : (s : System C J) (w : WorldModel) (k : ℕ) (model : WorkerModel C J) → IsShadow s w → IsWalked w → slice_get s.workers k ≡ Some model → Leads s w k model []
+  pub stays : (s : System C J) (w : WorldModel) (k : ℕ) (model : WorkerModel C J) → IsShadow s w → IsSharedWalked w → slice_get s.workers k ≡ Some model → Leads s w k model []
   stays s w k model h walked at = ([], w, refl, walked, subst (λ z. IsShadow z w) (λ i. record s { workers = sym (set-self s.workers k model at) i; log = sym (append-nil s.log) i }) h)
 
   pub then-leads : (s : System C J) (w : WorldModel) (k : ℕ) (model model' : WorkerModel C J) (marks marks' : List Mark) → (x : Leads s w k model marks) → Leads (along s k model marks) x.1 k model' marks' → Leads s w k model' (marks ++ marks')

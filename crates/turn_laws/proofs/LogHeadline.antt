@@ -25,7 +25,7 @@ use Rattle.turn_laws.proofs.Logs.{arrivals_of, answers_of}
 use Rattle.shared_laws.specs.Shared.{IsOwn}
 use Rattle.shared_laws.specs.SharedHeadline.{SharedHeadline}
 use Rattle.turn_laws.specs.SharedLog.{SharedLogHeadline}
-use Rattle.turn_laws.specs.Walks.{IsWalked}
+use Rattle.turn_laws.specs.Walks.{IsSharedWalked}
 use Rattle.turn_laws.proofs.Walks.{every_shared_walk}
 use Rattle.turn_laws.proofs.AnswerOrder.{answered-behind, answered-late}
 use Rattle.turn_laws.proofs.LogPlaces.{at-map, map-at, arrival-in, arrival-of, answer-in, answer-of, entry-in, execution-of, entry-at-mark, legal-of, left-of}
@@ -33,7 +33,7 @@ use Rattle.turn_laws.proofs.LogPlaces.{at-map, map-at, arrival-in, arrival-of, a
 order : (i j : ℕ) → (i < j) ⊎ ((i ≡ j) ⊎ (j < i))
 order i j = grind arith
 
-module _ (log : List Mark) (w : WorldModel) (h : LogShadow log w) (walked : IsWalked w) (g : SharedHeadline w) where
+module _ (log : List Mark) (w : WorldModel) (h : LogShadow log w) (walked : IsSharedWalked w) (g : SharedHeadline w) where
   -- what the clock has earlier stands earlier
   earlier : (i j : ℕ) → i < length log → h.clock i < h.clock j → i < j
   earlier i j within lt = ⊎_elim
@@ -260,7 +260,7 @@ module _ (log : List Mark) (w : WorldModel) (h : LogShadow log w) (walked : IsWa
   }
 
 -- where each entry is of a command, all is ours
-pub log-headline : (log : List Mark) (w : WorldModel) → LogShadow log w → IsWalked w → Headline w → LogHeadline log
+pub log-headline : (log : List Mark) (w : WorldModel) → LogShadow log w → IsSharedWalked w → Headline w → LogHeadline log
 log-headline log w h walked g = record {
   legal = shared.legal;
   together = shared.together;

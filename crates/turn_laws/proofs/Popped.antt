@@ -18,7 +18,7 @@ use Rattle.world_laws.specs.declared.state.Arrival.{Arrival}
 use Rattle.world_laws.specs.World.{WorldDoes}
 use Rattle.world_laws.specs.declared.event.Event.TheVariants as ev
 use Rattle.world_laws.proofs.Recorded.{at-set}
-use Rattle.turn_laws.specs.Walks.{ticked, IsWalked}
+use Rattle.turn_laws.specs.Walks.{ticked, IsSharedWalked}
 use Rattle.turn_laws.specs.System.{System, Mark, Answered, IsInStep}
 use Rattle.turn_laws.specs.Shadow.{IsShadow, ClientShadow, LogShadow, StandsAt, ticket_at, ListShadow}
 use Rattle.turn_laws.specs.Underway.{downs_of, ups_in}
@@ -35,7 +35,7 @@ use Rattle.turn_laws.proofs.Walks.{walked-on, walked-stands}
 
 -- ---- one part
 
-module _ {C J : Type 0} (s : System C J) (w : WorldModel) (h : IsShadow s w) (walked : IsWalked w) (k number : ℕ) (model : WorkerModel C J) (client : ClientModel C)
+module _ {C J : Type 0} (s : System C J) (w : WorldModel) (h : IsShadow s w) (walked : IsSharedWalked w) (k number : ℕ) (model : WorkerModel C J) (client : ClientModel C)
     (at : slice_get s.workers k ≡ Some model) (got : get model.clients number ≡ Some client) (here : client.gone ≡ false)
     (end : Ended) (is-done : slice_get client.session.stages 0 ≡ Some Done) (has-end : slice_get client.session.ends 0 ≡ Some end) where
   abbrev downs : List Pair

@@ -15,7 +15,7 @@ use Rattle.world_laws.specs.declared.state.Arrival.{Arrival}
 use Rattle.world_laws.specs.World.{WorldDoes, arrival}
 use Rattle.world_laws.specs.declared.event.Event.TheVariants.{Arrive}
 use Rattle.world_laws.proofs.Recorded.{at-last, before-last}
-use Rattle.turn_laws.specs.Walks.{ticked, IsWalked}
+use Rattle.turn_laws.specs.Walks.{ticked, IsSharedWalked}
 use Rattle.turn_laws.specs.System.{System, Mark, Arrived, IsInStep}
 use Rattle.turn_laws.specs.Shadow.{IsShadow, ClientShadow, LogShadow, ticket_at, ListShadow}
 use Rattle.turn_laws.specs.Underway.{downs_of, ups_in}
@@ -31,7 +31,7 @@ use Rattle.turn_laws.proofs.Told.{Fitting, AreOwn, PartsStay, fitting, lists-sti
 use Rattle.turn_laws.proofs.Walks.{walked-on, walked-stands}
 use Rattle.turn_laws.proofs.Holding.{plain-asks}
 
-module _ {C J : Type 0} (s : System C J) (w : WorldModel) (h : IsShadow s w) (walked : IsWalked w) (k number : ℕ) (model : WorkerModel C J) (client : ClientModel C)
+module _ {C J : Type 0} (s : System C J) (w : WorldModel) (h : IsShadow s w) (walked : IsSharedWalked w) (k number : ℕ) (model : WorkerModel C J) (client : ClientModel C)
     (at : slice_get s.workers k ≡ Some model) (got : get model.clients number ≡ Some client) (here : client.gone ≡ false) (part : PartModel) (one-slot : HasOneSlot part) where
   abbrev downs : List Pair
   downs = downs_of s

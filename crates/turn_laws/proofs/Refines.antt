@@ -2,7 +2,7 @@
 use Rattle.std.proofs.Common.{List, [], ◌∷◌, subst}
 use Rattle.std.specs.List.{FoldsTo}
 use Rattle.world_laws.specs.State.{WorldModel}
-use Rattle.turn_laws.specs.Walks.{IsWalkedAlone}
+use Rattle.turn_laws.specs.Walks.{IsWalked}
 use Rattle.turn_laws.specs.System.{System}
 use Rattle.turn_laws.specs.Shadow.{IsShadow}
 use Rattle.turn_laws.specs.Naming.{NamesNodes}
@@ -27,7 +27,7 @@ module _ (C J : Type 0) (plain : PlansArePlain) where
   simulates (Thrown j) = anyhow C J (Thrown j) (thrown C J j)
   simulates (Moved event) = anyhow C J (Moved event) (moved C J event)
 
-  all : (steps : List SystemEvent) (s s' : System C J) (w : WorldModel) → IsShadow s w → NamesNodes s → IsWalkedAlone w → FoldsTo SystemStep s steps s' → (w' : WorldModel) × IsWalkedAlone w' × IsShadow s' w'
+  all : (steps : List SystemEvent) (s s' : System C J) (w : WorldModel) → IsShadow s w → NamesNodes s → IsWalked w → FoldsTo SystemStep s steps s' → (w' : WorldModel) × IsWalked w' × IsShadow s' w'
   all [] s s' w h names r f = (w, r, subst (λ x. IsShadow x w) f h)
   all (step ∷ steps) s s' w h names r f =
       let one = simulates step s f.0 w h names (alone-walked w r) f.1 in

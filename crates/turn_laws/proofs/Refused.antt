@@ -18,7 +18,7 @@ use Rattle.world_laws.specs.declared.event.Event.TheVariants.{Refuse}
 use Rattle.world_laws.specs.Places.{total}
 use Rattle.world_laws.proofs.Tally.{total-append}
 use Rattle.world_laws.proofs.Recorded.{set-same}
-use Rattle.turn_laws.specs.Walks.{Walk, IsWalked}
+use Rattle.turn_laws.specs.Walks.{Walk, IsSharedWalked}
 use Rattle.turn_laws.specs.Wire.{Wire}
 use Rattle.turn_laws.specs.System.{System, between}
 use Rattle.turn_laws.specs.Shadow.{IsShadow, UpsShadow, RunShadow, lane_of, lying, tickets_in, ListShadow}
@@ -169,7 +169,7 @@ module _ {C J : Type 0} where
       tails : (x : Posted) (xs ys : List Posted) → x ∷ xs ≡ x ∷ ys → xs ≡ ys
       tails x xs ys e = cc
 
-module _ {C J : Type 0} (s s' : System C J) (w : WorldModel) (h : IsShadow s w) (walked : IsWalked w) (on : CarrierStep s Refused s') where
+module _ {C J : Type 0} (s s' : System C J) (w : WorldModel) (h : IsShadow s w) (walked : IsSharedWalked w) (on : CarrierStep s Refused s') where
   abbrev k : ℕ
   k = on.does.0
 

@@ -20,7 +20,7 @@ use Rattle.world_laws.proofs.Tally.{total-one}
 use Rattle.shared_laws.specs.Shared.{Step}
 use Rattle.shared_laws.proofs.SharedRuns.{Steady, does-steady, start-steady, steady-stands}
 use Rattle.world_laws.specs.State.{sent_of, answered_of}
-use Rattle.turn_laws.specs.Walks.{IsWalked, SharedWalk, ticked}
+use Rattle.turn_laws.specs.Walks.{IsSharedWalked, SharedWalk, ticked}
 use Rattle.turn_laws.proofs.Elements.{nothing-there}
 use Rattle.turn_laws.proofs.Told.{map-set}
 
@@ -148,7 +148,7 @@ rising-walk n (Step.Ours e ∷ ss) w w' s r x = rising-walk n ss x.0 w' (does-st
 rising-walk n (Step.Theirs node asking es ∷ ss) w w' s r x = rising-walk n ss x.0 w' (does-steady n (Step.Theirs node asking es) w x.0 s x.1) (subst (λ (v : WorldModel). AreRising (tickets v.commands)) (sym x.1.2) r) x.2
 rising-walk n (Step.Passes ∷ ss) w w' s r x = rising-walk n ss x.0 w' (does-steady n Step.Passes w x.0 s x.1) (subst (λ (v : WorldModel). AreRising (tickets v.commands)) (sym x.1) r) x.2
 
-pub walked-rising : (w : WorldModel) → IsWalked w → Rising w.commands
+pub walked-rising : (w : WorldModel) → IsSharedWalked w → Rising w.commands
 walked-rising w h i j c d p q lt same =
     rising-walk h.0 h.3 (start h.0 h.1 h.2) w (start-steady h.0 h.1 h.2 h.4) (λ i j t u p. absurd (nothing-there i t p)) h.5 i j c.command.ticket d.command.ticket
     (map-at (λ (c : Arrival). c.command.ticket) w.commands i c p) (map-at (λ (c : Arrival). c.command.ticket) w.commands j d q) lt same

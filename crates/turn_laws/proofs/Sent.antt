@@ -18,7 +18,7 @@ use Rattle.proxy_turns.specs.CarrierModel.{CarrierModel, Sent}
 use Rattle.world_laws.specs.State.{WorldModel}
 use Rattle.world_laws.specs.declared.event.Event.{Event}
 use Rattle.world_laws.proofs.Recorded.{set-same}
-use Rattle.turn_laws.specs.Walks.{Walk, IsWalked}
+use Rattle.turn_laws.specs.Walks.{Walk, IsSharedWalked}
 use Rattle.turn_laws.specs.Wire.{Wire, Exchanges, items_of}
 use Rattle.turn_laws.specs.System.{System}
 use Rattle.turn_laws.specs.Shadow.{IsShadow, IsKnown, requests_in}
@@ -39,7 +39,7 @@ use Rattle.turn_laws.proofs.Carried.{sends, set-twice}
 failed-not : (p : Option Failure) (why : Failure) → p ≡ None → p ≡ Some why → ⊥
 failed-not p why e f = cc
 
-module _ {C J : Type 0} (s s' : System C J) (w : WorldModel) (h : IsShadow s w) (walked : IsWalked w) (on : CarrierStep s Sent s') where
+module _ {C J : Type 0} (s s' : System C J) (w : WorldModel) (h : IsShadow s w) (walked : IsSharedWalked w) (on : CarrierStep s Sent s') where
   abbrev k : ℕ
   k = on.does.0
 
@@ -165,7 +165,7 @@ module _ {C J : Type 0} (s s' : System C J) (w : WorldModel) (h : IsShadow s w) 
     closed = refl;
   })
 
-  then-walked : IsWalked first.1
+  then-walked : IsSharedWalked first.1
   then-walked = walked-on w first.1 first.0 walked first.2
 
   breaks : (why : Failure) → link2.failure ≡ Some why → SendsAllOrNone Exchanges link.port (requests_of_run held) link2.port → link2.due ≡ link.due ++ map due_of (requests_of_run held) → Result'

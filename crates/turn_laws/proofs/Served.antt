@@ -24,7 +24,7 @@ use Rattle.world_laws.specs.declared.event.Event.{Event}
 use Rattle.world_laws.specs.declared.event.Event.TheVariants.{Serve}
 use Rattle.world_laws.specs.Places.{total}
 use Rattle.world_laws.proofs.Recorded.{at-set}
-use Rattle.turn_laws.specs.Walks.{Walk, IsWalked, ticked}
+use Rattle.turn_laws.specs.Walks.{Walk, IsSharedWalked, ticked}
 use Rattle.turn_laws.specs.Wire.{Wire, Item, Part, Asks, Runs, Lists, AreTold, ServesNext, executions, parts_in, tickets_for}
 use Rattle.turn_laws.specs.System.{System}
 use Rattle.turn_laws.specs.Shadow.{IsShadow, LinksShadow, LogShadow, AreListed, OpenShadow, IsIdle, IsKnown, IsUnnumbered, Numbers, requests_in, dues_of, dues_in, back_of, backs_in, SeenIn}
@@ -130,7 +130,7 @@ replied-open l back e = ap (λ b. if b then record l { backs = l.backs ++ back �
 all-open : (l : Link) (run : List (Arrival × Told)) → l.is_open ≡ true → all_replied l run ≡ record l { backs = l.backs ++ replies_of run }
 all-open l run e = ap (λ b. if b then record l { backs = l.backs ++ replies_of run } else l) e
 
-module _ {C J : Type 0} (s s' : System C J) (w : WorldModel) (h : IsShadow s w) (walked : IsWalked w) (k : ℕ) (verdict : Verdict) (on : Serves s k verdict s') where
+module _ {C J : Type 0} (s s' : System C J) (w : WorldModel) (h : IsShadow s w) (walked : IsSharedWalked w) (k : ℕ) (verdict : Verdict) (on : Serves s k verdict s') where
   abbrev backend : Backend Wire
   backend = on.0
 

@@ -18,7 +18,7 @@ use Rattle.world_laws.specs.declared.event.Event.{Event}
 use Rattle.world_laws.specs.declared.event.Event.TheVariants.{Serve}
 use Rattle.world_laws.proofs.Nodes.{set-size}
 use Rattle.world_laws.proofs.Recorded.{set-same}
-use Rattle.turn_laws.specs.Walks.{Walk, IsWalked, ticked}
+use Rattle.turn_laws.specs.Walks.{Walk, IsSharedWalked, ticked}
 use Rattle.turn_laws.specs.Wire.{Wire, Item, Part, Asks, Runs, Lists, ServesNext, executions, parts_in, tickets_for}
 use Rattle.turn_laws.specs.System.{System}
 use Rattle.turn_laws.specs.Shadow.{IsShadow, LinksShadow, LogShadow, WireShadow, ClosedShadow, IsKnown, IsUnnumbered, Numbers, requests_in}
@@ -35,7 +35,7 @@ replied-closed l back e = ap (λ b. if b then record l { backs = l.backs ++ back
 all-closed : (l : Link) (run : List (Arrival × Told)) → l.is_open ≡ false → all_replied l run ≡ l
 all-closed l run e = ap (λ b. if b then record l { backs = l.backs ++ replies_of run } else l) e
 
-module _ {C J : Type 0} (s s' : System C J) (w : WorldModel) (h : IsShadow s w) (walked : IsWalked w) (j : ℕ) (verdict : Verdict) (on : ServesLate s j verdict s') where
+module _ {C J : Type 0} (s s' : System C J) (w : WorldModel) (h : IsShadow s w) (walked : IsSharedWalked w) (j : ℕ) (verdict : Verdict) (on : ServesLate s j verdict s') where
   abbrev old : Wire
   old = on.0
 

@@ -15,7 +15,7 @@ use Rattle.world_laws.specs.World.{WorldDoes}
 use Rattle.world_laws.specs.declared.event.Event.{Event}
 use Rattle.world_laws.proofs.Placed.{Standing}
 use Rattle.world_laws.proofs.Lives.{does-moment}
-use Rattle.turn_laws.specs.Walks.{ticked, Walk, IsWalked}
+use Rattle.turn_laws.specs.Walks.{ticked, Walk, IsSharedWalked}
 use Rattle.turn_laws.specs.Settling.{TellsAll}
 use Rattle.turn_laws.specs.System.{System, Mark}
 use Rattle.turn_laws.specs.Shadow.{IsShadow, LinksShadow, UpsShadow, LogShadow, AreListed}
@@ -116,7 +116,7 @@ module _ {C J : Type 0} where
   -- one event of the machine, and what came down by it is told, as the workers will hear it
   pub settles-as : (core : Event) (s s' : System C J) (w : WorldModel) (ups' : List Posted) (links' : List Link) (pairs said : List Pair)
       → ((commands commands' : List Arrival) → TellsAll commands pairs commands' → TellsAll commands said commands')
-      → IsWalked w → IsShadow s w → Goes s s'
+      → IsSharedWalked w → IsShadow s w → Goes s s'
       → WorldDoes (ticked w) core (record (ticked w) { ups = ups'; links = links'; downs = w.downs ++ pairs })
       → LinksShadow s.nodes s'.carrier s'.closed s'.opened (record w { links = links' })
       → SameBag (downs_of s ++ said) (downs_of s')
@@ -140,7 +140,7 @@ module _ {C J : Type 0} where
 
   -- where the workers will hear just that
   pub settles-so : (core : Event) (s s' : System C J) (w : WorldModel) (ups' : List Posted) (links' : List Link) (pairs : List Pair)
-      → IsWalked w → IsShadow s w → Goes s s'
+      → IsSharedWalked w → IsShadow s w → Goes s s'
       → WorldDoes (ticked w) core (record (ticked w) { ups = ups'; links = links'; downs = w.downs ++ pairs })
       → LinksShadow s.nodes s'.carrier s'.closed s'.opened (record w { links = links' })
       → SameBag (downs_of s ++ pairs) (downs_of s')

@@ -11,7 +11,7 @@ use Rattle.turn_laws.specs.System.{System}
 use Rattle.turn_laws.specs.Shadow.{IsShadow}
 use Rattle.turn_laws.specs.Naming.{NamesNodes}
 use Rattle.turn_laws.specs.Sharing.{OthersDo, SharedEvent, SharedRefines, SharedSystemStep}
-use Rattle.turn_laws.specs.Walks.{IsWalked, ticked}
+use Rattle.turn_laws.specs.Walks.{IsSharedWalked, ticked}
 use Rattle.turn_laws.proofs.NamesStay.{names-stay}
 use Rattle.turn_laws.proofs.Refines.{simulates}
 use Rattle.turn_laws.proofs.Serving.{entries_at, log-served}
@@ -70,7 +70,7 @@ module _ {C J : Type 0} where
   })
 
 module _ (C J : Type 0) (plain : PlansArePlain) where
-  pub all : (events : List SharedEvent) (s s' : System C J) (w : WorldModel) → IsShadow s w → NamesNodes s → IsWalked w → FoldsTo SharedSystemStep s events s' → (w' : WorldModel) × IsWalked w' × IsShadow s' w' × NamesNodes s'
+  pub all : (events : List SharedEvent) (s s' : System C J) (w : WorldModel) → IsShadow s w → NamesNodes s → IsSharedWalked w → FoldsTo SharedSystemStep s events s' → (w' : WorldModel) × IsSharedWalked w' × IsShadow s' w' × NamesNodes s'
   all [] s s' w h names r f = (w, r, subst (λ x. IsShadow x w) f h, subst NamesNodes f names)
   all (SharedEvent.Ours event ∷ events) s s' w h names r f =
       let one = simulates C J plain event s f.0 w h names r f.1 in

@@ -12,7 +12,7 @@ use Rattle.proxy_turns.specs.WorkerModel.{WorkerModel}
 use Rattle.world_laws.specs.State.{WorldModel, start}
 use Rattle.world_laws.specs.Places.{total, is}
 use Rattle.world_laws.proofs.Tally.{total-append, total-one}
-use Rattle.turn_laws.specs.Walks.{IsWalkedAlone}
+use Rattle.turn_laws.specs.Walks.{IsWalked}
 use Rattle.turn_laws.specs.System.{System}
 use Rattle.turn_laws.specs.Shadow.{IsShadow, LinksShadow, LogShadow, ListShadow}
 use Rattle.turn_laws.specs.Underway.{downs_of, downs_in, down_in, ups_in}
@@ -123,9 +123,9 @@ module _ {C J : Type 0} where
       posted = λ k model number client part c p q. absurd (no-client model.clients number client (h.idle k model p).1 q);
     }
 
-    pub alone : IsWalkedAlone first
+    pub alone : IsWalked first
     alone = (length s.workers, most_together, s.cluster, [], h.new, refl)
 
 module _ (C J : Type 0) where
-  pub start-shadow : (s : System C J) → IsStart s → (w : WorldModel) × IsWalkedAlone w × IsShadow s w × NamesNodes s
+  pub start-shadow : (s : System C J) → IsStart s → (w : WorldModel) × IsWalked w × IsShadow s w × NamesNodes s
   start-shadow s h = (_, alone s h, shadow s h, names s h)

@@ -6,20 +6,20 @@ use Rattle.world_laws.proofs.Placed.{Standing}
 use Rattle.world_laws.proofs.Runs.{Sound, does-sound, start-sound, headline}
 use Rattle.shared_laws.specs.Shared.{Step}
 use Rattle.shared_laws.proofs.SharedRuns.{Steady, does-steady, shared-headline, start-steady, steady-stands}
-use Rattle.turn_laws.specs.Walks.{Walk, SharedWalk, IsWalked, IsWalkedAlone, EveryWalk, EverySharedWalk}
+use Rattle.turn_laws.specs.Walks.{Walk, SharedWalk, IsSharedWalked, IsWalked, EveryWalk, EverySharedWalk}
 
 pub walk-sound : (es : List Event) (w w' : WorldModel) → Sound w → Walk w es w' → Sound w'
 walk-sound [] w w' s r = subst Sound (sym r) s
 walk-sound (e ∷ es) w w' s r = walk-sound es r.0 w' (does-sound e w r.0 s r.1) r.2
 
-pub walked-steady : (w : WorldModel) (h : IsWalked w) → Steady h.0 w
+pub walked-steady : (w : WorldModel) (h : IsSharedWalked w) → Steady h.0 w
 walked-steady w h = go h.0 h.3 (start h.0 h.1 h.2) w (start-steady h.0 h.1 h.2 h.4) h.5
   where
     go : (n : ℕ) (ss : List Step) (w w' : WorldModel) → Steady n w → SharedWalk w ss w' → Steady n w'
     go n [] w w' s r = subst (Steady n) (sym r) s
     go n (st ∷ ss) w w' s r = go n ss r.0 w' (does-steady n st w r.0 s r.1) r.2
 
-pub walked-stands : (w : WorldModel) → IsWalked w → Standing w
+pub walked-stands : (w : WorldModel) → IsSharedWalked w → Standing w
 walked-stands w h = steady-stands h.0 w (walked-steady w h)
 
 pub every_walk : EveryWalk
@@ -43,12 +43,12 @@ walk-shared [] w w' r = r
 walk-shared (e ∷ es) w w' r = (r.0, r.1, walk-shared es r.0 w' r.2)
 
 -- events lead on
-pub walked-on : (w v : WorldModel) (es : List Event) → IsWalked w → Walk w es v → IsWalked v
+pub walked-on : (w v : WorldModel) (es : List Event) → IsSharedWalked w → Walk w es v → IsSharedWalked v
 walked-on w v es h r = (h.0, h.1, h.2, h.3 ++ map Step.Ours es, h.4, shared-join h.3 (map Step.Ours es) (start h.0 h.1 h.2) w v h.5 (walk-shared es w v r))
 
 -- and so they do where nobody else acts
-pub alone-on : (w v : WorldModel) (es : List Event) → IsWalkedAlone w → Walk w es v → IsWalkedAlone v
+pub alone-on : (w v : WorldModel) (es : List Event) → IsWalked w → Walk w es v → IsWalked v
 alone-on w v es h r = (h.0, h.1, h.2, h.3 ++ es, h.4, walks_join h.3 es (start h.0 h.1 h.2) w v h.5 r)
 
-pub alone-walked : (w : WorldModel) → IsWalkedAlone w → IsWalked w
+pub alone-walked : (w : WorldModel) → IsWalked w → IsSharedWalked w
 alone-walked w h = (h.0, h.1, h.2, map Step.Ours h.3, h.4, walk-shared h.3 (start h.0 h.1 h.2) w h.5)

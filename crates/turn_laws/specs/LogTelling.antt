@@ -2,11 +2,11 @@
 use Rattle.std.specs.Prelude.{List}
 use Rattle.world_laws.specs.State.{WorldModel}
 use Rattle.world_laws.specs.Headline.{Headline}
-use Rattle.turn_laws.specs.Walks.{IsWalked}
+use Rattle.turn_laws.specs.Walks.{IsSharedWalked}
 use Rattle.turn_laws.specs.System.{Mark}
 use Rattle.turn_laws.specs.Shadow.{LogShadow}
 use Rattle.turn_laws.specs.LogHeadline.{LogHeadline}
 
 -- what events reached tells it, moment by moment
 abbrev pub LogsTellHeadlines : Type 0
-LogsTellHeadlines = (log : List Mark) (w : WorldModel) → LogShadow log w → IsWalked w → Headline w → LogHeadline log
+LogsTellHeadlines = (log : List Mark) (w : WorldModel) → LogShadow log w → IsSharedWalked w → Headline w → LogHeadline log

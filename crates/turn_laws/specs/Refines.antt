@@ -10,7 +10,7 @@ use Rattle.proxy_turns.specs.WorkerModel.{WorkerModel, WorkerEvent}
 use Rattle.world_laws.specs.State.{WorldModel}
 use Rattle.world_laws.specs.Headline.{Headline, IsNew}
 use Rattle.world_laws.specs.declared.event.Event.{Event}
-use Rattle.turn_laws.specs.Walks.{Walk, IsWalked, IsWalkedAlone}
+use Rattle.turn_laws.specs.Walks.{Walk, IsSharedWalked, IsWalked}
 use Rattle.turn_laws.specs.System.{System, between, IsInStep, seat_of}
 use Rattle.turn_laws.specs.Naming.{NamesNodes}
 use Rattle.turn_laws.specs.Shadow.{IsShadow}
@@ -46,12 +46,12 @@ pub record IsStart {C J : Type 0} (s : System C J) : Type 0 where
 module _ (C J : Type 0) where
   -- one step of the system is some events of the machine
   abbrev pub Simulates : SystemEvent → Type 0
-  Simulates event = (s s' : System C J) (w : WorldModel) → IsShadow s w → IsWalked w → SystemStep s event s'
+  Simulates event = (s s' : System C J) (w : WorldModel) → IsShadow s w → IsSharedWalked w → SystemStep s event s'
       → (events : List Event) × (w' : WorldModel) × Walk w events w' × IsShadow s' w'
 
   -- the same, where each node that was named is one of the cluster
   abbrev pub SimulatesNaming : SystemEvent → Type 0
-  SimulatesNaming event = (s s' : System C J) (w : WorldModel) → IsShadow s w → NamesNodes s → IsWalked w → SystemStep s event s'
+  SimulatesNaming event = (s s' : System C J) (w : WorldModel) → IsShadow s w → NamesNodes s → IsSharedWalked w → SystemStep s event s'
       → (events : List Event) × (w' : WorldModel) × Walk w events w' × IsShadow s' w'
 
   -- each step keeps that
@@ -79,9 +79,9 @@ module _ (C J : Type 0) where
 
   -- a system that has done nothing stands for a world of the machine, and names nodes of the cluster
   abbrev pub StartsRefine : Type 0
-  StartsRefine = (s : System C J) → IsStart s → (w : WorldModel) × IsWalkedAlone w × IsShadow s w × NamesNodes s
+  StartsRefine = (s : System C J) → IsStart s → (w : WorldModel) × IsWalked w × IsShadow s w × NamesNodes s
 
   -- whatever the system does from its start, the machine may do, and the headline holds of it
   abbrev pub Refines : Type 0
   Refines = (s s' : System C J) (events : List SystemEvent) → IsStart s → FoldsTo SystemStep s events s'
-      → (w : WorldModel) × IsWalkedAlone w × IsShadow s' w × Headline w
+      → (w : WorldModel) × IsWalked w × IsShadow s' w × Headline w

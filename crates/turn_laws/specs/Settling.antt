@@ -7,7 +7,7 @@ use Rattle.world_laws.specs.State.{WorldModel, after_told}
 use Rattle.world_laws.specs.declared.state.Arrival.{Arrival}
 use Rattle.world_laws.specs.World.{WorldDoes, IsOf}
 use Rattle.world_laws.specs.declared.event.Event.{Event}
-use Rattle.turn_laws.specs.Walks.{ticked, Walk, IsWalked}
+use Rattle.turn_laws.specs.Walks.{ticked, Walk, IsSharedWalked}
 
 -- the command of this ticket, which awaits it, is told this
 abbrev pub Tells : List Arrival → Ticket × Told → List Arrival → Type 0
@@ -27,9 +27,9 @@ Settles w w' =
 
 -- in a world that events reach, what came down can be told at once
 abbrev pub Settling : Type 0
-Settling = (w : WorldModel) → IsWalked w → (events : List Event) × (w' : WorldModel) × Walk w events w' × Settles w w'
+Settling = (w : WorldModel) → IsSharedWalked w → (events : List Event) × (w' : WorldModel) × Walk w events w' × Settles w w'
 
 -- and so it can after any event
 abbrev pub SettlingAfter : Type 0
-SettlingAfter = (w mid : WorldModel) (event : Event) → IsWalked w → WorldDoes (ticked w) event mid
-    → (events : List Event) × (w' : WorldModel) × Walk w (event ∷ events) w' × Settles mid w' × IsWalked w'
+SettlingAfter = (w mid : WorldModel) (event : Event) → IsSharedWalked w → WorldDoes (ticked w) event mid
+    → (events : List Event) × (w' : WorldModel) × Walk w (event ∷ events) w' × Settles mid w' × IsSharedWalked w'

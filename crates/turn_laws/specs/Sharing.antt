@@ -9,7 +9,7 @@ use Rattle.turn_laws.specs.Wire.{Execution}
 use Rattle.turn_laws.specs.System.{System}
 use Rattle.turn_laws.specs.Shadow.{IsShadow, entry_at}
 use Rattle.turn_laws.specs.Steps.{SystemEvent, SystemStep, log_of}
-use Rattle.turn_laws.specs.Walks.{IsWalked}
+use Rattle.turn_laws.specs.Walks.{IsSharedWalked}
 use Rattle.turn_laws.specs.Refines.{IsStart}
 
 pub data SharedEvent : Type 0 where
@@ -31,4 +31,4 @@ module _ (C J : Type 0) where
   -- whatever the system and others do from its start, the machine beside others may do, and the headline holds of its commands
   abbrev pub SharedRefines : Type 0
   SharedRefines = (s s' : System C J) (events : List SharedEvent) → IsStart s → FoldsTo SharedSystemStep s events s'
-      → (w : WorldModel) × IsWalked w × IsShadow s' w × SharedHeadline w
+      → (w : WorldModel) × IsSharedWalked w × IsShadow s' w × SharedHeadline w

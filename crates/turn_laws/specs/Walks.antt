@@ -23,16 +23,16 @@ SharedWalk w [] w' = w' ≡ w
 SharedWalk w (s ∷ ss) w' = (mid : WorldModel) × SharedDoes (ticked w) s mid × SharedWalk mid ss w'
 
 -- a world to which steps lead, ours and others', from settled slots and no keys
-abbrev pub IsWalked : WorldModel → Type 0
-IsWalked w = (workers : ℕ) × (run_limit : ℕ) × (cluster : ClusterModel) × (steps : List Step) × IsNew cluster × SharedWalk (start workers run_limit cluster) steps w
+abbrev pub IsSharedWalked : WorldModel → Type 0
+IsSharedWalked w = (workers : ℕ) × (run_limit : ℕ) × (cluster : ClusterModel) × (steps : List Step) × IsNew cluster × SharedWalk (start workers run_limit cluster) steps w
 
 -- the same where nobody else acts
-abbrev pub IsWalkedAlone : WorldModel → Type 0
-IsWalkedAlone w = (workers : ℕ) × (run_limit : ℕ) × (cluster : ClusterModel) × (events : List Event) × IsNew cluster × Walk (start workers run_limit cluster) events w
+abbrev pub IsWalked : WorldModel → Type 0
+IsWalked w = (workers : ℕ) × (run_limit : ℕ) × (cluster : ClusterModel) × (events : List Event) × IsNew cluster × Walk (start workers run_limit cluster) events w
 
 -- the headline holds after all of them
 abbrev pub EveryWalk : Type 0
-EveryWalk = (w : WorldModel) → IsWalkedAlone w → Headline w
+EveryWalk = (w : WorldModel) → IsWalked w → Headline w
 
 abbrev pub EverySharedWalk : Type 0
-EverySharedWalk = (w : WorldModel) → IsWalked w → SharedHeadline w
+EverySharedWalk = (w : WorldModel) → IsSharedWalked w → SharedHeadline w

@@ -3,7 +3,7 @@ use Rattle.std.specs.Prelude.{◌≡◌, List, [], ◌∷◌}
 use Rattle.std.specs.List.{FoldsTo}
 use Rattle.world_laws.specs.State.{WorldModel}
 use Rattle.world_laws.specs.Headline.{Headline}
-use Rattle.turn_laws.specs.Walks.{IsWalkedAlone}
+use Rattle.turn_laws.specs.Walks.{IsWalked}
 use Rattle.turn_laws.specs.System.{System}
 use Rattle.turn_laws.specs.Shadow.{IsShadow}
 use Rattle.turn_laws.specs.Steps.{SystemEvent, SystemStep}
@@ -40,7 +40,7 @@ module _ {C J : Type 0} where
   abbrev pub Holds : System C J → List (Step C J) → System C J → Type 0
   Holds start steps s' =
       FoldsTo SystemStep start (events_of steps) s' × LogHeadline s'.log × IsHeld s'.log s'.cluster
-      × ((w : WorldModel) × IsWalkedAlone w × IsShadow s' w × Headline w)
+      × ((w : WorldModel) × IsWalked w × IsShadow s' w × Headline w)
 
 module _ (C J : Type 0) where
   -- From a start that hears its nodes, where the premises hold along them, steps that the code made are steps of the system: so the
