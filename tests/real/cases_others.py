@@ -123,10 +123,10 @@ class Everybody:
         return f"{answered} answered, {lost} lost, {len(self.gave_up)} given up, {direct} of the nodes themselves"
 
 
-def tags_of_halves(cluster):
-    """Two tags for each node: those of one node stand three apart."""
-    halves = [((first, (first + last) // 2), ((first + last) // 2 + 1, last)) for first, last in cluster.ranges()]
-    return [tag_of_slot(range(first, last + 1)) for half in zip(*halves) for first, last in half]
+def some_tags(cluster):
+    """Four tags for each node, in turn."""
+    quarters = [[slot for slot in range(first, last + 1) if slot % 4 == number] for number in range(4) for first, last in cluster.ranges()]
+    return [tag_of_slot(set(quarter)) for quarter in quarters]
 
 
 def stop_for_a_while(node):
@@ -157,10 +157,10 @@ def move_in_trouble(world, writers, tags):
 
 @case
 def everybody_has_one_legal_order(world):
-    """24 clients over two proxies, 12 that ask the nodes and give keys a time, six slots that move, links that are cut, nodes that stop."""
+    """24 clients over two proxies, 12 that ask the nodes and give keys a time, twelve slots that move, links that are cut, nodes that stop."""
     other = Proxy(world.room, world.program, world.cluster.nodes[1].port, name="beside")
     try:
-        tags = tags_of_halves(world.cluster)
+        tags = some_tags(world.cluster)
         everybody, clocks = Everybody(world, [world.proxy, other], tags), time.time() - time.monotonic()
         with Writers(None, CLIENTS + DIRECT, everybody.turn, PAUSE, everybody.connect) as writers:
             moves = move_in_trouble(world, writers, tags)
