@@ -7,7 +7,7 @@ from legal_orders import Command, NoOrder, executed, legal_order
 from writers import LOST
 
 # Random histories that are compared with a search among all orders, and the most commands of one.
-HISTORIES, MOST_COMMANDS = 2000, 6
+HISTORIES, MOST_COMMANDS = 1000, 6
 # Commands that are answered with a number.
 NUMBERS = (b"APPEND", b"INCR", b"DEL", b"PEXPIRE")
 
@@ -135,8 +135,16 @@ def histories_that_are_legal_or_not(world):
     return f"{sum(wanted for wanted, _ in HISTORIES_TOLD.values())} legal, {sum(not wanted for wanted, _ in HISTORIES_TOLD.values())} not"
 
 
+def earlier_of(commands, lost):
+    """Those of the commands that are the same client's, and were answered."""
+    return [it for it in commands if it.client == lost.client and it.reply is not LOST]
+
+
 def is_legal_by_trying_all(waiting, lost, store=None, now=0.0):
-    """The same by trying whatever may come next, each event at the earliest moment that is left."""
+    """The same by trying whatever may come next, each event at the earliest moment that is left.
+
+    `waiting` has the answered commands, each client's in its order, `lost` each lost one with those that have to stand before it.
+    """
     store = store or {}
     if not waiting:
         return True
@@ -195,8 +203,9 @@ def random_histories_by_trying_all(world):
     chance, legal = random.Random(5), 0
     for number in range(HISTORIES):
         commands = some_history(chance)
-        lost = [(it, [e for e in commands[:place] if e.client == it.client and e.reply is not LOST]) for place, it in enumerate(commands) if it.reply is LOST]
-        wanted = is_legal_by_trying_all([it for it in commands if it.reply is not LOST], lost)
+        answered = [it for it in commands if it.reply is not LOST]
+        lost = [(it, earlier_of(commands[:place], it)) for place, it in enumerate(commands) if it.reply is LOST]
+        wanted = is_legal_by_trying_all(answered, lost)
         check_same(is_legal(commands), wanted, f"whether history {number} is legal: {commands}")
         legal += wanted
     check(HISTORIES // 4 < legal < 3 * HISTORIES // 4, f"{legal} of {HISTORIES} histories are legal")

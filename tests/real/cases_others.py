@@ -21,7 +21,7 @@ CLIENTS, DIRECT, AT_ONCE = 24, 12, 2
 # Clients that ask two proxies by turns.
 CHANGING = 8
 # Seconds between two turns of a client, seconds of moves, how many there are at least and at most, and seconds for which a node stops.
-PAUSE, SECONDS, FEWEST, MOST, STOPPED = 0.04, 4, 6, 36, 0.15
+PAUSE, SECONDS, FEWEST, MOST, STOPPED = 0.025, 4, 6, 36, 0.15
 # What they send, for two keys of one slot, `s` and `n`: `@` is a value that is put once only, `#` such a number.
 COMMANDS = [
     *["GET s", "GET n", "MGET s n", "STRLEN s", "EXISTS s n", "SET s @", "SET s @ NX", "SET s @ XX", "SETNX s @", "GETSET s @"],
@@ -69,11 +69,12 @@ class Everybody:
     def __init__(self, world, proxies, tags):
         self.world, self.proxies, self.tags = world, proxies, tags
         self.chances = [random.Random(number) for number in range(CLIENTS + DIRECT)]
-        self.commands, self.gave_up, self.asked = [[] for _ in range(CLIENTS + DIRECT)], [], []
+        self.commands, self.gave_up, self.direct = [[] for _ in range(CLIENTS + DIRECT)], [], []
 
     def connect(self, number):
         if number >= CLIENTS:
-            return Direct([node.port for node in self.world.cluster.nodes])
+            self.direct.append(Direct([node.port for node in self.world.cluster.nodes]))
+            return self.direct[-1]
         return Through(*[self.proxies[:1], self.proxies[1:], self.proxies][number % 3])
 
     def turn(self, client, number, count):
@@ -120,7 +121,9 @@ class Everybody:
         for number, commands in enumerate(self.commands):
             gone = sum(it.reply is LOST for it in commands)
             answered, lost, direct = answered + len(commands) - gone, lost + gone, direct + (number >= CLIENTS) * len(commands)
-        return f"{answered} answered, {lost} lost, {len(self.gave_up)} given up, {direct} of the nodes themselves"
+        asked = sum(client.asked for client in self.direct)
+        check_time(asked > 0, "no ASK was followed by a client of the nodes")
+        return f"{answered} answered, {lost} lost, {len(self.gave_up)} given up, {direct} by the nodes themselves, {asked} times behind ASK"
 
 
 def some_tags(cluster):
@@ -155,17 +158,18 @@ def move_in_trouble(world, writers, tags):
     return moves
 
 
-@case
+@case(limit=240)
 def everybody_has_one_legal_order(world):
     """24 clients over two proxies, 12 that ask the nodes and give keys a time, twelve slots that move, links that are cut, nodes that stop."""
     other = Proxy(world.room, world.program, world.cluster.nodes[1].port, name="beside")
     try:
         tags = some_tags(world.cluster)
-        everybody, clocks = Everybody(world, [world.proxy, other], tags), time.time() - time.monotonic()
+        everybody, clocks = Everybody(world, [world.proxy, other], tags), (time.monotonic(), time.time())
         with Writers(None, CLIENTS + DIRECT, everybody.turn, PAUSE, everybody.connect) as writers:
             moves = move_in_trouble(world, writers, tags)
         everybody.read_all()
-        check_time(abs(time.time() - time.monotonic() - clocks) < GRAIN * SECONDS, "the clock that nodes read was put anew")
+        seconds, by_nodes = time.monotonic() - clocks[0], time.time() - clocks[1]
+        check_time(abs(seconds - by_nodes) < GRAIN * (1 + seconds), "the clock that the nodes read was put forward or back")
         check(not other.has_ended(), f"the other proxy ended: {other.said()}")
     finally:
         other.end()
