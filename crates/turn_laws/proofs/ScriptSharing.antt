@@ -79,8 +79,7 @@ module _ {C J : Type 0} (port : C) where
     begins = starts port;
     goes =
         and-then SharedSystemStep (s0 port) (map SharedEvent.Ours (opening ++ (moving ++ sending))) (waiting port k5 asked) (SharedEvent.Theirs 0 false (others_set ∷ []) ∷ map SharedEvent.Ours reading) (answered port story_of_sharing)
-        (ours (opening ++ (moving ++ sending)) (s0 port) (waiting port k5 asked) (sent law))
-        (
+        (ours (opening ++ (moving ++ sending)) (s0 port) (waiting port k5 asked) (sent law)) (
           waiting port k6 told,
           (others-execute, refl),
           ours reading (waiting port k6 told) (answered port story_of_sharing) (reads port told),

@@ -119,4 +119,5 @@ abbrev pub NoneIsExecutedTwice : Type 0
 NoneIsExecutedTwice = (log : List Mark) → LogHeadline log → (ticket : Ticket) → HasOne log ticket
 
 abbrev pub EachExecutionArrived : Type 0
-EachExecutionArrived = (log : List Mark) → LogHeadline log → (i : ℕ) (e : Execution) → IsExecutedAt log i e → (a : ℕ) × At log a (Arrived e.ticket e.part) × (a < i)
+EachExecutionArrived = (log : List Mark) → LogHeadline log → (i : ℕ) (e : Execution) → IsExecutedAt log i e
+    → (a : ℕ) × At log a (Arrived e.ticket e.part) × (a < i)

@@ -167,8 +167,7 @@ module _ (own : Ticket → Bool) (Ours : Ticket → Type 0) (tells : Tells own O
         (b.1, (x, (b.0, b.2), sym b.3), sym b.4, b.5);
     once = λ ticket y. once-ours ticket (tells.yes ticket y);
     answered = λ c reply x.
-        let f = has-entry mine s.placed x.0.0 c reply x.0.1 x.1 in
-        (
+        let f = has-entry mine s.placed x.0.0 c reply x.0.1 x.1 in (
           f.1,
           (in-all f.1 (f.0, f.2), x.0, f.3),
           f.4,

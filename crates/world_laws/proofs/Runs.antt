@@ -96,6 +96,7 @@ headline w s = headline-of (λ ticket. true) AnyTicket (record { yes = λ ticket
   where
     all : keep (λ (e : EntryModel). true) w.history ≡ w.history
     all = keep-all (λ (e : EntryModel). true) w.history (λ k e p. refl)
+
 pub every_schedule : EverySchedule
 every_schedule workers run_limit k events w new r = headline w (run-sound events (start workers run_limit k) w (start-sound workers run_limit k new) r)
 
