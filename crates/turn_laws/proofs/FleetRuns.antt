@@ -169,6 +169,6 @@ module _ {C J : Type 0} where
       let it = steps f p passes waits events (f p) s' [] each r in
       (it.0, it.1, subst (λ g. FleetRun C J g (map (FleetEvent.By p) events) (after f p s' it.0)) (at-first f p shared) it.2)
 
-  pub runs-join : (as bs : List FleetEvent) (f g h : Fleet C J) → FleetRun C J f as g → FleetRun C J g bs h → FleetRun C J f (as ++ bs) h
-  runs-join [] bs f g h e r = subst (λ x. FleetRun C J x bs h) e r
-  runs-join (a ∷ as) bs f g h first r = (first.0, first.1, runs-join as bs first.0 g h first.2 r)
+  pub runs-join : (xs ys : List FleetEvent) (f g h : Fleet C J) → FleetRun C J f xs g → FleetRun C J g ys h → FleetRun C J f (xs ++ ys) h
+  runs-join [] ys f g h e r = subst (λ z. FleetRun C J z ys h) e r
+  runs-join (x ∷ xs) ys f g h first r = (first.0, first.1, runs-join xs ys first.0 g h first.2 r)

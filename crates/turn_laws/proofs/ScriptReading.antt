@@ -201,6 +201,13 @@ module _ {C : Type 0} (port : C) where
 abbrev quiet : List Mark → List Mark
 quiet log = log ++ []
 
+-- the command has arrived, and the node executed it
+abbrev arrived : List Mark → List Mark
+arrived log = quiet (quiet (quiet (quiet log))) ++ seen.Arrived (ticket 0) script.get ∷ []
+
+abbrev executed : List Mark → List Mark
+executed log = log ++ seen.Executed (did 0 script.get five ∷ []) ∷ []
+
 module _ {C J : Type 0} (port : C) where
   abbrev l0 : LaneEnds (Newcomer C J)
   l0 = lane port [] []
@@ -230,9 +237,6 @@ module _ {C J : Type 0} (port : C) where
   -- before
   abbrev pub connected : ClusterModel → List Mark → System C J
   connected k log = scene nobody (c l0 (pending None) idle) [] 1 k log
-
-  abbrev arrived : List Mark → List Mark
-  arrived log = quiet (quiet (quiet (quiet log))) ++ seen.Arrived (ticket 0) script.get ∷ []
 
   -- while the command is on its way
   abbrev pub waiting : ClusterModel → List Mark → System C J
@@ -334,9 +338,6 @@ module _ {C J : Type 0} (port : C) where
   -- where the key stands at the first node
   abbrev reads-at : List Mark → FinMap nat_cmp (ClientModel C) → LaneEnds (Newcomer C J) → Backend Wire → System C J
   reads-at log clients l b = scene (w1 clients) (c l (pending None) b) [] 1 k6' log
-
-  abbrev executed : List Mark → List Mark
-  executed log = log ++ seen.Executed (did 0 script.get five ∷ []) ∷ []
 
   pub reads : (log : List Mark) → FoldsTo SystemStep (waiting k6 log) reading
       (answered (quiet (quiet (quiet (executed log)) ++ seen.Answered (ticket 0) (ended.Answered five) ∷ [])))

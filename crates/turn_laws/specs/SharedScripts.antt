@@ -2,7 +2,7 @@
 -- of something: their premises hold together in them. The nodes, the key and the slot are those of Scripts.antt, and slot moves begin there.
 -- In the first list others set a key between a GET of ours and its reply. In the second two proxies serve before one cluster, and the client
 -- of the one reads what a client of the other set.
-use Rattle.std.specs.Prelude.{◌≡◌, List, [], ◌∷◌, ◌++◌, false, true, Ok, codes, length, map}
+use Rattle.std.specs.Prelude.{◌≡◌, ℕ, List, [], ◌∷◌, ◌++◌, false, true, Ok, codes, length, map}
 use Rattle.std.specs.List.{FoldsTo}
 use Rattle.key_split.specs.declared.travel.Told.TheVariants.{Reply}
 use Rattle.key_split.specs.declared.travel.Ended.TheVariants as ended
