@@ -147,8 +147,8 @@ module _ {C J : Type 0} where
       → Follows f (after f p s before) p events s s' before
   steps f p passes waits [] s s' before each r = (
     [],
-    ap (λ (z : System C J). history z.log) r ∙ sym (append-nil (history s.log)),
-    (λ i. after f p (r i) (append-nil before i)),
+    ap (λ (z : System C J). history z.log) (sym r) ∙ sym (append-nil (history s.log)),
+    (λ i. after f p (sym r i) (append-nil before i)),
   )
   steps f p passes waits (event ∷ events) s s' before each r =
       let d = shows event s r.0 r.1 in

@@ -51,7 +51,7 @@ writing = opening ++ (moving ++ (asking ++ setting))
 waits-none : {C J : Type 0} (f : Fleet C J) (p : ℕ) (event : SystemEvent) → moves_none event ≡ true → Waits f p event
 waits-none f p event passes slot target is = absurd (none-imported event slot target passes is)
 
-module _ {C J : Type 0} (port : C) (law : FrontIsWhole) where
+module _ (C J : Type 0) (port : C) (law : FrontIsWhole) where
   writes : FoldsTo SystemStep (s0 {C = C} {J = J} port) writing (s4 port)
   writes =
       and-then SystemStep (s0 port) opening (s1 port) (moving ++ (asking ++ setting)) (s4 port) (opens port)
