@@ -53,7 +53,7 @@ impl LinkWatch {
     }
 
     /// A read found nothing. True where the node is silent for too long.
-    pub(crate) fn is_overdue(&self) -> bool {
+    pub(crate) fn note_nothing(&self) -> bool {
         if !self.owes.get() {
             return false;
         }

@@ -154,7 +154,7 @@ impl Stream for NodeStream {
                 Flow::Bytes(count)
             }
             Flow::Nothing => {
-                if self.watch.is_overdue() {
+                if self.watch.note_nothing() {
                     return self.end(silence());
                 }
                 Flow::Nothing
@@ -164,13 +164,16 @@ impl Stream for NodeStream {
     }
 
     fn write(&mut self, first: &[u8], second: &[u8]) -> Flow {
+        let offered = first.len().saturating_add(second.len());
         match self.socket.write(first, second) {
             Flow::Bytes(count) => {
-                self.watch
-                    .note_written(count, first.len().saturating_add(second.len()));
+                self.watch.note_written(count, offered);
                 Flow::Bytes(count)
             }
-            Flow::Nothing => Flow::Nothing,
+            Flow::Nothing => {
+                self.watch.note_written(0, offered);
+                Flow::Nothing
+            }
             Flow::Gone => self.end_of_socket(),
         }
     }
