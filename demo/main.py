@@ -24,27 +24,29 @@ LOSER = 1
 
 
 class Moves(threading.Thread):
-    """Moves one slot after another with its keys, each to the next primary; from `spare` on none of the one that is to be lost."""
+    """Moves one slot after another with its keys: to the third primary, and once one of the others is to be lost, from there to the other."""
 
     def __init__(self, cluster: Cluster, counted: list[int]) -> None:
         super().__init__(daemon=True)
-        self.cluster, self.stopped, self.spared, self.fault = cluster, False, False, None
+        self.cluster, self.counted, self.stopped, self.spared, self.fault = cluster, counted, False, False, None
         self.turn = threading.Lock()
         # each primary's slots, those with a counter spread among the others
-        self.slots = []
-        for first, last in cluster.ranges():
-            full = [it for it in counted if first <= it <= last]
-            empty = [it for it in range(first, last + 1) if it not in full]
-            self.slots.append(deque(slot for place, one in enumerate(full) for slot in [one, *empty[place * 9 : place * 9 + 9]]))
+        self.slots = [deque(self.spread(range(first, last + 1))) for first, last in cluster.ranges()]
+
+    def spread(self, slots: range) -> list[int]:
+        """These slots in another order: each tenth one has a counter, until there is none left."""
+        full, empty = [it for it in slots if it in self.counted], [it for it in slots if it not in self.counted]
+        mixed = [slot for place, one in enumerate(full) for slot in [one, *empty[place * 9 : place * 9 + 9]]]
+        return mixed + empty[len(full) * 9 :]
 
     def run(self) -> None:
-        source = 0
         try:
             while not self.stopped:
-                with self.turn:
-                    numbers = [it for it in range(3) if not (self.spared and it == LOSER)]
-                    source = numbers[(numbers.index(source) + 1) % len(numbers)] if source in numbers else numbers[0]
-                    self.move(source, numbers[(numbers.index(source) + 1) % len(numbers)])
+                for source, target in ((0, 2), (LOSER, 2)):
+                    with self.turn:
+                        if self.spared:
+                            source, target = 2, 0
+                        self.move(source, target)
         except (OSError, Closed, Failed) as fault:
             self.fault = fault
 
@@ -52,9 +54,11 @@ class Moves(threading.Thread):
         """Moves the next slot of one primary to another. The third one hears of it from these."""
         slot = self.slots[source].popleft()
         self.cluster.begin_move(slot, source, target)
-        time.sleep(STEP)
+        # (clients meet the slot at each step)
+        pause = STEP if slot in self.counted else 0
+        time.sleep(pause)
         while self.cluster.move_keys(slot, source, target):
-            time.sleep(STEP)
+            time.sleep(pause)
         for number in (target, source):
             self.cluster.nodes[number].value("CLUSTER", "SETSLOT", slot, "NODE", self.cluster.ids[target])
         self.slots[target].append(slot)
@@ -155,7 +159,7 @@ class Demo:
         counted = f"{answered + lost + gave_up:,} INCRs of {len(values)} counters: {answered:,} answered, {lost:,} connection lost, {gave_up:,} gave up."
         if faults:
             return 1, f"{counted}\nNOT EXACT: {'; '.join(faults)}"
-        return 0, f"{counted}\nEach counter is exact: it holds each answered INCR once, {sum(values) - answered:,} of the lost ones, and nothing else."
+        return 0, f"{counted}\nEach counter is exact: each answered INCR is in it once, and {sum(values) - answered:,} of those lost."
 
 
 def main(folder: str, program: str) -> int:
