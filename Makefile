@@ -3,8 +3,8 @@
 .PHONY: run demo install deb test rounds proofs rows inputs start cluster bench
 
 # Where `make install` puts what, and `make deb` its package.
-PREFIX = /usr/local
-DESTDIR =
+PREFIX ?= /usr/local
+DESTDIR ?=
 packages = out
 
 program = crates/cluster_proxy/out/cluster_proxy
