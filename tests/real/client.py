@@ -158,5 +158,12 @@ class Client:
         """Closes this side for sending, and goes on reading."""
         self.socket.shutdown(socket.SHUT_WR)
 
+    def interrupt(self):
+        """Ends the connection, also while another thread waits for a reply."""
+        try:
+            self.socket.shutdown(socket.SHUT_RDWR)
+        except OSError:
+            pass
+
     def close(self):
         self.socket.close()

@@ -18,6 +18,8 @@ import cases_turns
 import cases_runs
 import cases_moves
 import cases_faults
+import cases_orders
+import cases_others
 import cases_scripted
 import cases_blocks
 import cases_idle

@@ -1,9 +1,8 @@
 """Clients that write again and again while slots move or nodes fail, and what each of their requests ended with."""
 
-import socket
 import time
 
-from client import Client, request, value_of
+from client import request, value_of
 from harness import Failed, Together, check, check_same, check_time
 
 LOST = b"-ERR proxy: connection lost, outcome unknown\r\n"
@@ -17,10 +16,14 @@ LONGEST_SPLIT = 1.0
 
 
 class Writers:
-    """So many clients, each of which calls `turn(client, number, count)` again and again until the end of the `with`."""
+    """So many clients, each of which calls `turn(client, number, count)` again and again until the end of the `with`.
 
-    def __init__(self, proxy, count, turn, pause=PAUSE):
-        self.proxy, self.turn, self.pause, self.stopped, self.clients = proxy, turn, pause, False, []
+    They are clients of the proxy, or what `connect(number)` gives.
+    """
+
+    def __init__(self, proxy, count, turn, pause=PAUSE, connect=None):
+        self.turn, self.pause, self.stopped, self.clients = turn, pause, False, []
+        self.connect = connect or (lambda number: proxy.client())
         self.turns = [0] * count
         self.together = Together(count, self.work)
 
@@ -37,10 +40,7 @@ class Writers:
     def leave(self):
         """Ends all connections, so that nothing is written any more while the next case runs."""
         for client in self.clients:
-            try:
-                client.socket.shutdown(socket.SHUT_RDWR)
-            except OSError:
-                pass
+            client.interrupt()
         for thread in self.together.threads:
             thread.join(5)
 
@@ -49,7 +49,7 @@ class Writers:
         self.__exit__(None)
 
     def work(self, number):
-        with Client(self.proxy.port) as client:
+        with self.connect(number) as client:
             self.clients.append(client)
             while not self.stopped:
                 self.turn(client, number, self.turns[number])
