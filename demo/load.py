@@ -7,7 +7,7 @@ from cluster import keys_of_slots
 from writers import GAVE_UP, LOST
 
 # Clients for each third of the slots, the counters that they share, and the requests that a client sends at once.
-CLIENTS, COUNTERS, AT_ONCE = 4, 16, 32
+CLIENTS, COUNTERS, AT_ONCE = 4, 32, 32
 
 
 class Counter:

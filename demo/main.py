@@ -30,14 +30,15 @@ class Moves(threading.Thread):
         super().__init__(daemon=True)
         self.cluster, self.counted, self.stopped, self.spared, self.fault = cluster, counted, False, False, None
         self.turn = threading.Lock()
-        # each primary's slots, those with a counter spread among the others
+        # each primary's slots, in the order in which they move
         self.slots = [deque(self.spread(range(first, last + 1))) for first, last in cluster.ranges()]
 
     def spread(self, slots: range) -> list[int]:
-        """These slots in another order: each tenth one has a counter, until there is none left."""
+        """These slots in another order: those with a counter evenly among the others."""
         full, empty = [it for it in slots if it in self.counted], [it for it in slots if it not in self.counted]
-        mixed = [slot for place, one in enumerate(full) for slot in [one, *empty[place * 9 : place * 9 + 9]]]
-        return mixed + empty[len(full) * 9 :]
+        between = len(empty) // len(full)
+        mixed = [slot for place, one in enumerate(full) for slot in [*empty[place * between : (place + 1) * between], one]]
+        return mixed + empty[len(full) * between :]
 
     def run(self) -> None:
         try:

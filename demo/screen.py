@@ -4,6 +4,7 @@ import shutil
 import sys
 from dataclasses import dataclass, field
 
+# A rate, from none to the highest.
 BARS = " ▁▂▃▄▅▆▇█"
 # Marks of a terminal: bold, dim, red, green, plain again; the screen's start, the rest of a line, of the screen; the cursor.
 BOLD, DIM, RED, GREEN, PLAIN = "\033[1m", "\033[2m", "\033[31m", "\033[32m", "\033[m"
@@ -69,9 +70,10 @@ class Screen:
         return [*out, "", *self.events, "", f"{DIM}{self.about}{PLAIN}"]
 
     def curve(self) -> str:
-        """The last rates as bars."""
-        most = max(self.rates, default=0)
-        return "".join(BARS[round(it / most * 8)] for it in self.rates[-40:]) if most else ""
+        """The rates as bars, each of two of them."""
+        bars = [(one + other) / 2 for one, other in zip(self.rates[::2], self.rates[1::2])]
+        most = max(bars, default=0)
+        return "".join(BARS[round(it / most * 8)] for it in bars[-45:]) if most else ""
 
     def draw(self, nodes: list[Node]) -> None:
         """Writes the lines over what stands on the terminal."""

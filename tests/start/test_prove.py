@@ -121,8 +121,10 @@ class Repository(unittest.TestCase):
         (self.root / f"crates/{name}/src/lib.rt").write_text(text, encoding="utf-8")
 
     def start(self, output):
-        environment = {**os.environ, "TMPDIR": str(self.temporary)}
-        return subprocess.Popen([PROVE, "middle"], cwd=self.root, env=environment, stdin=subprocess.DEVNULL, stdout=output, stderr=output, text=True)
+        """Starts it, with Ctrl-C taken also where these tests run in the background."""
+        how = {"stdin": subprocess.DEVNULL, "stdout": output, "stderr": output, "text": True}
+        heeds = lambda: signal.signal(signal.SIGINT, signal.SIG_DFL)
+        return subprocess.Popen([PROVE, "middle"], cwd=self.root, env={**os.environ, "TMPDIR": str(self.temporary)}, preexec_fn=heeds, **how)
 
     def check_left(self):
         """No process works in the copy, and the copy is gone."""
