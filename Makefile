@@ -1,6 +1,11 @@
 # The commands of this repository. `rt` is Rattle's command, on the PATH of a machine that has the kit.
 
-.PHONY: run test rounds proofs rows inputs cluster bench
+.PHONY: run demo install deb test rounds proofs rows inputs start cluster bench
+
+# Where `make install` puts what, and `make deb` its package.
+PREFIX ?= /usr/local
+DESTDIR ?=
+packages = out
 
 program = crates/cluster_proxy/out/cluster_proxy
 sources = crates.txt $(shell find crates -name out -prune -o -name '*.rt' -print -o -name '*.antt' -print)
@@ -9,16 +14,25 @@ sources = crates.txt $(shell find crates -name out -prune -o -name '*.rt' -print
 run: $(program)
 	@examples/run
 
-# (rt builds a program where it runs it: here on its stored request.)
 $(program): $(sources)
-	cd crates/cluster_proxy && rt run -- one <stdin >/dev/null
-	@touch $@
+	@build/prove cluster_proxy
+
+# Shows the proxy before a real cluster under load, while slots move and a primary is lost.
+demo: $(program)
+	@demo/run
+
+# The program, its manual page and its unit for systemd; and a Debian package of these.
+install: $(program)
+	@package/install $(program) "$(DESTDIR)" "$(PREFIX)"
+
+deb: $(program)
+	@PROXY=$(program) package/deb $(packages)
 
 # The gate: every proof from nothing, every test and program, and the edits that must be refused, while the rounds of these are
 # tried on themselves; then, by that build, the program on whole inputs, beside rows of the layers, the example and a real cluster.
 test:
 	@$(MAKE) --no-print-directory --jobs=2 rounds proofs
-	@$(MAKE) --no-print-directory --jobs=2 inputs cluster
+	@$(MAKE) --no-print-directory --jobs=2 inputs cluster start
 	@tests/edits/run --took
 
 rounds:
@@ -29,6 +43,9 @@ proofs:
 
 inputs:
 	tests/program/run
+
+start:
+	tests/start/run
 
 # (One after another: what is timed before a real cluster has one other test beside it, not two.)
 cluster: rows

@@ -14,7 +14,7 @@ class Replicated:
     def __init__(self, room):
         replicas, buses = cluster_nodes(room, "replica", patience=PATIENCE)
         cluster = Cluster(room, name="pair", patience=PATIENCE)
-        self.servers = cluster.nodes + replicas
+        self.cluster, self.servers = cluster, cluster.nodes + replicas
         for node in cluster.nodes:
             for replica, bus in zip(replicas, buses):
                 node.value("CLUSTER", "MEET", "127.0.0.1", replica.port, bus)
