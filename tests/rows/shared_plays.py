@@ -7,6 +7,7 @@ to be one legal history of everybody's commands (legal.py).
 
 import random
 import re
+from itertools import cycle
 
 from answers import Fitting, slot_of, spelled
 from legal import Command, Others, is_legal
@@ -59,10 +60,10 @@ class Play:
     def __init__(self, row, number, seen):
         self.row, self.number, self.seen = row, number, seen
         self.chance = random.Random(number)
-        self.letters = iter(LETTERS)
-        # of each tag: what clients asked for, in lists by client, and what others did
+        self.letters = cycle(LETTERS)
+        # what each client asked for, each with its tag, and by its moment what others did
         self.asked = {(proxy, client): [self.command() for _ in range(COMMANDS)] for proxy in PROXIES for client in CLIENTS}
-        self.others = []
+        self.others = {}
         self.steps = steps_of_moves(self.chance, number)
         self.orders, self.of = [], None
 
@@ -125,7 +126,7 @@ class Play:
             told = str(answer)
             self.seen["of others"] += 1
             if told.startswith("reply "):
-                self.others.append((tag, Others(run, moment, lambda replies: told == " ".join(f"reply {shown(it)}" for it in replies))))
+                self.others[moment] = tag, Others(run, moment, lambda replies: told == " ".join(f"reply {shown(it)}" for it in replies))
                 return True
             self.seen["of others refused"] += 1
             return told.split(" ")[0] in ("tryagain", "moved", "ask")
@@ -176,7 +177,7 @@ class Play:
 
     def is_legal(self):
         """Whether the commands for each slot have a legal order."""
-        return all(is_legal(self.clients_of(tag), [done for its, done in self.others if its == tag]) for tag in TAGS)
+        return all(is_legal(self.clients_of(tag), [done for its, done in self.others.values() if its == tag]) for tag in TAGS)
 
     def clients_of(self, tag):
         return [[each for its, each in mine if its == tag and each.reply != GAVE_UP] for mine in self.asked.values()]

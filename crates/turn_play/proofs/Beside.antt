@@ -26,7 +26,7 @@ use Rattle.turn_play.proofs.Theirs.{others-do}
 -- ---- lists of steps
 
 module _ {C J : Type 0} where
-  lifted : List (Step C J) → List (StepBeside C J)
+  abbrev lifted : List (Step C J) → List (StepBeside C J)
   lifted [] = []
   lifted (step ∷ steps) = record { event = SharedEvent.Ours step.event; next = step.next } ∷ lifted steps
 

@@ -54,7 +54,7 @@ each-slot slot (c ∷ cs) all =
 
 -- ---- a step of others is one of the system beside others
 
-entries : ℕ → List Execution → List EntryModel
+abbrev entries : ℕ → List Execution → List EntryModel
 entries moment done = map (entry_at moment) done
 
 same-parts : (moment : ℕ) (done : List Execution) → parts_in (entries moment done) ≡ parts_of done
@@ -106,7 +106,7 @@ module _ {C J : Type 0} where
 -- ---- what a node executed of them
 
 -- a ticket that is nobody's here: its worker is not the one that its client has
-their_ticket : Ticket
+abbrev their_ticket : Ticket
 their_ticket = record { worker = 1; client = 0; part = 0 }
 
 no-worker : (workers : ℕ) → IsOwn workers their_ticket → ⊥

@@ -12,8 +12,8 @@ use proxy_lanes::Naming;
 use proxy_turns::{ClientPort, Dial, Newcomer};
 use turn_laws::WiredPort;
 use turn_laws::laws::{
-    any_client, any_port, headline_beside_others, headline_of_logs, names_stay, refines, slots_stand_at_nodes,
-    starts_refine, written_is_heard,
+    any_client, any_port, headline_beside_others, headline_of_logs, names_stay, refines,
+    slots_stand_at_nodes, starts_refine, written_is_heard,
 };
 
 /// From a start that hears its nodes, where the premises hold along them, the steps that the code made are steps of the system: so the

@@ -1,10 +1,10 @@
 //! A client that is no proxy, which follows redirections at once.
 
 use crate::play::stage::Plays;
+use key_split::{Part, Told};
 use layer_rows::Line;
 use node_model::Cluster;
 use resp_wire::NoMemory;
-use key_split::{Part, Told};
 use slot_map::NodeId;
 use std::alloc::Global;
 use turn_play::{Order, PlayFault};

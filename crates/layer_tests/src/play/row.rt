@@ -49,7 +49,9 @@ where
         Ok((workers, carrier)) => {
             let gate = Open;
             let ends = Ends { workers, carrier };
-            first_over::<R, B, W, O, Ends<J, R>, MemoryPlay<'_, J, R>>(rt, &gate, ends, others, rows)
+            first_over::<R, B, W, O, Ends<J, R>, MemoryPlay<'_, J, R>>(
+                rt, &gate, ends, others, rows,
+            )
         }
         Err(_) => Ok(false),
     }

@@ -1,7 +1,7 @@
 //! A play, and what it will be made of.
 
-use layer_rows::CallFault;
 use key_split::Told;
+use layer_rows::CallFault;
 use node_model::Cluster;
 use proxy_lanes::Naming;
 use resp_wire::NoMemory;
