@@ -32,6 +32,9 @@ LEFT_OUT = {
     "a_key_moves_in_a_play",
     "a_connection_breaks_behind_a_command",
     "a_play_that_has_not_begun",
+    "others_come_to_a_node",
+    "others_follow_an_ask",
+    "two_proxies_before_one_cluster",
 }
 
 # Calls that take no memory, by their object: all others find none at least once. Some lines are of one word.

@@ -1,10 +1,12 @@
-//! A play of `turn_play`: two workers, a carrier and three nodes in one thread, whose turns, moves and breaks are handed in.
+//! Plays of `turn_play`: two proxies before three nodes in one thread, each with two workers and a carrier, whose turns are handed in,
+//! as are moves, breaks, and what comes of others.
 //!
-//! Clients come first, then `begin` begins the play. The carrier's table has the three nodes, in their order. The last of them owns
-//! all slots at first.
+//! `play` is the first proxy and `second` the other one. Clients of each come first, then `begin` begins its play. Its carrier's table
+//! has the three nodes, in their order. The last of them owns all slots at first.
 
 mod objects;
 mod orders;
+mod others;
 mod row;
 mod stage;
 

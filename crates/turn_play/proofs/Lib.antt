@@ -3,6 +3,8 @@ mod Numbers
 mod Breaking
 mod Swapping
 mod Turning
+mod Theirs
+mod Beside
 mod Playing
 mod Obeyed
 mod Starting

@@ -1,6 +1,7 @@
 -- What each order does is steps of a system.
 use Rattle.std.proofs.Common.{◌≡◌, ◌≤◌, ◌<◌, ◌-◌, inl, inr, ℕ, zero, suc, Bool, List, [], ◌∷◌, Ok, Err, length, take, drop, get_or, refl, sym, ap, subst, arith}
-use Rattle.std.specs.Prelude.{Result}
+use Rattle.std.specs.Prelude.{All, Result}
+use Rattle.std.proofs.lemmas.List.Elements.{All-head, All-tail}
 use Rattle.resp_wire.specs.declared.fault.NoMemory.{NoMemory}
 use Rattle.node_model.specs.Nodes.{ClusterModel}
 use Rattle.node_model.specs.declared.standing.MoveFault.TheVariants as cause
@@ -13,11 +14,14 @@ use Rattle.turn_play.specs.declared.order.Order.{Order}
 use Rattle.turn_play.specs.declared.order.Order.TheVariants as order
 use Rattle.turn_play.specs.May.{ClusterMoves}
 use Rattle.turn_play.specs.Moving.{MoveOutcome, MovesOrNot, event_of}
-use Rattle.turn_play.specs.Obeying.{CarrierIsTurned, IsTurned, Obeys, ObeysAll, ObeyedIsSound}
+use Rattle.turn_play.specs.Obeying.{CarrierIsTurned, IsOurs, IsTurned, Obeys, ObeysAll, ObeyedIsSound, ObeyedIsSoundBeside}
 use Rattle.turn_play.specs.Played.{PlaysRefine}
-use Rattle.turn_play.specs.Playing.{PlayModel, PlaysTo}
+use Rattle.turn_play.specs.Beside.{PlaysRefineBeside}
+use Rattle.turn_play.specs.Playing.{PlayModel, PlaysTo, PlaysToBeside}
 use Rattle.turn_play.specs.Port.{IsEnd, IsFresh, IsRead, PortExchanges, any_bytes, longest_run, no_count, port-opens}
 use Rattle.turn_play.specs.Turns.{CarriersPlay, WorkersPlay}
+use Rattle.turn_play.proofs.Beside.{beside, goes-beside, soundly-beside}
+use Rattle.turn_play.proofs.Theirs.{others-came}
 use Rattle.turn_play.proofs.Playing.{broke, carrier-turned, moved, plays-none, plays-on, plays-soundly, serves, worker-turned}
 
 -- ---- a step of a move
@@ -73,23 +77,43 @@ module _ (C J : Type 0) (moves : Moves C) (gives_none takes_none : C → Type 0)
   carried : (old : PlayModel C J) (result : Result Bool NoMemory) (new : PlayModel C J) → CarrierIsTurned old result new → PlaysTo old new
   carried old result new x = subst (PlaysTo old) (sym x.2) (carrier-turned old new.carrier (λ s shows. carriers port-opens s old.carrier new.carrier result shows x.0))
 
-  obeyed : (old : PlayModel C J) (what : Order) (result : Result (Unit {0}) PlayFault) (new : PlayModel C J) → Obeys moves gives_none takes_none old what result new → PlaysTo old new
-  obeyed old (order.Worker k) (Ok u) new (inl x) = same old new x.1
-  obeyed old (order.Worker k) (Ok u) new (inr x) = turned old k (Ok x.0) new x.1
-  obeyed old (order.Worker k) (Err why) new x = turned old k (Err x.1.0) new x.1.1
-  obeyed old order.Carrier (Ok u) new x = carried old (Ok x.0) new x.1
-  obeyed old order.Carrier (Err why) new x = carried old (Err x.1.0) new x.1.1
-  obeyed old (order.Serve node verdict) result new x = subst (PlaysTo old) (sym x.1) (serves old node verdict result new.cluster new.carrier x.0)
-  obeyed old (order.Break node) result new x = subst (PlaysTo old) (sym x.1.1) (broke old node new.carrier x.1.0)
-  obeyed old (order.Move move) result new x = subst (PlaysTo old) (sym x.1) (moves-on old move result new.cluster x.0)
+  obeyed : (old : PlayModel C J) (what : Order) (result : Result (Unit {0}) PlayFault) (new : PlayModel C J) → IsOurs what → Obeys moves gives_none takes_none old what result new → PlaysTo old new
+  obeyed old (order.Worker k) (Ok u) new ours (inl x) = same old new x.1
+  obeyed old (order.Worker k) (Ok u) new ours (inr x) = turned old k (Ok x.0) new x.1
+  obeyed old (order.Worker k) (Err why) new ours x = turned old k (Err x.1.0) new x.1.1
+  obeyed old order.Carrier (Ok u) new ours x = carried old (Ok x.0) new x.1
+  obeyed old order.Carrier (Err why) new ours x = carried old (Err x.1.0) new x.1.1
+  obeyed old (order.Serve node verdict) result new ours x = subst (PlaysTo old) (sym x.1) (serves old node verdict result new.cluster new.carrier x.0)
+  obeyed old (order.Break node) result new ours x = subst (PlaysTo old) (sym x.1.1) (broke old node new.carrier x.1.0)
+  obeyed old (order.Move move) result new ours x = subst (PlaysTo old) (sym x.1) (moves-on old move result new.cluster x.0)
+  obeyed old (order.Others node asking parts) result new ours x = absurd ours
 
-  obeyed-all : (orders : List Order) (old : PlayModel C J) (result : Result (Unit {0}) PlayFault) (new : PlayModel C J) → ObeysAll moves gives_none takes_none old orders result new → PlaysTo old new
-  obeyed-all [] old result new x = same old new x.1
-  obeyed-all (what ∷ orders) old result new (inl x) = plays-on old x.0 new (obeyed old what (Ok tt) x.0 x.1) (obeyed-all orders x.0 result new x.2)
-  obeyed-all (what ∷ orders) old result new (inr x) = obeyed old what (Err x.0) new x.2
+  obeyed-all : (orders : List Order) (old : PlayModel C J) (result : Result (Unit {0}) PlayFault) (new : PlayModel C J) → All IsOurs orders → ObeysAll moves gives_none takes_none old orders result new → PlaysTo old new
+  obeyed-all [] old result new ours x = same old new x.1
+  obeyed-all (what ∷ orders) old result new ours (inl x) =
+      plays-on old x.0 new (obeyed old what (Ok tt) x.0 (All-head IsOurs what orders ours) x.1) (obeyed-all orders x.0 result new (All-tail IsOurs what orders ours) x.2)
+  obeyed-all (what ∷ orders) old result new ours (inr x) = obeyed old what (Err x.0) new (All-head IsOurs what orders ours) x.2
 
   pub obeyed-is-sound : PlaysRefine C J → ObeyedIsSound C J moves gives_none takes_none
-  obeyed-is-sound refine old new orders result x = plays-soundly refine old new (obeyed-all orders old result new x)
+  obeyed-is-sound refine old new orders result x ours = plays-soundly refine old new (obeyed-all orders old result new ours x)
+
+  -- the same where others come
+  obeyed-beside : (old : PlayModel C J) (what : Order) (result : Result (Unit {0}) PlayFault) (new : PlayModel C J) → Obeys moves gives_none takes_none old what result new → PlaysToBeside old new
+  obeyed-beside old (order.Worker k) result new x = beside old new (obeyed old (order.Worker k) result new tt x)
+  obeyed-beside old order.Carrier result new x = beside old new (obeyed old order.Carrier result new tt x)
+  obeyed-beside old (order.Serve node verdict) result new x = beside old new (obeyed old (order.Serve node verdict) result new tt x)
+  obeyed-beside old (order.Break node) result new x = beside old new (obeyed old (order.Break node) result new tt x)
+  obeyed-beside old (order.Move move) result new x = beside old new (obeyed old (order.Move move) result new tt x)
+  obeyed-beside old (order.Others node asking parts) (Ok u) new x = subst (PlaysToBeside old) (sym x.1) (others-came old node asking parts.items new.told new.cluster x.0)
+  obeyed-beside old (order.Others node asking parts) (Err why) new x = beside old new (same old new x.1)
+
+  obeyed-all-beside : (orders : List Order) (old : PlayModel C J) (result : Result (Unit {0}) PlayFault) (new : PlayModel C J) → ObeysAll moves gives_none takes_none old orders result new → PlaysToBeside old new
+  obeyed-all-beside [] old result new x = beside old new (same old new x.1)
+  obeyed-all-beside (what ∷ orders) old result new (inl x) = goes-beside old x.0 new (obeyed-beside old what (Ok tt) x.0 x.1) (obeyed-all-beside orders x.0 result new x.2)
+  obeyed-all-beside (what ∷ orders) old result new (inr x) = obeyed-beside old what (Err x.0) new x.2
+
+  pub obeyed-is-sound-beside : PlaysRefineBeside C J → ObeyedIsSoundBeside C J moves gives_none takes_none
+  obeyed-is-sound-beside refine old new orders result x = soundly-beside refine old new (obeyed-all-beside orders old result new x)
 
 -- ---- the next order
 

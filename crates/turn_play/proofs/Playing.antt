@@ -128,7 +128,7 @@ module _ {C J : Type 0} where
   pub plays-soundly : PlaysRefine C J → (a b : PlayModel C J) → PlaysTo a b → PlaysSoundly a b
   plays-soundly refine a b x s shows =
       let one = x s shows in
-      (one.0, one.1.0, one.1.1, one.2, λ fresh hears order. refine s one.0 one.1.0 fresh hears one.1.1 order)
+      (one.0, one.1.0, one.1.1, one.2, λ start before fresh hears go order. refine start one.0 (before ++ one.1.0) fresh hears (leads-join start before s one.1.0 one.0 go one.1.1) order)
 
   -- a worker's turn
   pub worker-turned : (old : PlayModel C J) (k : ℕ) (model new : WorkerModel C J) → slice_get old.workers k ≡ Some model

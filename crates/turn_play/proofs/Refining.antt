@@ -113,7 +113,7 @@ module _ {C J : Type 0} where
   moves-hold s (core.Discard link) k x now = x
   moves-hold s (core.Answer client) k x now = x
 
-  step-holds : WrittenIsHeard → (s s' : System C J) (w : WorldModel) → IsShadow s w → NamesNodes s → HearsItsNodes s → (event : SystemEvent) → MayStep s event s' → MayNow s event → IsInOrder s' → SystemStep s event s'
+  pub step-holds : WrittenIsHeard → (s s' : System C J) (w : WorldModel) → IsShadow s w → NamesNodes s → HearsItsNodes s → (event : SystemEvent) → MayStep s event s' → MayNow s event → IsInOrder s' → SystemStep s event s'
   step-holds heard s s' w h names hears (AtWorker k event) x now order = worker-holds s s' w h k event x order
   step-holds heard s s' w h names hears (AtCarrier event) x now order = record { longest = x.longest; does = x.does; breaks = x.breaks; leaves = x.leaves; in_step = order.ups; table = subst (λ (nodes : List Endpoint). IsPrefix s'.carrier.nodes nodes) (ap (λ (t : System C J). t.nodes) x.leaves) order.table }
   step-holds heard s s' w h names hears (AtNode k verdict) x now order = serves-holds heard s s' w h names hears k verdict x
@@ -140,7 +140,7 @@ pub record Laws (C J : Type 0) : Type 0 where
 
 module _ (C J : Type 0) (laws : Laws C J) (start : System C J) (fresh : IsStart start) where
   -- the nodes are heard after a step too
-  hears-on : (s s' : System C J) (event : SystemEvent) → MayStep s event s' → SystemStep s event s' → HearsItsNodes s → HearsItsNodes s'
+  pub hears-on : (s s' : System C J) (event : SystemEvent) → MayStep s event s' → SystemStep s event s' → HearsItsNodes s → HearsItsNodes s'
   hears-on s s' event may x hears = record { named = subst (λ (nodes : List Endpoint). All CanBeNamed nodes) (sym (same-nodes s s' event may)) hears.named; stands = laws.slots event s s' x hears.stands }
 
   -- the steps after some that the system made

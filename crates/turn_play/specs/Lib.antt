@@ -7,6 +7,8 @@ pub mod Faults
 pub mod Serving
 pub mod Playing
 pub mod Moving
+pub mod Others
+pub mod Beside
 pub mod Obeying
 pub mod Play
 pub mod Dialling

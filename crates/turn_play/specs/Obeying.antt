@@ -1,7 +1,8 @@
 -- What each order does to a play, and where a fault ends it.
 -- A worker's or the carrier's turn that moved nothing has nothing left to do: that is why a turn can't be left out.
-use Rattle.std.specs.Prelude.{◌≡◌, ◌≤◌, ◌⊎◌, ℕ, Bool, List, [], ◌∷◌, Some, Result, Ok, Err, length, slice_get, slice_set}
+use Rattle.std.specs.Prelude.{◌≡◌, ◌≤◌, ◌⊎◌, ℕ, Bool, List, All, [], ◌∷◌, Some, Result, Ok, Err, length, slice_get, slice_set}
 use Rattle.resp_wire.specs.declared.fault.NoMemory.{NoMemory}
+use Rattle.key_split.specs.PartModel.{PartModel}
 use Rattle.node_model.specs.declared.role.Verdict.{Verdict}
 use Rattle.proxy_turns.specs.Port.{Moves}
 use Rattle.proxy_turns.specs.Backend.{GaveNone}
@@ -17,7 +18,8 @@ use Rattle.turn_play.specs.declared.order.Order.TheVariants as order
 use Rattle.turn_play.specs.Moving.{MovesOrNot}
 use Rattle.turn_play.specs.Port.{IsFresh, IsRead, PortExchanges, any_bytes, longest_run, no_count}
 use Rattle.turn_play.specs.Serving.{BreaksAt, ServesAt}
-use Rattle.turn_play.specs.Playing.{PlayModel, PlaysSoundly}
+use Rattle.turn_play.specs.Others.{AreServed, CannotCome}
+use Rattle.turn_play.specs.Playing.{PlayModel, PlaysSoundly, PlaysSoundlyBeside}
 
 module _ {C J : Type 0} where
   -- what a turn of a worker leaves that moved nothing
@@ -64,6 +66,11 @@ module _ {C J : Type 0} where
   abbrev pub MovesSlot : PlayModel C J → Move → Result (Unit {0}) PlayFault → PlayModel C J → Type 0
   MovesSlot old step result new = MovesOrNot old.cluster step result new.cluster × (new ≡ record old { cluster = new.cluster })
 
+  -- others came to a node, which did their commands or refused them
+  abbrev pub OthersCome : PlayModel C J → ℕ → Bool → List PartModel → Result (Unit {0}) PlayFault → PlayModel C J → Type 0
+  OthersCome old node asking cs (Ok _) new = AreServed old.cluster node asking cs new.told new.cluster × (new ≡ record old { cluster = new.cluster; told = new.told })
+  OthersCome old node asking cs (Err fault) new = CannotCome old.cluster node cs fault × (new ≡ old)
+
   module _ (moves : Moves C) (gives_none takes_none : C → Type 0) where
     -- what an order did
     abbrev pub Obeys : PlayModel C J → Order → Result (Unit {0}) PlayFault → PlayModel C J → Type 0
@@ -72,6 +79,7 @@ module _ {C J : Type 0} where
     Obeys old (order.Serve node verdict) result new = ServesNode old node verdict result new
     Obeys old (order.Break node) result new = (result ≡ Ok tt) × BreaksLink old node new
     Obeys old (order.Move step) result new = MovesSlot old step result new
+    Obeys old (order.Others node asking parts) result new = OthersCome old node asking parts.items result new
 
     -- all were obeyed, in their order, or those up to one that ended in this fault
     abbrev pub ObeysAll : PlayModel C J → List Order → Result (Unit {0}) PlayFault → PlayModel C J → Type 0
@@ -80,7 +88,20 @@ module _ {C J : Type 0} where
         ((mid : PlayModel C J) × Obeys old order (Ok tt) mid × ObeysAll mid orders result new)
         ⊎ ((why : PlayFault) × (result ≡ Err why) × Obeys old order (Err why) new)
 
+-- it lets nobody else act
+abbrev pub IsOurs : Order → Type 0
+IsOurs (order.Worker k) = Unit {0}
+IsOurs order.Carrier = Unit {0}
+IsOurs (order.Serve node verdict) = Unit {0}
+IsOurs (order.Break node) = Unit {0}
+IsOurs (order.Move step) = Unit {0}
+IsOurs (order.Others node asking parts) = ⊥
+
 module _ (C J : Type 0) (moves : Moves C) (gives_none takes_none : C → Type 0) where
-  -- whatever orders were obeyed, what was done is sound
+  -- whatever orders were obeyed that let nobody else act, what was done is sound
   abbrev pub ObeyedIsSound : Type 0
-  ObeyedIsSound = (old new : PlayModel C J) (orders : List Order) (result : Result (Unit {0}) PlayFault) → ObeysAll moves gives_none takes_none old orders result new → PlaysSoundly old new
+  ObeyedIsSound = (old new : PlayModel C J) (orders : List Order) (result : Result (Unit {0}) PlayFault) → ObeysAll moves gives_none takes_none old orders result new → All IsOurs orders → PlaysSoundly old new
+
+  -- and whatever orders were obeyed, what was done is sound beside others
+  abbrev pub ObeyedIsSoundBeside : Type 0
+  ObeyedIsSoundBeside = (old new : PlayModel C J) (orders : List Order) (result : Result (Unit {0}) PlayFault) → ObeysAll moves gives_none takes_none old orders result new → PlaysSoundlyBeside old new

@@ -44,7 +44,7 @@ start_of play = record { workers = play.workers; carrier = over_wires play.carri
 
 -- a play over these ends of lanes, whose carrier has this table, and has published these operations of the slot map
 abbrev pub new_play : {C J : Type 0} → Option ℕ → List (WorkerEnds (Newcomer C J) J) → List (LaneEnds (Newcomer C J)) → List MapOp → List Endpoint → ClusterModel → List Endpoint → PlayModel C J
-new_play left ends lanes published table cluster nodes = record { workers = workers_on left ends; carrier = new_carrier lanes table published 0; cluster = cluster; nodes = nodes }
+new_play left ends lanes published table cluster nodes = record { workers = workers_on left ends; carrier = new_carrier lanes table published 0; cluster = cluster; nodes = nodes; told = [] }
 
 -- the nodes of a cluster, each with its endpoint, which a redirection can name, and a table that lists the first of them
 pub record AreListedFrom (table : List Endpoint) (cluster : ClusterModel) (nodes : List Endpoint) : Type 0 where

@@ -1,6 +1,7 @@
 //! What follows of the steps that the code made. Each law is the contract of a function that does nothing.
 
-ghost use Rattle.turn_play.specs.Obeying.{ObeyedIsSound};
+ghost use Rattle.turn_play.specs.Beside.{PlaysRefineBeside};
+ghost use Rattle.turn_play.specs.Obeying.{ObeyedIsSound, ObeyedIsSoundBeside};
 ghost use Rattle.turn_play.specs.Played.{PlaysRefine};
 ghost use Rattle.turn_play.specs.Starting.{HandingKeeps, LanesAreOpen, PlaysStart};
 ghost use Rattle.turn_play.specs.Turns.{CarriersPlay, WorkersPlay};
@@ -11,8 +12,8 @@ use proxy_lanes::Naming;
 use proxy_turns::{ClientPort, Dial, Newcomer};
 use turn_laws::WiredPort;
 use turn_laws::laws::{
-    any_client, any_port, headline_of_logs, names_stay, refines, slots_stand_at_nodes,
-    starts_refine, written_is_heard,
+    any_client, any_port, headline_beside_others, headline_of_logs, names_stay, refines,
+    slots_stand_at_nodes, starts_refine, written_is_heard,
 };
 
 /// From a start that hears its nodes, where the premises hold along them, the steps that the code made are steps of the system: so the
@@ -26,6 +27,19 @@ pub fn plays_refine<C: Drop, J: Naming>()
     slots_stand_at_nodes::<C, J>();
     written_is_heard();
     headline_of_logs::<C, J>();
+}
+
+/// The same of steps among which others act: they are steps of the system and of others, so the headline holds of its own commands, in
+/// one legal history of everybody's.
+pub fn plays_refine_beside<C: Drop, J: Naming>()
+    ensures { PlaysRefineBeside C J }
+{
+    starts_refine::<C, J>();
+    refines::<C, J>();
+    names_stay::<C, J>();
+    slots_stand_at_nodes::<C, J>();
+    written_is_heard();
+    headline_beside_others::<C, J>();
 }
 
 /// A worker's turn is steps of a system.
@@ -42,14 +56,16 @@ pub fn carriers_play<C: Drop, J: Naming, P: WiredPort, D: Dial<Port = P>>()
     any_port::<Newcomer<C, J>, P, D>();
 }
 
-/// Whatever orders a play obeyed, it made steps of a system. From a start that hears its nodes, where the premises hold along them, the
-/// headline holds of them.
+/// Whatever orders a play obeyed, it made steps of a system, where others came to its nodes beside others. From a start that hears its
+/// nodes, where the premises hold along them and along those before, the headline holds of them.
 pub fn obeyed_is_sound<C: ClientPort + Drop, J: Naming>()
-    ensures { ObeyedIsSound C J C.moves C.gives_none C.takes_none }
+    ensures alone { ObeyedIsSound C J C.moves C.gives_none C.takes_none }
+    ensures beside { ObeyedIsSoundBeside C J C.moves C.gives_none C.takes_none }
 {
     workers_play::<C, J>();
     carriers_play::<C, J, PlayPort, PlayDial>();
     plays_refine::<C, J>();
+    plays_refine_beside::<C, J>();
 }
 
 /// A play over new lanes, with a new cluster whose nodes can be named, shows a start that hears its nodes.

@@ -1,13 +1,17 @@
-//! Workers, a carrier and the nodes of a cluster in one thread, whose turns come in an order that is handed in.
+//! Workers, a carrier and the nodes of a cluster in one thread, whose turns come in an order that is handed in. Others act at the nodes too.
 //!
 //! ```text
-//! let mut play = Play::new(alloc, &gate, None, worker_ends, carrier_ends, seeds, cluster, nodes)?;
-//! play.play(&[Order::Worker(0), Order::Carrier, Order::Serve(node, Verdict::Plain), Order::Carrier, Order::Worker(0)])?;
+//! let mut play = Play::new(alloc, &gate, None, worker_ends, carrier_ends, seeds, nodes)?;
+//! play.play(&mut cluster, &[Order::Worker(0), Order::Carrier, Order::Serve(node, Verdict::Plain), Order::Carrier, Order::Worker(0)])?;
 //! ```
 //!
+//! The cluster is handed to each call, so several plays can have one, and others can act at it between two calls.
+//!
 //! Promise: each order does what `Obeys` of `specs/Obeying.antt` says of it, and the headline holds of the turns that ran: what
-//! `Play::play` did is a list of steps of a system (`PlaysSoundly` of `specs/Playing.antt`); from a start that hears its nodes, which
-//! `Play::new` gives, where the premises of `specs/May.antt` hold along this list, it is a run of the machine.
+//! `Play::play` did is a list of steps of a system and of others (`PlaysSoundlyBeside` of `specs/Playing.antt`); behind the steps
+//! before, from a start that hears its nodes, which `Play::new` gives, where the premises of `specs/May.antt` and `specs/Beside.antt`
+//! hold along all of them, it is a run of the machine beside others. Where nobody else acts it is one of the machine alone
+//! (`PlaysSoundly`).
 #![tactic(auto)]
 
 mod connection;
@@ -16,6 +20,7 @@ mod fault;
 pub mod laws;
 mod moves;
 mod order;
+mod others;
 mod play;
 mod port;
 mod serving;

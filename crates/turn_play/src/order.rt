@@ -1,6 +1,7 @@
 //! What a play is told to do.
 
 use crate::moves::Move;
+use key_split::Part;
 use node_model::Verdict;
 use slot_map::NodeId;
 
@@ -18,4 +19,7 @@ pub enum Order {
     Break(NodeId),
     /// One step of a move, where it may be made now.
     Move(Move),
+    /// Somebody else's commands, for keys of one slot, come to a node, right behind ASKING where the flag says so. It does all of
+    /// them at once, by its own rules, or refuses them and nothing changes. `Play::told` has what they are told.
+    Others(NodeId, bool, Vec<Part>),
 }

@@ -1,11 +1,12 @@
 //! A play: what is done, and in what order, is handed in.
 
-ghost use Rattle.std.specs.Prelude.{◌≡◌, IfOk, map};
+ghost use Rattle.std.specs.Prelude.{◌≡◌, All, IfOk, map};
 ghost use Rattle.proxy_lanes.specs.Carrier.{lanes_of};
 ghost use Rattle.proxy_turns.specs.Worker.{worker_model};
-ghost use Rattle.turn_play.specs.Obeying.{Obeys, ObeysAll, TurnsCarrier, TurnsWorker};
-ghost use Rattle.turn_play.specs.Play.{play_model};
-ghost use Rattle.turn_play.specs.Playing.{PlaysSoundly};
+ghost use Rattle.node_model.specs.Nodes.{ClusterModel};
+ghost use Rattle.turn_play.specs.Obeying.{IsOurs, Obeys, ObeysAll, OthersCome, TurnsCarrier, TurnsWorker};
+ghost use Rattle.turn_play.specs.Play.{play_model, told_in};
+ghost use Rattle.turn_play.specs.Playing.{PlaysSoundly, PlaysSoundlyBeside};
 ghost use Rattle.turn_play.specs.Starting.{IsBeginning, ShowsStart, new_play, workers_on};
 
 use crate::connection::{break_at, serve_at};
@@ -14,29 +15,32 @@ use crate::fault::PlayFault;
 use crate::laws::{obeyed_is_sound, plays_start};
 use crate::moves::move_on;
 use crate::order::Order;
+use crate::others::serve_others;
 use crate::port::PlayPort;
+use key_split::{Part, Told};
 use node_model::Cluster;
 use proxy_lanes::{CarrierEnds, Naming, Publisher, WorkerEnds};
 use proxy_turns::{Carrier, ClientPort, Gate, Newcomer, Worker};
 use resp_wire::NoMemory;
-use slot_map::NodeTable;
+use slot_map::{NodeId, NodeTable};
 use std::alloc::Global;
 use std::sync::Wait;
 
-/// Workers, a carrier and a cluster.
+/// Workers and a carrier of a proxy.
 #[derive(Drop)]
 pub struct Play<'g, C: ClientPort + Drop, J: Naming, R: Wait + Drop, G: Gate> {
     alloc: Global,
     workers: Vec<Worker<'g, C, J, G>>,
     carrier: Carrier<Newcomer<C, J>, Publisher<J, R>, PlayDial, PlayPort>,
-    cluster: Cluster,
     /// Where each node listens.
     nodes: NodeTable,
+    /// What was told to the others that came last.
+    told: Vec<Told>,
 }
 
 impl<'g, C: ClientPort + Drop, J: Naming, R: Wait + Drop, G: Gate> Play<'g, C, J, R, G> {
     /// A play in which nothing was done: a worker over each of these ends, which is to take so many clients, the carrier over
-    /// the other ends, with the seeds for its table, and a cluster whose nodes listen where `nodes` says. Clients are handed over
+    /// the other ends, with the seeds for its table. The nodes of its cluster listen where `nodes` says. Clients are handed over
     /// before, through the carrier's ends. The seeds are the first of `nodes`, which has the others in the order in which the
     /// carrier learns them: where that is not known, let all be seeds.
     pub fn new(
@@ -46,11 +50,10 @@ impl<'g, C: ClientPort + Drop, J: Naming, R: Wait + Drop, G: Gate> Play<'g, C, J
         worker_ends: Vec<WorkerEnds<Newcomer<C, J>, J>>,
         carrier_ends: CarrierEnds<Newcomer<C, J>, Publisher<J, R>>,
         seeds: NodeTable,
-        cluster: Cluster,
         nodes: NodeTable,
     ) -> Result<Self, NoMemory>
-        ensures model { IfOk result (λ play. play_model play ≡ new_play clients worker_ends.items (lanes_of carrier_ends) carrier_ends.map seeds cluster nodes) }
-        ensures starts { IsBeginning worker_ends.items (lanes_of carrier_ends) carrier_ends.map seeds cluster nodes → IfOk result (λ play. ShowsStart (play_model play)) }
+        ensures model { (cluster : ClusterModel) → IfOk result (λ play. play_model play cluster ≡ new_play clients worker_ends.items (lanes_of carrier_ends) carrier_ends.map seeds cluster nodes) }
+        ensures starts { (cluster : ClusterModel) → IsBeginning worker_ends.items (lanes_of carrier_ends) carrier_ends.map seeds cluster nodes → IfOk result (λ play. ShowsStart (play_model play cluster)) }
     {
         plays_start::<C, J>();
         Self::begin(
@@ -60,7 +63,6 @@ impl<'g, C: ClientPort + Drop, J: Naming, R: Wait + Drop, G: Gate> Play<'g, C, J
             worker_ends,
             carrier_ends,
             seeds,
-            cluster,
             nodes,
         )
     }
@@ -72,10 +74,9 @@ impl<'g, C: ClientPort + Drop, J: Naming, R: Wait + Drop, G: Gate> Play<'g, C, J
         worker_ends: Vec<WorkerEnds<Newcomer<C, J>, J>>,
         carrier_ends: CarrierEnds<Newcomer<C, J>, Publisher<J, R>>,
         seeds: NodeTable,
-        cluster: Cluster,
         nodes: NodeTable,
     ) -> Result<Self, NoMemory>
-        ensures { IfOk result (λ play. play_model play ≡ new_play clients worker_ends.items (lanes_of carrier_ends) carrier_ends.map seeds cluster nodes) }
+        ensures { (cluster : ClusterModel) → IfOk result (λ play. play_model play cluster ≡ new_play clients worker_ends.items (lanes_of carrier_ends) carrier_ends.map seeds cluster nodes) }
     {
         let carrier = Carrier::new(alloc, carrier_ends, PlayDial::new(alloc), seeds);
         let workers = workers_over(alloc, gate, clients, worker_ends)?;
@@ -83,38 +84,41 @@ impl<'g, C: ClientPort + Drop, J: Naming, R: Wait + Drop, G: Gate> Play<'g, C, J
             alloc,
             workers,
             carrier,
-            cluster,
             nodes,
+            told: Vec::new(alloc),
         })
     }
 
-    /// The nodes, as they are now.
-    pub fn cluster(&self) -> &Cluster
-        ensures { result.now ≡ (play_model self.now).cluster }
+    /// What was told to the others that came last, one for each of their commands.
+    pub fn told(&self) -> &[Told]
+        ensures { result.now ≡ told_in self.now }
     {
-        &self.cluster
+        self.told.as_slice()
     }
 
-    /// Does what is handed in, in its order. Where memory runs out in a turn, what it did before stands; after any other fault
-    /// the order at which it came has changed nothing. In both cases the orders behind it were left out, and the play may go on.
+    /// Does what is handed in, in its order, over these nodes. Where memory runs out in a turn, what it did before stands; after
+    /// any other fault the order at which it came has changed nothing. In both cases the orders behind it were left out, and the
+    /// play may go on. Between two calls others may do to the nodes what they do: several plays can have one cluster.
     ///
-    /// Of a system that shows the play before, what was done is steps to one that shows it after; from a start that hears its nodes,
-    /// where the premises hold along them, the headline holds of them.
-    pub fn play(&mut self, orders: &[Order]) -> Result<(), PlayFault>
-        ensures obeys { ObeysAll C.moves C.gives_none C.takes_none (play_model self.old) orders.now result (play_model self.new) }
-        ensures sound { PlaysSoundly (play_model self.old) (play_model self.new) }
+    /// Of a system that shows the play before, what was done is steps to one that shows it after. Behind the steps that led there from
+    /// a start that hears its nodes, those of earlier calls and what others did, where the premises hold along all of them, the headline
+    /// holds of all.
+    pub fn play(&mut self, cluster: &mut Cluster, orders: &[Order]) -> Result<(), PlayFault>
+        ensures obeys { ObeysAll C.moves C.gives_none C.takes_none (play_model self.old cluster.old) orders.now result (play_model self.new cluster.new) }
+        ensures sound { All IsOurs orders.now → PlaysSoundly (play_model self.old cluster.old) (play_model self.new cluster.new) }
+        ensures beside { PlaysSoundlyBeside (play_model self.old cluster.old) (play_model self.new cluster.new) }
     {
         obeyed_is_sound::<C, J>();
         let mut rest = orders;
         while let [order, later @ ..] = rest {
-            self.obey(order)?;
+            self.obey(cluster, order)?;
             rest = later;
         }
         Ok(())
     }
 
-    fn obey(&mut self, order: &Order) -> Result<(), PlayFault>
-        ensures { Obeys C.moves C.gives_none C.takes_none (play_model self.old) order.now result (play_model self.new) }
+    fn obey(&mut self, cluster: &mut Cluster, order: &Order) -> Result<(), PlayFault>
+        ensures { Obeys C.moves C.gives_none C.takes_none (play_model self.old cluster.old) order.now result (play_model self.new cluster.new) }
     {
         match order {
             Order::Worker(k) => self.turn_worker(*k),
@@ -124,19 +128,35 @@ impl<'g, C: ClientPort + Drop, J: Naming, R: Wait + Drop, G: Gate> Play<'g, C, J
                 &mut self.carrier,
                 *node,
                 *verdict,
-                &mut self.cluster,
+                cluster,
                 &self.nodes,
             ),
             Order::Break(node) => {
                 break_at(self.alloc, &mut self.carrier, *node);
                 Ok(())
             }
-            Order::Move(step) => move_on(&mut self.cluster, step),
+            Order::Move(step) => move_on(cluster, step),
+            Order::Others(node, asking, parts) => {
+                self.others_come(cluster, *node, *asking, parts.as_slice())
+            }
         }
     }
 
+    fn others_come(
+        &mut self,
+        cluster: &mut Cluster,
+        node: NodeId,
+        asking: bool,
+        parts: &[Part],
+    ) -> Result<(), PlayFault>
+        ensures { OthersCome (play_model self.old cluster.old) node asking parts.now result (play_model self.new cluster.new) }
+    {
+        self.told = serve_others(cluster, node, asking, parts)?;
+        Ok(())
+    }
+
     fn turn_worker(&mut self, k: usize) -> Result<(), PlayFault>
-        ensures { TurnsWorker C.moves C.gives_none C.takes_none (play_model self.old) k result (play_model self.new) }
+        ensures { (cluster : ClusterModel) → TurnsWorker C.moves C.gives_none C.takes_none (play_model self.old cluster) k result (play_model self.new cluster) }
     {
         if k >= self.workers.len() {
             return Ok(());
@@ -146,7 +166,7 @@ impl<'g, C: ClientPort + Drop, J: Naming, R: Wait + Drop, G: Gate> Play<'g, C, J
     }
 
     fn turn_carrier(&mut self) -> Result<(), PlayFault>
-        ensures { TurnsCarrier (play_model self.old) result (play_model self.new) }
+        ensures { (cluster : ClusterModel) → TurnsCarrier (play_model self.old cluster) result (play_model self.new cluster) }
     {
         self.carrier.turn()?;
         Ok(())

@@ -13,19 +13,23 @@ use std::rc::Rc;
 #[derive(Drop)]
 pub struct SharedClient {
     script: Rc<RefCell<Script>>,
+    /// How many ends were noted.
+    noted: Rc<RefCell<u64>>,
 }
 
 impl SharedClient {
     /// A client that sends these bytes.
     pub fn new(alloc: Global, client: u32, bytes: Bytes) -> Result<SharedClient, NoMemory> {
         let script = shared(alloc, Script::new(alloc, client, bytes))?;
-        Ok(SharedClient { script })
+        let noted = shared(alloc, 0)?;
+        Ok(SharedClient { script, noted })
     }
 
     /// The same client.
     pub fn again(&self) -> Result<SharedClient, AllocError> {
         let script = self.script.clone()?;
-        Ok(SharedClient { script })
+        let noted = self.noted.clone()?;
+        Ok(SharedClient { script, noted })
     }
 
     /// The client holds these bytes, as if they had been replied.
@@ -33,6 +37,18 @@ impl SharedClient {
         match self.script.try_borrow_mut() {
             Ok(mut script) => script.push(bytes, &[]).is_ok(),
             Err(_) => false,
+        }
+    }
+
+    /// How many ends were noted so far.
+    pub fn noted(&self) -> Option<u64> {
+        let noted = self.noted.try_borrow().ok()?;
+        Some(*noted)
+    }
+
+    fn count_end(&self) {
+        if let Ok(mut noted) = self.noted.try_borrow_mut() {
+            *noted = noted.wrapping_add(1);
         }
     }
 
@@ -76,7 +92,10 @@ impl ClientPort for SharedClient {
             return Err(NoMemory);
         };
         match script.note(ticket, end) {
-            Ok(()) => Ok(()),
+            Ok(()) => {
+                self.count_end();
+                Ok(())
+            }
             Err(NoMemory) => Err(NoMemory),
         }
     }

@@ -80,6 +80,17 @@ impl Clients {
         }
     }
 
+    /// `CLIENT`: how many ends were noted so far.
+    pub fn show_noted(&self, line: &mut Line) {
+        let Some(number) = line.read() else {
+            return;
+        };
+        match self.of(number) {
+            Some(client) => line.show_found(client.noted(), CallFault::NotNow),
+            None => line.refuse(CallFault::NotMade),
+        }
+    }
+
     /// Takes away what a client holds: the bytes, and how many ends were noted.
     pub fn show_held(&self, line: &mut Line) {
         let Some(number) = line.read() else {

@@ -23,6 +23,15 @@ impl Word for Part {
     }
 }
 
+/// The parts that the words that are left ask for, each up to a `;`.
+impl Word for Vec<Part> {
+    fn next_in(line: &mut Line) -> Option<Vec<Part>> {
+        let alloc = line.alloc;
+        let parts = parts_of(alloc, line.rest());
+        line.found(parts, CallFault::NoPart)
+    }
+}
+
 impl Word for Batch {
     fn next_in(line: &mut Line) -> Option<Batch> {
         let (((ticket, node), asking), part) = line.read()?;
@@ -105,6 +114,15 @@ where
 {
     let number = piece.and_then(number_in)?;
     T::try_from(number).ok()
+}
+
+/// A part for the words before each `;`, and behind the last one.
+fn parts_of(alloc: Global, words: &[Bytes]) -> Option<Vec<Part>> {
+    let mut parts = Vec::new(alloc);
+    for request in words.split(|word| word.as_slice() == b";".as_slice()) {
+        parts.push(part_of(alloc, request)?).ok()?;
+    }
+    Some(parts)
 }
 
 /// The last part of a request, which is its only one where its keys are of one slot.

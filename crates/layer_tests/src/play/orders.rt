@@ -2,7 +2,7 @@
 
 use crate::play::stage::Plays;
 use layer_rows::{CallFault, Line};
-use node_model::Verdict;
+use node_model::{Cluster, Verdict};
 use resp_wire::Bytes;
 use slot_hash::Slot;
 use slot_map::NodeId;
@@ -12,6 +12,7 @@ use turn_play::{Move, Order, PlayFault};
 /// Adds the next order of a line. Which key moves is seen once all orders before are obeyed, so these are obeyed first.
 pub fn add_next<P: Plays>(
     play: &mut P,
+    cluster: &mut Cluster,
     orders: &mut Vec<Order>,
     line: &mut Line,
 ) -> Result<Result<(), PlayFault>, CallFault> {
@@ -20,7 +21,7 @@ pub fn add_next<P: Plays>(
     };
     match str::from_utf8(word.as_slice()).unwrap_or("") {
         "all" => add_rounds(orders, line)?,
-        "movekey" => return move_key(play, orders, line),
+        "movekey" => return move_key(play, cluster, orders, line),
         name => add_one(orders, name, line)?,
     }
     Ok(Ok(()))
@@ -38,8 +39,21 @@ fn order_of(name: &str, line: &mut Line) -> Option<Order> {
         "carrier" => Some(Order::Carrier),
         "worker" => Some(Order::Worker(usize::from(line.read::<u16>()?))),
         "break" => Some(Order::Break(line.read()?)),
-        "serve" => Some(Order::Serve(line.read()?, Verdict::Plain)),
+        "serve" | "tryagain" | "down" | "moved" => {
+            let node = line.read()?;
+            Some(Order::Serve(node, verdict_of(name, line)?))
+        }
         _ => Some(Order::Move(step_of(name, line)?)),
+    }
+}
+
+/// What the node says: by its role, or in place of it.
+fn verdict_of(name: &str, line: &mut Line) -> Option<Verdict> {
+    match name {
+        "tryagain" => Some(Verdict::TryAgain),
+        "down" => Some(Verdict::ClusterDown),
+        "moved" => line.read().map(Verdict::Moved),
+        _ => Some(Verdict::Plain),
     }
 }
 
@@ -80,15 +94,16 @@ fn add_serving(orders: &mut Vec<Order>) -> Result<(), CallFault> {
 /// Obeys the orders before, and then moves a key of the slot, where one is left.
 fn move_key<P: Plays>(
     play: &mut P,
+    cluster: &mut Cluster,
     orders: &mut Vec<Order>,
     line: &mut Line,
 ) -> Result<Result<(), PlayFault>, CallFault> {
     let Some(slot) = line.read::<Slot>() else {
         return Err(CallFault::MissingWord);
     };
-    let before = play.play(orders.as_slice());
+    let before = play.play(cluster, orders.as_slice());
     orders.clear();
-    if let Some(key) = play.rest_key(slot) {
+    if let Some(key) = cluster.rest_key(slot) {
         orders.push(Order::Move(Move::Key(slot, key.copy(line.alloc)?)))?;
     }
     Ok(before)

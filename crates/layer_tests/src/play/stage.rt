@@ -1,26 +1,25 @@
 //! A play, and what it will be made of.
 
+use key_split::Told;
 use layer_rows::CallFault;
 use node_model::Cluster;
 use proxy_lanes::Naming;
-use resp_wire::{Bytes, NoMemory};
-use slot_hash::Slot;
+use resp_wire::NoMemory;
 use slot_map::NodeTable;
 use std::alloc::Global;
 use std::sync::Wait;
 use turn_play::{Order, Play, PlayFault};
 use turn_rows::{
-    Entrance, MemoryCarrierEnds, MemoryEnds, Open, PORTS, SharedClient, cluster_of_three,
-    newcomer_to, table_at,
+    Entrance, MemoryCarrierEnds, MemoryEnds, Open, PORTS, SharedClient, newcomer_to, table_at,
 };
 
 /// What does as it is told.
 pub trait Plays {
     /// Obeys these orders.
-    fn play(&mut self, orders: &[Order]) -> Result<(), PlayFault>;
+    fn play(&mut self, cluster: &mut Cluster, orders: &[Order]) -> Result<(), PlayFault>;
 
-    /// A key of the slot that its migrating node holds.
-    fn rest_key(&self, slot: Slot) -> Option<&Bytes>;
+    /// What was told to the others that came last.
+    fn told(&self) -> &[Told];
 }
 
 /// What begins over such ends.
@@ -46,11 +45,10 @@ impl<J: Naming, R: Wait + Drop> Entrance for Ends<J, R> {
     }
 }
 
-/// The nodes of a play, and the tables in which they stand.
+/// The tables in which the nodes of a play stand.
 #[derive(Drop)]
 pub struct PlayOutside {
     seeds: NodeTable,
-    cluster: Cluster,
     nodes: NodeTable,
 }
 
@@ -58,7 +56,6 @@ impl PlayOutside {
     pub fn new(alloc: Global) -> Result<PlayOutside, NoMemory> {
         Ok(PlayOutside {
             seeds: table_at(alloc, &PORTS)?,
-            cluster: cluster_of_three(alloc)?,
             nodes: table_at(alloc, &PORTS)?,
         })
     }
@@ -81,18 +78,17 @@ impl<'g, J: Naming, R: Wait + Drop> Begins<'g, Ends<J, R>> for MemoryPlay<'g, J,
             ends.workers,
             ends.carrier,
             outside.seeds,
-            outside.cluster,
             outside.nodes,
         )
     }
 }
 
 impl<'g, J: Naming, R: Wait + Drop> Plays for MemoryPlay<'g, J, R> {
-    fn play(&mut self, orders: &[Order]) -> Result<(), PlayFault> {
-        self.play(orders)
+    fn play(&mut self, cluster: &mut Cluster, orders: &[Order]) -> Result<(), PlayFault> {
+        self.play(cluster, orders)
     }
 
-    fn rest_key(&self, slot: Slot) -> Option<&Bytes> {
-        self.cluster().rest_key(slot)
+    fn told(&self) -> &[Told] {
+        self.told()
     }
 }

@@ -9,9 +9,9 @@ use Rattle.turn_play.proofs.Placed.{at-rest, turned-at}
 use Rattle.turn_play.proofs.play.Play.turn_worker.Goals as goal
 
 pub returns-in_err-turn : goal.returns-in_err-turn
-returns-in_err-turn g c =
+returns-in_err-turn g c = λ cluster.
     let workers = c.args.self.now.workers.items in
-    let old = play_model c.args.self.now in
+    let old = play_model c.args.self.now cluster in
     let lt : c.args.k < length workers = omega (arith, c.len.ensures, c.if-k-len.false) in
     let here : slice_get workers c.args.k ≡ Some c.index_mut.result.now = slice_get_read workers (length workers) c.args.k c.index_mut.result.now refl lt c.index_mut.ensures.value in
     let is : c.from_residual.result ≡ Err NoMemory = search rules in
@@ -30,9 +30,9 @@ returns-in_err-turn g c =
     )
 
 pub returns : goal.returns
-returns g c =
+returns g c = λ cluster.
     let workers = c.args.self.now.workers.items in
-    let old = play_model c.args.self.now in
+    let old = play_model c.args.self.now cluster in
     let lt : c.args.k < length workers = omega (arith, c.len.ensures, c.if-k-len.false) in
     let here : slice_get workers c.args.k ≡ Some c.index_mut.result.now = slice_get_read workers (length workers) c.args.k c.index_mut.result.now refl lt c.index_mut.ensures.value in
     let e = c.in_ok-turn.ensures in

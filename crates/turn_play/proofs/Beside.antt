@@ -1,0 +1,110 @@
+-- The steps of a play in which others act are steps of the system and of others.
+use Rattle.std.proofs.Common.{◌≡◌, ◌∙◌, ℕ, Bool, List, [], ◌∷◌, ◌++◌, refl, sym, ap, subst, length}
+use Rattle.std.specs.Prelude.{All}
+use Rattle.std.specs.List.{FoldsTo}
+use Rattle.slot_map.specs.Table.{Endpoint}
+use Rattle.node_model.specs.Nodes.{ClusterModel, standing_at, with_store}
+use Rattle.node_model.specs.Store.{StoreModel}
+use Rattle.world_laws.specs.State.{WorldModel}
+use Rattle.world_laws.proofs.Nodes.{size-with_store}
+use Rattle.turn_laws.specs.Wire.{Execution}
+use Rattle.turn_laws.specs.System.{System}
+use Rattle.turn_laws.specs.Shadow.{IsShadow}
+use Rattle.turn_laws.specs.Sharing.{OthersDo, SharedEvent, SharedRefines, SharedSystemStep}
+use Rattle.turn_laws.specs.Naming.{NamesNodes}
+use Rattle.turn_laws.specs.Refines.{IsStart}
+use Rattle.turn_laws.specs.LogHeadline.{IsHeld}
+use Rattle.turn_laws.specs.SharedLog.{HeadlineOfSharedLogs, SharedLogsAreHeld}
+use Rattle.turn_laws.specs.Writing.{CanBeNamed, StandsAmong, StandsAtItsNodes}
+use Rattle.turn_play.specs.May.{HearsItsNodes, IsInOrder}
+use Rattle.turn_play.specs.Beside.{AreInOrderBeside, LeadsBeside, MayNowBeside, MayStepBeside, OthersMay, PlaysRefineBeside, StepBeside, shared_events_of}
+use Rattle.turn_play.specs.Played.{Leads, Step}
+use Rattle.turn_play.specs.Playing.{PlayModel, PlaysSoundlyBeside, PlaysTo, PlaysToBeside}
+use Rattle.turn_play.proofs.Refining.{Laws, hears-on, step-holds}
+use Rattle.turn_play.proofs.Theirs.{others-do}
+
+-- ---- lists of steps
+
+module _ {C J : Type 0} where
+  abbrev lifted : List (Step C J) → List (StepBeside C J)
+  lifted [] = []
+  lifted (step ∷ steps) = record { event = SharedEvent.Ours step.event; next = step.next } ∷ lifted steps
+
+  leads-lifted : (s : System C J) (steps : List (Step C J)) (s' : System C J) → Leads s steps s' → LeadsBeside s (lifted steps) s'
+  leads-lifted s [] s' x = x
+  leads-lifted s (step ∷ steps) s' x = (x.0, leads-lifted step.next steps s' x.1)
+
+  joined : (a : System C J) (steps : List (StepBeside C J)) (b : System C J) (later : List (StepBeside C J)) (c : System C J) → LeadsBeside a steps b → LeadsBeside b later c → LeadsBeside a (steps ++ later) c
+  joined a [] b later c x y = subst (λ (s : System C J). LeadsBeside s later c) (sym x) y
+  joined a (step ∷ steps) b later c x y = (x.0, joined step.next steps b later c x.1 y)
+
+  pub goes-beside : (a b c : PlayModel C J) → PlaysToBeside a b → PlaysToBeside b c → PlaysToBeside a c
+  goes-beside a b c x y s shows =
+      let one = x s shows in
+      let two = y one.0 one.2 in
+      (two.0, (one.1.0 ++ two.1.0, joined s one.1.0 one.0 two.1.0 two.0 one.1.1 two.1.1), two.2)
+
+  -- what the play does alone it does beside others
+  pub beside : (a b : PlayModel C J) → PlaysTo a b → PlaysToBeside a b
+  beside a b x s shows = let one = x s shows in (one.0, (lifted one.1.0, leads-lifted s one.1.0 one.0 one.1.1), one.2)
+
+  pub soundly-beside : PlaysRefineBeside C J → (a b : PlayModel C J) → PlaysToBeside a b → PlaysSoundlyBeside a b
+  soundly-beside refine a b x s shows =
+      let one = x s shows in (
+        one.0,
+        one.1.0,
+        one.1.1,
+        one.2,
+        λ start before fresh hears go order. refine start one.0 (before ++ one.1.0) fresh hears (joined start before s one.1.0 one.0 go one.1.1) order,
+      )
+
+-- ---- a run of others
+
+same-standing : (k : ClusterModel) (node : ℕ) (store : StoreModel) → StandsAtItsNodes k → StandsAtItsNodes (with_store k node store)
+same-standing k node store stands slot small = subst (λ (n : ℕ). StandsAmong n (standing_at k slot)) (sym (size-with_store k node store)) (stands slot small)
+
+module _ {C J : Type 0} where
+  others-hear : (s s' : System C J) (node : ℕ) (asking : Bool) (done : List Execution) → OthersMay s node asking done s' → HearsItsNodes s → HearsItsNodes s'
+  others-hear s s' node asking done x hears = subst HearsItsNodes (sym x.leaves) (record { named = hears.named; stands = same-standing s.cluster node _ hears.stands })
+
+  others-name : (s s' : System C J) (node : ℕ) (asking : Bool) (done : List Execution) → OthersMay s node asking done s' → NamesNodes s → NamesNodes s'
+  others-name s s' node asking done x names = subst NamesNodes (sym x.leaves) (record {
+    seed = names.seed;
+    each = names.each ∙ sym (size-with_store s.cluster node _);
+    published = names.published;
+    backends = names.backends;
+    downs = names.downs;
+    posted = names.posted;
+  })
+
+  folds-beside : (events : List SharedEvent) (a b : System C J) (event : SharedEvent) (c : System C J) → FoldsTo SharedSystemStep a events b → SharedSystemStep b event c → FoldsTo SharedSystemStep a (events ++ event ∷ []) c
+  folds-beside [] a b event c f x = (c, subst (λ s. SharedSystemStep s event c) (sym f) x, refl)
+  folds-beside (e ∷ events) a b event c f x = (f.0, f.1, folds-beside events f.0 b event c f.2 x)
+
+module _ (C J : Type 0) (laws : Laws C J) (shared : SharedRefines C J) (start : System C J) (fresh : IsStart start) where
+  -- what is known of each system on the way
+  abbrev Known : System C J → Type 0
+  Known s = NamesNodes s × HearsItsNodes s
+
+  one-step : (s s' : System C J) (w : WorldModel) → IsShadow s w → Known s → (event : SharedEvent) → MayStepBeside s event s' → MayNowBeside s event → IsInOrder s' → SharedSystemStep s event s' × Known s'
+  one-step s s' w h known (SharedEvent.Ours event) may now order =
+      let x = step-holds laws.heard s s' w h known.0 known.1 event may now order in
+      (x, (laws.names event s s' w h known.0 x, hears-on C J laws start fresh s s' event may x known.1))
+  one-step s s' w h known (SharedEvent.Theirs node asking done) may now order =
+      (others-do s s' node asking done may now, (others-name s s' node asking done may known.0, others-hear s s' node asking done may known.1))
+
+  -- the steps after some that were made
+  along : (before : List SharedEvent) (s s' : System C J) (steps : List (StepBeside C J)) → FoldsTo SharedSystemStep start before s → Known s → LeadsBeside s steps s' → AreInOrderBeside s steps → FoldsTo SharedSystemStep s (shared_events_of steps) s'
+  along before s s' [] f known go order = go
+  along before s s' (step ∷ steps) f known go order =
+      let r = shared start s before fresh f in
+      let x = one-step s step.next r.0 r.2 known step.event go.0 order.0 order.1 in
+      let later = along (before ++ step.event ∷ []) step.next s' steps (folds-beside before start s step.event step.next f x.0) x.1 go.1 order.2 in
+      (step.next, x.0, later)
+
+module _ (C J : Type 0) (laws : Laws C J) (shared : SharedRefines C J) (headline : HeadlineOfSharedLogs C J) (held : SharedLogsAreHeld C J) where
+  pub plays-refine-beside : PlaysRefineBeside C J
+  plays-refine-beside start s' steps fresh hears go order =
+      let f = along C J laws shared start fresh [] start s' steps refl ((laws.starts start fresh).3, hears) go order in
+      let events = shared_events_of steps in
+      (f, headline start s' events fresh f, held start s' events fresh f, shared start s' events fresh f)
