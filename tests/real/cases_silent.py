@@ -18,6 +18,8 @@ from writers import LOST
 
 # Clients that leave such a node, the seconds after which it is given up, and those after which a test of it hangs.
 LEAVING, GIVEN_UP, HANGS = 300, 30, 100
+# A large value that a node sends or takes slowly: how many bytes it has, and how many of them move in a second.
+LARGE, BYTES_PER_SECOND = 14 << 20, 380_000
 # Clients that leave bytes behind a command, how many bytes each, and how many mebibytes of all may be kept.
 UNREAD, LEFT, MOST_KEPT = 200, 200 * 1024, 12
 # Seconds in which nothing came before the system asks whether the other end is there.
@@ -125,6 +127,57 @@ def a_node_that_never_lists_its_slots(world):
         ended.set()
     check_time(GIVEN_UP - 1 < seconds < GIVEN_UP + 5, f"the node was given up after {seconds:.1f} seconds")
     return f"given up after {seconds:.1f} s"
+
+
+def slowly(value):
+    """The bytes, by pieces of a second each."""
+    for begin in range(0, len(value), BYTES_PER_SECOND):
+        time.sleep(1)
+        yield value[begin : begin + BYTES_PER_SECOND]
+
+
+@case(limit=2 * HANGS, beside="a_value_that_comes_slowly")
+def a_value_that_comes_slowly(world):
+    """A node sends one value for longer than thirty seconds, and is never silent: it arrives, and so does what is behind it."""
+    value = bulk(b"v" * LARGE)
+    node = ScriptedNode(lambda words: slowly(value) if words[1] == b"large" else bulk(words[1]))
+    with Scene(world, node) as proxy, proxy.client(limit=HANGS) as client, proxy.client(limit=HANGS) as behind:
+        began = time.monotonic()
+        client.send(request("GET", "large"))
+        wait_until(lambda: len(node.words_seen()) == 1, "the node to get the first command")
+        behind.send(request("GET", "small"))
+        check_same(client.reply(), value, "the large value")
+        seconds = time.monotonic() - began
+        check_same(behind.reply(), bulk(b"small"), "the reply behind it")
+        check_same(node.connections, 1, "connections to the node")
+    check(seconds > GIVEN_UP + 4, f"the value came within {seconds:.1f} seconds")
+    return f"{LARGE >> 20} MiB in {seconds:.1f} s"
+
+
+@case(limit=2 * HANGS, beside="a_value_that_is_taken_slowly")
+def a_value_that_is_taken_slowly(world):
+    """A node takes one request for longer than thirty seconds, and never stops: it is answered, and so is what is behind it."""
+
+    def read(connection):
+        piece = connection.recv(BYTES_PER_SECOND)
+        time.sleep(len(piece) / BYTES_PER_SECOND)
+        return piece
+
+    listener = socket.create_server(("127.0.0.1", 0))
+    # what the system holds for the node says nothing of the node
+    listener.setsockopt(socket.SOL_SOCKET, socket.SO_RCVBUF, 1 << 16)
+    node = ScriptedNode(lambda words: b":%d\r\n" % len(words[-1]), listener=listener, read=read)
+    with Scene(world, node) as proxy, proxy.client(limit=HANGS) as client, proxy.client(limit=HANGS) as behind:
+        began = time.monotonic()
+        client.send(request("APPEND", "large", b"v" * LARGE))
+        time.sleep(2)
+        behind.send(request("APPEND", "small", "v"))
+        check_same(client.reply(), b":%d\r\n" % LARGE, "the reply to the large request")
+        seconds = time.monotonic() - began
+        check_same(behind.reply(), b":1\r\n", "the reply behind it")
+        check_same(node.connections, 1, "connections to the node")
+    check(seconds > GIVEN_UP + 4, f"the value was taken within {seconds:.1f} seconds")
+    return f"{LARGE >> 20} MiB in {seconds:.1f} s"
 
 
 def keepalive_timers(process):

@@ -20,8 +20,8 @@ def slots_reply(ranges):
 
 
 class ScriptedNode:
-    """Listens on loopback. `answer(words)` gives the bytes of a reply, or None to close the connection; `refusal(words)` those of
-    an error in its place, or None.
+    """Listens on loopback. `answer(words)` gives the bytes of a reply, or its pieces one after another, or None to close the
+    connection; `refusal(words)` the bytes of an error in its place, or None. `read(connection)` gives the next bytes of requests.
 
     The commands between MULTI and EXEC are answered once EXEC has come: +QUEUED or their refusal, and then EXEC's array of their
     replies, or EXECABORT. Where `block(commands)` is given, it gives all these replies, and that to MULTI. One that is `plain` has no
@@ -30,9 +30,10 @@ class ScriptedNode:
     `seen` has the words of every request but CLUSTER SLOTS, each with its connection's number, in order.
     """
 
-    def __init__(self, answer, slots=None, listener=None, refusal=None, block=None, plain=False):
+    def __init__(self, answer, slots=None, listener=None, refusal=None, block=None, plain=False, read=None):
         self.answer, self.slots, self.seen, self.asked_slots = answer, slots, [], 0
         self.refusal, self.block, self.plain = refusal or (lambda words: None), block or self.played, plain
+        self.read = read or (lambda connection: connection.recv(1 << 16))
         self.listener = listener or socket.create_server(("127.0.0.1", 0))
         self.port = self.listener.getsockname()[1]
         self.connections, self.open, self.lock = 0, [], threading.Lock()
@@ -54,7 +55,7 @@ class ScriptedNode:
         held, coming = b"", queue.SimpleQueue()
         threading.Thread(target=self.answer_all, args=(connection, coming), daemon=True).start()
         try:
-            while piece := connection.recv(1 << 16):
+            while piece := self.read(connection):
                 held += piece
                 while (end := end_of_reply(held, 0)) is not None:
                     words, held = value_of(held[:end]), held[end:]
@@ -82,7 +83,8 @@ class ScriptedNode:
                     if reply is None:
                         connection.shutdown(socket.SHUT_RDWR)
                         break
-                    connection.sendall(reply)
+                    for piece in [reply] if isinstance(reply, bytes) else reply:
+                        connection.sendall(piece)
         except OSError:
             pass
         connection.close()

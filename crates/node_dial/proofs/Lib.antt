@@ -1,2 +1,3 @@
 pub mod CredentialLemmas
 pub mod PauseLemmas
+pub mod Slots

@@ -1,4 +1,4 @@
 pub mod AskSchedule
 pub mod DialPause
-pub mod PlainNodes
+pub mod NodeSet
 pub mod NewPort

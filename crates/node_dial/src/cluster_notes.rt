@@ -1,11 +1,11 @@
 //! What is noted of the cluster's nodes.
 
-use crate::lost_nodes::{LostNodes, is_lost, note_lost};
-use crate::plain_nodes::PlainNodes;
-use crate::slot_owners::SlotOwners;
-use event_log::{Event, Figure, NodeName, ThreadReport};
+use crate::lost_nodes::{LostNodes, note_lost, note_slots};
+use crate::node_set::NodeSet;
+use crate::slot_owners::{SlotOwners, note_owners};
+use event_log::{Event, Figure, NodeName, SlotsTold, ThreadReport};
 use resp_wire::NoMemory;
-use slot_map::NodeId;
+use slot_map::{MapOp, NodeId};
 use std::alloc::Global;
 use std::cell::RefCell;
 use std::io;
@@ -15,9 +15,9 @@ use std::rc::Rc;
 #[derive(Drop)]
 pub(crate) struct ClusterNotes {
     pub(crate) lost: RefCell<LostNodes>,
-    pub(crate) owners: RefCell<SlotOwners>,
-    /// The nodes to which no run goes as a block.
-    pub(crate) plain: RefCell<PlainNodes>,
+    owners: RefCell<SlotOwners>,
+    /// The nodes whose connection was garbled while a block was under way: a node that refuses MULTI is one. They take runs of one.
+    plain: RefCell<NodeSet>,
 }
 
 /// The same, for each that notes.
@@ -26,29 +26,38 @@ pub(crate) type SharedNotes = Rc<ClusterNotes>;
 impl ClusterNotes {
     /// Nothing is noted.
     pub(crate) fn new(alloc: Global) -> Result<SharedNotes, NoMemory> {
-        let lost = LostNodes::new(alloc)?;
         let owners = SlotOwners::new(alloc)?;
         let notes = ClusterNotes {
-            lost: RefCell::new(lost),
+            lost: RefCell::new(LostNodes::new()),
             owners: RefCell::new(owners),
-            plain: RefCell::new(PlainNodes::new()),
+            plain: RefCell::new(NodeSet::new()),
         };
         Ok(Rc::new(alloc, notes)?)
     }
 
-    /// The node at this endpoint has no connection, so another is asked where its slots are.
-    pub(crate) fn note_unreached(
-        &self,
-        alloc: Global,
-        node: NodeId,
-        host: &[u8],
-        port: u16,
-    ) -> Result<(), NoMemory> {
-        if !is_lost(&self.lost, node) {
-            let name = NodeName::new(alloc, node, host, port)?;
-            note_lost(&self.lost, &name);
+    /// Whether runs may go to the node as blocks.
+    pub(crate) fn takes_blocks(&self, node: NodeId) -> bool {
+        match self.plain.try_borrow() {
+            Ok(plain) => !plain.has(node),
+            Err(_) => false,
         }
-        Ok(())
+    }
+
+    /// The node takes runs of one from now on.
+    pub(crate) fn note_plain(&self, node: NodeId) {
+        if let Ok(mut plain) = self.plain.try_borrow_mut() {
+            plain.insert(node);
+        }
+    }
+
+    /// Notes what the node told of the slots, and reports it.
+    pub(crate) fn note_slots(&self, report: &ThreadReport, name: NodeName, changes: &[MapOp]) {
+        note_slots(&self.lost, changes);
+        let told = SlotsTold {
+            ranges: changes.len(),
+            slots_changed: note_owners(&self.owners, changes),
+        };
+        report.tell(Event::SlotsTold(name, told));
     }
 
     /// Reports that a dial of the node at this endpoint failed, and counts it.
@@ -62,7 +71,7 @@ impl ClusterNotes {
         error: io::Error,
     ) -> Result<(), NoMemory> {
         let name = NodeName::new(alloc, node, host, port)?;
-        note_lost(&self.lost, &name);
+        note_lost(&self.lost, node);
         report.count(Figure::DialsFailed, 1);
         report.tell(Event::DialFailed(name, error));
         Ok(())

@@ -3,25 +3,24 @@
 ghost use Rattle.std.specs.Prelude.{◌≡◌, ◌<◌, ◌+◌, ◌-◌, ◌^◌, IfOk};
 ghost use Rattle.node_dial.specs.NewPort.{IsUnused};
 
-use crate::cluster_notes::{ClusterNotes, SharedNotes};
+use crate::cluster_notes::{ClusterNotes, SharedNotes, share};
 use crate::connector::Connector;
 use crate::known_node::{DialOutcome, KnownNode};
-use crate::lost_nodes::is_ask_due;
-use crate::node_notes::NodeNotes;
-use crate::node_port::CountedPort;
+use crate::link_watch::LinkWatch;
+use crate::lost_nodes::{is_ask_due, note_lost, note_reached};
 use crate::node_stream::NodeStream;
-use crate::plain_nodes::takes_blocks;
-use event_log::Figure;
-use node_link::{BlockPort, Dial, DialFault};
+use event_log::{Figure, NodeName};
+use key_split::Told;
+use node_link::{BlockPort, Dial, DialFault, Failure};
 use proxy_runtime::PolledSocket;
 use resp_wire::{Limits, NoMemory};
-use slot_map::{NODE_LIMIT, NodeId};
+use slot_map::{MapOp, NODE_LIMIT, NodeId};
 use std::alloc::Global;
 use std::net::{Net, TcpListener, TcpStream};
 use std::time::Clock;
 
 /// A port to a node over a socket.
-pub type NodeSocket = CountedPort<BlockPort<NodeStream>>;
+pub type NodeSocket = BlockPort<NodeStream>;
 
 /// Dials nodes. A port is given for a connection that stands, and whose node has accepted AUTH.
 pub struct SocketDial<'b, R> {
@@ -70,20 +69,15 @@ impl<'b, R: Clock + Net<Listener = TcpListener, Stream = TcpStream>> SocketDial<
         host: &[u8],
         port: u16,
     ) -> Result<NodeSocket, NoMemory>
-        ensures unused { IfOk result (λ counted. IsUnused counted.port) }
+        ensures unused { IfOk result IsUnused }
     {
-        let notes = NodeNotes::new(
-            self.alloc,
-            self.connector.ready(),
-            &self.cluster,
-            node,
-            host,
-            port,
-        )?;
-        let stream = notes.stream_over(socket)?;
-        let blocks = takes_blocks(&self.cluster.plain, node);
-        let port = BlockPort::new(self.alloc, stream, Limits::full(), blocks);
-        Ok(CountedPort::new(port, notes))
+        let name = NodeName::new(self.alloc, node, host, port)?;
+        note_reached(&self.cluster.lost, node);
+        let watch = LinkWatch::new(self.connector.ready())?;
+        let cluster = share(&self.cluster)?;
+        let stream = NodeStream::new(socket, node, name, cluster, watch);
+        let blocks = self.cluster.takes_blocks(node);
+        Ok(BlockPort::new(self.alloc, stream, Limits::full(), blocks))
     }
 }
 
@@ -93,7 +87,7 @@ impl<'b, R: Clock + Net<Listener = TcpListener, Stream = TcpStream>> Dial for So
     ghost failures = { λ dial. dial.failures };
 
     // Nothing went over the socket. To which machine it leads no contract says.
-    ghost opens = { λ _ counted. IsUnused counted.port };
+    ghost opens = { λ _ port. IsUnused port };
 
     fn seeks(&mut self) -> bool {
         is_ask_due(&self.cluster.lost, self.connector.last_time())
@@ -101,6 +95,29 @@ impl<'b, R: Clock + Net<Listener = TcpListener, Stream = TcpStream>> Dial for So
 
     fn unsent(&self) {
         self.connector.report().count(Figure::Unsent, 1);
+    }
+
+    fn sent(&self, commands: usize) {
+        self.connector.report().count(Figure::Sent, commands as u64);
+    }
+
+    fn told(&self, told: &Told) {
+        if let Some(figure) = refusal(told) {
+            self.connector.report().count(figure, 1);
+        }
+    }
+
+    fn slots_told(&self, node: NodeId, host: &[u8], port: u16, changes: &[MapOp]) {
+        if let Ok(name) = NodeName::new(self.alloc, node, host, port) {
+            self.cluster
+                .note_slots(self.connector.report(), name, changes);
+        }
+    }
+
+    fn broke(&self, node: NodeId, failure: Failure, port: &NodeSocket) {
+        if matches!(failure, Failure::BadWire) && port.awaits_block() {
+            self.cluster.note_plain(node);
+        }
     }
 
     fn open(&mut self, node: NodeId, host: &[u8], port: u16) -> Result<NodeSocket, DialFault> {
@@ -115,7 +132,10 @@ impl<'b, R: Clock + Net<Listener = TcpListener, Stream = TcpStream>> Dial for So
                 Ok(opened) => return Ok(opened),
                 Err(NoMemory) => return Err(DialFault::NoMemory),
             },
-            DialOutcome::Pending => self.cluster.note_unreached(self.alloc, node, host, port),
+            DialOutcome::Pending => {
+                note_lost(&self.cluster.lost, node);
+                Ok(())
+            }
             DialOutcome::Failed(error) => {
                 let report = self.connector.report();
                 self.cluster
@@ -127,6 +147,17 @@ impl<'b, R: Clock + Net<Listener = TcpListener, Stream = TcpStream>> Dial for So
         }
         self.failures = one_more(self.failures);
         Err(DialFault::Failed)
+    }
+}
+
+/// What counts refusals of this kind.
+fn refusal(told: &Told) -> Option<Figure> {
+    match told {
+        Told::Moved(..) => Some(Figure::Moved),
+        Told::Ask(..) => Some(Figure::Ask),
+        Told::TryAgain => Some(Figure::TryAgain),
+        Told::ClusterDown => Some(Figure::ClusterDown),
+        Told::Reply(_) | Told::Unclear | Told::Lost | Told::Unsent => None,
     }
 }
 

@@ -13,8 +13,8 @@
 //! block was under way: it may refuse MULTI.
 //!
 //! Promise: `SocketDial` keeps the contract of `Dial`. `Credentials` is AUTH, byte by byte; that each connection begins with it
-//! is not proved. The pauses of dials and of requests after a loss are exact, and so is the set of nodes that take no blocks; that
-//! a node is noted there is not proved. Of the sockets nothing more is proved.
+//! is not proved. The pauses of dials and of requests after a loss are exact, and so are the sets of nodes that are lost
+//! and that take no blocks; that a node is noted there is not proved. Of the sockets nothing more is proved.
 #![tactic(auto)]
 
 mod addresses;
@@ -31,16 +31,13 @@ mod link_watch;
 mod look_up;
 mod look_ups;
 mod lost_nodes;
-mod node_notes;
-mod node_port;
+mod node_set;
 mod node_stream;
 mod place;
-mod plain_nodes;
 mod slot_owners;
 
 pub use connector::Connector;
 pub use credentials::Credentials;
 pub use dial::{NodeSocket, SocketDial};
 pub use look_ups::{LookUps, SharedLookUps, advance_look_ups};
-pub use node_port::CountedPort;
 pub use node_stream::NodeStream;

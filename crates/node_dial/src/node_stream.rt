@@ -2,22 +2,24 @@
 
 ghost use Rattle.std.specs.Prelude.{◌≡◌, ◌≤◌};
 
+use crate::cluster_notes::SharedNotes;
 use crate::link_watch::LinkWatch;
-use crate::lost_nodes::{LostNodes, note_lost};
+use crate::lost_nodes::note_lost;
 use event_log::{Event, Figure, NodeName};
 use node_link::{Flow, Stream};
 use proxy_runtime::PolledSocket;
-use std::cell::RefCell;
+use slot_map::NodeId;
 use std::io;
 use std::io::ErrorKind;
-use std::rc::Rc;
 
 /// A connection to a node that stands. Its end is reported once.
 pub struct NodeStream {
     socket: PolledSocket,
-    /// The node, until the connection's end is reported.
+    node: NodeId,
+    /// The node's name, until the connection's end is reported.
     name: Option<NodeName>,
-    watch: Rc<LinkWatch>,
+    cluster: SharedNotes,
+    watch: LinkWatch,
     failures: u64,
 }
 
@@ -25,21 +27,24 @@ impl Drop for NodeStream {
     fn drop(self) {
         let NodeStream {
             socket,
+            node,
             name,
+            cluster,
             watch,
             failures: _,
         } = self;
         if let Some(name) = name {
-            report_end(&socket, name, &watch.cluster().lost, reason_of(&socket));
+            note_lost(&cluster.lost, node);
+            report_end(&socket, name, reason_of(&socket));
         }
         drop(socket);
+        drop(cluster);
         drop(watch);
     }
 }
 
-/// Reports the end of a connection to a node, and counts it. The node is lost.
-fn report_end(socket: &PolledSocket, name: NodeName, lost: &RefCell<LostNodes>, reason: io::Error) {
-    note_lost(lost, &name);
+/// Reports the end of a connection to a node, and counts it.
+fn report_end(socket: &PolledSocket, name: NodeName, reason: io::Error) {
     socket.count(Figure::LinksGone, 1);
     socket.tell(Event::LinkLost(name, reason));
 }
@@ -52,38 +57,44 @@ fn reason_of(socket: &PolledSocket) -> io::Error {
     io::Error::new(ErrorKind::InvalidData, "the node sent what is no reply")
 }
 
+fn silence() -> io::Error {
+    io::Error::new(ErrorKind::TimedOut, "no reply for 30 seconds")
+}
+
 impl NodeStream {
     /// A connection to this node, which is reported and counted.
-    pub(crate) fn new(socket: PolledSocket, name: NodeName, watch: Rc<LinkWatch>) -> NodeStream {
+    pub(crate) fn new(
+        socket: PolledSocket,
+        node: NodeId,
+        name: NodeName,
+        cluster: SharedNotes,
+        watch: LinkWatch,
+    ) -> NodeStream {
         socket.count(Figure::Links, 1);
         if let Ok(name) = name.again() {
             socket.tell(Event::LinkOpened(name));
         }
         NodeStream {
             socket,
+            node,
             name: Some(name),
+            cluster,
             watch,
             failures: 0,
         }
     }
 
     fn reason(&self) -> io::Error {
-        if self.watch.is_overdue() && !self.socket.has_failed() {
-            return io::Error::new(ErrorKind::TimedOut, "no reply for 30 seconds");
-        }
         reason_of(&self.socket)
     }
 
-    fn note_end(&mut self)
+    /// Reports the end of the connection. The node is lost.
+    fn note_end(&mut self, reason: io::Error)
         ensures { self.new.failures ≡ self.old.failures }
     {
         if let Some(name) = self.name.take() {
-            report_end(
-                &self.socket,
-                name,
-                &self.watch.cluster().lost,
-                self.reason(),
-            );
+            note_lost(&self.cluster.lost, self.node);
+            report_end(&self.socket, name, reason);
         }
     }
 }
@@ -103,13 +114,23 @@ impl NodeStream {
     }
 
     /// Reports the end of the connection, and counts a failure.
-    fn end(&mut self) -> Flow
+    fn end(&mut self, reason: io::Error) -> Flow
         ensures gone { result ≡ flow.Gone }
         ensures rose { Rose self.old.failures self.new.failures }
         ensures count { self.old.failures ≤ self.new.failures }
     {
-        self.note_end();
+        self.note_end(reason);
         self.fail()
+    }
+
+    /// Reports that the socket failed or ended, and counts a failure.
+    fn end_of_socket(&mut self) -> Flow
+        ensures gone { result ≡ flow.Gone }
+        ensures rose { Rose self.old.failures self.new.failures }
+        ensures count { self.old.failures ≤ self.new.failures }
+    {
+        let reason = self.reason();
+        self.end(reason)
     }
 }
 
@@ -122,22 +143,38 @@ impl Stream for NodeStream {
 
     ghost joined = { λ _ _ _ _ _ _ _ _ _. tt };
 
+    fn owes(&self, replies: bool) {
+        self.watch.note_owed(replies);
+    }
+
     fn read(&mut self, buffer: &mut [u8]) -> Flow {
-        if self.watch.is_overdue() {
-            return self.end();
-        }
         match self.socket.read(buffer) {
-            Flow::Bytes(count) => Flow::Bytes(count),
-            Flow::Nothing => Flow::Nothing,
-            Flow::Gone => self.end(),
+            Flow::Bytes(count) => {
+                self.watch.note_read();
+                Flow::Bytes(count)
+            }
+            Flow::Nothing => {
+                if self.watch.note_nothing() {
+                    return self.end(silence());
+                }
+                Flow::Nothing
+            }
+            Flow::Gone => self.end_of_socket(),
         }
     }
 
     fn write(&mut self, first: &[u8], second: &[u8]) -> Flow {
+        let offered = first.len().saturating_add(second.len());
         match self.socket.write(first, second) {
-            Flow::Bytes(count) => Flow::Bytes(count),
-            Flow::Nothing => Flow::Nothing,
-            Flow::Gone => self.end(),
+            Flow::Bytes(count) => {
+                self.watch.note_written(count, offered);
+                Flow::Bytes(count)
+            }
+            Flow::Nothing => {
+                self.watch.note_written(0, offered);
+                Flow::Nothing
+            }
+            Flow::Gone => self.end_of_socket(),
         }
     }
 }

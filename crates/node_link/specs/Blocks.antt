@@ -2,7 +2,7 @@
 -- What comes back is matched by place. A plain request has one reply, which is its value. A block has two replies more than
 -- commands, and once the last of them has come, they tell each command its value (Runs.antt).
 -- Redis documentation, "Transactions".
-use Rattle.std.specs.Prelude.{◌≡◌, ◌⊎◌, ◌<◌, ◌+◌, ◌++◌, ◌∷◌, List, [], ℕ, Bool, Option, Some, None, codes, length, map, false, if◌then◌else◌, refl}
+use Rattle.std.specs.Prelude.{◌≡◌, ◌⊎◌, ◌<◌, ◌+◌, ◌++◌, ◌∷◌, List, [], ℕ, Bool, Option, Some, None, codes, length, map, false, true, if◌then◌else◌, refl}
 use Rattle.std.specs.List.{flat_map}
 use Rattle.std.proofs.Common.{inl}
 use Rattle.std.proofs.lemmas.List.{append-nil}
@@ -69,6 +69,11 @@ abbrev pub first_block : List Awaited → Option ℕ
 first_block [] = None
 first_block (awaited.Reply ∷ later) = None
 first_block (awaited.Block count ∷ later) = Some count
+
+-- the replies to a block
+abbrev pub is_block : Awaited → Bool
+is_block awaited.Reply = false
+is_block (awaited.Block count) = true
 
 -- no value can be given before more comes
 abbrev pub IsShort : RepliesModel → Type 0

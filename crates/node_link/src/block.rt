@@ -6,7 +6,7 @@ ghost use Rattle.node_link.specs.Runs.{BlockOutcome, common_ask, ends_block, is_
 ghost use Rattle.node_link.specs.Items.{AreItems};
 
 use crate::port::PortFault;
-use crate::redirect::split_word;
+use crate::redirect::{self, split_word};
 use key_split::error_line;
 use resp_wire::{NoMemory, Value};
 use std::alloc::Global;
@@ -165,7 +165,7 @@ fn is_moved(reply: &Value) -> bool
     let Value::Error(line) = reply else {
         return false;
     };
-    split_word(line.bytes()).0 == b"MOVED".as_slice()
+    redirect::is_moved(split_word(line.bytes()).0)
 }
 
 // The ASK that all commands got.
@@ -187,7 +187,7 @@ fn is_ask_to_all(first: &Value, later: &[Value]) -> bool
     let Value::Error(line) = first else {
         return false;
     };
-    split_word(line.bytes()).0 == b"ASK".as_slice() && are_errors_of(line.bytes(), later)
+    redirect::is_ask(split_word(line.bytes()).0) && are_errors_of(line.bytes(), later)
 }
 
 fn are_errors_of(line: &[u8], replies: &[Value]) -> bool

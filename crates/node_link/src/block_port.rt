@@ -1,9 +1,10 @@
 //! A port over a stream of bytes that sends runs as blocks.
 
 ghost use Rattle.std.specs.Prelude.{◌≡◌, ◌≤◌, ◌<◌, ◌∷◌, [], None, OnOk, length, map};
+ghost use Rattle.std.specs.List.{list_any};
 ghost use Rattle.key_split.specs.Requests.{Slots, requests_of};
 ghost use Rattle.key_split.specs.Runs.{IsTogether, count_in, requests_of_run};
-ghost use Rattle.node_link.specs.Blocks.{Block, BlockExchanges, BlockGivesNone, GoesAs, IsBlockGarbled, Plain, items_of, longest_at, spelled_block};
+ghost use Rattle.node_link.specs.Blocks.{Block, BlockExchanges, BlockGivesNone, GoesAs, IsBlockGarbled, Plain, is_block, items_of, longest_at, spelled_block};
 ghost use Rattle.node_link.specs.Bytes.{OffersFirst, spelled};
 ghost use Rattle.node_link.specs.Collecting.{DraftOutcome, await_each};
 ghost use Rattle.node_link.specs.Port.{SendOutcome, NextOutcome};
@@ -82,6 +83,13 @@ impl<S> BlockPort<S> {
     {
         &self.stream
     }
+
+    /// Whether replies to a block are awaited.
+    pub fn awaits_block(&self) -> bool
+        ensures { result ≡ list_any is_block self.now.replies.awaited }
+    {
+        self.replies.awaits_block()
+    }
 }
 
 impl<S: Stream> NodePort for BlockPort<S> {
@@ -140,6 +148,10 @@ impl<S: Stream> NodePort for BlockPort<S> {
                 Err(PortFault::NoMemory)
             }
         }
+    }
+
+    fn owes(&self, replies: bool) {
+        self.stream.owes(replies);
     }
 
     fn next(&mut self) -> Result<Option<Value>, PortFault>

@@ -99,6 +99,10 @@ impl<S: Stream> NodePort for BytePort<S> {
         Ok(())
     }
 
+    fn owes(&self, replies: bool) {
+        self.stream.owes(replies);
+    }
+
     fn next(&mut self) -> Result<Option<Value>, PortFault>
         ensures does { NextOutcome (λ (p : BytePortModel S). S.failures p.stream) IsGarbled (Exchanges S.moved) self.old result self.new }
         ensures count { S.failures self.old.stream ≤ S.failures self.new.stream }

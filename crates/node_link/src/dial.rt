@@ -4,8 +4,10 @@ ghost use Rattle.std.specs.Prelude.{◌≡◌, ℕ, false, ⊤};
 ghost use Rattle.slot_map.specs.Table.{Endpoint};
 ghost use Rattle.node_link.specs.Dialling.{OpenOutcome};
 
+use crate::link::Failure;
 use crate::run_port::RunPort;
-use slot_map::NodeId;
+use key_split::Told;
+use slot_map::{MapOp, NodeId};
 use thiserror::Error;
 
 /// Why no connection was given.
@@ -41,6 +43,18 @@ pub trait Dial {
     /// Told of each run that could not be sent, since there is no connection to its node, and none was opened: once, however many
     /// commands it has.
     fn unsent(&self) {}
+
+    /// Told of each run that went out, or at which the link broke: how many commands it has.
+    fn sent(&self, _commands: usize) {}
+
+    /// Told of each reply: what it tells its command.
+    fn told(&self, _told: &Told) {}
+
+    /// Told of each answer to CLUSTER SLOTS that can be read: the node that gave it, and what it says of the slot map.
+    fn slots_told(&self, _node: NodeId, _host: &[u8], _port: u16, _changes: &[MapOp]) {}
+
+    /// Told why the link to a node failed when a reply was to be read, and over which port.
+    fn broke(&self, _node: NodeId, _failure: Failure, _port: &Self::Port) {}
 
     /// A new connection to the node that listens there.
     fn open(&mut self, node: NodeId, host: &[u8], port: u16) -> Result<Self::Port, DialFault>

@@ -91,6 +91,10 @@ impl<P: NodePort> NodePort for Fuse<P> {
         self.port.ask_slots()
     }
 
+    fn owes(&self, replies: bool) {
+        self.port.owes(replies);
+    }
+
     fn next(&mut self) -> Result<Option<Value>, PortFault>
         ensures does { NextOutcome (failures_with P.failures) (Inside P.is_garbled) (ExchangesInside P.exchange) self.old result self.new }
         ensures count { failures_with P.failures self.old ≤ failures_with P.failures self.new }

@@ -126,6 +126,13 @@ impl<P: NodePort> Link<P> {
         &self.port
     }
 
+    /// Why the link has failed; `None` where it has not.
+    pub fn failure(&self) -> Option<Failure>
+        ensures { result ≡ self.now.failure }
+    {
+        self.failure
+    }
+
     /// Whether the link has failed.
     pub fn failed(&self) -> bool
         ensures { IsTrue result ↔ IsSome self.now.failure }
@@ -209,6 +216,7 @@ impl<P: NodePort> Link<P> {
         if let Some(value) = self.kept.take() {
             return self.give(value, table);
         }
+        self.port.owes(!self.due.is_empty());
         match self.port.next() {
             Ok(Some(value)) => self.give(value, table),
             Ok(None) => Ok(None),

@@ -46,6 +46,9 @@ pub trait NodePort {
         ensures does { SendOutcome failures is_garbled exchange self.old (Slots ∷ []) result self.new }
         ensures count { failures self.old ≤ failures self.new };
 
+    /// Told before each call for a value: whether the node owes replies.
+    fn owes(&self, _replies: bool) {}
+
     /// Takes the next value, where a whole one has come.
     fn next(&mut self) -> Result<Option<Value>, PortFault>
         ensures does { NextOutcome failures is_garbled exchange self.old result self.new }

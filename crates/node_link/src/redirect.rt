@@ -1,8 +1,9 @@
 //! The parts of a redirection line, over its bytes.
 
-ghost use Rattle.std.specs.Prelude.{◌≡◌, ◌<◌, ◌≤◌, length, position, nat_eq, nat_le, ◌&&◌, true, not, IfSome, Some, None, MatchOption, IsTrue};
+ghost use Rattle.std.specs.Prelude.{codes, ◌≡◌, ◌<◌, ◌≤◌, length, position, nat_eq, nat_le, ◌&&◌, true, not, IfSome, Some, None, MatchOption, IsTrue};
 ghost use Rattle.std.specs.List.{before_last, after_last, list_any, list_all, suffix_len};
 ghost use Rattle.std.specs.Char.{is_ascii_digit};
+ghost use Rattle.std.specs.Str.{bytes_eq};
 ghost use Rattle.resp_wire.specs.Text.{is_one_line};
 ghost use Rattle.node_link.specs.Line.{first_word, other_words, short_number, digits_value, number_within, endpoint_in, target_in};
 
@@ -23,6 +24,20 @@ pub fn split_word(line: &[u8]) -> (&[u8], &[u8])
         Some(place) => (&line[..place], &line[place + 1..]),
         None => (line, &line[line.len()..]),
     }
+}
+
+/// Whether an error line's first word sends on all commands of a slot.
+pub fn is_moved(word: &[u8]) -> bool
+    ensures { result ≡ bytes_eq word.now (codes "MOVED") }
+{
+    word == b"MOVED".as_slice()
+}
+
+/// Whether an error line's first word sends on this command alone.
+pub fn is_ask(word: &[u8]) -> bool
+    ensures { result ≡ bytes_eq word.now (codes "ASK") }
+{
+    word == b"ASK".as_slice()
 }
 
 // Where the first space stands.

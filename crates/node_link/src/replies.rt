@@ -3,7 +3,8 @@
 ghost use Rattle.std.specs.Prelude.{◌≡◌, ◌≤◌, ◌↔◌, ◌++◌, ◌∷◌, [], None, Some, IsTrue, OnOk, OnErr, length};
 ghost use Rattle.key_split.specs.Requests.{requests_of};
 ghost use Rattle.node_link.specs.Bytes.{input_of};
-ghost use Rattle.node_link.specs.Blocks.{first_block};
+ghost use Rattle.std.specs.List.{list_any};
+ghost use Rattle.node_link.specs.Blocks.{first_block, is_block};
 ghost use Rattle.node_link.specs.Collecting.{DrainsAtFalse, DrainsAtNone, GatherOutcome, ValueOutcome, await_each};
 ghost use Rattle.node_link.specs.declared.replies.Awaited.TheVariants as awaited;
 
@@ -83,6 +84,13 @@ impl Replies {
         ensures { IsTrue result ↔ (self.now.awaited ≡ []) }
     {
         self.awaited.is_empty()
+    }
+
+    /// Whether the replies to a block are awaited.
+    pub fn awaits_block(&self) -> bool
+        ensures { result ≡ list_any is_block self.now.awaited }
+    {
+        self.awaited.iter().any(|awaited| is_block(*awaited))
     }
 
     /// Awaits the replies to what was sent together.
@@ -165,6 +173,12 @@ impl Replies {
             Err(fault) => Err(fault),
         }
     }
+}
+
+fn is_block(awaited: Awaited) -> bool
+    ensures { result ≡ is_block awaited }
+{
+    matches!(awaited, Awaited::Block(_))
 }
 
 // Of how many commands the block is whose replies come next.

@@ -31,6 +31,9 @@ pub trait Stream {
     /// generic in the stream has this fact from a write alone, so where it stands a write was made.
     ghost offered: { Self → List ℕ → Flow → Self → Type 0 } = { λ _ _ _ _. Unit {0} };
 
+    /// Told before the reads of a port: whether the other end owes replies.
+    fn owes(&self, _replies: bool) {}
+
     /// Reads some bytes to the front of the buffer.
     fn read(&mut self, buffer: &mut [u8]) -> Flow
         ensures read { ReadOutcome failures moved self.old buffer.new result self.new }

@@ -7,7 +7,7 @@ ghost use Rattle.slot_map.specs.Table.{Grows, host_of, Interns};
 ghost use Rattle.node_link.specs.Line.{target_in};
 ghost use Rattle.node_link.specs.Telling.{TellOutcome, RefusalOutcome, RedirectOutcome, endpoint_meant, told_how};
 
-use crate::redirect::{split_word, target_in};
+use crate::redirect::{is_ask, is_moved, split_word, target_in};
 use key_split::Told;
 use resp_wire::{NoMemory, Value};
 use slot_hash::Slot;
@@ -62,13 +62,13 @@ fn refusal_in(line: &[u8], asked: NodeId, table: &mut NodeTable) -> Result<Optio
     ensures { RefusalOutcome (host_of table.old asked) line.now table.old result table.new }
 {
     let (first, others) = split_word(line);
-    if first == b"MOVED".as_slice() {
+    if is_moved(first) {
         return match redirected(Redirection::Moved, others, asked, table) {
             Ok(told) => Ok(Some(told)),
             Err(NoMemory) => Err(NoMemory),
         };
     }
-    if first == b"ASK".as_slice() {
+    if is_ask(first) {
         return match redirected(Redirection::Ask, others, asked, table) {
             Ok(told) => Ok(Some(told)),
             Err(NoMemory) => Err(NoMemory),

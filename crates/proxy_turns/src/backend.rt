@@ -195,6 +195,32 @@ impl<P: NodePort + Drop> Backend<P> {
         Ok(link.swap_port(port))
     }
 
+    /// Tells the dial what the reply tells that came just now.
+    pub(crate) fn note_told<D: Dial<Port = P>>(&self, dial: &D) {
+        if let Some(pending_told) = &self.pending_told {
+            dial.told(&pending_told.told);
+        }
+    }
+
+    /// Tells the dial what the answer to CLUSTER SLOTS says that was read just now.
+    pub(crate) fn note_slots<D: Dial<Port = P>>(&self, dial: &D, nodes: &NodeTable) {
+        let (Some(link), Some(changes)) = (&self.link, &self.changes) else {
+            return;
+        };
+        if let Some((host, port)) = nodes.endpoint(link.node()) {
+            dial.slots_told(link.node(), host, port, changes.as_slice());
+        }
+    }
+
+    /// Tells the dial why the link failed just now.
+    pub(crate) fn note_failure<D: Dial<Port = P>>(&self, dial: &D) {
+        if let Some(link) = &self.link {
+            if let Some(failure) = link.failure() {
+                dial.broke(link.node(), failure, link.port());
+            }
+        }
+    }
+
     /// Takes one reply, or one ticket that is lost, off the link, where the carrier holds none of it.
     pub(crate) fn fetch(&mut self, nodes: &mut NodeTable) -> Result<BackendStep, NoMemory>
         ensures { (unanswered : Bool) (published : List MapOp) → BackendFetches P.failures P.is_garbled P.exchange P.gives_none unanswered

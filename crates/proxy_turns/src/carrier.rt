@@ -6,6 +6,7 @@ ghost use Rattle.proxy_turns.specs.Backend.{has_open_link};
 
 use crate::all_backends::{add_backends, any_unanswered, first_open};
 use crate::backend::{Backend, Dialled, MapTask, RunStep};
+use crate::backend_step::BackendStep;
 use crate::pending_run::{PendingRun, add_places};
 use crate::place::put;
 use crate::seed::seed;
@@ -145,6 +146,7 @@ where
         let unanswered = any_unanswered(&self.backends);
         let map = &mut self.ends.map;
         let step = self.backends[at].run_task(task, unanswered, &mut self.nodes, map)?;
+        self.note_step(at, step);
         Ok(step.is_move())
     }
 
@@ -156,7 +158,21 @@ where
             return Ok(false);
         }
         let step = self.backends[at].fetch(&mut self.nodes)?;
+        self.note_step(at, step);
         Ok(step.is_move())
+    }
+
+    // Tells the dial what a step at a backend came to.
+    fn note_step(&self, at: usize, step: BackendStep) {
+        let Some(backend) = self.backends.get(at) else {
+            return;
+        };
+        match step {
+            BackendStep::Fetched => backend.note_told(&self.dial),
+            BackendStep::Read => backend.note_slots(&self.dial, &self.nodes),
+            BackendStep::Broke => backend.note_failure(&self.dial),
+            _ => {}
+        }
     }
 
     // Gives a worker what a backend has for it.
@@ -215,6 +231,7 @@ where
         }
         match self.backends[at].send(run)? {
             RunStep::Sent => {
+                self.dial.sent(run.len());
                 put(&mut pending_run.run, None);
                 Ok(true)
             }

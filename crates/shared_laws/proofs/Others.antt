@@ -26,7 +26,7 @@ use Rattle.world_laws.proofs.Bare.{good}
 use Rattle.world_laws.proofs.Kept.{Kept}
 use Rattle.world_laws.proofs.Nodes.{holder}
 use Rattle.world_laws.proofs.Placed.{Standing}
-use Rattle.world_laws.proofs.Runs.{at_home}
+use Rattle.world_laws.proofs.Headlines.{at_home}
 use Rattle.std.proofs.lemmas.Bool.Decides.{eqb_tells}
 use Rattle.world_laws.proofs.Serves.{all_from}
 use Rattle.world_laws.proofs.Stores.{all-among}

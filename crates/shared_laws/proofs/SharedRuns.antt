@@ -6,26 +6,27 @@ use Rattle.node_model.specs.Nodes.{ClusterModel, store_at, with_store}
 use Rattle.world_laws.specs.State.{WorldModel, start}
 use Rattle.world_laws.specs.declared.state.Arrival.{Arrival}
 use Rattle.world_laws.specs.World.{WorldDoes, IsNode}
-use Rattle.world_laws.specs.Headline.{At, HasOne, IsIn, IsNew}
+use Rattle.world_laws.specs.Headline.{At, IsIn, IsNew}
 use Rattle.world_laws.specs.declared.event.Event.{Event}
 use Rattle.world_laws.proofs.Apart.{Short, does-short}
-use Rattle.world_laws.proofs.Counted.{if_ran, if_awaits}
 use Rattle.world_laws.proofs.Flow.{all_at}
 use Rattle.world_laws.proofs.Kept.{Kept}
 use Rattle.world_laws.proofs.LinkEvents.{does-keeps}
-use Rattle.world_laws.proofs.Lives.{Lists, does-lists, does-moment, has-entry, no-entry, no-more, same_place}
+use Rattle.world_laws.proofs.Lives.{Lists, does-lists, does-moment, no-more}
 use Rattle.world_laws.proofs.Moves.{does-kept}
 use Rattle.world_laws.proofs.Nodes.{size-with_store}
 use Rattle.world_laws.proofs.Placed.{Placed, Standing, standing-of}
 use Rattle.world_laws.proofs.Recorded.{Recorded, waited}
-use Rattle.world_laws.proofs.Runs.{start-sound, order, once, after, before, ordered, one-node, union-of}
+use Rattle.world_laws.proofs.Runs.{start-sound}
+use Rattle.world_laws.proofs.Passing.{keep, rank, keep-joins, keep-none, kept-at}
+use Rattle.world_laws.proofs.Headlines.{Tells, headline-of}
 use Rattle.world_laws.proofs.Sizes.{does-sizes}
 use Rattle.world_laws.proofs.There.{There, does-there}
 use Rattle.world_laws.proofs.Turns.{Turned, does-turned}
 use Rattle.shared_laws.specs.Shared.{Step, IsOurs, IsTheirs, OthersAct, SharedDoes, SharedStep, SharedRun, AloneIsShared}
-use Rattle.shared_laws.specs.SharedHeadline.{SharedHeadline, EverySharedSchedule}
+use Rattle.shared_laws.specs.SharedHeadline.{SharedHeadline, EverySharedSchedule, HeadlineFollows}
 use Rattle.shared_laws.proofs.Chronicle.{Chronicle, IsAlike, lasted, lengthened}
-use Rattle.shared_laws.proofs.Mine.{Named, IsBorn, mine, keep, rank, keep-joins, keep-none, kept-at, of-keep, rank-up, is_ours, ours-no, ours-yes, yes-ours, born-ours, does-gain, does-mine, does-named}
+use Rattle.shared_laws.proofs.Mine.{Named, IsBorn, mine, is_ours, ours-no, ours-yes, yes-ours, born-ours, does-gain, does-mine, does-named}
 use Rattle.shared_laws.proofs.Theirs.{theirs-kept}
 
 -- the workers are n. What is ours is as without others; the history of all is legal, and in order
@@ -196,71 +197,23 @@ start-steady workers run_limit k new =
       chronicle = record { past = λ j e p. absurd (cc); timed = λ k l e f p. absurd (cc); together = λ k l e f p. absurd (cc) };
     }
 
--- The headline.
-module _ (n : ℕ) (w : WorldModel) (s : Steady n w) where
-  -- an entry of ours, where our entries alone stand
-  in-mine : (k : ℕ) (e : EntryModel) → At w.history k e → is_ours n e.ticket ≡ true → At (mine n w).history (rank (own n) w.history k) e
-  in-mine k e p y = kept-at (own n) w.history k e p y
-
-  in-all : (e : EntryModel) → IsIn (mine n w).history e → IsIn w.history e
-  in-all e x = let r = of-keep (own n) w.history x.0 e x.1 in (r.0, r.1)
-
-  from-one : (k l : ℕ) (e f : EntryModel) → At w.history k e → At w.history l f → is_ours n e.ticket ≡ true → is_ours n f.ticket ≡ true → rank (own n) w.history k ≡ rank (own n) w.history l → k ≡ l
-  from-one k l e f p q x y same = ⊎_elim
-      (λ (lt : k < l). absurd (omega (arith, same, rank-up (own n) w.history k l e p x lt)))
-      (λ (rest : (k ≡ l) ⊎ (l < k)). ⊎_elim (λ (z : k ≡ l). z) (λ (lt : l < k). absurd (omega (arith, same, rank-up (own n) w.history l k f q y lt))) rest)
-      (order k l)
-
-  from-lt : (k l : ℕ) (e f : EntryModel) → At w.history k e → At w.history l f → is_ours n e.ticket ≡ true → is_ours n f.ticket ≡ true → rank (own n) w.history k < rank (own n) w.history l → k < l
-  from-lt k l e f p q x y less = ⊎_elim
-      (λ (lt : k < l). lt)
-      (λ (rest : (k ≡ l) ⊎ (l < k)). ⊎_elim (λ (z : k ≡ l). absurd (omega (arith, less, ap (rank (own n) w.history) z))) (λ (lt : l < k). absurd (omega (arith, less, rank-up (own n) w.history l k f q y lt))) rest)
-      (order k l)
-
-  of-command : (c : Arrival) → IsIn w.commands c → is_ours n c.command.ticket ≡ true
-  of-command c x = all_at (λ (c : Arrival). is_ours n c.command.ticket ≡ true) w.commands x.0 c x.1 s.named
-
-  of-entry : (e : EntryModel) (c : Arrival) → IsIn w.commands c → e.ticket ≡ c.command.ticket → is_ours n e.ticket ≡ true
-  of-entry e c x te = ap (is_ours n) te ∙ of-command c x
-
-  is : (t : Ticket) → IsOurs w t → is_ours n t ≡ true
-  is t x = ours-yes n t (x ∙ ap (λ m. t.client % m) s.size)
-
-  so : (t : Ticket) → is_ours n t ≡ true → IsOurs w t
-  so t y = yes-ours n t y ∙ ap (λ m. t.client % m) (sym s.size)
-
-  once-ours : (ticket : Ticket) → is_ours n ticket ≡ true → HasOne w ticket
-  once-ours ticket y k l e f p q te tf =
-      let ye : is_ours n e.ticket ≡ true = ap (is_ours n) te ∙ y in
-      let yf : is_ours n f.ticket ≡ true = ap (is_ours n) tf ∙ y in
-      from-one k l e f p q ye yf (once (mine n w) s.placed s.lists ticket (rank (own n) w.history k) (rank (own n) w.history l) e f (in-mine k e p ye) (in-mine l f q yf) te tf)
-
-  pub shared-headline : SharedHeadline w
-  shared-headline = record {
-    legal = (s.kept).legal;
-    timed = (s.chronicle).timed;
-    together = λ k l e f p q same.
-        let g = (s.chronicle).together k l e f p q same in
-        (g.0.0, g.0.1, ((λ x. so f.ticket (sym g.1 ∙ is e.ticket x)), (λ x. so e.ticket (g.1 ∙ is f.ticket x))));
-    apart = λ small k l e f p q x y lt. (s.short).apart small (rank (own n) w.history k) (rank (own n) w.history l) e f (in-mine k e p (is e.ticket x)) (in-mine l f q (is f.ticket y)) (rank-up (own n) w.history k l e p (is e.ticket x) lt);
-    one_node = one-node w s.kept;
-    union = union-of w s.kept;
-    ours = λ c x. so c.command.ticket (of-command c x);
-    own_ticket = λ i j c d p q e. same_place w (steady-stands n w s) i j c d p q e;
-    told = λ a x. let b = (s.lists).told x.0 a x.1 in (b.1, ((b.0, b.2), b.4), b.3, b.5);
-    answered_once = (s.lists).answered_once;
-    arrived = λ e x y. let b = (s.lists).born (rank (own n) w.history x.0) e (in-mine x.0 e x.1 (is e.ticket y)) in (b.1, (x, (b.0, b.2), sym b.3), sym b.4, b.5);
-    once = λ ticket y. once-ours ticket (is ticket y);
-    answered = λ c reply x.
-        let f = has-entry (mine n w) s.placed x.0.0 c reply x.0.1 x.1 in
-        (f.1, (in-all f.1 (f.0, f.2), x.0, f.3), f.4, after (mine n w) s.placed s.lists x.0.0 c x.0.1 f.0 f.1 f.2 f.3, λ a y te. before (mine n w) s.placed s.lists x.0.0 c reply x.0.1 x.1 f.0 f.1 f.2 f.3 y.0 a y.1 te);
-    in_order = λ k l e f c d at_k at_l x y turn lt kept.
-        let ye : is_ours n e.ticket ≡ true = of-entry e c x.1 x.2 in
-        let yf : is_ours n f.ticket ≡ true = of-entry f d y.1 y.2 in
-        from-lt k l e f at_k at_l ye yf (ordered (mine n w) s.placed s.lists x.1.0 y.1.0 c d x.1.1 y.1.1 kept (sym turn.0, sym turn.1) lt (rank (own n) w.history k) (rank (own n) w.history l) e f (in-mine k e at_k ye) (in-mine l f at_l yf) x.2 y.2);
-    lost = λ c x. once-ours c.command.ticket (of-command c x.0);
-    refused = λ c x e y. no-entry (mine n w) s.placed x.0.0 c x.0.1 (ap (λ x. if_ran x 1 + if_awaits x 1) x.1) (rank (own n) w.history y.0.0) e (in-mine y.0.0 e y.0.1 (of-entry e c x.0 y.2)) y.2;
-  }
+-- the headline
+pub shared-headline : (n : ℕ) (w : WorldModel) → Steady n w → SharedHeadline w
+shared-headline n w s = headline-of (is_ours n) (IsOurs w) tells w (record {
+  named = s.named;
+  placed = s.placed;
+  lists = s.lists;
+  short = s.short;
+  kept = s.kept;
+  timed = (s.chronicle).timed;
+  together = (s.chronicle).together;
+})
+  where
+    tells : Tells (is_ours n) (IsOurs w)
+    tells = record {
+      yes = λ t x. ours-yes n t (x ∙ ap (λ m. t.client % m) s.size);
+      so = λ t y. yes-ours n t y ∙ ap (λ m. t.client % m) (sym s.size);
+    }
 
 pub every_shared_schedule : EverySharedSchedule
 every_shared_schedule workers run_limit k steps w new r = shared-headline workers w (run-steady workers steps (start workers run_limit k) w (start-steady workers run_limit k new) r)
@@ -268,3 +221,23 @@ every_shared_schedule workers run_limit k steps w new r = shared-headline worker
 pub alone_is_shared : AloneIsShared
 alone_is_shared [] w w' r = r
 alone_is_shared (e ∷ es) w w' r = (r.0, (r.1.0, r.1.1), alone_is_shared es r.0 w' r.2)
+
+pub headline-follows : HeadlineFollows
+headline-follows w ours g = record {
+  legal = g.legal;
+  timed = g.timed;
+  together = λ k l e f p q same. let r = g.together k l e f p q same in (r.0, r.1, ((λ x. tt), (λ x. tt)));
+  apart = λ small k l e f p q x y lt. g.apart small k l e f p q (ours e (k, p)) (ours f (l, q)) lt;
+  one_node = g.one_node;
+  union = g.union;
+  ours = λ c x. tt;
+  own_ticket = g.own_ticket;
+  told = g.told;
+  answered_once = g.answered_once;
+  arrived = λ e x y. g.arrived e x (ours e x);
+  once = λ ticket x k l e f p q te tf. g.once ticket (subst (IsOurs w) te (ours e (k, p))) k l e f p q te tf;
+  answered = g.answered;
+  in_order = g.in_order;
+  lost = g.lost;
+  refused = g.refused;
+}

@@ -27,8 +27,9 @@ put_all store (c ∷ cs) = put_all (put store c.0 c.1) cs
 -- Any change of keys of one slot is a run that others can do at the node that owns the slot, whatever the world is. So a step
 -- of theirs has any effect that a client, a script or the node itself may have there at once.
 abbrev pub AnyChange : Type 0
-AnyChange = (w : WorldModel) (node slot : ℕ) (first : List ℕ × Option (List ℕ)) (rest : List (List ℕ × Option (List ℕ))) → w.moment < last_moment → IsNode w.cluster node
-    → role_of w.cluster node slot ≡ Owner → All (λ (c : List ℕ × Option (List ℕ)). slot_of c.0 ≡ slot) (first ∷ rest)
+AnyChange = (w : WorldModel) (node slot : ℕ) (first : List ℕ × Option (List ℕ)) (rest : List (List ℕ × Option (List ℕ)))
+    → w.moment < last_moment → IsNode w.cluster node → role_of w.cluster node slot ≡ Owner
+    → All (λ (c : List ℕ × Option (List ℕ)). slot_of c.0 ≡ slot) (first ∷ rest)
     → (entries : List EntryModel) × (w' : WorldModel) × SharedStep w (Step.Theirs node false entries) w'
     × (w'.cluster ≡ with_store w.cluster node (put_all (store_at w.cluster node) (first ∷ rest)))
 
@@ -55,5 +56,6 @@ TakeStaysAllowed = (w : WorldModel) (lane i : ℕ) (ticket : Ticket) (told : Tol
 
 -- and the first request of a link, open or closed, can be served
 abbrev pub ServeStaysAllowed : Type 0
-ServeStaysAllowed = (w : WorldModel) (link : ℕ) (verdict : Verdict) (l : Link) (first : LinkRequest) (rest : List LinkRequest) → IsSharedReached w → w.moment < last_moment
-    → slice_get w.links link ≡ Some l → l.requests ≡ first ∷ rest → Fits w verdict first → (w' : WorldModel) × SharedStep w (Step.Ours (Serve link verdict)) w'
+ServeStaysAllowed = (w : WorldModel) (link : ℕ) (verdict : Verdict) (l : Link) (first : LinkRequest) (rest : List LinkRequest)
+    → IsSharedReached w → w.moment < last_moment → slice_get w.links link ≡ Some l → l.requests ≡ first ∷ rest → Fits w verdict first
+    → (w' : WorldModel) × SharedStep w (Step.Ours (Serve link verdict)) w'

@@ -18,8 +18,16 @@ others_set = record { ticket = record { worker = 1; client = 9; part = 0 }; part
 
 abbrev pub steps : List Step
 steps =
-    Step.Ours (Arrive 7 reads) ∷ Step.Theirs 0 false (others_set ∷ []) ∷ Step.Ours (Post (ticket 0 ∷ []) 0) ∷ Step.Ours (Carry 0 0) ∷ Step.Ours (Serve 0 Plain)
-    ∷ Step.Ours (Fetch 0) ∷ Step.Ours (Take 0) ∷ Step.Ours (Answer 7) ∷ []
+    Step.Ours (Arrive 7 reads)
+    ∷ Step.Theirs 0 false (others_set ∷ [])
+    ∷ Step.Ours (Post (ticket 0 ∷ []) 0)
+    ∷ Step.Ours (Carry 0 0)
+    ∷ Step.Ours (Serve 0 Plain)
+    ∷ Step.Ours (Fetch 0)
+    ∷ Step.Ours (Take 0)
+    ∷ Step.Ours (Answer 7)
+    ∷ []
 
 abbrev pub OthersAreRead : Type 0
-OthersAreRead = (w : WorldModel) × SharedRun (start 1 1 one_node) steps w × (map (λ a. a.ended) w.answers ≡ Answered (Bulk (codes "v")) ∷ []) × (parts_in w.history ≡ writes ∷ reads ∷ [])
+OthersAreRead = (w : WorldModel) × SharedRun (start 1 1 one_node) steps w
+    × (map (λ a. a.ended) w.answers ≡ Answered (Bulk (codes "v")) ∷ []) × (parts_in w.history ≡ writes ∷ reads ∷ [])

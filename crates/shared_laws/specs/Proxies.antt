@@ -51,7 +51,18 @@ seen_by p workers x = if is_of p x.0 then x.1 else as_foreign workers x.1
 
 abbrev pub world_of : Proxy → ClusterModel → List EntryModel → ℕ → WorldModel
 world_of x cluster history moment =
-    record { workers = x.workers; run_limit = x.run_limit; cluster = cluster; commands = x.commands; ups = x.ups; links = x.links; downs = x.downs; history = history; answers = x.answers; moment = moment }
+    record {
+      workers = x.workers;
+      run_limit = x.run_limit;
+      cluster = cluster;
+      commands = x.commands;
+      ups = x.ups;
+      links = x.links;
+      downs = x.downs;
+      history = history;
+      answers = x.answers;
+      moment = moment;
+    }
 
 -- the world of proxy p: its own, and the nodes, the history and the clock of all
 abbrev pub view : Proxies → ℕ → WorldModel
@@ -75,7 +86,9 @@ ActDoes s (Act.By p event) s' =
     WorldStep (view s p) event (view s' p) × ImportWaits s event × ((q : ℕ) → q ≢ p → s'.proxy q ≡ s.proxy q)
     × ((entries : List EntryModel) × Writes (Some p) entries s s')
 ActDoes s (Act.Outside node asking entries) s' =
-    Writes None entries s s' × ((q : ℕ) → (s'.proxy q ≡ s.proxy q) × SharedStep (view s q) (Step.Theirs node asking (map (as_foreign (s.proxy q).workers) entries)) (view s' q))
+    Writes None entries s s'
+    × ((q : ℕ) → (s'.proxy q ≡ s.proxy q)
+    × SharedStep (view s q) (Step.Theirs node asking (map (as_foreign (s.proxy q).workers) entries)) (view s' q))
 
 -- a whole schedule
 abbrev pub ProxiesRun : Proxies → List Act → Proxies → Type 0

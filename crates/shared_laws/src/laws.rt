@@ -4,7 +4,7 @@ ghost use Rattle.shared_laws.specs.Others.{AnyChange, KeysGo, ServeStaysAllowed,
 ghost use Rattle.shared_laws.specs.OthersAreRead.{OthersAreRead};
 ghost use Rattle.shared_laws.specs.Proxies.{EachIsShared, EveryProxy};
 ghost use Rattle.shared_laws.specs.Shared.{AloneIsShared};
-ghost use Rattle.shared_laws.specs.SharedHeadline.{EverySharedSchedule};
+ghost use Rattle.shared_laws.specs.SharedHeadline.{EverySharedSchedule, HeadlineFollows};
 
 /// After every schedule in which others act, each of our commands that ended with a reply stands exactly once in one legal
 /// history of all commands, ours and theirs.
@@ -12,9 +12,10 @@ pub fn every_shared_schedule()
     ensures { EverySharedSchedule }
 {}
 
-/// A schedule in which nobody else acts is one of these.
+/// A schedule in which nobody else acts is one of these; and where each entry is ours, this headline is that of the machine alone.
 pub fn alone_is_shared()
-    ensures { AloneIsShared }
+    ensures schedule { AloneIsShared }
+    ensures headline { HeadlineFollows }
 {}
 
 /// Several proxies before one cluster: what one does is a step of others to each other one, so the headline holds of each

@@ -10,7 +10,7 @@ use Rattle.node_model.specs.Nodes.{ClusterModel}
 use Rattle.world_laws.specs.State.{WorldModel}
 use Rattle.world_laws.specs.declared.event.Event.{Event}
 use Rattle.world_laws.specs.declared.event.Event.TheVariants as core
-use Rattle.shared_laws.specs.Shared.{OthersExecute}
+use Rattle.shared_laws.specs.Shared.{IsOurs, OthersExecute}
 use Rattle.turn_laws.specs.Wire.{Execution}
 use Rattle.turn_laws.specs.System.{System}
 use Rattle.turn_laws.specs.Asking.{NoneAsksIn}
@@ -23,7 +23,7 @@ use Rattle.turn_laws.specs.SharedLog.{SharedLogHeadline}
 use Rattle.turn_laws.specs.Sharing.{OthersDo, SharedEvent, SharedSystemStep}
 use Rattle.turn_laws.specs.Fleet.{EveryFleet, Fleet, FleetFollows, FleetEvent, FleetRun, FleetStep, foreign}
 use Rattle.turn_laws.proofs.Impacts.{RunImpact, shows, step-impact}
-use Rattle.turn_laws.proofs.LogHeadline.{log-held, shared-log-headline}
+use Rattle.turn_laws.proofs.LogHeadline.{log-headline, log-held}
 use Rattle.turn_laws.proofs.Sharing.{all}
 use Rattle.turn_laws.proofs.Starts.{start-shadow}
 use Rattle.turn_laws.proofs.Walks.{alone-walked, every_shared_walk}
@@ -125,8 +125,8 @@ module _ (C J : Type 0) (plain : PlansArePlain) where
       let whole = fleet events f f' ((λ q. let b = start-shadow C J (f q) (start.starts q) in record { world = b.0; walked = alone-walked b.0 b.1; shadow = b.2; names = b.3 }), start.shared) r in
       let h = whole.0 p in
       let g = every_shared_walk h.world h.walked in (
-        subst (λ n. SharedLogHeadline n (f' p).log) (sym (h.shadow).workers) (shared-log-headline (f' p).log h.world (h.shadow).log h.walked g),
-        subst (IsHeld (f' p).log) (h.shadow).cluster (log-held (f' p).log h.world (h.shadow).log h.walked g),
+        subst (λ n. SharedLogHeadline n (f' p).log) (sym (h.shadow).workers) (log-headline (IsOurs h.world) (f' p).log h.world (h.shadow).log h.walked g),
+        subst (IsHeld (f' p).log) (h.shadow).cluster (log-held (IsOurs h.world) (f' p).log h.world (h.shadow).log h.walked g),
       )
 
 module _ (C J : Type 0) where

@@ -14,26 +14,24 @@ use Rattle.node_model.specs.History.{EntryModel, IsLegal as IsLegalInWorld, left
 use Rattle.node_model.specs.Store.{StoreModel}
 use Rattle.world_laws.specs.State.{WorldModel}
 use Rattle.world_laws.specs.declared.state.Arrival.{Arrival}
-use Rattle.world_laws.specs.Headline.{Headline, EndedAs, store_of}
+use Rattle.world_laws.specs.Headline.{HeadlineOf, EndedAs, store_of}
 use Rattle.world_laws.specs.declared.history.Answer.{Answer}
 use Rattle.world_laws.proofs.Recorded.{one_at}
 use Rattle.turn_laws.specs.Wire.{Execution}
 use Rattle.turn_laws.specs.System.{Mark, Arrived, Executed, Answered}
 use Rattle.turn_laws.specs.Shadow.{LogShadow, entry_at}
-use Rattle.turn_laws.specs.LogHeadline.{LogHeadline, IsHeld, At, IsIn, IsExecutedAt, HasOne, SameTurn, history, left_by}
+use Rattle.turn_laws.specs.LogHeadline.{LogHeadlineOf, EachExecutionArrived, NoneIsExecutedTwice, IsHeld, At, IsIn, IsExecutedAt, HasOne, SameTurn, history, left_by}
 use Rattle.turn_laws.proofs.Logs.{arrivals_of, answers_of}
 use Rattle.shared_laws.specs.Shared.{IsOwn}
-use Rattle.shared_laws.specs.SharedHeadline.{SharedHeadline}
-use Rattle.turn_laws.specs.SharedLog.{SharedLogHeadline}
+use Rattle.turn_laws.specs.SharedLog.{LogHeadlineFollows}
 use Rattle.turn_laws.specs.Walks.{IsSharedWalked}
-use Rattle.turn_laws.proofs.Walks.{every_shared_walk}
 use Rattle.turn_laws.proofs.AnswerOrder.{answered-behind, answered-late}
 use Rattle.turn_laws.proofs.LogPlaces.{at-map, map-at, arrival-in, arrival-of, answer-in, answer-of, entry-in, execution-of, entry-at-mark, legal-of, left-of}
 
 order : (i j : ℕ) → (i < j) ⊎ ((i ≡ j) ⊎ (j < i))
 order i j = grind arith
 
-module _ (log : List Mark) (w : WorldModel) (h : LogShadow log w) (walked : IsSharedWalked w) (g : SharedHeadline w) where
+module _ (Ours : Ticket → Type 0) (log : List Mark) (w : WorldModel) (h : LogShadow log w) (walked : IsSharedWalked w) (g : HeadlineOf Ours w) where
   -- what the clock has earlier stands earlier
   earlier : (i j : ℕ) → i < length log → h.clock i < h.clock j → i < j
   earlier i j within lt = ⊎_elim
@@ -110,8 +108,8 @@ module _ (log : List Mark) (w : WorldModel) (h : LogShadow log w) (walked : IsSh
       (b.0, (b.1.0, b.1.1 ∙ ap Over a.3), b.2 ∙ a.2)
 
   -- what was answered is ours
-  own-answered : (n : ℕ) (t : Ticket) (end : Ended) → At log n (Answered t end) → IsOwn w.workers t
-  own-answered n t end there = let c = ended-as n t end there in subst (IsOwn w.workers) c.2 (g.ours c.0 c.1.0)
+  own-answered : (n : ℕ) (t : Ticket) (end : Ended) → At log n (Answered t end) → Ours t
+  own-answered n t end there = let c = ended-as n t end there in subst (Ours) c.2 (g.ours c.0 c.1.0)
 
   same-command : (c d : Arrival) → IsIn w.commands c → IsIn w.commands d → c.command.ticket ≡ d.command.ticket → c ≡ d
   same-command c d (i, at-i) (j, at-j) same = one_at w.commands i j c d at-i at-j (g.own_ticket i j c d at-i at-j same)
@@ -166,14 +164,14 @@ module _ (log : List Mark) (w : WorldModel) (h : LogShadow log w) (walked : IsSh
       let same = one_at w.answers a.1.0 b.1.0 a.0 b.0 a.1.1 b.1.1 (g.answered_once a.1.0 b.1.0 a.0 b.0 a.1.1 b.1.1 (a.2 ∙ sym b.2)) in
       one-place n m (inside n (Answered t x) at-n) (inside m (Answered t y) at-m) (sym a.4 ∙ ap (λ (z : Answer). z.answered) same ∙ b.4)
 
-  arrived-earlier : (i : ℕ) (e : Execution) → IsExecutedAt log i e → IsOwn w.workers e.ticket → (a : ℕ) × At log a (Arrived e.ticket e.part) × (a < i)
+  arrived-earlier : (i : ℕ) (e : Execution) → IsExecutedAt log i e → Ours e.ticket → (a : ℕ) × At log a (Arrived e.ticket e.part) × (a < i)
   arrived-earlier i e it own =
       let r = g.arrived (entry_at (h.clock i) e) (entry-there i e it) own in
       let m = arrival-mark r.0 r.1.1 in
       let is : At log m.0 (Arrived e.ticket e.part) = m.1 ∙ (λ j. Some (Arrived (sym r.1.2 j) (sym r.2 j))) in
       (m.0, is, earlier m.0 i (inside m.0 (Arrived e.ticket e.part) is) (omega (arith, m.2, r.3)))
 
-  has-one : (t : Ticket) → IsOwn w.workers t → HasOne log t
+  has-one : (t : Ticket) → Ours t → HasOne log t
   has-one t own k l e f at-k at-l is-t also-t =
       let x = entry-of k e at-k in
       let y = entry-of l f at-l in
@@ -187,7 +185,7 @@ module _ (log : List Mark) (w : WorldModel) (h : LogShadow log w) (walked : IsSh
       let x = executed-as r.1.0.0 r.0 r.1.0.1 in
       let of-t : x.1.ticket ≡ t = sym (ap (λ (z : EntryModel). z.ticket) x.3) ∙ r.1.2 ∙ c.2 in
       let says : data_of x.1.value ≡ data_of v = sym (ap (λ (z : EntryModel). z.reply) x.3) ∙ r.2 in
-      let m = arrived-earlier x.0 x.1 x.2 (subst (IsOwn w.workers) (sym of-t) (own-answered n t (ended.Answered v) there)) in
+      let m = arrived-earlier x.0 x.1 x.2 (subst (Ours) (sym of-t) (own-answered n t (ended.Answered v) there)) in
       let a = answer-there n t (ended.Answered v) there in
       let before = r.4 a.0 a.1 (a.2 ∙ sym c.2) in
       let within : x.0 < length log = inside x.0 (Executed x.2.0) x.2.1 in (
@@ -231,15 +229,15 @@ module _ (log : List Mark) (w : WorldModel) (h : LogShadow log w) (walked : IsSh
       let r = g.together x.0 y.0 (entry_at (h.clock i) e) (entry_at (h.clock i) f) x.1 y.1 refl in
       (r.0, r.1)
 
-  pub shared-log-headline : SharedLogHeadline w.workers log
-  shared-log-headline = record {
+  pub log-headline : LogHeadlineOf Ours log
+  log-headline = record {
     legal = legal-of h.clock 0 log empty (subst (λ xs. IsLegalInWorld empty xs) (sym h.executed) g.legal);
     together = run-together;
     own_ticket = own-ticket;
     told = told-end;
     answered_once = answered-once;
     answered_in_order = answered-in-order;
-    ours = λ a t p there. let c = command-of a t p there in subst (IsOwn w.workers) c.2 (g.ours c.0 c.1);
+    ours = λ a t p there. let c = command-of a t p there in subst Ours c.2 (g.ours c.0 c.1);
     arrived = arrived-earlier;
     once = has-one;
     answered = stands-between;
@@ -259,32 +257,29 @@ module _ (log : List Mark) (w : WorldModel) (h : LogShadow log w) (walked : IsSh
         ((λ p. u.0 (ap (λ (store : StoreModel). get store key) left ∙ p)), (λ p. sym (ap (λ (store : StoreModel). get store key) left) ∙ u.1 p));
   }
 
--- where each entry is of a command, all is ours
-pub log-headline : (log : List Mark) (w : WorldModel) → LogShadow log w → IsSharedWalked w → Headline w → LogHeadline log
-log-headline log w h walked g = record {
-  legal = shared.legal;
-  together = shared.together;
-  own_ticket = shared.own_ticket;
-  told = shared.told;
-  answered_once = shared.answered_once;
-  answered_in_order = shared.answered_in_order;
-  arrived = λ i e it. shared.arrived i e it (own i e it);
-  once = λ t k l e f at-k at-l is-t also-t.
-      let x = entry-of log w h walked others k e at-k in
-      shared.once t (subst (IsOwn w.workers) is-t (own x.0 e x.1)) k l e f at-k at-l is-t also-t;
-  answered = shared.answered;
-  in_order = shared.in_order;
-  lost = shared.lost;
-  refused = shared.refused;
+-- where all that was executed is ours
+pub log-headline-follows : LogHeadlineFollows
+log-headline-follows workers log ours g = record {
+  legal = g.legal;
+  answered = g.answered;
+  lost = g.lost;
+  refused = g.refused;
+  in_order = g.in_order;
+  ours = λ a t p there. tt;
+  once = λ t x k l e f at-k at-l is-t also-t.
+      let it = entry-in (λ n. n) 0 log k e at-k in
+      g.once t (subst (IsOwn workers) is-t (ours it.0 e it.1)) k l e f at-k at-l is-t also-t;
+  arrived = λ i e it x. g.arrived i e it (ours i e it);
+  together = g.together;
+  own_ticket = g.own_ticket;
+  told = g.told;
+  answered_once = g.answered_once;
+  answered_in_order = g.answered_in_order;
 }
-  where
-    others : SharedHeadline w
-    others = every_shared_walk w walked
 
-    shared : SharedLogHeadline w.workers log
-    shared = shared-log-headline log w h walked (every_shared_walk w walked)
+-- where every ticket is ours
+pub none-twice : NoneIsExecutedTwice
+none-twice log g ticket = g.once ticket tt
 
-    own : (i : ℕ) (e : Execution) → IsExecutedAt log i e → IsOwn w.workers e.ticket
-    own i e it =
-        let r = g.arrived (entry_at (h.clock i) e) (entry-there log w h walked (every_shared_walk w walked) i e it) in
-        subst (IsOwn w.workers) (sym r.1.2) ((every_shared_walk w walked).ours r.0 r.1.1)
+pub each-arrived : EachExecutionArrived
+each-arrived log g i e it = g.arrived i e it tt

@@ -293,7 +293,7 @@ pub goes-alone : {batch : Batch} → IsTogether (record { first = batch; later =
 goes-alone {batch} = All-nil (GoTogether batch)
 
 -- the first node owns the slot, and executes
-sets : deed_at k5 0 false set Plain ≡ Executes
+pub sets : deed_at k5 0 false set Plain ≡ Executes
 sets = ap (λ n. deed_of Plain (role_of k5 0 n) false (held_of (store_at k5 0) (keys_of set)) true n) slot-is
 
 pub does-set : DoesRun (deed_for k5 0 false (set ∷ []) Plain) k5 0 (set ∷ []) (Reply ok ∷ []) k6

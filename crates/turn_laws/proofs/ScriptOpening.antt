@@ -22,7 +22,7 @@ use Rattle.proxy_turns.specs.PendingRun.{no_pending_run}
 use Rattle.proxy_turns.specs.WorkerModel.{WorkerModel}
 use Rattle.proxy_turns.specs.CarrierModel.{CarrierModel}
 use Rattle.turn_laws.specs.Wire.{Wire, Lists, new_wire}
-use Rattle.turn_laws.specs.System.{System, IsInStep, between}
+use Rattle.turn_laws.specs.System.{System, Mark, IsInStep, between}
 use Rattle.turn_laws.specs.Endpoints.{AreApart}
 use Rattle.turn_laws.specs.Underway.{DownInStep, Holds, down_in, ups_in}
 use Rattle.turn_laws.specs.Asking.{NoneAsksIn, NoneBehindAsking}
@@ -66,7 +66,7 @@ none-some o x p q = cc
 
 module _ {C J : Type 0} where
   -- where no client is there, no run waits and nothing stands on a connection, nothing is under way
-  none-under-way : (s : System C J) (slot node : ℕ)
+  pub none-under-way : (s : System C J) (slot node : ℕ)
       → ((k : ℕ) (model : WorkerModel C J) → slice_get s.workers k ≡ Some model → (number : ℕ) → get model.clients number ≡ None)
       → ((k : ℕ) (model : WorkerModel C J) (l : LaneEnds (Newcomer C J)) → slice_get s.workers k ≡ Some model → slice_get s.carrier.lanes k ≡ Some l → ups_in model l (slice_get s.carrier.pending_runs k) ≡ [])
       → ((k : ℕ) (backend : Backend Wire) → slice_get s.carrier.backends k ≡ Some backend → (it : LinkModel Wire) → backend.link ≡ Some it → it.port.items ≡ [])
@@ -209,14 +209,24 @@ module _ {C J : Type 0} (port : C) where
   )
 
   -- nothing is under way
-  idle : (k : ClusterModel) → NoneAsksIn (scene w0 s1.carrier [] 1 k []) 1 1
-  idle k = none-under-way (scene w0 s1.carrier [] 1 k []) 1 1
+  pub idle : (k : ClusterModel) (log : List Mark) (slot node : ℕ) → NoneAsksIn (scene w0 s1.carrier [] 1 k log) slot node
+  idle k log slot node = none-under-way (scene w0 s1.carrier [] 1 k log) slot node
       (only-one (λ k model. (number : ℕ) → get model.clients number ≡ None) w0 (get-empty nat_cmp))
       (λ k model l p q.
       only-one (λ k model. ups_in model l (slice_get (no_pending_run ∷ []) k) ≡ []) w0
       (only-one (λ k l. ups_in w0 l (slice_get (no_pending_run ∷ []) 0) ≡ []) l0 refl k l q) k model p)
       (two-of (λ (backend : Backend Wire). (it : LinkModel Wire) → backend.link ≡ Some it → it.port.items ≡ []) b1 new_backend
       (λ it e. ap (λ (o : Option (LinkModel Wire)). (unwrap_or o (link 0 (new_wire 0 0) [])).port.items) (sym e)) (λ it e. absurd (no-link it e)))
+      refl
+
+  -- and before a node is reached
+  pub fresh : (k : ClusterModel) (log : List Mark) (slot node : ℕ) → NoneAsksIn (scene w0 (carrier l0 [] [] true) [] 0 k log) slot node
+  fresh k log slot node = none-under-way (scene w0 (carrier l0 [] [] true) [] 0 k log) slot node
+      (only-one (λ k model. (number : ℕ) → get model.clients number ≡ None) w0 (get-empty nat_cmp))
+      (λ k model l p q.
+      only-one (λ k model. ups_in model l (slice_get [] k) ≡ []) w0
+      (only-one (λ k l. ups_in w0 l (slice_get [] 0) ≡ []) l0 refl k l q) k model p)
+      (λ k backend e. absurd (nothing-there k backend e))
       refl
 
   -- after the moves
@@ -226,7 +236,7 @@ module _ {C J : Type 0} (port : C) where
   pub moves : FoldsTo SystemStep s1 script.moving s2
   moves = (
     scene w0 s1.carrier [] 1 k1 [],
-    ((idle k0, (refl, omega arith, λ e. absurd (omega (arith, e))), refl), refl),
+    ((idle k0 [] 1 1, (refl, omega arith, λ e. absurd (omega (arith, e))), refl), refl),
     (
       scene w0 s1.carrier [] 1 k2 [],
       ((refl, refl), refl),
@@ -238,7 +248,7 @@ module _ {C J : Type 0} (port : C) where
           ((refl, refl), refl),
           (
             s2,
-            ((idle k4, (refl, omega arith, λ e. absurd (omega (arith, e))), refl), refl),
+            ((idle k4 [] 1 1, (refl, omega arith, λ e. absurd (omega (arith, e))), refl), refl),
             refl,
           ),
         ),

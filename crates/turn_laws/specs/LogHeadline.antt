@@ -14,6 +14,7 @@ use Rattle.key_split.specs.declared.travel.Ended.{Ended}
 use Rattle.key_split.specs.declared.travel.Ended.TheVariants as ended
 use Rattle.node_model.specs.Nodes.{ClusterModel, at}
 use Rattle.node_model.specs.Store.{StoreModel, store_after, reply_to}
+use Rattle.world_laws.specs.Headline.{AnyTicket}
 use Rattle.turn_laws.specs.Wire.{Execution}
 use Rattle.turn_laws.specs.System.{System, Mark, Arrived, Executed, Answered}
 use Rattle.turn_laws.specs.Steps.{SystemEvent, SystemStep}
@@ -54,8 +55,10 @@ HasOne log ticket = (k l : ℕ) (e f : Execution) → At (history log) k e → A
 abbrev pub SameTurn : Execution → Execution → Type 0
 SameTurn e f = (e.ticket.client ≡ f.ticket.client) × (slot_of e.part.key ≡ slot_of f.part.key)
 
-pub record LogHeadline (log : List Mark) : Type 0 where
-  -- what was executed, in order, is one legal history of one store, which is empty at first
+-- `Ours` says of a ticket whether a command of ours has it. What was executed with another is somebody else's: of this it is said that it is
+-- legal, and that only what goes together was executed at once.
+pub record LogHeadlineOf (Ours : Ticket → Type 0) (log : List Mark) : Type 0 where
+  -- what was executed, of everybody's, in order, is one legal history of one store, which is empty at first
   pub legal : IsLegal empty (history log)
   -- a command that was answered with a value was executed, with that value, between its arrival and its answer
   pub answered : (n : ℕ) (ticket : Ticket) (value : Value) → At log n (Answered ticket (ended.Answered value))
@@ -64,26 +67,33 @@ pub record LogHeadline (log : List Mark) : Type 0 where
   -- one that was answered with a connection fault was executed at most once
   pub lost : (n : ℕ) (ticket : Ticket) → At log n (Answered ticket Ended.Lost) → HasOne log ticket
   -- one that was refused was not executed
-  pub refused : (n : ℕ) (ticket : Ticket) → At log n (Answered ticket ended.GaveUp) → (k : ℕ) (e : Execution) → At (history log) k e → e.ticket ≢ ticket
+  pub refused : (n : ℕ) (ticket : Ticket) → At log n (Answered ticket ended.GaveUp)
+      → (k : ℕ) (e : Execution) → At (history log) k e → e.ticket ≢ ticket
   -- of two commands of one client for one slot that were executed the one that arrived first was executed first, where it was answered with
   -- something other than a connection fault
   pub in_order : (k l : ℕ) (e f : Execution) → At (history log) k e → At (history log) l f → SameTurn e f
       → (a b : ℕ) → At log a (Arrived e.ticket e.part) → At log b (Arrived f.ticket f.part) → a < b
       → (n : ℕ) (end : Ended) → At log n (Answered e.ticket end) → end ≢ Ended.Lost → k < l
-  -- no command was executed twice, and each that was executed arrived before
-  pub once : (ticket : Ticket) → HasOne log ticket
-  pub arrived : (i : ℕ) (e : Execution) → IsExecutedAt log i e → (a : ℕ) × At log a (Arrived e.ticket e.part) × (a < i)
+  -- what arrived has a ticket of ours; no command of ours was executed twice, and each that was executed arrived before
+  pub ours : (a : ℕ) (ticket : Ticket) (part : PartModel) → At log a (Arrived ticket part) → Ours ticket
+  pub once : (ticket : Ticket) → Ours ticket → HasOne log ticket
+  pub arrived : (i : ℕ) (e : Execution) → IsExecutedAt log i e → Ours e.ticket → (a : ℕ) × At log a (Arrived e.ticket e.part) × (a < i)
   -- only commands of one client for one slot were executed at once
   pub together : (i : ℕ) (run : List Execution) (e f : Execution) → At log i (Executed run) → IsIn run e → IsIn run f → SameTurn e f
   -- no two commands arrived with one ticket
   pub own_ticket : (a b : ℕ) (ticket : Ticket) (part part' : PartModel) → At log a (Arrived ticket part) → At log b (Arrived ticket part') → a ≡ b
   -- what was answered arrived before, and no command was answered twice
-  pub told : (n : ℕ) (ticket : Ticket) (end : Ended) → At log n (Answered ticket end) → (a : ℕ) × (part : PartModel) × At log a (Arrived ticket part) × (a < n)
+  pub told : (n : ℕ) (ticket : Ticket) (end : Ended) → At log n (Answered ticket end)
+      → (a : ℕ) × (part : PartModel) × At log a (Arrived ticket part) × (a < n)
   pub answered_once : (n m : ℕ) (ticket : Ticket) (end end' : Ended) → At log n (Answered ticket end) → At log m (Answered ticket end') → n ≡ m
   -- of two commands of one client the one that arrived first was answered first
   pub answered_in_order : (a b : ℕ) (ticket ticket' : Ticket) (part part' : PartModel) → At log a (Arrived ticket part) → At log b (Arrived ticket' part')
       → ticket.client ≡ ticket'.client → a < b
       → (n : ℕ) (end' : Ended) → At log n (Answered ticket' end') → (m : ℕ) × (end : Ended) × At log m (Answered ticket end) × (m < n)
+
+-- where nobody else acts every ticket is ours
+abbrev pub LogHeadline : List Mark → Type 0
+LogHeadline log = LogHeadlineOf AnyTicket log
 
 -- the store that these leave
 abbrev pub left_by : StoreModel → List Execution → StoreModel
@@ -103,3 +113,11 @@ module _ (C J : Type 0) where
   -- and its nodes hold the store that the log leaves
   abbrev pub LogsAreHeld : Type 0
   LogsAreHeld = (s s' : System C J) (events : List SystemEvent) → IsStart s → FoldsTo SystemStep s events s' → IsHeld s'.log s'.cluster
+
+-- Where nobody else acts, there is no more to its two fields that ask whether what was executed is ours: they hold of all.
+abbrev pub NoneIsExecutedTwice : Type 0
+NoneIsExecutedTwice = (log : List Mark) → LogHeadline log → (ticket : Ticket) → HasOne log ticket
+
+abbrev pub EachExecutionArrived : Type 0
+EachExecutionArrived = (log : List Mark) → LogHeadline log → (i : ℕ) (e : Execution) → IsExecutedAt log i e
+    → (a : ℕ) × At log a (Arrived e.ticket e.part) × (a < i)

@@ -8,6 +8,7 @@ ghost use Rattle.turn_laws.specs.AnyPort.{AnyClients, AnyClientTurns, AnyPorts, 
 ghost use Rattle.turn_laws.specs.Scripts.{GivesBack, LosesCommands, MisreadsLines, MovesUnderUse, PairsCommands};
 ghost use Rattle.turn_laws.specs.Refines.{CarrierRefines, MovesRefine, NamesStay, NodesRefine, Refines, StartsRefine, ThrownRefine, WorkersRefine};
 ghost use Rattle.turn_laws.specs.LogHeadline.{HeadlineOfLogs, LogsAreHeld};
+ghost use Rattle.turn_laws.specs.SharedScripts.{OthersActBetween, ProxiesMeet};
 ghost use Rattle.turn_laws.specs.SharedLog.{HeadlineOfSharedLogs, SharedLogsAreHeld};
 ghost use Rattle.turn_laws.specs.Sharing.{SharedRefines};
 ghost use Rattle.turn_laws.specs.Fleet.{EveryFleet, FleetFollows};
@@ -130,6 +131,15 @@ pub fn steps_happen<C: Drop, J: Naming>()
     ensures gives_back { GivesBack C J }
     ensures pairs { PairsCommands C J }
     ensures misreads { MisreadsLines C J }
+    ensures shares { OthersActBetween C J }
+{
+    front_is_whole();
+}
+
+/// The law over fleets speaks of something: under all its premises two proxies can serve before one cluster, where a client of the second
+/// reads what a client of the first set, and both are answered.
+pub fn fleets_happen<C: Drop, J: Naming>()
+    ensures { ProxiesMeet C J }
 {
     front_is_whole();
 }

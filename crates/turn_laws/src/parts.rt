@@ -4,8 +4,10 @@
 ghost use Rattle.turn_laws.specs.ClientOutput.{PartingOwesNothing};
 ghost use Rattle.turn_laws.specs.ClientSees.{ClientsSeeTheirOwn};
 ghost use Rattle.turn_laws.specs.LogOutput.{EndsDecide};
-ghost use Rattle.turn_laws.specs.LogTelling.{LogsTellHeadlines};
+ghost use Rattle.turn_laws.specs.LogHeadline.{EachExecutionArrived, NoneIsExecutedTwice};
+ghost use Rattle.turn_laws.specs.LogTelling.{LogsTellHeadlines, LogsTellOfOurs};
 ghost use Rattle.turn_laws.specs.ServedRuns.{FirstIsServed, RunsAreInOrder};
+ghost use Rattle.turn_laws.specs.SharedLog.{LogHeadlineFollows};
 ghost use Rattle.turn_laws.specs.SingleSteps.{EarlierOnesEnd, ImportsWait, NoneIsLeft, NumbersAreNew, PostedRunsFit, PostedRunsLead, RefusalsComeBack, TablesReadAlike};
 ghost use Rattle.turn_laws.specs.Stories.{LostYetExecuted};
 ghost use Rattle.turn_laws.specs.WrittenRuns.{RunsAreWrittenWhole};
@@ -65,9 +67,18 @@ pub fn clients_see_their_own()
     ensures { ClientsSeeTheirOwn }
 {}
 
-/// A log that tells of a world what its events were, each at its moment, has the world's headline.
+/// A log that tells of a world what its events were, each at its moment, has the world's headline, beside others too.
 pub fn logs_tell_headlines()
-    ensures { LogsTellHeadlines }
+    ensures alone { LogsTellHeadlines }
+    ensures shared { LogsTellOfOurs }
+{}
+
+/// The headline of a log in which nobody else acts is that beside others, where all that was executed is ours. What it asks of an
+/// execution to be ours, each is.
+pub fn each_execution_is_ours()
+    ensures follows { LogHeadlineFollows }
+    ensures once { NoneIsExecutedTwice }
+    ensures arrived { EachExecutionArrived }
 {}
 
 /// A client that parts is owed nothing more: what its worker's clients are written is what they were written before.

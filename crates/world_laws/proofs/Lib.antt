@@ -17,6 +17,8 @@ pub mod Turns
 pub mod Apart
 pub mod Same
 pub mod Lives
+pub mod Passing
+pub mod Headlines
 pub mod Runs
 pub mod Single
 pub mod Allowed

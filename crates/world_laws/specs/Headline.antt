@@ -5,6 +5,7 @@
 -- It speaks of commands that have ended, whether their clients have been answered yet or not. The history is in the order
 -- of its moments, and those of one run share theirs; a command is answered at most once.
 -- Nothing is said of progress: a schedule may leave any command unanswered.
+-- Where others act beside the proxy, it speaks of the proxy's commands, in one legal history of everybody's (shared_laws).
 use Rattle.std.specs.Prelude.{◌≡◌, ◌≢◌, ◌↔◌, ℕ, ◌<◌, ◌≤◌, List, Some, None, slice_get}
 use Rattle.std.specs.FinMap.{empty, get}
 use Rattle.resp_wire.specs.Seen.{data_of}
@@ -47,26 +48,31 @@ EndedAs w c ended = IsIn w.commands c × (c.command.stage ≡ Over ended)
 abbrev pub IsEntryOf : WorldModel → EntryModel → Arrival → Type 0
 IsEntryOf w e c = IsIn w.history e × IsIn w.commands c × (e.ticket ≡ c.command.ticket)
 
-pub record Headline (w : WorldModel) : Type 0 where
-  -- the history is one legal history of one store,
+-- `Ours` says of a ticket whether a command of ours has it. An entry with another is somebody else's: of these it is said that they are
+-- legal, in the order of their moments, and what the nodes hold.
+pub record HeadlineOf (Ours : Ticket → Type 0) (w : WorldModel) : Type 0 where
+  -- the history, of everybody's commands, is one legal history of one store,
   pub legal : IsLegal empty w.history
   -- in the order of its moments,
   pub timed : (k l : ℕ) (e f : EntryModel) → At w.history k e → At w.history l f → k < l → e.moment ≤ f.moment
-  -- where only those of one run, one client's for one slot, share a moment,
+  -- where only those of one run, one client's for one slot, share a moment, all of them ours or none,
   pub together : (k l : ℕ) (e f : EntryModel) → At w.history k e → At w.history l f → e.moment ≡ f.moment
-      → (e.ticket.client ≡ f.ticket.client) × (slot_for e.part ≡ slot_for f.part)
-  -- and where no run has more than one command, none share one,
-  pub apart : w.run_limit ≤ 1 → (k l : ℕ) (e f : EntryModel) → At w.history k e → At w.history l f → k < l → e.moment < f.moment
+      → (e.ticket.client ≡ f.ticket.client) × (slot_for e.part ≡ slot_for f.part) × (Ours e.ticket ↔ Ours f.ticket)
+  -- and where no run of ours has more than one command, none of ours share one,
+  pub apart : w.run_limit ≤ 1 → (k l : ℕ) (e f : EntryModel) → At w.history k e → At w.history l f
+      → Ours e.ticket → Ours f.ticket → k < l → e.moment < f.moment
   -- which is what the nodes hold together, each key at one node
   pub one_node : (key : List ℕ) (n m : ℕ) (a b : List ℕ) → at w.cluster n key ≡ Some a → at w.cluster m key ≡ Some b → n ≡ m
   pub union : (key value : List ℕ) → (get (store_of w) key ≡ Some value) ↔ ((n : ℕ) × (at w.cluster n key ≡ Some value))
-  -- each command has a ticket of its own, each answer tells the end of one, and when it arrived, and none has two answers
+  -- each command has a ticket of ours and of its own, each answer tells the end of one, and when it arrived, and none has two answers
+  pub ours : (c : Arrival) → IsIn w.commands c → Ours c.command.ticket
   pub own_ticket : (i j : ℕ) (c d : Arrival) → At w.commands i c → At w.commands j d → c.command.ticket ≡ d.command.ticket → i ≡ j
   pub told : (a : Answer) → IsIn w.answers a → (c : Arrival) × EndedAs w c a.ended × (c.command.ticket ≡ a.ticket) × (c.arrived ≡ a.arrived)
   pub answered_once : (k l : ℕ) (a b : Answer) → At w.answers k a → At w.answers l b → a.ticket ≡ b.ticket → k ≡ l
-  -- each entry is of a command that arrived earlier, and no command has two
-  pub arrived : (e : EntryModel) → IsIn w.history e → (c : Arrival) × IsEntryOf w e c × (e.part ≡ c.command.part) × (c.arrived < e.moment)
-  pub once : (ticket : Ticket) → HasOne w ticket
+  -- each entry of ours is of a command that arrived earlier, and no command has two
+  pub arrived : (e : EntryModel) → IsIn w.history e → Ours e.ticket
+      → (c : Arrival) × IsEntryOf w e c × (e.part ≡ c.command.part) × (c.arrived < e.moment)
+  pub once : (ticket : Ticket) → Ours ticket → HasOne w ticket
   -- a command that ended with a reply has its entry, with that reply, between its arrival and its answer
   pub answered : (c : Arrival) (reply : Value) → EndedAs w c (Answered reply)
       → (e : EntryModel) × IsEntryOf w e c × (e.reply ≡ data_of reply) × (c.arrived < e.moment)
@@ -79,6 +85,13 @@ pub record Headline (w : WorldModel) : Type 0 where
   -- one that was refused by the proxy has none
   pub refused : (c : Arrival) → EndedAs w c GaveUp → (e : EntryModel) → IsEntryOf w e c → ⊥
 
+-- where nobody else acts every ticket is ours
+abbrev pub AnyTicket : Ticket → Type 0
+AnyTicket ticket = Unit {0}
+
+abbrev pub Headline : WorldModel → Type 0
+Headline w = HeadlineOf AnyTicket w
+
 -- settled slots and no keys
 pub record IsNew (k : ClusterModel) : Type 0 where
   pub settled : (slot : ℕ) → phase_at k slot ≡ Settled
@@ -86,8 +99,22 @@ pub record IsNew (k : ClusterModel) : Type 0 where
 
 -- a world that some schedule leaves, from settled slots and no keys
 abbrev pub IsReached : WorldModel → Type 0
-IsReached w = (workers : ℕ) × (run_limit : ℕ) × (cluster : ClusterModel) × (events : List Event) × IsNew cluster × WorldRun (start workers run_limit cluster) events w
+IsReached w = (workers : ℕ) × (run_limit : ℕ) × (cluster : ClusterModel) × (events : List Event) × IsNew cluster
+    × WorldRun (start workers run_limit cluster) events w
 
 -- the headline holds after every schedule
 abbrev pub EverySchedule : Type 0
-EverySchedule = (workers run_limit : ℕ) (cluster : ClusterModel) (events : List Event) (w : WorldModel) → IsNew cluster → WorldRun (start workers run_limit cluster) events w → Headline w
+EverySchedule = (workers run_limit : ℕ) (cluster : ClusterModel) (events : List Event) (w : WorldModel) → IsNew cluster
+    → WorldRun (start workers run_limit cluster) events w → Headline w
+
+-- There is no more to its three fields that ask whether an entry is ours: they hold of every entry.
+abbrev pub NoneShareAMoment : Type 0
+NoneShareAMoment = (w : WorldModel) → Headline w → w.run_limit ≤ 1 → (k l : ℕ) (e f : EntryModel) → At w.history k e → At w.history l f
+    → k < l → e.moment < f.moment
+
+abbrev pub EachEntryArrived : Type 0
+EachEntryArrived = (w : WorldModel) → Headline w → (e : EntryModel) → IsIn w.history e
+    → (c : Arrival) × IsEntryOf w e c × (e.part ≡ c.command.part) × (c.arrived < e.moment)
+
+abbrev pub NoneIsExecutedTwice : Type 0
+NoneIsExecutedTwice = (w : WorldModel) → Headline w → (ticket : Ticket) → HasOne w ticket

@@ -29,8 +29,8 @@ names_new line words asked_host old new is how wants = ((wants.0, ap target_in (
 pub redirected-requires-clause-one_line : goal.redirected-requires-clause-one_line
 redirected-requires-clause-one_line c = rw c.split_word.ensures.others (other_words_one_line c.args.line.now c.requires.one_line)
 
-pub redirected-requires-then-eq-2-clause-one_line : goal.redirected-requires-then-eq-2-clause-one_line
-redirected-requires-then-eq-2-clause-one_line c = rw c.split_word.ensures.others (other_words_one_line c.args.line.now c.requires.one_line)
+pub redirected-requires-then-is_ask-clause-one_line : goal.redirected-requires-then-is_ask-clause-one_line
+redirected-requires-then-is_ask-clause-one_line c = rw c.split_word.ensures.others (other_words_one_line c.args.line.now c.requires.one_line)
 
 pub returns-in-Ok : goal.returns-in-Ok
 returns-in-Ok c =
@@ -51,11 +51,11 @@ returns-in-Ok-redirected c =
     let not_moved : bytes_eq (first_word c.args.line.now) (codes "MOVED") ≡ false = search rules in
     let ask : bytes_eq (first_word c.args.line.now) (codes "ASK") ≡ true = search rules in
     by_ask (bytes_eq (first_word c.args.line.now) (codes "MOVED")) (bytes_eq (first_word c.args.line.now) (codes "ASK")) _
-    (redirected Ask (host_of c.args.table.now c.args.asked) target c.args.table.now) (c.in-Ok-redirected.told, c.redirected-then-eq-2.new.table) _
+    (redirected Ask (host_of c.args.table.now c.args.asked) target c.args.table.now) (c.in-Ok-redirected.told, c.redirected-then-is_ask.new.table) _
     not_moved ask (rw c.split_word.ensures.others at c.in-Ok-redirected.ensures)
 
 pub returns-in-Err-redirected : goal.returns-in-Err-redirected
 returns-in-Err-redirected c =
     let ask : bytes_eq (first_word c.args.line.now) (codes "ASK") ≡ true = search rules in
-    names_new c.args.line.now c.split_word.result.1.now (host_of c.args.table.now c.args.asked) c.args.table.now c.redirected-then-eq-2.new.table
+    names_new c.args.line.now c.split_word.result.1.now (host_of c.args.table.now c.args.asked) c.args.table.now c.redirected-then-is_ask.new.table
     c.split_word.ensures.others (inr ask) c.in-Err-redirected.ensures

@@ -2,6 +2,7 @@ use Rattle.turn_laws.proofs.FullLane.{given-back}
 use Rattle.turn_laws.proofs.LossParting as loss
 use Rattle.turn_laws.proofs.ScriptGetting as move
 use Rattle.turn_laws.proofs.ScriptPair as pair
+use Rattle.turn_laws.proofs.ScriptSharing as sharing
 use Rattle.turn_laws.proofs.ScriptUnclear as unclear
 use Rattle.turn_laws.proofs.laws.steps_happen.Goals as goal
 
@@ -19,3 +20,6 @@ returns-clause-pairs g c = λ port. pair.happens port c.front_is_whole.ensures
 
 pub returns-clause-misreads : goal.returns-clause-misreads
 returns-clause-misreads g c = λ port. unclear.happens port c.front_is_whole.ensures
+
+pub returns-clause-shares : goal.returns-clause-shares
+returns-clause-shares g c = λ port. sharing.happens port c.front_is_whole.ensures

@@ -1,6 +1,6 @@
 use Rattle.std.proofs.Common.{◌≡◌, ℕ, zero, suc, refl}
 use Rattle.std.specs.Prelude.{false, replicate, slice_get, unwrap_or}
-use Rattle.node_dial.proofs.plain_nodes.PlainNodes.new.Goals as goal
+use Rattle.node_dial.proofs.node_set.NodeSet.new.Goals as goal
 
 none_of : (count node : ℕ) → unwrap_or (slice_get (replicate count false) node) false ≡ false
 none_of zero zero = refl
