@@ -8,7 +8,7 @@ import time
 from collections import deque
 
 from client import Closed
-from cluster import Cluster, Proxy, Room, slot_of, wait_until
+from cluster import Cluster, Proxy, Room, Server, slot_of, wait_until
 from harness import Failed
 from load import AT_ONCE, Load
 from replicas import Replicated
@@ -86,7 +86,8 @@ class Redirects:
         """MOVED and ASK."""
         for server in self.cluster.running():
             text = server.value("INFO", "errorstats").decode()
-            self.said[server, server.process.pid] = [int(found[1]) if (found := re.search(rf"errorstat_{it}:count=(\d+)", text)) else 0 for it in ("MOVED", "ASK")]
+            found = [re.search(rf"errorstat_{it}:count=(\d+)", text) for it in ("MOVED", "ASK")]
+            self.said[server, server.process.pid] = [int(it[1]) if it else 0 for it in found]
         moved, ask = (sum(column) for column in zip(*self.said.values()))
         return moved, ask
 
@@ -110,6 +111,10 @@ class Demo:
             slots[owner] += last + 1 - first
         role = lambda it: "killed" if not it.is_running() else "primary" if slots[it] else "replica"
         return [Node(f"127.0.0.1:{it.port}", role(it), slots[it]) for it in self.replicated.servers]
+
+    def has_slots(self, server: Server) -> bool:
+        """Whether the seed says that a server has slots."""
+        return any(owner is server for _, _, owner in self.replicated.ranges(self.cluster.nodes[0]))
 
     def show(self, writers: Writers, began: float) -> None:
         """Counts and draws once."""
@@ -143,7 +148,7 @@ class Demo:
                     moves.start()
                 if at(LOST, "lost"):
                     self.lose(moves)
-                if "lost" in begun and not any(owner is lost for _, _, owner in self.replicated.ranges(self.cluster.nodes[0])) and at(0, "taken"):
+                if "lost" in begun and not self.has_slots(lost) and at(0, "taken"):
                     self.screen.happened(f"its replica 127.0.0.1:{replica.port} has taken over")
                 if "taken" in begun and at(BACK, "back"):
                     lost.start()
@@ -157,7 +162,8 @@ class Demo:
             values = [int(it or 0) for it in client.value("MGET", *(it.key for it in self.load.counters))]
         faults = [fault for counter, value in zip(self.load.counters, values) if (fault := counter.fault(value))]
         answered, lost, gave_up = self.load.answered(), self.load.lost(), self.load.gave_up()
-        counted = f"{answered + lost + gave_up:,} INCRs of {len(values)} counters: {answered:,} answered, {lost:,} connection lost, {gave_up:,} gave up."
+        ends = f"{answered:,} answered, {lost:,} connection lost, {gave_up:,} gave up."
+        counted = f"{answered + lost + gave_up:,} INCRs of {len(values)} counters: {ends}"
         if faults:
             return 1, f"{counted}\nNOT EXACT: {'; '.join(faults)}"
         return 0, f"{counted}\nEach counter is exact: each answered INCR is in it once, and {sum(values) - answered:,} of those lost."

@@ -145,7 +145,8 @@ class Repository(unittest.TestCase):
                 if line.startswith("proved 1 of 2"):
                     started.send_signal(signal.SIGINT)
             self.assertEqual(started.wait(LIMIT), 130)
-        self.assertRegex("".join(lines), r"\Aproved 0 of 2 crates, 0 functions, \d s; next: low\nproved 1 of 2 crates, 2 functions, [^;\n]*; next: middle\nended: [^\n]*\n\Z")
+        first, second = r"proved 0 of 2 crates, 0 functions, \d s; next: low", r"proved 1 of 2 crates, 2 functions, [^;\n]*; next: middle"
+        self.assertRegex("".join(lines), rf"\A{first}\n{second}\nended: [^\n]*\n\Z")
         self.check_left()
 
     def refused(self):
