@@ -1,13 +1,17 @@
 -- What is drained stands behind the bytes that were not pushed, and what is pushed leaves the front of them.
-use Rattle.std.proofs.Common.{◌≡◌, ◌≢◌, ◌≤◌, ◌+◌, ◌-◌, ◌++◌, ◌∙◌, [], ◌∷◌, List, ℕ, Bool, true, false, Ok, ap, sym, drop, length, length-append, length-drop, arith, refl}
+use Rattle.std.proofs.Common.{◌≡◌, ◌≢◌, ◌≤◌, ◌+◌, ◌-◌, ◌++◌, ◌∙◌, [], ◌∷◌, List, ℕ, Bool, true, false, Ok, ap, sym, drop, length, length-append, length-drop, arith, refl, subst, Option, Some, None, Result, Err}
 use Rattle.std.specs.Prelude.{min, nat_le, IsTrue, ◌↔◌}
 use Rattle.std.proofs.lemmas.Bool.{false≢true}
 use Rattle.std.proofs.lemmas.Bool.Decides.{nat_tests}
 use Rattle.std.proofs.lemmas.List.{append-nil, drop-append-le, drop-drop}
 use Rattle.std.proofs.Math.Seq.{drop-append-add, drop-append_seam}
 use Rattle.std.proofs.Math.Nat.{min-eq_left, min_comm}
+use Rattle.resp_wire.specs.declared.fault.NoMemory.{NoMemory}
 use Rattle.session_order.specs.SessionModel.{SessionModel}
 use Rattle.session_order.specs.Replies.{DrainOutcome}
+use Rattle.session_order.specs.Kept.{Keeps}
+use Rattle.session_order.proofs.Kept.{calls_keep}
+use Rattle.proxy_turns.specs.Unpushed.{DrainsBehind}
 
 -- what was written stands behind what was there
 abbrev pub Grown : List ℕ → List ℕ → Type 0
@@ -31,6 +35,19 @@ drained_behind most pushed n old new before after tail behind within none grown 
 some_left : (front tail : List ℕ) → tail ≢ [] → front ++ tail ≢ []
 some_left [] tail some none = some none
 some_left (x ∷ xs) tail some none = absurd (cc)
+
+keeps_same : (held : SessionModel) → Keeps held held
+keeps_same held = record {
+  out = λ ticket out. out;
+  order = λ ticket out. out;
+  parts = record { owner = (refl, refl); out = λ slot number out. out; none_opens = λ slot number less opened. opened };
+}
+
+-- what is out stays so
+pub behind_keeps : (most : ℕ) (old : SessionModel) (before : List ℕ) (result : Result (Option ℕ) NoMemory) (new : SessionModel) (after : List ℕ) → DrainsBehind most old before result new after → Keeps old new
+behind_keeps most old before (Ok (Some n)) new after does = calls_keep.drain most old before (Ok n) new after does
+behind_keeps most old before (Ok None) new after (waited, is, same) = subst (Keeps old) (sym is) (keeps_same old)
+behind_keeps most old before (Err refused) new after does = calls_keep.drain most old before (Err refused) new after does
 
 -- where a tail is left, bytes wait
 pub tail_waits : (empty : Bool) (front tail : List ℕ) → (IsTrue empty ↔ (tail ≡ [])) → empty ≡ false → front ++ tail ≢ []

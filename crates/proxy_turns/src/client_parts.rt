@@ -243,14 +243,14 @@ impl<C: ClientPort + Drop> ClientParts<C> {
             }
             Flow::Nothing => Ok(false),
             Flow::Gone => {
-                self.part();
+                self.leave();
                 Ok(true)
             }
         }
     }
 
     // The client is gone: nothing is fed or pushed any more, so its bytes and their buffers are let go, and its session hangs up.
-    fn part(&mut self)
+    fn leave(&mut self)
         ensures hung_up { HangsUp self.old.session self.new.session }
         ensures kept { self.new ≡ record self.old { session = self.new.session; gone = true; unfed = []; unpushed = [] } }
     {

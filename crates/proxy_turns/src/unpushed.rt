@@ -1,8 +1,6 @@
 //! The bytes that wait to be pushed to a client.
 
 ghost use Rattle.std.specs.Prelude.{◌≡◌, ◌≤◌, ◌↔◌, ◌++◌, [], IsTrue, drop, length};
-ghost use Rattle.session_order.specs.Steps.{KeepsOrder};
-ghost use Rattle.session_order.specs.Behind.{KeepsParts};
 
 use crate::client_bytes::let_go;
 use crate::client_limits::KEPT;
@@ -73,8 +71,6 @@ impl Unpushed {
         most: usize,
     ) -> Result<Option<usize>, NoMemory>
         ensures does { DrainsBehind most session.old self.old result session.new self.new }
-        ensures order { KeepsOrder session.old session.new }
-        ensures parts { KeepsParts session.old session.new }
     {
         if !self.tail.is_empty() {
             return Ok(None);

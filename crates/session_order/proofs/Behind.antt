@@ -23,11 +23,9 @@ use Rattle.session_order.specs.Replies.{parts_of, without, DrainOutcome}
 use Rattle.session_order.specs.Steps.{ReadyOutcome, FollowerOutcome, IsHandedOut, EndOutcome, FeedOutcome, ReadOutcome, ReadsWords, with_incoming}
 use Rattle.session_order.specs.Behind.{IsOpenFor, IsOutBehind, IsOutFor, KeepsParts, NextInTurn}
 use Rattle.session_order.specs.HangingUp.{HangsUp}
-use Rattle.session_order.specs.LettingGo.{LetsGoOf}
 use Rattle.session_order.proofs.Lists.{any_at, get_set_other, get_append, get_drop, one_of, some_at, stands_behind}
 use Rattle.session_order.proofs.Blocking.{set_back}
 use Rattle.session_order.proofs.Fewer.{first_done}
-use Rattle.session_order.proofs.HangingUp.{hangs_up}
 use Rattle.session_order.proofs.Keeping.{Grows, added_grows, same_part}
 
 -- ---- place by place, where so many parts leave at the front
@@ -139,9 +137,6 @@ hangs_parts old new hangs =
     left i k slot (Waiting part) same at blocking = absurd (hangs.none_waits i (subst IsWaiting (sym at) tt))
     left i k slot (Out own) same at blocking = (Out own, subst (λ n. slice_get old.stages n ≡ Some (Out own)) same ((hangs.places i own).0 at), blocking)
     left i k slot Done same at blocking = absurd (false≢true blocking)
-
-pub hung_parts : (old new : SessionModel) → LetsGoOf old new → KeepsParts old new
-hung_parts old new does = hangs_parts old new (hangs_up old new does)
 
 -- ---- a part ends
 

@@ -98,24 +98,37 @@ module _ (old new : SessionModel) (does : LetsGoOf old new) where
     places = does.parts.out;
   }
 
+module _ (old new : SessionModel) (hangs : HangsUp old new) where
   -- what stands before a part is out, or has ended
   none_left : (p : ℕ → PartStage → Bool) (slot i : ℕ) → ((j own : ℕ) → slice_get old.stages j ≡ Some (Out own) → j < i → p slot (Out own) ≡ false) → p slot Done ≡ false
       → list_any (p slot) (take i new.stages) ≡ false
   none_left p slot i outs done = any_all (p slot) new.stages i none
     where
       none : (j : ℕ) (s : PartStage) → slice_get new.stages j ≡ Some s → j < i → p slot s ≡ false
-      none j (Waiting part) at less = absurd (does.parts.none_waits j (subst IsWaiting (sym at) tt))
-      none j (Out own) at less = outs j own ((does.parts.out j own).0 at) less
+      none j (Waiting part) at less = absurd (hangs.none_waits j (subst IsWaiting (sym at) tt))
+      none j (Out own) at less = outs j own ((hangs.places j own).0 at) less
       none j Done at less = done
 
+  stays : (ticket : Ticket) (slot : ℕ) → slice_get old.stages (ticket.part - old.first) ≡ Some (Out slot) → slice_get new.stages (ticket.part - new.first) ≡ Some (Out slot)
+  stays ticket slot at = subst (λ n. slice_get new.stages (ticket.part - n) ≡ Some (Out slot)) (sym hangs.first) ((hangs.places (ticket.part - old.first) slot).1 at)
+
   pub hung_keeps : KeepsOut old new
-  unfolding awaited_old
   hung_keeps ticket (slot, low, at, worker, client, turn) =
-      let kept = awaited_old ticket (slot, low, at, worker, client) in
-      let free = none_left blocks slot (ticket.part - old.first) (λ j own there less. any_at (blocks slot) old.stages (ticket.part - old.first) j (Out own) turn there less) refl in
-      (kept.0, kept.1, kept.2, kept.3, kept.4, subst (λ n. list_any (blocks slot) (take (ticket.part - n) new.stages) ≡ false) (sym does.parts.first) free)
+      let free = none_left blocks slot (ticket.part - old.first) (λ j own there less. any_at (blocks slot) old.stages (ticket.part - old.first) j (Out own) turn there less) refl in (
+        slot,
+        subst (λ n. n ≤ ticket.part) (sym hangs.first) low,
+        stays ticket slot at,
+        worker ∙ sym hangs.owner.0,
+        client ∙ sym hangs.owner.1,
+        subst (λ n. list_any (blocks slot) (take (ticket.part - n) new.stages) ≡ false) (sym hangs.first) free,
+      )
 
   pub hung_orders : KeepsOrder old new
-  hung_orders ticket (slot, low, at, worker, client, turn) =
-      let kept = awaited_old ticket (slot, low, at, worker, client) in
-      (kept.0, kept.1, kept.2, kept.3, kept.4, none_left waits_for kept.0 (ticket.part - new.first) (λ j own there less. refl) refl)
+  hung_orders ticket (slot, low, at, worker, client, turn) = (
+    slot,
+    subst (λ n. n ≤ ticket.part) (sym hangs.first) low,
+    stays ticket slot at,
+    worker ∙ sym hangs.owner.0,
+    client ∙ sym hangs.owner.1,
+    none_left waits_for slot (ticket.part - new.first) (λ j own there less. refl) refl,
+  )

@@ -21,3 +21,4 @@ pub mod Fronting
 pub mod Forgetting
 pub mod HangingUp
 pub mod Behind
+pub mod Kept

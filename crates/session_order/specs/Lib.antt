@@ -17,3 +17,4 @@ pub mod Life
 pub mod Front
 pub mod LettingGo
 pub mod HangingUp
+pub mod Kept

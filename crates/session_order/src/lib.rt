@@ -27,7 +27,7 @@ mod session;
 
 pub use drained::Drained;
 pub use fault::SessionFault;
-pub use laws::drains_output;
+pub use laws::{calls_keep, drains_output};
 pub use request_kind::{RequestKind, kind_of};
 pub use request_plan::{goodbye, protocol_error};
 pub use session::Session;

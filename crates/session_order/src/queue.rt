@@ -153,7 +153,12 @@ impl Queue {
     pub fn next_part(&mut self) -> Option<(u64, Part)>
         ensures { HandOutcome self.old result self.new }
     {
-        take_next(&mut self.tables)
+        let Some(Reverse(number)) = self.tables.turns.pop() else {
+            return None;
+        };
+        let i = (number - self.tables.first) as usize;
+        let part = take_part(&mut self.tables.stages, i);
+        Some((number, part))
     }
 
     /// Hands out the part behind the one of this number, for the same slot, where it is the next and waits.
@@ -161,7 +166,12 @@ impl Queue {
         requires out { IsOutAt self.old number }
         ensures { FollowOutcome self.old number result self.new }
     {
-        take_follower(&mut self.tables, number)
+        let Some(next) = self.follower_at(number) else {
+            return None;
+        };
+        let i = (next - self.tables.first) as usize;
+        let part = take_part(&mut self.tables.stages, i);
+        Some((next, part))
     }
 
     /// The number of the part that `follower` would hand out.
@@ -169,11 +179,17 @@ impl Queue {
         requires out { IsOutAt self.now number }
         ensures { FollowerAt self.now number result }
     {
-        follower_at(&self.tables, number)
+        let Some(next) = next_open(&self.tables, number) else {
+            return None;
+        };
+        if !self.tables.stages[(next - self.tables.first) as usize].is_waiting() {
+            return None;
+        }
+        Some(next)
     }
 
     /// Whether the part of this number is out, and all earlier parts for its slot have ended.
-    pub fn has_turn(&self, number: u64) -> bool
+    pub fn is_next(&self, number: u64) -> bool
         ensures { IsTrue result ↔ HasTurnAt self.now number }
     {
         self.is_out(number) && is_first(&self.tables, number)
@@ -184,14 +200,23 @@ impl Queue {
         requires out { IsOutAt self.now number }
         ensures { NextOutAt self.now number result }
     {
-        next_out(&self.tables, number)
+        let Some(next) = next_open(&self.tables, number) else {
+            return None;
+        };
+        if self.tables.stages[(next - self.tables.first) as usize].is_waiting() {
+            return None;
+        }
+        Some(next)
     }
 
     /// The place of the earliest part whose turn it is.
     pub fn next_place(&self) -> Option<u64>
         ensures { NextPlace self.now.stages result }
     {
-        next_place(&self.tables)
+        let Some(Reverse(number)) = self.tables.turns.peek() else {
+            return None;
+        };
+        Some(*number - self.tables.first)
     }
 
     /// Notes that a part has ended.
@@ -199,7 +224,7 @@ impl Queue {
         requires out { IsOutAt self.old number }
         ensures { self.new ≡ record self.old { stages = slice_set self.old.stages (number - self.old.first) Done } }
     {
-        end(&mut self.tables, number);
+        mark_done(&mut self.tables, number);
         self.done = count_done(&self.tables.stages, self.done);
     }
 
@@ -208,7 +233,7 @@ impl Queue {
     pub fn let_go(&mut self)
         ensures { LetsGo self.old self.new }
     {
-        let_go(&mut self.tables);
+        forget_waiting(&mut self.tables);
         self.done = count_done(&self.tables.stages, 0);
     }
 
@@ -225,7 +250,10 @@ impl Queue {
         requires done { list_all is_done (take count self.old.stages) ≡ true }
         ensures { self.new ≡ record { first = self.old.first + count; stages = drop count self.old.stages } }
     {
-        drop_front(&mut self.tables, count);
+        drop(self.tables.stages.drain(..count));
+        drop(self.tables.later.drain(..count));
+        drop(self.tables.earlier.drain(..count));
+        self.tables.first += count as u64;
         self.done -= count;
     }
 }
@@ -307,75 +335,6 @@ fn push_part(tables: &mut Tables, part: Part)
     }
 }
 
-// Hands out the earliest part whose turn it is.
-fn take_next(tables: &mut Tables) -> Option<(u64, Part)>
-    requires { AreSound tables.old }
-    ensures sound { AreSound tables.new }
-    ensures does { HandOutcome (parts_in tables.old) result (parts_in tables.new) }
-{
-    let Some(Reverse(number)) = tables.turns.pop() else {
-        return None;
-    };
-    let i = (number - tables.first) as usize;
-    let part = take_part(&mut tables.stages, i);
-    Some((number, part))
-}
-
-// The place of the earliest part whose turn it is.
-fn next_place(tables: &Tables) -> Option<u64>
-    requires { AreSound tables.now }
-    ensures { NextPlace tables.now.stages.items result }
-{
-    let Some(Reverse(number)) = tables.turns.peek() else {
-        return None;
-    };
-    Some(*number - tables.first)
-}
-
-// Hands out the part behind the one of this number, for the same slot, where it is the next and waits.
-fn take_follower(tables: &mut Tables, number: u64) -> Option<(u64, Part)>
-    requires sound { AreSound tables.old }
-    requires out { IsOutAt (parts_in tables.old) number }
-    ensures sound { AreSound tables.new }
-    ensures does { FollowOutcome (parts_in tables.old) number result (parts_in tables.new) }
-{
-    let Some(next) = follower_at(tables, number) else {
-        return None;
-    };
-    let part = take_part(&mut tables.stages, (next - tables.first) as usize);
-    Some((next, part))
-}
-
-// The number of the part behind the one of this number, for the same slot, where it is the next and waits.
-fn follower_at(tables: &Tables, number: u64) -> Option<u64>
-    requires sound { AreSound tables.now }
-    requires out { IsOutAt (parts_in tables.now) number }
-    ensures { FollowerAt (parts_in tables.now) number result }
-{
-    let Some(next) = next_open(tables, number) else {
-        return None;
-    };
-    if !tables.stages[(next - tables.first) as usize].is_waiting() {
-        return None;
-    }
-    Some(next)
-}
-
-// The number of the part behind the one of this number, for the same slot, where it is the next and is out.
-fn next_out(tables: &Tables, number: u64) -> Option<u64>
-    requires sound { AreSound tables.now }
-    requires out { IsOutAt (parts_in tables.now) number }
-    ensures { NextOutAt (parts_in tables.now) number result }
-{
-    let Some(next) = next_open(tables, number) else {
-        return None;
-    };
-    if tables.stages[(next - tables.first) as usize].is_waiting() {
-        return None;
-    }
-    Some(next)
-}
-
 // The number of the next part for the slot of the one of this number, which is out.
 fn next_open(tables: &Tables, number: u64) -> Option<u64>
     requires links { LinksIn tables.now }
@@ -394,8 +353,8 @@ fn is_first(tables: &Tables, number: u64) -> bool
     tables.earlier[(number - tables.first) as usize].is_none()
 }
 
-// Notes that a part has ended. Where it was the first of its slot it is the turn of the next one, if that one waits.
-fn end(tables: &mut Tables, number: u64)
+// The part of this number is done. Where it was the first of its slot it is the turn of the next one, if that one waits.
+fn mark_done(tables: &mut Tables, number: u64)
     requires sound { AreSound tables.old }
     requires out { IsOutAt (parts_in tables.old) number }
     ensures sound { AreSound tables.new }
@@ -472,21 +431,6 @@ fn put_last(last: &mut HashMap<u16, u64>, slot: u16, before: Option<u64>, next: 
     }
 }
 
-fn drop_front(tables: &mut Tables, count: usize)
-    requires sound { AreSound tables.old }
-    requires numbered { IsNumbered tables.old.first tables.old.stages.items }
-    requires fits { count ≤ length tables.old.stages.items }
-    requires done { list_all is_done (take count tables.old.stages.items) ≡ true }
-    ensures sound { AreSound tables.new }
-    ensures first { tables.new.first ≡ tables.old.first + count }
-    ensures stages { tables.new.stages.items ≡ drop count tables.old.stages.items }
-{
-    drop(tables.stages.drain(..count));
-    drop(tables.later.drain(..count));
-    drop(tables.earlier.drain(..count));
-    tables.first += count as u64;
-}
-
 // Hands out the part at i.
 fn take_part(stages: &mut VecDeque<PartStage>, i: usize) -> Part
     requires { IsWaiting (slice_get stages.old.items i) }
@@ -501,7 +445,7 @@ fn take_part(stages: &mut VecDeque<PartStage>, i: usize) -> Part
 }
 
 // Lets go of the parts that were not handed out, and of all behind the last that is out.
-fn let_go(tables: &mut Tables)
+fn forget_waiting(tables: &mut Tables)
     requires sound { AreSound tables.old }
     requires numbered { IsNumbered tables.old.first tables.old.stages.items }
     ensures sound { AreSound tables.new }

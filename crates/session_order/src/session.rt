@@ -84,8 +84,8 @@ impl Session {
     ghost use Rattle.session_order.specs.Life.{fresh};
     ghost use Rattle.session_order.specs.Replies.{DrainOutcome, count_of, parts_of, tail_of};
     ghost use Rattle.session_order.specs.Turn.{NextPlace};
-    ghost use Rattle.session_order.specs.Steps.{FeedOutcome, ReadOutcome, ReadyOutcome, FollowerOutcome, IsHandedOut, EndOutcome, IsFinished, IsOut, KeepsOut, IsOutInOrder, KeepsOrder};
-    ghost use Rattle.session_order.specs.Behind.{FollowerPlace, IsOutBehind, KeepsParts, NextInTurn};
+    ghost use Rattle.session_order.specs.Steps.{FeedOutcome, ReadOutcome, ReadyOutcome, FollowerOutcome, IsHandedOut, EndOutcome, IsFinished, IsOut};
+    ghost use Rattle.session_order.specs.Behind.{FollowerPlace, NextInTurn};
     ghost use Rattle.session_order.specs.HangingUp.{HangsUp};
 
     /// A session to which nothing was fed.
@@ -107,32 +107,60 @@ impl Session {
     /// Takes the whole piece, or nothing where too many requests are unanswered, and answers how many bytes it took.
     pub fn feed(&mut self, piece: &[u8]) -> Result<usize, SessionFault>
         ensures does { FeedOutcome self.old piece.now result self.new }
-        ensures kept { KeepsOut self.old self.new }
-        ensures order { KeepsOrder self.old self.new }
-        ensures parts { KeepsParts self.old self.new }
     {
-        self.take_piece(piece)
+        match self.closing {
+            Closing::Faulted(why, _) => return Err(why.fault()),
+            _ if self.requests.len() == MAX_UNANSWERED => return Ok(0),
+            Closing::Quit => return Ok(piece.len()),
+            Closing::Open => {}
+        }
+        match self.reader.feed(piece) {
+            Ok(()) => Ok(piece.len()),
+            Err(_) => Err(SessionFault::NoMemory),
+        }
     }
 
     /// Reads at most one request. It is false where none is whole, too many are unanswered, or QUIT was read.
     pub fn read(&mut self) -> Result<bool, SessionFault>
         ensures does { ReadOutcome self.old result self.new }
-        ensures kept { KeepsOut self.old self.new }
-        ensures order { KeepsOrder self.old self.new }
-        ensures parts { KeepsParts self.old self.new }
     {
-        self.read_next()
+        match self.closing {
+            Closing::Open => {}
+            Closing::Quit => return Ok(false),
+            Closing::Faulted(why, _) => return Err(why.fault()),
+        }
+        if self.requests.len() == MAX_UNANSWERED {
+            return Ok(false);
+        }
+        match self.reader.next() {
+            Ok(NextRequest::Words(words)) => self.add(words),
+            Ok(NextRequest::Skipped) => Ok(true),
+            Ok(NextRequest::Nothing) => Ok(false),
+            Err(SessionFault::NoMemory) => Err(SessionFault::NoMemory),
+            Err(SessionFault::Wire(fault)) => {
+                self.closing = Closing::Faulted(Broken::Wire(fault), true);
+                Err(SessionFault::Wire(fault))
+            }
+            Err(SessionFault::NotRequest) => {
+                self.closing = Closing::Faulted(Broken::NotRequest, true);
+                Err(SessionFault::NotRequest)
+            }
+        }
     }
 
     /// Hands out the earliest part whose turn it is, of those that were not handed out.
     pub fn ready(&mut self) -> Option<(Ticket, Part)>
         ensures does { ReadyOutcome self.old result self.new }
-        ensures out { IfSome result (λ given. IsOut self.new given.0 × (IsOut self.old given.0 → ⊥)) }
-        ensures kept { KeepsOut self.old self.new }
-        ensures order { KeepsOrder self.old self.new }
-        ensures parts { KeepsParts self.old self.new }
     {
-        self.take_ready()
+        let Some((number, part)) = self.queue.next_part() else {
+            return None;
+        };
+        let ticket = Ticket {
+            worker: self.worker,
+            client: self.client,
+            part: number,
+        };
+        Some((ticket, part))
     }
 
     /// Hands out the next part for the slot of one that is out, to go behind it, where that one is the last that is out and the
@@ -140,12 +168,16 @@ impl Session {
     pub fn follower(&mut self, ticket: Ticket) -> Option<(Ticket, Part)>
         requires { IsHandedOut self.old ticket }
         ensures does { FollowerOutcome self.old ticket result self.new }
-        ensures out { IfSome result (λ given. IsOutInOrder self.new given.0 × (IsHandedOut self.old given.0 → ⊥)) }
-        ensures kept { KeepsOut self.old self.new }
-        ensures order { KeepsOrder self.old self.new }
-        ensures parts { KeepsParts self.old self.new }
     {
-        self.take_follower(ticket)
+        let Some((number, part)) = self.queue.follower(ticket.part) else {
+            return None;
+        };
+        let ticket = Ticket {
+            worker: self.worker,
+            client: self.client,
+            part: number,
+        };
+        Some((ticket, part))
     }
 
     /// Where the part stands that `follower` would hand out, among those whose replies were not drained.
@@ -186,12 +218,12 @@ impl Session {
     }
 
     /// Whether the ticket is of a part that is out, and all earlier parts for its slot have ended.
-    pub fn has_turn(&self, ticket: Ticket) -> bool
+    pub fn is_next(&self, ticket: Ticket) -> bool
         ensures { IsTrue result ↔ IsOut self.now ticket }
     {
         ticket.client == self.client
             && ticket.worker == self.worker
-            && self.queue.has_turn(ticket.part)
+            && self.queue.is_next(ticket.part)
     }
 
     /// The part that is out next behind one that is out, for its slot: once that one has ended in its turn, it is this one's.
@@ -213,137 +245,15 @@ impl Session {
     pub fn ended(&mut self, ticket: Ticket, end: Ended)
         requires { IsHandedOut self.old ticket }
         ensures does { EndOutcome self.old ticket end self.new }
-        ensures over { IsOut self.new ticket → ⊥ }
-        ensures kept { (other : Ticket) → other ≢ ticket → IsOut self.old other → IsOut self.new other }
-        ensures order { (other : Ticket) → other ≢ ticket → IsOutInOrder self.old other → IsOutInOrder self.new other }
-        ensures behind { (slot : ℕ) (before : List ℕ) (other : Ticket) → other ≢ ticket → IsOutBehind self.old slot before other → IsOutBehind self.new slot before other }
-    {
-        self.put_end(ticket, end);
-    }
-
-    /// Appends replies that are next in order until these are so many bytes, and answers how many. Where they are fewer,
-    /// none is left. A large body that ends them is not copied: it is the tail, which stands behind the output.
-    pub fn drain(&mut self, out: &mut Vec<u8>, most: usize) -> Result<Drained, NoMemory>
-        ensures does { DrainOutcome most self.old out.old.items (count_of result) self.new (out.new.items ++ tail_of result) }
-        ensures grown { (more : List ℕ) × (out.new.items ≡ out.old.items ++ more) }
-        ensures kept { KeepsOut self.old self.new }
-        ensures order { KeepsOrder self.old self.new }
-        ensures parts { KeepsParts self.old self.new }
-    {
-        self.write_next(out, most)
-    }
-
-    /// Lets go of all but the places of the parts that are out, whose ends may still be told: the client is gone.
-    pub fn hang_up(&mut self)
-        ensures does { HangsUp self.old self.new }
-        ensures kept { KeepsOut self.old self.new }
-        ensures order { KeepsOrder self.old self.new }
-        ensures parts { KeepsParts self.old self.new }
-    {
-        self.let_go();
-    }
-
-    /// Whether the session is closed and nothing is left to drain.
-    pub fn finished(&self) -> bool
-        ensures { IsTrue result ↔ IsFinished self.now }
-    {
-        match self.closing {
-            Closing::Open => false,
-            Closing::Quit => self.requests.is_empty(),
-            Closing::Faulted(_, owed) => !owed && self.requests.is_empty(),
-        }
-    }
-}
-
-impl Session {
-    ghost use Rattle.session_order.specs.Replies.{DrainOutcome, count_of, tail_of};
-    ghost use Rattle.session_order.specs.Steps.{FeedOutcome, ReadOutcome, ReadyOutcome, FollowerOutcome, EndOutcome, IsHandedOut, MayRead, AddOutcome, added, with_words, broken_by};
-    ghost use Rattle.key_split.specs.Join.{CanJoin};
-    ghost use Rattle.key_split.specs.declared.planned.Planned.TheVariants as planned;
-    ghost use Rattle.session_order.specs.declared.closing.Broken.TheVariants.{NotRequest};
-    ghost use Rattle.session_order.specs.LettingGo.{LetsGoOf};
-
-    fn take_piece(&mut self, piece: &[u8]) -> Result<usize, SessionFault>
-        ensures { FeedOutcome self.old piece.now result self.new }
-    {
-        match self.closing {
-            Closing::Faulted(why, _) => return Err(why.fault()),
-            _ if self.requests.len() == MAX_UNANSWERED => return Ok(0),
-            Closing::Quit => return Ok(piece.len()),
-            Closing::Open => {}
-        }
-        match self.reader.feed(piece) {
-            Ok(()) => Ok(piece.len()),
-            Err(_) => Err(SessionFault::NoMemory),
-        }
-    }
-
-    fn read_next(&mut self) -> Result<bool, SessionFault>
-        ensures { ReadOutcome self.old result self.new }
-    {
-        match self.closing {
-            Closing::Open => {}
-            Closing::Quit => return Ok(false),
-            Closing::Faulted(why, _) => return Err(why.fault()),
-        }
-        if self.requests.len() == MAX_UNANSWERED {
-            return Ok(false);
-        }
-        match self.reader.next() {
-            Ok(NextRequest::Words(words)) => self.add(words),
-            Ok(NextRequest::Skipped) => Ok(true),
-            Ok(NextRequest::Nothing) => Ok(false),
-            Err(SessionFault::NoMemory) => Err(SessionFault::NoMemory),
-            Err(SessionFault::Wire(fault)) => {
-                self.closing = Closing::Faulted(Broken::Wire(fault), true);
-                Err(SessionFault::Wire(fault))
-            }
-            Err(SessionFault::NotRequest) => {
-                self.closing = Closing::Faulted(Broken::NotRequest, true);
-                Err(SessionFault::NotRequest)
-            }
-        }
-    }
-
-    fn take_ready(&mut self) -> Option<(Ticket, Part)>
-        ensures { ReadyOutcome self.old result self.new }
-    {
-        let Some((number, part)) = self.queue.next_part() else {
-            return None;
-        };
-        let ticket = Ticket {
-            worker: self.worker,
-            client: self.client,
-            part: number,
-        };
-        Some((ticket, part))
-    }
-
-    fn take_follower(&mut self, ticket: Ticket) -> Option<(Ticket, Part)>
-        requires { IsHandedOut self.old ticket }
-        ensures { FollowerOutcome self.old ticket result self.new }
-    {
-        let Some((number, part)) = self.queue.follower(ticket.part) else {
-            return None;
-        };
-        let ticket = Ticket {
-            worker: self.worker,
-            client: self.client,
-            part: number,
-        };
-        Some((ticket, part))
-    }
-
-    fn put_end(&mut self, ticket: Ticket, end: Ended)
-        requires { IsHandedOut self.old ticket }
-        ensures { EndOutcome self.old ticket end self.new }
     {
         let i = (ticket.part - self.queue.first()) as usize;
         self.queue.end(ticket.part);
         self.ends[i] = end;
     }
 
-    fn write_next(&mut self, out: &mut Vec<u8>, most: usize) -> Result<Drained, NoMemory>
+    /// Appends replies that are next in order until these are so many bytes, and answers how many. Where they are fewer,
+    /// none is left. A large body that ends them is not copied: it is the tail, which stands behind the output.
+    pub fn drain(&mut self, out: &mut Vec<u8>, most: usize) -> Result<Drained, NoMemory>
         ensures does { DrainOutcome most self.old out.old.items (count_of result) self.new (out.new.items ++ tail_of result) }
         ensures grown { (more : List ℕ) × (out.new.items ≡ out.old.items ++ more) }
     {
@@ -375,9 +285,9 @@ impl Session {
         }
     }
 
-    // Of the requests one stays for all parts that are out.
-    fn let_go(&mut self)
-        ensures { LetsGoOf self.old self.new }
+    /// Lets go of all but the places of the parts that are out, whose ends may still be told: the client is gone.
+    pub fn hang_up(&mut self)
+        ensures does { HangsUp self.old self.new }
     {
         self.reader = RequestReader::new(self.alloc, Limits::full());
         self.closing = Closing::Quit;
@@ -386,6 +296,24 @@ impl Session {
         keep_one(&mut self.requests, count);
         keep_lost(&mut self.ends, count);
     }
+
+    /// Whether the session is closed and nothing is left to drain.
+    pub fn finished(&self) -> bool
+        ensures { IsTrue result ↔ IsFinished self.now }
+    {
+        match self.closing {
+            Closing::Open => false,
+            Closing::Quit => self.requests.is_empty(),
+            Closing::Faulted(_, owed) => !owed && self.requests.is_empty(),
+        }
+    }
+}
+
+impl Session {
+    ghost use Rattle.session_order.specs.Steps.{MayRead, AddOutcome, added, with_words, broken_by};
+    ghost use Rattle.key_split.specs.Join.{CanJoin};
+    ghost use Rattle.key_split.specs.declared.planned.Planned.TheVariants as planned;
+    ghost use Rattle.session_order.specs.declared.closing.Broken.TheVariants.{NotRequest};
 
     // Adds what a request's words ask for: its reply or its parts. Where memory runs out the words are put back.
     fn add(&mut self, words: Words) -> Result<bool, SessionFault>

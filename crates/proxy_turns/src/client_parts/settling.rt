@@ -75,7 +75,7 @@ impl<C: ClientPort + Drop> ClientParts<C> {
         ensures none { result ≡ false → (c : CommandModel) → IsToSettle self.now number c → WantsPost c.stage → ⊥ }
     {
         match self.commands.wants_post(number) {
-            Some(ticket) => self.session.has_turn(ticket),
+            Some(ticket) => self.session.is_next(ticket),
             None => false,
         }
     }

@@ -66,7 +66,7 @@ impl<C: ClientPort + Drop> ClientParts<C> {
             }
             Flow::Nothing => Ok(false),
             Flow::Gone => {
-                self.part();
+                self.leave();
                 Ok(true)
             }
         }

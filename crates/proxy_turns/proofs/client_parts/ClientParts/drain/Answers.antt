@@ -1,13 +1,16 @@
 use Rattle.std.proofs.lemmas.Result.{err_from_is_err_and}
 use Rattle.std.proofs.Common.{refl, false}
 use Rattle.proxy_turns.specs.ClientTurn.{is_drain}
+use Rattle.proxy_turns.proofs.Draining.{behind_keeps}
 use Rattle.proxy_turns.proofs.Going.{drained, drains_nothing, stays}
 use Rattle.proxy_turns.proofs.Sound.{sound_kept}
 use Rattle.proxy_turns.proofs.ClientResting.{drain_none, undrained, drains_held}
 use Rattle.proxy_turns.proofs.client_parts.ClientParts.drain.Goals as goal
 
 pub invariant_of-self-2 : goal.invariant_of-self-2
-invariant_of-self-2 g c = sound_kept c.self.inside.session c.drain.new.session c.self.inside.commands c.drain.ensures.order c.drain.ensures.parts c.self.invariant
+invariant_of-self-2 g c =
+    let keeps = behind_keeps _ c.self.inside.session c.self.inside.unpushed c.drain.result c.drain.new.session c.drain.new.self c.drain.ensures.does in
+    sound_kept c.self.inside.session c.drain.new.session c.self.inside.commands keeps.order keeps.parts c.self.invariant
 
 pub returns-clause-drains : goal.returns-clause-drains
 returns-clause-drains g c = λ outlet view.
@@ -27,10 +30,14 @@ pub returns-then-not-may_drain-clause-drains : goal.returns-then-not-may_drain-c
 returns-then-not-may_drain-clause-drains g c = λ outlet view. stays g.C.ClientPort.moves is_drain _
 
 pub invariant_of-self : goal.invariant_of-self
-invariant_of-self g c = sound_kept c.self.inside.session c.drain.new.session c.self.inside.commands c.drain.ensures.order c.drain.ensures.parts c.self.invariant
+invariant_of-self g c =
+    let keeps = behind_keeps _ c.self.inside.session c.self.inside.unpushed c.drain.result c.drain.new.session c.drain.new.self c.drain.ensures.does in
+    sound_kept c.self.inside.session c.drain.new.session c.self.inside.commands keeps.order keeps.parts c.self.invariant
 
 pub invariant_of-self-in_default : goal.invariant_of-self-in_default
-invariant_of-self-in_default g c = sound_kept c.self.inside.session c.drain.new.session c.self.inside.commands c.drain.ensures.order c.drain.ensures.parts c.self.invariant
+invariant_of-self-in_default g c =
+    let keeps = behind_keeps _ c.self.inside.session c.self.inside.unpushed c.drain.result c.drain.new.session c.drain.new.self c.drain.ensures.does in
+    sound_kept c.self.inside.session c.drain.new.session c.self.inside.commands keeps.order keeps.parts c.self.invariant
 
 pub returns-in_err-count-clause-drains : goal.returns-in_err-count-clause-drains
 returns-in_err-count-clause-drains g c = λ outlet view.

@@ -1,5 +1,6 @@
 use Rattle.session_order.specs.declared.fault.SessionFault.TheVariants as fault
 use Rattle.std.proofs.Common.{refl, rules, Ok, Err, false}
+use Rattle.session_order.proofs.Kept.{calls_keep}
 use Rattle.proxy_turns.specs.ClientTurn.{is_feed}
 use Rattle.proxy_turns.proofs.Going.{fed, stays}
 use Rattle.proxy_turns.proofs.Sound.{sound_kept}
@@ -7,7 +8,9 @@ use Rattle.proxy_turns.proofs.ClientResting.{fed_still, feed_fault, unfed_none}
 use Rattle.proxy_turns.proofs.client_parts.ClientParts.feed.Goals as goal
 
 pub invariant_of-self : goal.invariant_of-self
-invariant_of-self g c = sound_kept c.self.inside.session c.feed.new.self c.self.inside.commands c.feed.ensures.order c.feed.ensures.parts c.self.invariant
+invariant_of-self g c =
+    let keeps = calls_keep.feed c.self.inside.session c.as_slice.result.now c.feed.result c.feed.new.self c.feed.ensures.does in
+    sound_kept c.self.inside.session c.feed.new.self c.self.inside.commands keeps.order keeps.parts c.self.invariant
 
 pub returns-in-Ok-clause-feeds : goal.returns-in-Ok-clause-feeds
 returns-in-Ok-clause-feeds g c = λ outlet view.
@@ -36,7 +39,9 @@ pub returns-then-is_empty-clause-feeds : goal.returns-then-is_empty-clause-feeds
 returns-then-is_empty-clause-feeds g c = λ outlet view. stays g.C.ClientPort.moves is_feed _
 
 pub invariant_of-self-in-Err-NoMemory : goal.invariant_of-self-in-Err-NoMemory
-invariant_of-self-in-Err-NoMemory g c = sound_kept c.self.inside.session c.feed.new.self c.self.inside.commands c.feed.ensures.order c.feed.ensures.parts c.self.invariant
+invariant_of-self-in-Err-NoMemory g c =
+    let keeps = calls_keep.feed c.self.inside.session c.as_slice.result.now c.feed.result c.feed.new.self c.feed.ensures.does in
+    sound_kept c.self.inside.session c.feed.new.self c.self.inside.commands keeps.order keeps.parts c.self.invariant
 
 pub returns-in-Err-NoMemory-clause-feeds : goal.returns-in-Err-NoMemory-clause-feeds
 returns-in-Err-NoMemory-clause-feeds g c = λ outlet view.
@@ -44,7 +49,9 @@ returns-in-Err-NoMemory-clause-feeds g c = λ outlet view.
     rw (← c.self.view_is) (false, fed g.C.ClientPort.moves is_feed _ outlet view (λ result. refl) _ (Err fault.NoMemory) _ _ done refl refl)
 
 pub invariant_of-self-in-Err-Wire : goal.invariant_of-self-in-Err-Wire
-invariant_of-self-in-Err-Wire g c = sound_kept c.self.inside.session c.feed.new.self c.self.inside.commands c.feed.ensures.order c.feed.ensures.parts c.self.invariant
+invariant_of-self-in-Err-Wire g c =
+    let keeps = calls_keep.feed c.self.inside.session c.as_slice.result.now c.feed.result c.feed.new.self c.feed.ensures.does in
+    sound_kept c.self.inside.session c.feed.new.self c.self.inside.commands keeps.order keeps.parts c.self.invariant
 
 pub returns-in-Err-Wire-clause-feeds : goal.returns-in-Err-Wire-clause-feeds
 returns-in-Err-Wire-clause-feeds g c = λ outlet view.
@@ -52,7 +59,9 @@ returns-in-Err-Wire-clause-feeds g c = λ outlet view.
     rw (← c.self.view_is) (fed g.C.ClientPort.moves is_feed _ outlet view (λ result. refl) _ (Err (fault.Wire _)) _ _ done refl refl)
 
 pub invariant_of-self-in-Err-NotRequest : goal.invariant_of-self-in-Err-NotRequest
-invariant_of-self-in-Err-NotRequest g c = sound_kept c.self.inside.session c.feed.new.self c.self.inside.commands c.feed.ensures.order c.feed.ensures.parts c.self.invariant
+invariant_of-self-in-Err-NotRequest g c =
+    let keeps = calls_keep.feed c.self.inside.session c.as_slice.result.now c.feed.result c.feed.new.self c.feed.ensures.does in
+    sound_kept c.self.inside.session c.feed.new.self c.self.inside.commands keeps.order keeps.parts c.self.invariant
 
 pub returns-in-Err-NotRequest-clause-feeds : goal.returns-in-Err-NotRequest-clause-feeds
 returns-in-Err-NotRequest-clause-feeds g c = λ outlet view.

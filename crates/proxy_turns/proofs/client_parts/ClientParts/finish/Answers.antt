@@ -1,5 +1,6 @@
 use Rattle.std.proofs.Common.{refl}
 use Rattle.std.proofs.lemmas.Result.{err_from_is_err_and}
+use Rattle.session_order.proofs.Kept.{calls_keep}
 use Rattle.proxy_turns.proofs.Ending.{finish_err, finishes}
 use Rattle.proxy_turns.proofs.Sound.{ended_part, handed_out, sound_ended}
 use Rattle.proxy_turns.proofs.client_parts.ClientParts.finish.Goals as goal
@@ -14,7 +15,9 @@ returns-in_default g c = rw (← c.self.view_is) (c.in_default.ensures, refl)
 
 pub invariant_of-self-2 : goal.invariant_of-self-2
 invariant_of-self-2 g c =
-    sound_ended c.self.inside.session c.ended.new.self c.self.inside.commands c.finish-end.new.self c.args.number c.finish-end.result.0 c.finish-end.result.1 c.finish-end.ensures.0 c.ended.ensures.order c.ended.ensures.behind c.finish-end.ensures.1 c.self.invariant
+    let out = handed_out c.self.inside.session c.finish-end.result.0 (ended_part c.self.inside.session c.self.inside.commands c.args.number _ _ c.finish-end.ensures.0 c.self.invariant).1 in
+    let keeps = calls_keep.ended c.self.inside.session c.finish-end.result.0 c.finish-end.result.1 c.ended.new.self out c.ended.ensures.does in
+    sound_ended c.self.inside.session c.ended.new.self c.self.inside.commands c.finish-end.new.self c.args.number c.finish-end.result.0 c.finish-end.result.1 c.finish-end.ensures.0 keeps.order keeps.behind c.finish-end.ensures.1 c.self.invariant
 
 pub returns : goal.returns
 returns g c =

@@ -12,10 +12,10 @@ pub returns-in-Some-clause-may : goal.returns-in-Some-clause-may
 returns-in-Some-clause-may g c =
     let here = c.in-Some.ensures in
     rw (← c.self.view_is) (
-      λ yes. (here.0, here.1, here.2, subst (IsOut c.self.inside.session) (sym here.3) (c.has_turn.ensures.0 yes)),
+      λ yes. (here.0, here.1, here.2, subst (IsOut c.self.inside.session) (sym here.3) (c.is_next.ensures.0 yes)),
       λ (d, at, wants, out).
           let same = some_same d here.0 (sym at ∙ here.1) in
-          c.has_turn.ensures.1 (subst (IsOut c.self.inside.session) (ap (λ (x : CommandModel). x.ticket) same ∙ here.3) out),
+          c.is_next.ensures.1 (subst (IsOut c.self.inside.session) (ap (λ (x : CommandModel). x.ticket) same ∙ here.3) out),
     )
 
 pub returns-in-Some-clause-none : goal.returns-in-Some-clause-none
@@ -25,7 +25,7 @@ returns-in-Some-clause-none g c = λ no d stands wants.
     let out = subst (λ (m : ClientModel _). IsOut m.session d.ticket) (sym c.self.view_is) (in_turn c.args.self.now c.args.number d sound stands wants) in
     let there = ap (λ (m : ClientModel _). get m.commands.posted c.args.number) c.self.view_is ∙ stands.0 in
     let same = some_same d here.0 (sym there ∙ here.1) in
-    false≢true (sym no ∙ c.has_turn.ensures.1 (subst (IsOut c.self.inside.session) (ap (λ (x : CommandModel). x.ticket) same ∙ here.3) out))
+    false≢true (sym no ∙ c.is_next.ensures.1 (subst (IsOut c.self.inside.session) (ap (λ (x : CommandModel). x.ticket) same ∙ here.3) out))
 
 pub returns-in-None-clause-none : goal.returns-in-None-clause-none
 returns-in-None-clause-none g c = rw (← c.self.view_is) (λ no d stands wants. c.in-None.ensures (d, stands.0, wants))

@@ -1,16 +1,14 @@
-use Rattle.session_order.specs.Turn.{blocks, waits_for}
-use Rattle.session_order.proofs.Keeping.{follower_keeps, follower_out, blocks_eases, waits_eases}
-use Rattle.session_order.proofs.Behind.{follower_parts}
+use Rattle.std.proofs.Common.{refl}
 use Rattle.session_order.proofs.session.Session.follower.Goals as goal
 
-pub returns-clause-out : goal.returns-clause-out
-returns-clause-out c = follower_out _ c.args.ticket _ _ c.take_follower.ensures
+pub returns-in_default : goal.returns-in_default
+returns-in_default c = rw (← c.self.view_is) (record { does = (c.in_default.ensures.0, rw c.in_default.ensures.1 refl) })
 
-pub returns-clause-kept : goal.returns-clause-kept
-returns-clause-kept c = follower_keeps blocks blocks_eases _ c.args.ticket _ _ c.take_follower.ensures
-
-pub returns-clause-order : goal.returns-clause-order
-returns-clause-order c = follower_keeps waits_for waits_eases _ c.args.ticket _ _ c.take_follower.ensures
-
-pub returns-clause-parts : goal.returns-clause-parts
-returns-clause-parts c = follower_parts _ c.args.ticket _ _ c.take_follower.ensures
+pub returns : goal.returns
+returns c =
+    rw (← c.self.view_is) (record { does = (
+      c.in-Some.ensures.0,
+      rw (c.in-Some.part-is) c.in-Some.ensures.1,
+      rw (c.in-Some.number-is, c.in-Some.ensures.2) refl,
+      rw (c.in-Some.part-is, c.in-Some.ensures.3) refl,
+    ) })

@@ -7,7 +7,7 @@ use Rattle.session_order.specs.declared.queue.PartStage.TheVariants.{Out, Done}
 use Rattle.session_order.specs.Tables.{IsTabled, tally, taken_up}
 use Rattle.session_order.proofs.Tabling.{ended, puts_none, puts_no_more, puts_next, follows_within}
 use Rattle.session_order.proofs.Turning.{got, on_ok, tally_push, heap_few, waiting_set, waits_if, stands_if}
-use Rattle.session_order.proofs.queue.end.Goals as goal
+use Rattle.session_order.proofs.queue.mark_done.Goals as goal
 
 pub returns-in_default-clause-sound : goal.returns-in_default-clause-sound
 returns-in_default-clause-sound c =

@@ -2,8 +2,8 @@ use Rattle.std.proofs.Common.{arith, refl, sym, ap, ◌∙◌, ◌≡◌, ◌+�
 use Rattle.std.specs.HashMap.{get}
 use Rattle.session_order.proofs.Forgetting.{Forgot, forgot_none, forgot_step, left_parts, left_tabled, none_waits}
 use Rattle.session_order.proofs.Turning.{waiting_none}
-use Rattle.session_order.proofs.queue.let_go.Goals as goal
-use Rattle.session_order.proofs.queue.let_go.Goals.{then-forget_at, else-forget_at}
+use Rattle.session_order.proofs.queue.forget_waiting.Goals as goal
+use Rattle.session_order.proofs.queue.forget_waiting.Goals.{then-forget_at, else-forget_at}
 
 pub loop-i-init : goal.loop-i-init
 loop-i-init c =

@@ -1,4 +1,4 @@
-use Rattle.session_order.proofs.queue.Queue.has_turn.Goals as goal
+use Rattle.session_order.proofs.queue.Queue.is_next.Goals as goal
 
 pub is_first-requires-clause-out : goal.is_first-requires-clause-out
 is_first-requires-clause-out c = rw (← c.self.view_is) at (c.is_out.ensures.0 c.if-is_out.true)

@@ -1,7 +1,7 @@
 use Rattle.std.proofs.Common.{◌≡◌, ◌≤◌, length}
 use Rattle.session_order.specs.Tables.{LinksIn}
 use Rattle.session_order.proofs.Forgetting.{Forgot}
-use Rattle.session_order.proofs.queue.let_go.Given as goal
+use Rattle.session_order.proofs.queue.forget_waiting.Given as goal
 
 abbrev pub invariant-loop-i : goal.invariant-loop-i
 invariant-loop-i l = record {
