@@ -1,7 +1,7 @@
 //! A proxy between plain Redis clients and a Redis Cluster.
 //!
 //! The program reads its words (`program_words`) and runs the subcommand that they name: `one` by
-//! `first_request::run_one`, `simulate` by `cluster_world::run_simulate`, `local` by `script_runs::run_scripts`, `nodes` by
+//! `cluster_world::run_one`, `simulate` by `cluster_world::run_simulate`, `local` by `script_runs::run_scripts`, `nodes` by
 //! `node_server::run_nodes`, and `serve` by `socket_proxy::run_wire`. The contract of each says what it promises.
 #![tactic(auto)]
 
@@ -11,10 +11,9 @@ mod log_lines;
 mod nodes;
 mod serve;
 
-use cluster_world::run_simulate;
+use cluster_world::{WatchedReader, WatchedWriter, run_one, run_simulate};
 use environment::credentials_of;
 use event_log::ErrorStream;
-use first_request::run_one;
 use nodes::serve_nodes;
 use program_words::{Choice, Serving, choose};
 use script_runs::run_scripts;
@@ -48,12 +47,20 @@ where
         + 'static,
 {
     match choice {
-        Choice::One => run_one(rt.alloc(), &mut rt.reader(), &mut std::io::writer(rt)),
-        Choice::Simulate => run_simulate(rt.alloc(), &mut rt.reader(), &mut std::io::writer(rt)),
+        Choice::One => run_one(
+            rt.alloc(),
+            &mut WatchedReader::new(rt.reader()),
+            &mut WatchedWriter::new(std::io::writer(rt)),
+        ),
+        Choice::Simulate => run_simulate(
+            rt.alloc(),
+            &mut WatchedReader::new(rt.reader()),
+            &mut WatchedWriter::new(std::io::writer(rt)),
+        ),
         Choice::Local(playing) => run_scripts(
             rt,
-            &mut rt.reader(),
-            &mut std::io::writer(rt),
+            &mut WatchedReader::new(rt.reader()),
+            &mut WatchedWriter::new(std::io::writer(rt)),
             playing.workers,
         ),
         Choice::Nodes(ports) => status_of(rt, serve_nodes(rt, rt.alloc(), ports)),

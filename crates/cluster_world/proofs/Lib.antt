@@ -25,3 +25,6 @@ mod Finding
 mod Found
 mod Going
 mod Allowing
+pub mod Ended
+mod Ends
+mod Openings

@@ -1,5 +1,5 @@
 -- Runs of `simulate`, put together.
-use Rattle.std.proofs.Common.{◌≡◌, ℕ, ◌+◌, ◌-◌, List, ◌++◌, length, drop, Result, Ok, Err, sym, ap, ◌∙◌, subst, arith}
+use Rattle.std.proofs.Common.{◌≡◌, inl, inr, ℕ, ◌+◌, ◌-◌, List, ◌++◌, length, drop, Result, Ok, Err, sym, ap, ◌∙◌, subst, arith}
 use Rattle.slot_map.specs.declared.ops.MapOp.{MapOp}
 use Rattle.world_laws.specs.State.{WorldModel}
 use Rattle.world_laws.specs.declared.event.Event.{Event}
@@ -19,20 +19,17 @@ use Rattle.cluster_world.specs.Schedule.IsBadAt.{bad_owners, no_event}
 use Rattle.cluster_world.specs.Script.{lines_of}
 use Rattle.cluster_world.specs.Simulate.{Writes, WritesFor}
 use Rattle.cluster_world.specs.Simulate.Writes.{bad, ran, refused}
-use Rattle.cluster_world.specs.Simulate.WritesFor.{whole, too_long, read_failed}
+use Rattle.cluster_world.specs.Watched.{WatchedReaderModel}
 
 pub bad_writes : (input : List ℕ) (number : ℕ) (text : List ℕ) → IsBadAt (lines_of input) number → text ≡ bad_line number → Writes input 1 text
 bad_writes input number text where' is = subst (Writes input 1) (sym is) (bad input number where')
 
 -- what is written for what was read is written for the input
-pub written : (limit : ℕ) (input : List ℕ) (read : Input) (outcome : Outcome) → IsInput limit input read → WritesInput read outcome
-    → WritesFor limit input outcome.status outcome.text.items
-written limit input (Whole bytes) outcome is writes =
-    whole limit input outcome.status outcome.text.items is.1 (subst (λ i. Writes i outcome.status outcome.text.items) is.0 writes)
-written limit input TooLong outcome is writes =
-    subst (λ s. WritesFor limit input s outcome.text.items) (sym writes.0) (subst (WritesFor limit input 1) (sym writes.1) (too_long limit input is))
-written limit input Failed outcome is writes =
-    subst (λ s. WritesFor limit input s outcome.text.items) (sym writes.0) (subst (WritesFor limit input 1) (sym writes.1) (read_failed limit input))
+pub written : {R : Type 0} (limit : ℕ) (input : List ℕ) (before : ℕ) (now : WatchedReaderModel R) (read : Input) (outcome : Outcome) → IsInput limit input before now read
+    → WritesInput read outcome → WritesFor limit input before now outcome.status outcome.text.items
+written limit input before now (Whole bytes) outcome is writes = inl (is.1, is.2, subst (λ i. Writes i outcome.status outcome.text.items) is.0 writes)
+written limit input before now TooLong outcome is writes = inr (inl (is, writes.0, writes.1))
+written limit input before now Failed outcome is writes = inr (inr (is, writes.0, writes.1))
 
 -- the lines behind the header
 abbrev pub said_behind : Header → Result (List Event) ℕ

@@ -11,6 +11,7 @@ pub mod Schedule
 pub mod Report
 pub mod Simulate
 pub mod Cuts
+pub mod Watched
 pub mod Reading
 pub mod Outcomes
 pub mod Lawful
@@ -21,3 +22,7 @@ pub mod Tables
 pub mod Posting
 pub mod Serving
 pub mod Audit
+pub mod Answers
+pub mod Opening
+pub mod Looks
+pub mod One

@@ -16,12 +16,14 @@ use Rattle.cluster_world.specs.declared.script_fault.ScriptFault.TheVariants.{No
 use Rattle.cluster_world.specs.declared.header.Header.{Header}
 use Rattle.cluster_world.specs.Script.{ScriptLine, lines_of}
 use Rattle.cluster_world.specs.Schedule.{HasHeader, IsBadAt, line_at}
+use Rattle.cluster_world.specs.Watched.{IsTooLong, WatchedReaderModel}
+use Rattle.cluster_world.specs.declared.watched.LastRead.TheVariants as last
 
--- the whole input; or as many bytes as may be read, or more; or a read failed
-abbrev pub IsInput : ℕ → List ℕ → Input → Type 0
-IsInput limit input (Whole bytes) = (bytes.items ≡ input) × (length input ≤ limit)
-IsInput limit input TooLong = limit ≤ length input
-IsInput limit input Failed = Unit {0}
+-- the whole input, whose end was seen; or it is too long; or a read failed
+abbrev pub IsInput : {R : Type 0} → ℕ → List ℕ → ℕ → WatchedReaderModel R → Input → Type 0
+IsInput limit input before now (Whole bytes) = (bytes.items ≡ input) × (length input ≤ limit) × (now.last ≡ last.End)
+IsInput limit input before now TooLong = IsTooLong limit input before now
+IsInput limit input before now Failed = now.last ≡ last.Failure
 
 -- what was read whole is within the limit
 abbrev pub IsShort : Input → Type 0
@@ -30,10 +32,13 @@ IsShort TooLong = Unit {0}
 IsShort Failed = Unit {0}
 
 -- one read: some bytes came, or the end, or it failed
-abbrev pub TakesPiece : Option (List ℕ) → Option (List ℕ) → List ℕ → Came → List ℕ → Type 0
-TakesPiece before now old came.Some new = (piece : List ℕ) × Consumes before now piece × (new ≡ old ++ piece) × (0 < length piece)
-TakesPiece before now old came.End new = Consumes before now [] × IsAtEnd now × (new ≡ old)
-TakesPiece before now old came.Failure new = new ≡ old
+abbrev pub TakesPiece : {R : Type 0} → (R → Option (List ℕ)) → WatchedReaderModel R → List ℕ → Came → WatchedReaderModel R → List ℕ → Type 0
+TakesPiece remaining before old came.Some now new =
+    (piece : List ℕ) × Consumes (remaining before.reader) (remaining now.reader) piece × (new ≡ old ++ piece) × (0 < length piece)
+    × (now.reads ≡ before.reads + 1) × (now.last ≡ last.Bytes)
+TakesPiece remaining before old came.End now new =
+    Consumes (remaining before.reader) (remaining now.reader) [] × IsAtEnd (remaining now.reader) × (new ≡ old) × (now.last ≡ last.End)
+TakesPiece remaining before old came.Failure now new = now.last ≡ last.Failure
 
 -- the first line is taken off, or there is none
 abbrev pub ReadsLine : List ℕ → Option LineRead → Type 0

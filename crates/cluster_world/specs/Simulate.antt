@@ -1,7 +1,7 @@
 -- What a run of `simulate` writes.
 -- Status 0 where every event happened. A refused event gives status 1, the text of the world before it and a line for
 -- it; any other input gives one line and status 1. This project's format.
-use Rattle.std.specs.Prelude.{◌≡◌, ℕ, ◌+◌, ◌≤◌, List, ◌++◌, length, take, Some, slice_get, codes}
+use Rattle.std.specs.Prelude.{◌≡◌, ◌⊎◌, ℕ, ◌+◌, ◌≤◌, List, ◌++◌, length, take, Some, slice_get, codes}
 use Rattle.slot_map.specs.Map.{node_after}
 use Rattle.node_model.specs.Nodes.{ClusterModel, IsOpening}
 use Rattle.world_laws.specs.State.{WorldModel, start}
@@ -13,6 +13,8 @@ use Rattle.cluster_world.specs.Steps.{RefusedFor}
 use Rattle.cluster_world.specs.Script.{lines_of}
 use Rattle.cluster_world.specs.Schedule.{Schedule, Says, IsBadAt}
 use Rattle.cluster_world.specs.Report.{state_text, refused_line, bad_line, line}
+use Rattle.cluster_world.specs.Watched.{IsTooLong, WatchedReaderModel}
+use Rattle.cluster_world.specs.declared.watched.LastRead.TheVariants.{End, Failure}
 
 -- the world in which a schedule begins
 abbrev pub Begins : Schedule → WorldModel → Type 0
@@ -32,8 +34,9 @@ too_long_text = line (codes "too long")
 abbrev pub read_failed_text : List ℕ
 read_failed_text = line (codes "read failed")
 
--- the same for an input of which so many bytes are read at most, in as many reads: one whose end has not come within them has at least so many bytes
-pub data WritesFor : ℕ → List ℕ → ℕ → List ℕ → Type 0 where
-  whole : (limit : ℕ) (input : List ℕ) (status : ℕ) (text : List ℕ) → length input ≤ limit → Writes input status text → WritesFor limit input status text
-  too_long : (limit : ℕ) (input : List ℕ) → limit ≤ length input → WritesFor limit input 1 too_long_text
-  read_failed : (limit : ℕ) (input : List ℕ) → WritesFor limit input 1 read_failed_text
+-- the same for an input of which so many bytes are read at most, in as many reads: it was read to its end, or is too long, or a read failed
+abbrev pub WritesFor : {R : Type 0} → ℕ → List ℕ → ℕ → WatchedReaderModel R → ℕ → List ℕ → Type 0
+WritesFor limit input before now status text =
+    ((length input ≤ limit) × (now.last ≡ End) × Writes input status text)
+    ⊎ ((IsTooLong limit input before now × (status ≡ 1) × (text ≡ too_long_text))
+    ⊎ ((now.last ≡ Failure) × (status ≡ 1) × (text ≡ read_failed_text)))

@@ -1,9 +1,9 @@
 //! The whole of an input, within a limit.
 
-ghost use Rattle.std.specs.Prelude.{◌≡◌, ◌≤◌, ◌<◌, ℕ, List, Some, IfOk, take, ◌++◌, OnOk, length};
-ghost use Rattle.std.specs.Io.KnownBytes.{Consumes, IsAtEnd};
+ghost use Rattle.std.specs.Prelude.{◌≡◌, ◌≤◌, ◌<◌, ◌+◌, ℕ, List, Some, IfOk, take, ◌++◌, OnOk, length};
 ghost use Rattle.cluster_world.specs.Reading.{IsInput, IsShort, TakesPiece};
 
+use crate::watched::WatchedReader;
 use resp_wire::NoMemory;
 use std::alloc::Global;
 use std::io::Read;
@@ -33,9 +33,11 @@ enum Came {
 }
 
 /// Reads to the end.
-pub fn read_input<R: Read>(alloc: Global, reader: &mut R) -> Result<Input, NoMemory>
+pub fn read_input<R: Read>(alloc: Global, reader: &mut WatchedReader<R>) -> Result<Input, NoMemory>
     ensures short { IfOk result IsShort }
-    ensures whole { IfOk result (λ read. (input : List ℕ) → R.remaining reader.old ≡ Some input → IsInput INPUT_LIMIT input read) }
+    ensures whole { IfOk result (λ read. (input : List ℕ) → R.remaining reader.old.reader ≡ Some input
+        → IsInput INPUT_LIMIT input reader.old.reads reader.new read) }
+    ensures reads { reader.new.reads ≤ reader.old.reads + INPUT_LIMIT }
 {
     let mut bytes = Vec::new(alloc);
     for reads in 0..INPUT_LIMIT {
@@ -52,11 +54,12 @@ pub fn read_input<R: Read>(alloc: Global, reader: &mut R) -> Result<Input, NoMem
 }
 
 /// Adds what one read gives.
-fn read_piece<R: Read>(reader: &mut R, bytes: &mut Vec<u8>) -> Result<Came, NoMemory>
-    ensures { IfOk result (λ came. TakesPiece (R.remaining reader.old) (R.remaining reader.new) bytes.old.items came bytes.new.items) }
+fn read_piece<R: Read>(reader: &mut WatchedReader<R>, bytes: &mut Vec<u8>) -> Result<Came, NoMemory>
+    ensures came { IfOk result (λ came. TakesPiece R.remaining reader.old bytes.old.items came reader.new bytes.new.items) }
+    ensures reads { reader.new.reads ≤ reader.old.reads + 1 }
 {
     let mut piece = [0u8; PIECE];
-    let Ok(count) = reader.read(&mut piece) else {
+    let Some(count) = reader.read(&mut piece) else {
         return Ok(Came::Failure);
     };
     if count == 0 {

@@ -1,8 +1,9 @@
 //! What a program writes, and the status that it ends with.
 
-ghost use Rattle.std.specs.Prelude.{◌≡◌, IfOk};
+ghost use Rattle.std.specs.Prelude.{◌≡◌, true, IfOk, OnErr};
 ghost use Rattle.std.specs.Io.KnownBytes.{Appends};
 
+use crate::watched::{WatchedWriter, WriteFailed};
 use resp_wire::NoMemory;
 use std::alloc::Global;
 use std::io::Write;
@@ -14,10 +15,6 @@ pub struct Outcome {
     pub text: Vec<u8>,
 }
 
-/// A write failed; how much went out is not known.
-#[derive(Clone, Copy)]
-pub struct WriteFailed;
-
 impl Outcome {
     /// A line alone, with status 1: why there is nothing else to write.
     pub fn failure(alloc: Global, line: &[u8]) -> Result<Outcome, NoMemory>
@@ -28,13 +25,12 @@ impl Outcome {
     }
 
     /// Writes the text, and gives the status.
-    pub fn write_to<W: Write>(&self, writer: &mut W) -> Result<u8, WriteFailed>
+    pub fn write_to<W: Write>(&self, writer: &mut WatchedWriter<W>) -> Result<u8, WriteFailed>
         ensures status { IfOk result (λ status. status ≡ self.now.status) }
-        ensures appends { IfOk result (λ status. Appends (W.contents writer.old) (W.contents writer.new) self.now.text.items) }
+        ensures appends { IfOk result (λ status. Appends (W.contents writer.old.writer) (W.contents writer.new.writer) self.now.text.items) }
+        ensures failed { OnErr result (writer.new.has_failed ≡ true) }
     {
-        match writer.write_all(&self.text) {
-            Ok(()) => Ok(self.status),
-            Err(_) => Err(WriteFailed),
-        }
+        writer.write(&self.text)?;
+        Ok(self.status)
     }
 }

@@ -1,18 +1,20 @@
 //! `simulate`: a script's events, one after another, from a new world.
 
-ghost use Rattle.std.specs.Prelude.{◌≡◌, ◌≢◌, ◌≤◌, ℕ, List, Some, IfOk, IfErr, length};
+ghost use Rattle.std.specs.Prelude.{◌≡◌, ◌≢◌, ◌≤◌, ◌⊎◌, ◌+◌, ℕ, List, Some, true, IfOk, IfErr, OnErr, length};
 ghost use Rattle.std.specs.Io.KnownBytes.{Appends, Keeps};
 ghost use Rattle.cluster_world.specs.Outcomes.{Opens, Reports, WritesInput, WritesScript};
 ghost use Rattle.cluster_world.specs.Reading.{IsShort};
 ghost use Rattle.cluster_world.specs.Simulate.{Writes, WritesFor};
+ghost use Rattle.cluster_world.specs.Watched.{EndsAs};
 
 use crate::fault::RunFault;
 use crate::header::{Header, read_header};
 use crate::input::{INPUT_LIMIT, Input, read_input};
-use crate::outcome::{Outcome, WriteFailed};
+use crate::outcome::Outcome;
 use crate::report::{bad_line, push_answers, push_entries, push_refused};
 use crate::schedule::read_events;
 use crate::script_fault::ScriptFault;
+use crate::watched::{WatchedReader, WatchedWriter, WriteFailed};
 use crate::world::World;
 use node_model::ClusterFault;
 use resp_wire::NoMemory;
@@ -38,11 +40,16 @@ impl From<NoMemory> for SimulateFault {
 }
 
 /// Runs the script of the reader in a new world, writes its answers and entries, and gives the status: 0 where every
-/// event happened, else 1. At most `INPUT_LIMIT` bytes are read, in as many reads.
-pub fn run_simulate<R: Read, W: Write>(alloc: Global, reader: &mut R, writer: &mut W) -> u8
+/// event happened, else 1. An input of more than `INPUT_LIMIT` bytes, or of more reads, is too long.
+pub fn run_simulate<R: Read, W: Write>(
+    alloc: Global,
+    reader: &mut WatchedReader<R>,
+    writer: &mut WatchedWriter<W>,
+) -> u8
     ensures status { result ≤ 1 }
-    ensures ran { result ≡ 0 → (input : List ℕ) → R.remaining reader.old ≡ Some input
-        → (text : List ℕ) × WritesFor INPUT_LIMIT input result text × Appends (W.contents writer.old) (W.contents writer.new) text }
+    ensures reads { reader.new.reads ≤ reader.old.reads + INPUT_LIMIT }
+    ensures ends { (input : List ℕ) → R.remaining reader.old.reader ≡ Some input
+        → EndsAs (WritesFor INPUT_LIMIT input reader.old.reads reader.new) result (W.contents writer.old.writer) (W.contents writer.new.writer) writer.new.has_failed }
 {
     match run_script(alloc, reader, writer) {
         Ok(status) => status,
@@ -54,13 +61,15 @@ pub fn run_simulate<R: Read, W: Write>(alloc: Global, reader: &mut R, writer: &m
 /// memory comes before anything is written.
 pub fn run_script<R: Read, W: Write>(
     alloc: Global,
-    reader: &mut R,
-    writer: &mut W,
+    reader: &mut WatchedReader<R>,
+    writer: &mut WatchedWriter<W>,
 ) -> Result<u8, SimulateFault>
     ensures status { IfOk result (λ status. status ≤ 1) }
-    ensures exact { IfOk result (λ status. (input : List ℕ) → R.remaining reader.old ≡ Some input
-        → (text : List ℕ) × WritesFor INPUT_LIMIT input status text × Appends (W.contents writer.old) (W.contents writer.new) text) }
-    ensures silent { IfErr result (λ fault. fault ≢ SimulateFault.WriteFailed → Keeps (W.contents writer.old) (W.contents writer.new)) }
+    ensures reads { reader.new.reads ≤ reader.old.reads + INPUT_LIMIT }
+    ensures exact { IfOk result (λ status. (input : List ℕ) → R.remaining reader.old.reader ≡ Some input
+        → (text : List ℕ) × WritesFor INPUT_LIMIT input reader.old.reads reader.new status text × Appends (W.contents writer.old.writer) (W.contents writer.new.writer) text) }
+    ensures silent { IfErr result (λ fault. fault ≢ SimulateFault.WriteFailed → Keeps (W.contents writer.old.writer) (W.contents writer.new.writer)) }
+    ensures failed { OnErr result (Keeps (W.contents writer.old.writer) (W.contents writer.new.writer) ⊎ (writer.new.has_failed ≡ true)) }
 {
     let input = read_input(alloc, reader)?;
     let outcome = outcome_of(alloc, input)?;

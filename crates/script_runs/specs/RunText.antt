@@ -4,6 +4,8 @@ use Rattle.std.specs.Prelude.{◌≡◌, ◌⊎◌, ◌≤◌, ◌++◌, ℕ, Li
 use Rattle.cluster_world.specs.Report.{bad_line, line}
 use Rattle.cluster_world.specs.Script.{lines_of}
 use Rattle.cluster_world.specs.Simulate.{too_long_text, read_failed_text}
+use Rattle.cluster_world.specs.Watched.{IsTooLong, WatchedReaderModel}
+use Rattle.cluster_world.specs.declared.watched.LastRead.TheVariants.{End, Failure}
 use Rattle.cluster_world.specs.declared.input.Input.{Input}
 use Rattle.cluster_world.specs.declared.input.Input.TheVariants.{Whole, TooLong, Failed}
 use Rattle.cluster_world.specs.declared.run_report.RunReport.{RunReport}
@@ -53,10 +55,9 @@ WritesRead workers (Whole input) status text = Writes workers input.items status
 WritesRead workers TooLong status text = (status ≡ 1) × (text ≡ too_long_text)
 WritesRead workers Failed status text = (status ≡ 1) × (text ≡ read_failed_text)
 
--- The same for an input of which so many bytes are read at most, in as many reads: one whose end has not come within them
--- has at least so many bytes.
-abbrev pub WritesFor : ℕ → ℕ → List ℕ → ℕ → List ℕ → Type 0
-WritesFor limit workers input status text =
-    ((length input ≤ limit) × Writes workers input status text)
-    ⊎ (((limit ≤ length input) × (status ≡ 1) × (text ≡ too_long_text))
-    ⊎ ((status ≡ 1) × (text ≡ read_failed_text)))
+-- the same for an input of which so many bytes are read at most, in as many reads: it was read to its end, or is too long, or a read failed
+abbrev pub WritesFor : {R : Type 0} → ℕ → ℕ → List ℕ → ℕ → WatchedReaderModel R → ℕ → List ℕ → Type 0
+WritesFor limit workers input before now status text =
+    ((length input ≤ limit) × (now.last ≡ End) × Writes workers input status text)
+    ⊎ ((IsTooLong limit input before now × (status ≡ 1) × (text ≡ too_long_text))
+    ⊎ ((now.last ≡ Failure) × (status ≡ 1) × (text ≡ read_failed_text)))

@@ -14,7 +14,8 @@ use std::alloc::Global;
 use std::sync::Wait;
 
 /// The ends of so many workers, in order, and the carrier's. All places of the lanes and of the map are made here.
-/// NoMemory also where a ring or a place of the map was not made for another cause.
+/// NoMemory also where a ring or a place of the map was not made for another cause. It may wait, as `publish` may: it publishes
+/// two lists of nothing.
 pub fn lanes<H: Drop, J: Naming, R: Wait + Drop>(
     alloc: Global,
     rt: R,

@@ -1,4 +1,0 @@
-pub mod Answers
-pub mod Opening
-pub mod Looks
-pub mod One
