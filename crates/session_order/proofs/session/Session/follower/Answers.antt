@@ -6,9 +6,11 @@ returns-in_default c = rw (← c.self.view_is) (record { does = (c.in_default.en
 
 pub returns : goal.returns
 returns c =
-    rw (← c.self.view_is) (record { does = (
-      c.in-Some.ensures.0,
-      rw (c.in-Some.part-is) c.in-Some.ensures.1,
-      rw (c.in-Some.number-is, c.in-Some.ensures.2) refl,
-      rw (c.in-Some.part-is, c.in-Some.ensures.3) refl,
-    ) })
+    rw (← c.self.view_is) (record {
+      does = (
+        c.in-Some.ensures.0,
+        rw (c.in-Some.part-is) c.in-Some.ensures.1,
+        rw (c.in-Some.number-is, c.in-Some.ensures.2) refl,
+        rw (c.in-Some.part-is, c.in-Some.ensures.3) refl,
+      );
+    })

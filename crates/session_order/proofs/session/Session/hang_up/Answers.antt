@@ -17,16 +17,18 @@ returns c =
     let incoming : c.new.result ≡ nothing_read full = c.new.ensures ∙ ap nothing_read c.full.ensures in
     let requests = c.keep_one.ensures ∙ ap one_for count in
     let ends = c.keep_lost.ensures ∙ ap (λ n. replicate n Lost) count in
-    rw (← c.self.view_is) (record { does = hangs_up _ _ (record {
-      parts = c.let_go.ensures;
-      rest = λ i. record {
-        worker = c.self.inside.worker;
-        client = c.self.inside.client;
-        incoming = incoming i;
-        requests = requests i;
-        stages = c.let_go.new.self.stages;
-        ends = ends i;
-        first = c.let_go.new.self.first;
-        closing = Quit;
-      };
-    }) })
+    rw (← c.self.view_is) (record {
+      does = hangs_up _ _ (record {
+        parts = c.let_go.ensures;
+        rest = λ i. record {
+          worker = c.self.inside.worker;
+          client = c.self.inside.client;
+          incoming = incoming i;
+          requests = requests i;
+          stages = c.let_go.new.self.stages;
+          ends = ends i;
+          first = c.let_go.new.self.first;
+          closing = Quit;
+        };
+      });
+    })
