@@ -75,7 +75,7 @@ born worker number port = inl (
     met = λ e. absurd (false≢true e);
     closed = tt;
     replied = record { gone = []; line = []; owed = refl; parts = refl; known = λ part low less. absurd (omega (arith, less)); bytes = refl; lined = inl refl };
-    read = record { values = []; text = []; rest = []; spelled = refl; read_is = refl; are = refl; next = λ is. (refl, [], refl, refl); fault = λ why f. absurd (open-faulted why Open refl f) };
+    read = record { values = []; text = []; rest = []; spelled = refl; read_is = refl; accepted = tt; are = refl; next = λ is. (refl, [], refl, refl); fault = λ why f. absurd (open-faulted why Open refl f) };
   },
   record {
     posted = λ q c there. absurd (none-some (get empty q) c (get-empty nat_cmp q) there);
@@ -103,13 +103,13 @@ stays-closed : (came : List ℕ) (old new : SessionModel) (unfed : List ℕ) →
     → HasRead came read old.incoming old.closing unfed → HasRead came (read ++ []) new.incoming new.closing unfed
 stays-closed came old new unfed same closing = nothing-read came old new unfed same (λ e. sym closing ∙ e) (λ why f. subst (FaultedBy why) closing f)
 
-faulted-said : (b : Bool) (closing : Closing) (why : Broken) → FaultedBy why (if b then said closing else closing) → FaultedBy why closing
+pub faulted-said : (b : Bool) (closing : Closing) (why : Broken) → FaultedBy why (if b then said closing else closing) → FaultedBy why closing
 faulted-said true Open why f = f
 faulted-said true Quit why f = f
 faulted-said true (Faulted own line) why (owed, is) = let same : own ≡ why = cc in (line, ap (λ w. Faulted w line) same)
 faulted-said false closing why f = f
 
-open-said : (b : Bool) (closing : Closing) → (if b then said closing else closing) ≡ Open → closing ≡ Open
+pub open-said : (b : Bool) (closing : Closing) → (if b then said closing else closing) ≡ Open → closing ≡ Open
 open-said true Open is = refl
 open-said true Quit is = is
 open-said true (Faulted why owed) is = absurd (cc)

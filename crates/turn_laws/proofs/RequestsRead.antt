@@ -30,7 +30,7 @@ use Rattle.session_order.specs.Life.{Read, Reads, read_by}
 use Rattle.session_order.proofs.Added.{parts_of_push}
 use Rattle.session_order.proofs.Told.{is_above, split_ok}
 use Rattle.proxy_turns.specs.ClientTurn.{left_of}
-use Rattle.turn_laws.specs.Pipelines.{BeginsWithFault, IsRefused, request_of, requests_of}
+use Rattle.turn_laws.specs.Pipelines.{AreAccepted, BeginsWithFault, IsRefused, is_accepted, request_of, requests_of}
 use Rattle.turn_laws.proofs.OutputFronts.{fault-then}
 
 -- the bytes of a request that was taken off and not read yet, if there is one
@@ -51,6 +51,7 @@ pub record HasRead (came : List ℕ) (read : List (List (List ℕ))) (incoming :
   pub rest : List ℕ
   pub spelled : SpellsAll full full.depth text (items_of values)
   pub read_is : read ≡ requests_of values
+  pub accepted : AreAccepted values
   pub are : came ≡ text ++ rest
   pub next : closing ≡ Open → IsNext came text incoming unfed
   pub fault : (why : Broken) → FaultedBy why closing → BeginsWithFault read rest
@@ -61,6 +62,10 @@ spells-push l room text bytes [] value none one = (bytes, [], ap (λ front. fron
 spells-push l room text bytes (v ∷ values) value (first, rest, is, own, all) one =
     (first, rest ++ bytes, ap (λ front. front ++ bytes) is ∙ append_assoc first rest bytes, own, spells-push l room rest bytes values value all one)
 
+accepted-push : (values : List Data) (value : Data) → AreAccepted values → is_accepted (asked_of value) ≡ true → AreAccepted (values ++ value ∷ [])
+accepted-push [] value all one = (one, tt)
+accepted-push (v ∷ values) value all one = (all.0, accepted-push values value all.1 one)
+
 -- nothing changes of what is read
 pub kept : (came : List ℕ) (read : List (List (List ℕ))) (incoming incoming' : RequestReaderModel) (closing closing' : Closing) (unfed : List ℕ) → incoming' ≡ incoming → (closing' ≡ Open → closing ≡ Open)
     → ((why : Broken) → FaultedBy why closing' → FaultedBy why closing) → HasRead came read incoming closing unfed → HasRead came read incoming' closing' unfed
@@ -70,6 +75,7 @@ kept came read incoming incoming' closing closing' unfed same opens faults h = r
   rest = h.rest;
   spelled = h.spelled;
   read_is = h.read_is;
+  accepted = h.accepted;
   are = h.are;
   next = λ is. subst (λ now. IsNext came h.text now unfed) (sym same) (h.next (opens is));
   fault = λ why f. h.fault why (faults why f);
@@ -84,6 +90,7 @@ pulled came read incoming closing unfed bytes h = record {
   rest = h.rest ++ bytes;
   spelled = h.spelled;
   read_is = h.read_is;
+  accepted = h.accepted;
   are = ap (λ front. front ++ bytes) h.are ∙ append_assoc h.text h.rest bytes;
   next = λ is. let (bounds, ahead, its, all) = h.next is in (bounds, ahead, its, ap (λ front. front ++ bytes) all ∙ simp append_assoc);
   fault = λ why f. fault-then read h.rest bytes (h.fault why f);
@@ -108,6 +115,7 @@ feeds came read old new unfed left same h next = record {
   rest = h.rest;
   spelled = h.spelled;
   read_is = h.read_is;
+  accepted = h.accepted;
   are = h.are;
   next = λ is. next (sym same ∙ is);
   fault = λ why f. h.fault why (subst (FaultedBy why) same f);
@@ -168,14 +176,15 @@ words-off old words rest (inr (none, value, takes, kind, is)) = ap (λ (r : Requ
 
 -- its request is read
 one-more : (came : List ℕ) (read more : List (List (List ℕ))) (old new : RequestReaderModel) (closing closing' : Closing) (unfed : List ℕ) (asked : RequestKindModel)
-    → (h : HasRead came read old closing unfed) → Takes came h.text asked new unfed → more ≡ request_of asked → ((why : Broken) → FaultedBy why closing' → ⊥) → HasRead came (read ++ more) new closing' unfed
-one-more came read more old new closing closing' unfed asked h (bytes, value, spells, kind, next) words faultless = record {
+    → (h : HasRead came read old closing unfed) → Takes came h.text asked new unfed → more ≡ request_of asked → is_accepted asked ≡ true → ((why : Broken) → FaultedBy why closing' → ⊥) → HasRead came (read ++ more) new closing' unfed
+one-more came read more old new closing closing' unfed asked h (bytes, value, spells, kind, next) words taken-on faultless = record {
   values = h.values ++ value ∷ [];
   text = h.text ++ bytes;
   rest = next.1 ++ (new.input.unread ++ unfed);
   spelled = spells-push full full.depth h.text bytes h.values value h.spelled spells;
   read_is = (λ i. h.read_is i ++ words i) ∙ ap (λ k. requests_of h.values ++ request_of k) (sym kind) ∙ ap (λ last. requests_of h.values ++ last) (sym (append-nil (request_of (asked_of value))))
       ∙ sym (flat_map-append (λ v. request_of (asked_of v)) h.values (value ∷ []));
+  accepted = accepted-push h.values value h.accepted (ap is_accepted kind ∙ taken-on);
   are = next.3;
   next = λ is. next;
   fault = λ why f. absurd (faultless why f);
@@ -190,7 +199,7 @@ added-incoming old (Ok (planned.Local value)) new is = ap (λ (held : SessionMod
 added-incoming old (Ok planned.Close) new is = ap (λ (held : SessionModel). held.incoming) (split_ok true (record (with_owed old (Ok planned.Close)) { closing = Quit }) new is)
 added-incoming old (Ok (planned.Parts how parts)) new is = ap (λ (held : SessionModel). held.incoming) (split_ok (nat_le (old.first + length old.stages + length parts) (2 ^ 48)) _ new is)
 
-quit-faulted : (why : Broken) → FaultedBy why Quit → ⊥
+pub quit-faulted : (why : Broken) → FaultedBy why Quit → ⊥
 quit-faulted why (owed, e) = absurd (cc)
 
 pub open-faulted : (why : Broken) (closing : Closing) → closing ≡ Open → FaultedBy why closing → ⊥
@@ -232,6 +241,7 @@ breaks came read old new unfed why closed h rest are bad = record {
   rest = rest;
   spelled = h.spelled;
   read_is = h.read_is;
+  accepted = h.accepted;
   are = are;
   next = λ is. absurd (open-faulted why new.closing is (true, closed));
   fault = λ other f. bad;
@@ -261,6 +271,7 @@ module _ (whole : FrontIsWhole) (faulty : FrontIsFaulty) where
         rest = h.rest;
         spelled = h.spelled;
         read_is = h.read_is;
+        accepted = h.accepted;
         are = h.are;
         next = λ _. subst (λ now. IsNext came h.text now unfed) (sym is) (next.0, bytes, (value, spells, kind), behind);
         fault = λ why f. h.fault why (subst (FaultedBy why) still f);
@@ -271,10 +282,10 @@ module _ (whole : FrontIsWhole) (faulty : FrontIsFaulty) where
   reads came read old unfed (Ok true) (Some words) new counted (may, rest, (next, is)) h =
       let same : new.incoming ≡ rest = added-incoming (with_incoming old rest) (plan_for words) new is in
       one-more came read (words ∷ []) old.incoming new.incoming old.closing new.closing unfed (Words words) h
-      (subst (λ now. Takes came h.text (Words words) now unfed) (sym same) (next-words whole came h.text old.incoming words rest unfed next (h.next may.0))) refl
+      (subst (λ now. Takes came h.text (Words words) now unfed) (sym same) (next-words whole came h.text old.incoming words rest unfed next (h.next may.0))) refl refl
       (added-faultless (with_incoming old rest) (plan_for words) new is may.0)
   reads came read old unfed (Ok true) None new counted (may, takes, is) h =
-      one-more came read [] old.incoming new.incoming old.closing new.closing unfed Skipped h (taken whole came h.text old.incoming Skipped new.incoming unfed takes (h.next may.0)) refl
+      one-more came read [] old.incoming new.incoming old.closing new.closing unfed Skipped h (taken whole came h.text old.incoming Skipped new.incoming unfed takes (h.next may.0)) refl refl
       (λ why. open-faulted why new.closing (ap (λ (held : SessionModel). held.closing) is ∙ may.0))
   reads came read old unfed (Ok false) None new counted (is, why) h = none-read came read new unfed (same-read came read old new unfed is h)
   reads came read old unfed (Ok false) (Some words) new counted does h = absurd does

@@ -55,7 +55,7 @@ others-execute moment = (
 
 module _ {C J : Type 0} where
   -- steps of ours are steps beside others
-  ours : (events : List SystemEvent) (s s' : System C J) → FoldsTo SystemStep s events s' → FoldsTo SharedSystemStep s (map SharedEvent.Ours events) s'
+  pub ours : (events : List SystemEvent) (s s' : System C J) → FoldsTo SystemStep s events s' → FoldsTo SharedSystemStep s (map SharedEvent.Ours events) s'
   ours [] s s' f = f
   ours (event ∷ events) s s' f = (f.0, f.1, ours events f.0 s' f.2)
 

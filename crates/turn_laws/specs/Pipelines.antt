@@ -1,6 +1,6 @@
 -- The requests that a client's bytes spell, and the output for them by the ends that it is told. What the output is says session_order's
 -- Output.antt.
-use Rattle.std.specs.Prelude.{◌≡◌, ◌⊎◌, ◌<◌, ◌^◌, ℕ, List, [], ◌∷◌, ◌++◌, Bool, true, map}
+use Rattle.std.specs.Prelude.{◌≡◌, ◌⊎◌, ◌<◌, ◌^◌, ℕ, List, [], ◌∷◌, ◌++◌, Bool, true, false, map}
 use Rattle.std.specs.List.{flat_map, list_any}
 use mathlib.Core.List.{IsPrefix}
 use Rattle.resp_wire.specs.Data.{Data, items_of}
@@ -24,6 +24,16 @@ request_of Refused = []
 -- the requests among these values
 abbrev pub requests_of : List Data → List (List (List ℕ))
 requests_of values = flat_map (λ value. request_of (asked_of value)) values
+
+-- a value that is a request, or one that is skipped
+abbrev pub is_accepted : RequestKindModel → Bool
+is_accepted (Words words) = true
+is_accepted Skipped = true
+is_accepted Refused = false
+
+abbrev pub AreAccepted : List Data → Type 0
+AreAccepted [] = Unit {0}
+AreAccepted (value ∷ values) = (is_accepted (asked_of value) ≡ true) × AreAccepted values
 
 -- refused behind these requests: a value that is no request, or one with more parts than can be numbered
 abbrev pub IsRefused : List (List (List ℕ)) → RequestKindModel → Type 0

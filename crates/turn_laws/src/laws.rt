@@ -4,6 +4,7 @@ ghost use Rattle.turn_laws.specs.Walks.{EveryWalk};
 ghost use Rattle.turn_laws.specs.Settling.{Settling, SettlingAfter};
 ghost use Rattle.turn_laws.specs.ClientOutput.{AllClientsAreWritten, ClientsAreWritten};
 ghost use Rattle.turn_laws.specs.LogOutput.{AnswersWereTold, LogIsWritten};
+ghost use Rattle.turn_laws.specs.Arrivals.{ArrivalsAreSent, SharedArrivalsAreSent};
 ghost use Rattle.turn_laws.specs.AnyPort.{AnyClients, AnyClientTurns, AnyPorts, WiresStand};
 ghost use Rattle.turn_laws.specs.Scripts.{GivesBack, LosesCommands, MisreadsLines, MovesUnderUse, PairsCommands};
 ghost use Rattle.turn_laws.specs.Refines.{CarrierRefines, MovesRefine, NamesStay, NodesRefine, Refines, StartsRefine, ThrownRefine, WorkersRefine};
@@ -161,6 +162,18 @@ pub fn clients_are_written<C: Drop, J: Naming>()
 pub fn log_is_written<C: Drop, J: Naming>()
     ensures written { LogIsWritten C J }
     ensures told { AnswersWereTold C J }
+{
+    drains_output();
+    front_is_whole();
+    front_is_faulty();
+    parts_of_plans_are_plain();
+}
+
+/// What the log shows arrived for a client is what this client sent: all parts of the requests that its bytes begin with, in order, each
+/// with its number. So it is whatever a system does from its start, and where others act too.
+pub fn arrivals_are_sent<C: Drop, J: Naming>()
+    ensures alone { ArrivalsAreSent C J }
+    ensures beside_others { SharedArrivalsAreSent C J }
 {
     drains_output();
     front_is_whole();
