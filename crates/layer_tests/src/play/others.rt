@@ -57,12 +57,21 @@ fn is_led_on(orders: &mut Vec<Order>, tolds: &[Told]) -> bool {
 }
 
 fn leads(orders: &mut Vec<Order>, to: NodeId, behind_asking: bool) -> bool {
-    let Some(Order::Others(node, asking, _)) = orders.first_mut() else {
-        return false;
-    };
-    *node = to;
-    *asking = behind_asking;
-    true
+    match orders.first_mut() {
+        Some(order) => send_to(order, to, behind_asking),
+        None => false,
+    }
+}
+
+fn send_to(order: &mut Order, to: NodeId, behind_asking: bool) -> bool {
+    match order {
+        Order::Others(node, asking, _) => {
+            *node = to;
+            *asking = behind_asking;
+            true
+        }
+        _ => false,
+    }
 }
 
 fn show(tolds: &[Told], line: &mut Line) {
