@@ -30,7 +30,7 @@ impl AnswersRow for PlayRow {
     }
 }
 
-/// Rows over a first play.
+/// Rows over two plays, the lanes of the first in a history that was just opened.
 fn first_named<J, R, B, W, O>(
     rt: R,
     opened: Opened,
@@ -45,12 +45,33 @@ where
     O: Object + Drop,
     requires { book_of opened ≡ J.book }
 {
+    both_named::<J, Brand, R, B, W, O>(rt, opened, Opened::new(), others, rows)
+}
+
+/// Rows over two plays, with a history for each.
+fn both_named<J, K, R, B, W, O>(
+    rt: R,
+    opened: Opened,
+    second: Opened,
+    others: O,
+    rows: &mut Rows<B, W>,
+) -> io::Result<bool>
+where
+    J: Naming,
+    K: Naming,
+    R: RowHost,
+    B: BufRead,
+    W: Write,
+    O: Object + Drop,
+    requires first { book_of opened ≡ J.book }
+    requires second { book_of second ≡ K.book }
+{
     match lanes::<Newcomer<SharedClient, J>, J, R>(rt.alloc(), rt, opened, WORKERS) {
         Ok((workers, carrier)) => {
             let gate = Open;
             let ends = Ends { workers, carrier };
-            first_over::<R, B, W, O, Ends<J, R>, MemoryPlay<'_, J, R>>(
-                rt, &gate, ends, others, rows,
+            first_over::<K, R, B, W, O, Ends<J, R>, MemoryPlay<'_, J, R>>(
+                rt, &gate, second, ends, others, rows,
             )
         }
         Err(_) => Ok(false),
@@ -58,23 +79,26 @@ where
 }
 
 // The types of ends and plays are parameters here, since a value of such a type is dropped by one call.
-fn first_over<'g, R, B, W, O, E, P>(
+fn first_over<'g, K, R, B, W, O, E, P>(
     rt: R,
     gate: &'g Open,
+    second: Opened,
     ends: E,
     others: O,
     rows: &mut Rows<B, W>,
 ) -> io::Result<bool>
 where
+    K: Naming,
     R: RowHost,
     B: BufRead,
     W: Write,
     O: Object + Drop,
     E: Entrance + Drop,
     P: Plays + Begins<'g, E> + Drop,
+    requires { book_of second ≡ K.book }
 {
     let first = Stage::<'g, E, P>::new(rt.alloc(), gate, ends);
-    second_named::<Brand, R, B, W, Stage<'g, E, P>, O>(rt, Opened::new(), first, others, rows)
+    second_named::<K, R, B, W, Stage<'g, E, P>, O>(rt, second, first, others, rows)
 }
 
 /// Rows over a first play and a second one.
