@@ -1,4 +1,4 @@
-"""Ten thousand plays of two proxies before one cluster, beside a client that is none: what each proxy does, the steps of moves, connections
+"""A thousand plays of two proxies before one cluster, beside a client that is none: what each proxy does, the steps of moves, connections
 that break, refusals, and what the other client asks for, in an order at random.
 
 Each proxy has two clients, and the second one begins later. All ask for the same keys, whose slots move meanwhile. What nodes executed has
@@ -14,7 +14,7 @@ from legal import Command, Others, is_legal
 from orders import GAVE_UP, LOST, Seen, steps_of_moves
 from table import Row, quoted, request
 
-SHARED_PLAYS = 10_000
+SHARED_PLAYS = 1_000
 TAGS, PROXIES, CLIENTS = "pq", ("play", "second"), (0, 1)
 # So many commands has a client, so many things happen in a play, and so many rounds of all take it to its end.
 COMMANDS, EVENTS, TO_THE_END = 4, 60, 30
@@ -197,10 +197,10 @@ def add_shared_play(row, number, seen):
     play.clients_end()
 
 
-def ten_thousand_shared_plays():
+def a_thousand_shared_plays():
     """Whatever two proxies and others do in whatever order, everybody is served as by one store."""
     seen = Seen(plays=SHARED_PLAYS)
-    row = Row("ten_thousand_shared_plays", note=seen)
+    row = Row("a_thousand_shared_plays", note=seen)
     for number in range(SHARED_PLAYS):
         if number:
             row.call("reset")
