@@ -13,7 +13,7 @@ sys.path.append(os.path.join(os.path.dirname(os.path.abspath(__file__)), "..", "
 
 from answers import slot_of
 from orders import CLIENTS, OWN, SHARED, Seen, counted, script_of, served_as_by_one_store, steps_of_moves
-from shared_plays import a_thousand_shared_plays
+from shared_plays import ten_thousand_shared_plays
 from table import Row, quoted, request
 
 PLAYS = 10_000
@@ -82,4 +82,4 @@ def ten_thousand_plays():
 
 
 def rows():
-    return [ten_thousand_plays(), a_thousand_shared_plays()]
+    return [ten_thousand_plays(), ten_thousand_shared_plays()]

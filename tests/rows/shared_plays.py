@@ -1,4 +1,4 @@
-"""A thousand plays of two proxies before one cluster, beside a client that is none: what each proxy does, the steps of moves, connections
+"""Ten thousand plays of two proxies before one cluster, beside a client that is none: what each proxy does, the steps of moves, connections
 that break, refusals, and what the other client asks for, in an order at random.
 
 Each proxy has two clients, and the second one begins later. All ask for the same keys, whose slots move meanwhile. What nodes executed has
@@ -14,7 +14,7 @@ from legal import Command, Others, is_legal
 from orders import GAVE_UP, LOST, Seen, steps_of_moves
 from table import Row, quoted, request
 
-SHARED_PLAYS = 1_000
+SHARED_PLAYS = 10_000
 TAGS, PROXIES, CLIENTS = "pq", ("play", "second"), (0, 1)
 # So many commands has a client, so many things happen in a play, and so many rounds of all take it to its end.
 COMMANDS, EVENTS, TO_THE_END = 4, 60, 30
@@ -107,13 +107,17 @@ class Play:
             self.call(f"{proxy} client {client} {client} {quoted(data)}")
 
     def look(self):
-        """How many of a client's commands were answered by now."""
+        """How many of a client's commands have ended by now: those for one slot in their order, those for two slots in any."""
         proxy, client = self.chance.choice(list(self.asked))
         moment = self.moment + bool(self.orders)
 
         def test(answer):
-            for _, command in self.asked[proxy, client][: int(answer)]:
-                command.seen = min(command.seen, moment)
+            commands = self.asked[proxy, client]
+            for tag in TAGS:
+                mine = [command for its, command in commands if its == tag]
+                elsewhere = len(commands) - len(mine)
+                for command in mine[: max(int(answer) - elsewhere, 0)]:
+                    command.seen = min(command.seen, moment)
             return True
 
         self.call(f"{proxy} ends {client}", Fitting("a number", test))
@@ -197,10 +201,10 @@ def add_shared_play(row, number, seen):
     play.clients_end()
 
 
-def a_thousand_shared_plays():
+def ten_thousand_shared_plays():
     """Whatever two proxies and others do in whatever order, everybody is served as by one store."""
     seen = Seen(plays=SHARED_PLAYS)
-    row = Row("a_thousand_shared_plays", note=seen)
+    row = Row("ten_thousand_shared_plays", note=seen)
     for number in range(SHARED_PLAYS):
         if number:
             row.call("reset")
