@@ -43,12 +43,12 @@ one_end commands number ticket ticket' end end' (c, there, named, over) (d, at_i
 module _ {C : Type 0} (moves : Moves C) where
   -- what was noted is what the session learns
   pub finishes : (t : ClientModel C) (number : ℕ) (ticket ticket' : Ticket) (end end' : Ended) (port : C) (session : SessionModel) (commands : CommandsModel)
-      → HasEnd t.commands number ticket end → HasEnd t.commands number ticket' end' → number ≡ ticket'.part → moves t.port [] [] ((ticket, end) ∷ []) port
+      → HasEnd t.commands number ticket end → HasEnd t.commands number ticket' end' → number ≡ ticket'.part → moves.between t.port [] [] ((ticket, end) ∷ []) port
       → EndOutcome t.session ticket' end' session → commands ≡ record t.commands { posted = remove t.commands.posted number } → IsHandedOut t.session ticket' → (next : Option Ticket) → NextInTurn t.session ticket' next
       → FinishOutcome moves t number (Ok (finish.Ended next)) (record t { port = port; session = session; commands = commands })
   finishes t number ticket ticket' end end' port session commands has also part m ends left out next comes =
       let one = one_end t.commands number ticket ticket' end end' has also in
-      let noted : moves t.port [] [] ((ticket', end') ∷ []) port = subst (λ (p : Ticket × Ended). moves t.port [] [] (p ∷ []) port) (λ i. (one.0 i, one.1 i)) m in
+      let noted : moves.between t.port [] [] ((ticket', end') ∷ []) port = subst (λ (p : Ticket × Ended). moves.between t.port [] [] (p ∷ []) port) (λ i. (one.0 i, one.1 i)) m in
       let with_commands : CommandsModel → ClientModel C = λ cs. record t { port = port; session = session; commands = cs } in (
         ticket',
         end',
@@ -58,7 +58,7 @@ module _ {C : Type 0} (moves : Moves C) where
         comes,
       )
 
-  pub finish_err : (t : ClientModel C) (number : ℕ) (port : C) (e : NoMemory) (result : Result Finish NoMemory) → result ≡ Err e → moves t.port [] [] [] port
+  pub finish_err : (t : ClientModel C) (number : ℕ) (port : C) (e : NoMemory) (result : Result Finish NoMemory) → result ≡ Err e → moves.between t.port [] [] [] port
       → FinishOutcome moves t number result (record t { port = port })
   finish_err t number port e result is m =
       let P : Result Finish NoMemory → Type 0 = λ r. FinishOutcome moves t number r (record t { port = port }) in subst P (sym is) (m, refl)

@@ -102,17 +102,17 @@ module _ {C : Type 0} (moves : Moves C) (may : ClientEvent → Bool) where
   goes_anyhow old (Err e) new goes = goes
 
   module _ (t : ClientModel C) (o : Outlet RunModel) (v : List MapOp) where
-    pub tried : may Tried ≡ true → (port : C) → moves t.port [] [] [] port → ClientGoesBy moves may (at t o v) false (at (record t { port = port }) o v)
+    pub tried : may Tried ≡ true → (port : C) → moves.between t.port [] [] [] port → ClientGoesBy moves may (at t o v) false (at (record t { port = port }) o v)
     tried kind port m = by (at t o v) Tried _ false refl kind (m, refl)
 
-    pub pulled : ((bytes : List ℕ) → may (Pulled bytes) ≡ true) → (port : C) (bytes : List ℕ) (moved : Bool) → t.unfed ≡ [] → moves t.port bytes [] [] port → moved ≡ nat_lt 0 (length bytes)
+    pub pulled : ((bytes : List ℕ) → may (Pulled bytes) ≡ true) → (port : C) (bytes : List ℕ) (moved : Bool) → t.unfed ≡ [] → moves.between t.port bytes [] [] port → moved ≡ nat_lt 0 (length bytes)
         → ClientGoesBy moves may (at t o v) moved (at (record t { port = port; unfed = bytes }) o v)
     pulled kind port bytes moved none m is =
         let with_unfed : List ℕ → ClientContext C = λ u. at (record t { port = port; unfed = u }) o v in
         by (at t o v) (Pulled bytes) (with_unfed bytes) moved is (kind bytes) (m, ap (λ (u : List ℕ). with_unfed (u ++ bytes)) (sym none))
 
-    pub parted : may Parted ≡ true → (t' : ClientModel C) → t.gone ≡ false → HangsUp t.session t'.session → t' ≡ record t { session = t'.session; gone = true; unfed = []; unpushed = [] } → ClientGoesBy moves may (at t o v) true (at t' o v)
-    parted kind t' here hangs is = by (at t o v) Parted (at t' o v) true refl kind (here, hangs, ap (λ x. at x o v) is)
+    pub parted : may Parted ≡ true → (t' : ClientModel C) → t.gone ≡ false → moves.gone t.port → HangsUp t.session t'.session → t' ≡ record t { session = t'.session; gone = true; unfed = []; unpushed = [] } → ClientGoesBy moves may (at t o v) true (at t' o v)
+    parted kind t' here left hangs is = by (at t o v) Parted (at t' o v) true refl kind (here, left, hangs, ap (λ x. at x o v) is)
 
     pub fed : ((result : Result ℕ SessionFault) → may (Fed result) ≡ true) → (session : SessionModel) (result : Result ℕ SessionFault) (unfed : List ℕ) (moved : Bool) → FeedOutcome t.session t.unfed result session
         → unfed ≡ left_of t.unfed result → moved ≡ is_client_move (Fed result) → ClientGoesBy moves may (at t o v) moved (at (record t { session = session; unfed = unfed }) o v)
@@ -158,7 +158,7 @@ module _ {C : Type 0} (moves : Moves C) (may : ClientEvent → Bool) where
         let is : at t o v ≡ at (record t { session = session; unpushed = unpushed }) o v = λ i. at (record t { session = sym same i; unpushed = sym kept i }) o v in
         subst (ClientGoesBy moves may (at t o v) false) is (stays (at t o v))
 
-    pub pushed : ((bytes : List ℕ) → may (Pushed bytes) ≡ true) → (port : C) (bytes unpushed : List ℕ) (moved : Bool) → moves t.port [] bytes [] port → t.unpushed ≡ bytes ++ unpushed
+    pub pushed : ((bytes : List ℕ) → may (Pushed bytes) ≡ true) → (port : C) (bytes unpushed : List ℕ) (moved : Bool) → moves.between t.port [] bytes [] port → t.unpushed ≡ bytes ++ unpushed
         → moved ≡ nat_lt 0 (length bytes) → ClientGoesBy moves may (at t o v) moved (at (record t { port = port; unpushed = unpushed }) o v)
     pushed kind port bytes unpushed moved m left is = by (at t o v) (Pushed bytes) _ moved is (kind bytes) (m, left, refl)
 
@@ -185,7 +185,7 @@ module _ {C : Type 0} (moves : Moves C) (may : ClientEvent → Bool) where
     with_unfed : (port : C) (unfed : List ℕ) → t.unfed ≡ [] → unfed ≡ [] → at (record t { port = port }) o v ≡ at (record t { port = port; unfed = unfed }) o v
     with_unfed port unfed none still = λ i. at (record t { port = port; unfed = (none ∙ sym still) i }) o v
 
-    pub takes_none : may Tried ≡ true → (port : C) (unfed : List ℕ) → t.unfed ≡ [] → moves t.port [] [] [] port × (unfed ≡ [])
+    pub takes_none : may Tried ≡ true → (port : C) (unfed : List ℕ) → t.unfed ≡ [] → moves.between t.port [] [] [] port × (unfed ≡ [])
         → ClientGoesBy moves may (at t o v) false (at (record t { port = port; unfed = unfed }) o v)
     takes_none kind port unfed none (m, still) = subst (ClientGoesBy moves may (at t o v) false) (with_unfed port unfed none still) (tried kind port m)
 

@@ -212,7 +212,7 @@ module _ {C J : Type 0} (moves : Moves C) (may : WorkerEvent → Bool) where
   found_none kind base inlet' takes = by_all base FoundNone (record base { inlet = inlet' }) false refl kind (takes, refl)
 
   pub has_left : ((number : ℕ) → may (Left number) ≡ true) → (base : WorkerModel C J) (clients' : FinMap nat_cmp (ClientModel C)) (ports' : List C) (number : ℕ) (last port : C)
-      → Leaves base.clients number last clients' → moves last [] [] [] port → ports' ≡ with_port base.left base.ports port
+      → Leaves base.clients number last clients' → moves.between last [] [] [] port → ports' ≡ with_port base.left base.ports port
       → WorkerGoesBy moves may base true (record base { clients = clients'; ports = ports' })
   has_left kind base clients' ports' number last port leaves closed is =
       by_all base (Left number) (record base { clients = clients'; ports = ports' }) true refl (kind number) (last, port, leaves, closed, λ i. record base { clients = clients'; ports = is i })
@@ -234,7 +234,7 @@ module _ {C J : Type 0} (moves : Moves C) (may : WorkerEvent → Bool) where
         one,
         used,
         learns,
-        subst (λ (x : ClientModel C). moves x.port [] [] [] port) begins closed,
+        subst (λ (x : ClientModel C). moves.between x.port [] [] [] port) begins closed,
         λ i. record base { clients = same i; newest = last i; newcomers = newcomers'; left = left'; view = view'; ports = away i },
       )
 

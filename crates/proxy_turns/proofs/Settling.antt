@@ -146,7 +146,7 @@ module _ {C : Type 0} (moves : Moves C) where
       none_new old.client new.client (ap (λ (x : ClientContext C). x.client.commands.posted) is) (drain_parts most_drained old.client.session old.client.unpushed (Ok n) new.client.session new.client.unpushed drains).out
   client_one (Pushed bytes) old new (m, left, is) = none_new old.client new.client (ap (λ (x : ClientContext C). x.client.commands.posted) is) (same_out old.client.session new.client.session (ap (λ (x : ClientContext C). x.client.session) is))
   client_one Tried old new (m, is) = none_new old.client new.client (ap (λ (x : ClientContext C). x.client.commands.posted) is) (same_out old.client.session new.client.session (ap (λ (x : ClientContext C). x.client.session) is))
-  client_one Parted old new (there, hangs, is) = none_new old.client new.client (ap (λ (x : ClientContext C). x.client.commands.posted) is) (hangs_parts old.client.session new.client.session hangs).out
+  client_one Parted old new (there, left, hangs, is) = none_new old.client new.client (ap (λ (x : ClientContext C). x.client.commands.posted) is) (hangs_parts old.client.session new.client.session hangs).out
   client_one (Dropped tickets) old new (gone, some, named, is) = none_new old.client new.client (ap (λ (x : ClientContext C). x.client.commands.posted) is) (same_out old.client.session new.client.session (ap (λ (x : ClientContext C). x.client.session) is))
 
 -- the same of all clients

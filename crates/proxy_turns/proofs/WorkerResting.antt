@@ -1,16 +1,24 @@
 -- What stays of a worker's lanes in the later parts of its turn.
-use Rattle.std.proofs.Common.{◌≡◌, ◌∙◌, ◌||◌, Bool, true, false, List, [], ◌∷◌, Ok, refl, sym, ap, subst}
+use Rattle.std.proofs.Common.{◌≡◌, ◌∙◌, ◌||◌, Bool, true, false, List, [], ◌∷◌, Result, Ok, Err, refl, sym, ap, subst}
 use Rattle.std.specs.List.{FoldsTo, list_all}
 use Rattle.std.proofs.lemmas.Bool.{false≢true}
+use Rattle.resp_wire.specs.declared.fault.NoMemory.{NoMemory}
 use Rattle.proxy_turns.specs.Port.{Moves}
 use Rattle.proxy_turns.specs.Arrivals.{AreToCome}
 use Rattle.proxy_turns.specs.WorkerModel.{WorkerModel, WorkerDoes, WorkerEvent, WorkerGoesBy, serves_client, settles, takes_told}
 use Rattle.proxy_turns.specs.WorkerModel.WorkerEvent.{Came, Did, Finished, FoundNobody, FoundNone, Left, Took, TurnedAway}
 use Rattle.proxy_turns.specs.ClientRest.{IfStill}
-use Rattle.proxy_turns.specs.WorkerRest.{FoundNothing, HasNoNewcomer, HasNothingToTell}
+use Rattle.proxy_turns.specs.WorkerRest.{AreClientsAtRest, ArePostedAtRest, FoundNothing, HasNoNewcomer, HasNothingToTell, IsWorkerAtRest}
 use Rattle.proxy_turns.proofs.EventKinds.{and_both}
 
 module _ {C J : Type 0} where
+  -- what a turn leaves that moved nothing
+  pub at_rest : (gives_none takes_none : C → Type 0) (result : Result Bool NoMemory) (worker : WorkerModel C J) → IfStill result (HasNoNewcomer worker) → IfStill result (HasNothingToTell worker)
+      → IfStill result (AreClientsAtRest gives_none takes_none worker) → IfStill result (ArePostedAtRest worker) → IfStill result (IsWorkerAtRest gives_none takes_none worker)
+  at_rest gives_none takes_none (Ok true) worker newcomers told clients posted = tt
+  at_rest gives_none takes_none (Ok false) worker newcomers told clients posted = record { newcomers = newcomers; told = told; clients = clients; posted = posted }
+  at_rest gives_none takes_none (Err refused) worker newcomers told clients posted = tt
+
   -- what is to come stays, and what was taken
   abbrev KeepsInlets : WorkerModel C J → WorkerModel C J → Type 0
   KeepsInlets old new = (new.left ≡ old.left) × (new.newcomers ≡ old.newcomers) × (new.inlet ≡ old.inlet)

@@ -21,7 +21,7 @@ AreToCome (Some n) = 0 < n
 abbrev pub PutsNew : {C : Type 0} → Moves C → ℕ → ℕ → FinMap nat_cmp (ClientModel C) → List C → Option ℕ → Option ℕ → ℕ → ClientModel C → FinMap nat_cmp (ClientModel C) → List C → Option ℕ → Type 0
 PutsNew {C} moves workers worker old ports newest left number client new ports' newest' =
     (MayCome workers worker old newest number × (new ≡ insert old number client) × (ports' ≡ ports) × (newest' ≡ Some number))
-    ⊎ ((port : C) × (MayCome workers worker old newest number → ⊥) × moves client.port [] [] [] port × (new ≡ old) × (ports' ≡ with_port left ports port) × (newest' ≡ newest))
+    ⊎ ((port : C) × (MayCome workers worker old newest number → ⊥) × moves.between client.port [] [] [] port × (new ≡ old) × (ports' ≡ with_port left ports port) × (newest' ≡ newest))
 
 -- whether a client's turn moved something
 abbrev pub turned_in : Result Turned NoMemory → Result Bool NoMemory

@@ -69,10 +69,10 @@ IsDone client = IsClientServed client ⊎ IsLeft client
 
 -- bytes are pulled where none were waiting to be fed
 abbrev pub Takings : {C : Type 0} → Moves C → C → Result Flow NoMemory → C → List ℕ → Type 0
-Takings moves old (Ok (Bytes n)) new unfed = moves old unfed [] [] new × (n ≡ length unfed)
-Takings moves old (Ok Nothing) new unfed = moves old [] [] [] new × (unfed ≡ [])
-Takings moves old (Ok Gone) new unfed = moves old [] [] [] new × (unfed ≡ [])
-Takings moves old (Err refused) new unfed = ((new ≡ old) ⊎ moves old [] [] [] new) × (unfed ≡ [])
+Takings moves old (Ok (Bytes n)) new unfed = moves.between old unfed [] [] new × (n ≡ length unfed)
+Takings moves old (Ok Nothing) new unfed = moves.between old [] [] [] new × (unfed ≡ [])
+Takings moves old (Ok Gone) new unfed = moves.between old [] [] [] new × (unfed ≡ []) × moves.gone new
+Takings moves old (Err refused) new unfed = ((new ≡ old) ⊎ moves.between old [] [] [] new) × (unfed ≡ [])
 
 -- whether a call of `read` read a request
 abbrev pub read_answer : Result Bool SessionFault → Result Bool NoMemory

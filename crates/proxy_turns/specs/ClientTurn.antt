@@ -145,7 +145,7 @@ module _ {C : Type 0} where
     abbrev pub ClientDoes : ClientContext C → ClientEvent → ClientContext C → Type 0
     -- bytes come from the client
     ClientDoes old (Pulled bytes) new =
-        moves old.client.port bytes [] [] new.client.port
+        moves.between old.client.port bytes [] [] new.client.port
         × (new ≡ with_client old (record old.client { port = new.client.port; unfed = old.client.unfed ++ bytes }))
     -- they are fed to its session
     ClientDoes old (Fed result) new =
@@ -191,15 +191,16 @@ module _ {C : Type 0} where
         × (new ≡ with_client old (record old.client { session = new.client.session; unpushed = new.client.unpushed }))
     -- bytes go to the client
     ClientDoes old (Pushed bytes) new =
-        moves old.client.port [] bytes [] new.client.port
+        moves.between old.client.port [] bytes [] new.client.port
         × (old.client.unpushed ≡ bytes ++ new.client.unpushed)
         × (new ≡ with_client old (record old.client { port = new.client.port; unpushed = new.client.unpushed }))
     -- a call of the port moves nothing
-    ClientDoes old Tried new = moves old.client.port [] [] [] new.client.port × (new ≡ with_client old (record old.client { port = new.client.port }))
-    -- the client is gone: of what was pulled and not fed, of what its session held beside the places of the parts that are out, and of what
+    ClientDoes old Tried new = moves.between old.client.port [] [] [] new.client.port × (new ≡ with_client old (record old.client { port = new.client.port }))
+    -- the client is gone, as its port answered: of what was pulled and not fed, of what its session held beside the places of the parts that are out, and of what
     -- was drained and not pushed, nothing is kept
     ClientDoes old Parted new =
         (old.client.gone ≡ false)
+        × moves.gone old.client.port
         × HangsUp old.client.session new.client.session
         × (new ≡ with_client old (record old.client { session = new.client.session; gone = true; unfed = []; unpushed = [] }))
     -- the commands of a client that is gone are dropped before their first post
@@ -282,7 +283,7 @@ module _ {C : Type 0} where
     abbrev pub Finishes : ClientModel C → Ticket → Ended → ClientModel C → Type 0
     Finishes old ticket end new =
         HasEnd old.commands ticket.part ticket end
-        × moves old.port [] [] ((ticket, end) ∷ []) new.port
+        × moves.between old.port [] [] ((ticket, end) ∷ []) new.port
         × EndOutcome old.session ticket end new.session
         × (new ≡ record old { port = new.port; session = new.session; commands = record old.commands { posted = remove old.commands.posted ticket.part } })
 
@@ -293,7 +294,7 @@ module _ {C : Type 0} where
         (ticket : Ticket) × (end : Ended) × (ticket.part ≡ number) × IsHandedOut old.session ticket × Finishes old ticket end new
         × NextInTurn old.session ticket next
     FinishOutcome old number (Ok finish.Open) new = (HasEndAt old.commands number → ⊥) × (new ≡ old)
-    FinishOutcome old number (Err refused) new = moves old.port [] [] [] new.port × (new ≡ record old { port = new.port })
+    FinishOutcome old number (Err refused) new = moves.between old.port [] [] [] new.port × (new ≡ record old { port = new.port })
 
     -- a posted command is posted again, or not
     abbrev pub SettleOutcome : ClientContext C → Result Settled NoMemory → ClientContext C → Type 0

@@ -7,6 +7,7 @@ use Rattle.node_link.specs.declared.stream.Flow.{Flow}
 use Rattle.node_link.specs.declared.stream.Flow.TheVariants.{Bytes, Nothing, Gone}
 use Rattle.resp_wire.specs.declared.fault.NoMemory.{NoMemory}
 use Rattle.proxy_turns.specs.Owing.{Owes, Holds}
+use Rattle.proxy_turns.specs.Port.{Moves}
 
 -- Its client's number; its bytes, those that were pulled and those that were not; the bytes that were pushed, and the ends
 -- that were noted.
@@ -30,6 +31,10 @@ Plays old pulled pushed noted new =
 -- it holds each reply that is owed to its bytes
 abbrev pub IsScriptServed : ScriptModel → Type 0
 IsScriptServed script = (owed : ℕ) × Owes 0 (script.pulled ++ script.left) owed × Holds owed script.pushed
+
+-- it is gone only there
+abbrev pub script_moves : Moves ScriptModel
+script_moves = record { between = Plays; gone = IsScriptServed }
 
 -- What a pull answers: gone exactly where each reply that is owed is held; until then as many bytes as are left and fit in,
 -- and nothing where none are left.

@@ -16,6 +16,7 @@ use Rattle.proxy_turns.specs.declared.worker_end.WorkerOutcome.TheVariants as ca
 use Rattle.proxy_turns.specs.declared.worker_end.WorkerOutcome.TheVariants.{Served, Stopped}
 use Rattle.proxy_turns.specs.Port.{Moves}
 use Rattle.proxy_turns.specs.WorkerModel.{WorkerModel, WorkerGoes, GivesBack, AreAllServed}
+use Rattle.proxy_turns.specs.WorkerRest.{IsWorkerAtRest}
 use Rattle.proxy_turns.specs.WorkerState.{state_model}
 
 abbrev pub worker_model : {C J G : Type 0} {P : port.Ghosts C} {N : naming.Ghosts J} → Worker C J G P N → WorkerModel C J
@@ -51,8 +52,9 @@ module _ {C J : Type 0} where
     abbrev pub Gives : WorkerModel C J → WorkerEnd C → Type 0
     Gives model end = (moved : Bool) × (last : WorkerModel C J) × WorkerGoes moves model moved last × HandsBack last end
 
-    -- what a gate answered to a worker of this number of whose parts so many had ended, and that it was told of a turn that moved nothing
-    module _ (says : ℕ → ℕ → Bool → Type 0) (rests : Type 0) where
+    -- a client's last pull gave nothing, and its last push took nothing; what a gate answered to a worker of this number of whose parts so
+    -- many had ended, and that it was told of a turn that moved nothing
+    module _ (gives_none takes_none : C → Type 0) (says : ℕ → ℕ → Bool → Type 0) (rests : Type 0) where
       -- the gate let the worker go on
       abbrev pub Passes : WorkerModel C J → Type 0
       Passes model = says model.worker model.answered true
@@ -63,11 +65,12 @@ module _ {C J : Type 0} where
 
       -- One pass of the gate, and one turn where it let the worker go on. What ends the worker, where something does:
       -- the gate, a turn that found no memory, or that all clients were served; after its last turn the gate is asked once more.
+      -- One that ends nothing and moved nothing has left nothing to do, and the gate was told so.
       abbrev pub StepOutcome : WorkerModel C J → Option WorkerOutcome → WorkerModel C J → Type 0
       StepOutcome old (Some Stopped) new = says old.worker old.answered false × (new ≡ old)
       StepOutcome old (Some cause.NoMemory) new = Passes old × ((moved : Bool) × WorkerGoes moves old moved new) × IsAsked new
       StepOutcome old (Some Served) new = Passes old × ((moved : Bool) × WorkerGoes moves old moved new) × AreAllServed new × IsAsked new
-      StepOutcome old None new = Passes old × ((moved : Bool) × WorkerGoes moves old moved new × (moved ≡ false → rests)) × (AreAllServed new → ⊥)
+      StepOutcome old None new = Passes old × ((moved : Bool) × WorkerGoes moves old moved new × (moved ≡ false → rests × IsWorkerAtRest gives_none takes_none new)) × (AreAllServed new → ⊥)
 
       -- a pending poll did one step that did not end the worker; a ready one did the last, and gives all ports back
       abbrev pub PollOutcome : WorkerModel C J → Poll (WorkerEnd C) → WorkerModel C J → Type 0

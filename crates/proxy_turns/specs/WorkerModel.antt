@@ -172,12 +172,12 @@ module _ {C J : Type 0} (moves : Moves C) where
   -- the next new client is let go at once, since it is not dealt to this worker or its number is not new; its port is closed
   WorkerDoes old (TurnedAway number) new =
       (newcomer : Newcomer C J) × (port : C) × Takes old.newcomers new.newcomers (Some newcomer) × (newcomer.number ≡ number)
-      × OneCame old.left new.left × (MayCome old.workers old.worker old.clients old.newest number → ⊥) × Learns old.view newcomer.front new.view × moves newcomer.port [] [] [] port
+      × OneCame old.left new.left × (MayCome old.workers old.worker old.clients old.newest number → ⊥) × Learns old.view newcomer.front new.view × moves.between newcomer.port [] [] [] port
       × (new ≡ record old { newcomers = new.newcomers; left = new.left; view = new.view; ports = with_port old.left old.ports port })
   WorkerDoes old FoundNobody new = Takes old.newcomers new.newcomers None × (new ≡ record old { newcomers = new.newcomers })
   -- a client with which nothing is left to do leaves, and its port is closed
   WorkerDoes old (Left number) new =
-      (last : C) × (port : C) × Leaves old.clients number last new.clients × moves last [] [] [] port
+      (last : C) × (port : C) × Leaves old.clients number last new.clients × moves.between last [] [] [] port
       × (new ≡ record old { clients = new.clients; ports = with_port old.left old.ports port })
 
   -- some of these took one to the other, and this says whether one of them moved something

@@ -47,3 +47,10 @@ abbrev pub ArePostedAtRest : {C J : Type 0} → WorkerModel C J → Type 0
 ArePostedAtRest {C} model =
     (number : ℕ) (client : ClientModel C) → get model.clients number ≡ Some client
     → (part : ℕ) (command : CommandModel) → get client.commands.posted part ≡ Some command → IsPostedAtRest client.session command model.outlet
+
+-- what a turn of a worker leaves that moved nothing
+pub record IsWorkerAtRest {C J : Type 0} (gives_none takes_none : C → Type 0) (worker : WorkerModel C J) : Type 0 where
+  pub newcomers : HasNoNewcomer worker
+  pub told : HasNothingToTell worker
+  pub clients : AreClientsAtRest gives_none takes_none worker
+  pub posted : ArePostedAtRest worker

@@ -8,7 +8,7 @@ use crate::port::ClientPort;
 
 /// The port of a client that is let go.
 pub(crate) fn closed<C: ClientPort>(port: C) -> C
-    ensures { C.moves port [] [] [] result }
+    ensures { C.moves.between port [] [] [] result }
 {
     let mut port = port;
     port.close();

@@ -1,9 +1,7 @@
 //! A client, as a worker sees it.
 
-ghost use Rattle.std.specs.Prelude.{List, [], ◌++◌, ℕ, ⊤};
-ghost use Rattle.key_split.specs.declared.travel.Ticket.{Ticket};
-ghost use Rattle.key_split.specs.declared.travel.Ended.{Ended};
-ghost use Rattle.proxy_turns.specs.Port.{MovesNone, PullOutcome, PushOutcome, NoteOutcome};
+ghost use Rattle.std.specs.Prelude.{[], ◌++◌, ⊤};
+ghost use Rattle.proxy_turns.specs.Port.{Moves, MovesNone, PullOutcome, PushOutcome, NoteOutcome};
 
 use key_split::{Ended, Ticket};
 use node_link::Flow;
@@ -12,8 +10,8 @@ use session_order::SessionFault;
 
 /// A client's bytes in and out, by calls that do not wait.
 pub trait ClientPort {
-    /// From the first state to the second these bytes were pulled, these were pushed, and these ends were noted, each in order.
-    ghost moves: { Self → List ℕ → List ℕ → List (Ticket × Ended) → Self → Type 0 };
+    /// What was pulled, pushed and noted between two states of it, and where a call answered that its client is gone.
+    ghost moves: { Moves Self };
 
     /// Its last pull gave nothing.
     ghost gives_none: { Self → Type 0 } = { λ _. ⊤ };
@@ -51,5 +49,5 @@ pub trait ClientPort {
 
     /// The client is let go: nothing more is pulled, pushed or noted. Called once.
     fn close(&mut self)
-        ensures closed { moves self.old [] [] [] self.new };
+        ensures closed { moves.between self.old [] [] [] self.new };
 }

@@ -124,12 +124,12 @@ impl Script {
 
 impl ClientPort for Script {
     ghost use Rattle.proxy_turns.specs.Port.{MovesNone, PullOutcome, PushOutcome, NoteOutcome};
-    ghost use Rattle.proxy_turns.specs.Script.{Plays, PullAnswer, PushAnswer};
+    ghost use Rattle.proxy_turns.specs.Script.{PullAnswer, PushAnswer, script_moves};
 
-    ghost moves = { Plays };
+    ghost moves = { script_moves };
 
     fn pull(&mut self, buffer: &mut [u8]) -> Result<Flow, NoMemory>
-        ensures pulled { PullOutcome Plays self.old buffer.new result self.new }
+        ensures pulled { PullOutcome script_moves self.old buffer.new result self.new }
         ensures none { MovesNone result → ⊤ }
         ensures answer { PullAnswer self.old buffer.old result }
     {
@@ -146,7 +146,7 @@ impl ClientPort for Script {
     }
 
     fn push(&mut self, first: &[u8], second: &[u8]) -> Result<Flow, NoMemory>
-        ensures pushed { PushOutcome Plays self.old (first.now ++ second.now) result self.new }
+        ensures pushed { PushOutcome script_moves self.old (first.now ++ second.now) result self.new }
         ensures none { MovesNone result → ⊤ }
         ensures answer { PushAnswer (first.now ++ second.now) result }
     {

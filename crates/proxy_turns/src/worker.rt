@@ -5,7 +5,7 @@ ghost use Rattle.futures.specs.Task.{Covers, Keeps};
 ghost use Rattle.futures.specs.Poll.{IfReady, OnPending};
 ghost use Rattle.proxy_turns.specs.WorkerModel.{WorkerTurns};
 ghost use Rattle.proxy_turns.specs.ClientRest.{IfStill};
-ghost use Rattle.proxy_turns.specs.WorkerRest.{AreClientsAtRest, ArePostedAtRest, HasNoNewcomer, HasNothingToTell};
+ghost use Rattle.proxy_turns.specs.WorkerRest.{IsWorkerAtRest};
 ghost use Rattle.proxy_turns.specs.Worker.{Gives, HandsBack, IsRunning, PollOutcome, StepOutcome, new_worker, worker_model};
 
 use crate::gate::Gate;
@@ -61,10 +61,7 @@ impl<'g, C: ClientPort + Drop, J: Naming, G: Gate> Worker<'g, C, J, G> {
     /// One turn: takes new clients, tells the commands what came, and serves each client. True where something moved.
     pub fn turn(&mut self) -> Result<bool, NoMemory>
         ensures turns { WorkerTurns C.moves (worker_model self.old) result (worker_model self.new) }
-        ensures no_newcomer { IfStill result (HasNoNewcomer (worker_model self.new)) }
-        ensures nothing_to_tell { IfStill result (HasNothingToTell (worker_model self.new)) }
-        ensures clients_rest { IfStill result (AreClientsAtRest C.gives_none C.takes_none (worker_model self.new)) }
-        ensures posted_rest { IfStill result (ArePostedAtRest (worker_model self.new)) }
+        ensures rests { IfStill result (IsWorkerAtRest C.gives_none C.takes_none (worker_model self.new)) }
         ensures runs { IsRunning self.old → IsRunning self.new }
     {
         self.state.turn(self.gate)
@@ -72,7 +69,7 @@ impl<'g, C: ClientPort + Drop, J: Naming, G: Gate> Worker<'g, C, J, G> {
 
     // One pass of the gate, and one turn where it lets the worker go on. What ends the worker, where something does.
     fn step(&mut self) -> Option<WorkerOutcome>
-        ensures does { StepOutcome C.moves (G.says self.old.gate.now) (G.rests self.old.gate.now) (worker_model self.old) result (worker_model self.new) }
+        ensures does { StepOutcome C.moves C.gives_none C.takes_none (G.says self.old.gate.now) (G.rests self.old.gate.now) (worker_model self.old) result (worker_model self.new) }
         ensures runs { IsRunning self.old → IsRunning self.new }
     {
         if !self.pass() {
@@ -123,7 +120,7 @@ impl<'g, C: ClientPort + Drop, J: Naming, G: Gate> Future for Worker<'g, C, J, G
         ensures kept { Keeps cx.old cx.new }
 
         // Beside what a future owes: what one poll did, and a pending one has asked for the next.
-        ensures polled { PollOutcome C.moves (G.says self.old.gate.now) (G.rests self.old.gate.now) (worker_model self.old) result (worker_model self.new) }
+        ensures polled { PollOutcome C.moves C.gives_none C.takes_none (G.says self.old.gate.now) (G.rests self.old.gate.now) (worker_model self.old) result (worker_model self.new) }
         ensures woken { OnPending result (cx.new.is_woken ≡ true) }
     {
         match self.step() {

@@ -90,7 +90,7 @@ impl SocketClient {
 
 impl ClientPort for SocketClient {
     // The system does not tell which bytes the client got or gave.
-    ghost moves = { λ _ _ _ _ _. Unit {0} };
+    ghost moves = { record { between = λ _ _ _ _ _. Unit {0}; gone = λ _. Unit {0} } };
 
     fn watched(&self) -> Option<usize> {
         if self.is_owed.get() || self.request.is_begun() {

@@ -22,7 +22,7 @@ any-client moves (Posted run) old new d = d
 any-client moves (Drained n) old new d = d
 any-client moves (Pushed bytes) old new d = (tt, d.1, d.2)
 any-client moves Tried old new d = (tt, d.1)
-any-client moves Parted old new d = d
+any-client moves Parted old new d = (d.0, tt, d.2, d.3)
 any-client moves (Dropped tickets) old new d = d
 
 any-finish : {C : Type 0} (moves : Moves C) (ticket : Ticket) (end : Ended) (old new : ClientModel C) → Finishes moves old ticket end new → Finishes any_moves old ticket end new

@@ -95,7 +95,7 @@ module _ {C : Type 0} (law : DrainsOutput) (whole : FrontIsWhole) (faulty : Fron
       (then-drained k number came arrived (old.client).session (old.client).unfed r n (new.client).session (old.client).unpushed (new.client).unpushed does)
   client-does (Pushed bytes) old new (moved, split, is) its r = unseen [] _ new.client refl (ap client_in is) r
   client-does Tried old new (moved, is) its r = unseen [] _ new.client refl (ap client_in is) r
-  client-does Parted old new (here, hangs, is) its r = unseen [] _ new.client refl (ap client_in is) (then-parted k number came arrived (old.client).session (old.client).unfed r (new.client).session hangs)
+  client-does Parted old new (here, left, hangs, is) its r = unseen [] _ new.client refl (ap client_in is) (then-parted k number came arrived (old.client).session (old.client).unfed r (new.client).session hangs)
   client-does (Dropped tickets) old new (gone, some, those, is) its r = unseen [] _ new.client refl (ap client_in is) r
 
 -- what another client shows is none of its

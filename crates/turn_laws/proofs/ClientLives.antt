@@ -265,7 +265,7 @@ module _ {C : Type 0} where
         subst (λ cs. LivesOn cs ends (went ++ bytes) new.client) (sym (append-nil came))
         (subst (λ (x : ClientModel C). LivesOn came ends (went ++ bytes) x) (sym (ap client_in is)) (inl (pushed-there law whole faulty came ends went old.client (new.client).port bytes (new.client).unpushed split there)))
     there-on came ends went Tried old new (moved, is) there = becomes came ends went new _ (ap client_in is) (inl there)
-    there-on came ends went Parted old new (here, hangs, is) there =
+    there-on came ends went Parted old new (here, left, hangs, is) there =
         becomes came ends went new _ (ap client_in is) (inr (refl, refl, lives-written law came ends went old.client (inl there)))
     there-on came ends went (Dropped tickets) old new (gone, some, those, is) (here, lived, out) = absurd (true-false (old.client).gone gone here)
 
@@ -290,7 +290,7 @@ module _ {C : Type 0} where
         (subst (λ bs. LivesOn came ends (went ++ bs) new.client) (sym nothing.0) (subst (λ ws. LivesOn came ends ws new.client) (sym (append-nil went))
         (subst (λ (x : ClientModel C). LivesOn came ends went x) (sym (ap client_in is)) (inr (gone, nothing.1, w)))))
     gone-on came ends went Tried old new (moved, is) (gone, none, w) = becomes came ends went new _ (ap client_in is) (inr (gone, none, w))
-    gone-on came ends went Parted old new (here, hangs, is) (gone, none, w) = absurd (true-false (old.client).gone gone here)
+    gone-on came ends went Parted old new (here, left, hangs, is) (gone, none, w) = absurd (true-false (old.client).gone gone here)
     gone-on came ends went (Dropped tickets) old new (still, some, those, is) (gone, none, w) = becomes came ends went new _ (ap client_in is) (inr (gone, none, w))
 
     pub lives-on : (came : List ℕ) (ends : List (Ticket × Ended)) (went : List ℕ) (event : ClientEvent) (old new : ClientContext C) → ClientDoes moves old event new → LivesOn came ends went old.client

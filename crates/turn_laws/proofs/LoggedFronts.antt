@@ -185,7 +185,7 @@ module _ {C : Type 0} (old new : ClientContext C) where
   client-before (Drained n) does here = (does.0, inr tt)
   client-before (Pushed bytes) does here = (sym (ap (λ (x : ClientContext C). x.client.gone) does.2) ∙ here, inl (ap (λ (x : ClientContext C). x.client.session.first) does.2))
   client-before Tried does here = (sym (ap (λ (x : ClientContext C). x.client.gone) does.1) ∙ here, inl (ap (λ (x : ClientContext C). x.client.session.first) does.1))
-  client-before Parted does here = absurd (false≢true (sym here ∙ ap (λ (x : ClientContext C). x.client.gone) does.2))
+  client-before Parted does here = absurd (false≢true (sym here ∙ ap (λ (x : ClientContext C). x.client.gone) does.3))
   client-before (Dropped tickets) does here = absurd (false≢true (sym here ∙ ap (λ (x : ClientContext C). x.client.gone) does.3 ∙ does.0))
 
 module _ {C J : Type 0} (number : ℕ) (client' : ClientModel C) (old new : WorkerModel C J) where

@@ -240,7 +240,7 @@ module _ {C J : Type 0} (port : C) where
     ) (put _ (e11 port) 0) (down-in {J = J} (ends port v3 d3) (w port (u10 port) v3 d3 0) _ refl ([], refl)) refl,
     (
       of (w port (u12 port) v3 d3 (one_more 0)),
-      at-client {J = J} (ends port v3 d3) 0 (e11 port) (e12 port) (outlet_with v3) [] refl (put _ (e11 port) 0) (refl, hangs, refl)
+      at-client {J = J} (ends port v3 d3) 0 (e11 port) (e12 port) (outlet_with v3) [] refl (put _ (e11 port) 0) (refl, tt, hangs, refl)
           (put _ (e12 port) 0) (down-in {J = J} (ends port v3 d3) (w port (u11 port) v3 d3 0) _ refl ([], refl)) refl,
       (
         of (w port (u13 port) v3 d3 (one_more 0)),
@@ -256,7 +256,7 @@ module _ {C J : Type 0} (port : C) where
                 (down-in {J = J} (ends port v3 d3) (w port (u14 port) v3 d3 0) _ refl ([], refl)) refl,
             (
               of (with-doors (u15 port) doors3),
-              at-client {J = J} (ends port v3 d3) 1 (f0 port) (gone (f0 port)) (outlet_with v3) [] refl (put _ (f0 port) 1) (refl, hangs-other, refl)
+              at-client {J = J} (ends port v3 d3) 1 (f0 port) (gone (f0 port)) (outlet_with v3) [] refl (put _ (f0 port) 1) (refl, tt, hangs-other, refl)
                   (put _ (gone (f0 port)) 1) (down-in {J = J} (ends port v3 d3) (w port (u14 port) v3 d3 0) _ refl ([], refl)) refl,
               (
                 of (with-doors (u16 port) doors3),

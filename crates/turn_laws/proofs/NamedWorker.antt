@@ -81,7 +81,7 @@ module _ {C : Type 0} (moves : Moves C) (n : ℕ) (old new : ClientContext C) (h
   client-wants (Drained m) d = still (ap (λ (c : ClientContext C). c.client.commands.posted) d.2)
   client-wants (Pushed bytes) d = still (ap (λ (c : ClientContext C). c.client.commands.posted) d.2)
   client-wants Tried d = still (ap (λ (c : ClientContext C). c.client.commands.posted) d.1)
-  client-wants Parted d = still (ap (λ (c : ClientContext C). c.client.commands.posted) d.2)
+  client-wants Parted d = still (ap (λ (c : ClientContext C). c.client.commands.posted) d.3)
   client-wants (Dropped tickets) d = still (ap (λ (c : ClientContext C). c.client.commands.posted) d.3)
 
 -- ---- what a command is told

@@ -54,7 +54,7 @@ module _ (C J : Type 0) where
       as-before P n h = alter P _ _ _ _ _ _ (came n) (ends n) (went n) h
 
       is-gone : (d.1).gone ≡ true
-      is-gone = ap (λ (x : ClientContext C). x.client.gone) d.3.2
+      is-gone = ap (λ (x : ClientContext C). x.client.gone) d.3.3
 
       whole : (n : ℕ) (client : ClientModel C) → get new.clients n ≡ Some client → client.gone ≡ false → IsClientServed client
           → IsWhole (flat_map (bytes_from n) (events ++ event ∷ [])) (flat_map (ends_for n) (events ++ event ∷ [])) (flat_map (bytes_to n) (events ++ event ∷ []))

@@ -98,9 +98,9 @@ module _ (C J : Type 0) where
       let d = on.does in
       let client : ClientModel C = d.0 in
       let client' : ClientModel C = d.1 in
-      let hangs : HangsUp client.session client'.session = d.3.1 in
-      let now : client' ≡ client2 (downs_of s) k number client client'.session w.commands (h.clients k on.old number client on.at d.2).1 hangs = ap (λ (x : ClientContext C). x.client) d.3.2 in
-      let outlet : (on.new).outlet ≡ (on.old).outlet = ap (λ (x : ClientContext C). x.outlet) d.3.2 in
+      let hangs : HangsUp client.session client'.session = d.3.2 in
+      let now : client' ≡ client2 (downs_of s) k number client client'.session w.commands (h.clients k on.old number client on.at d.2).1 hangs = ap (λ (x : ClientContext C). x.client) d.3.3 in
+      let outlet : (on.new).outlet ≡ (on.old).outlet = ap (λ (x : ClientContext C). x.outlet) d.3.3 in
       let e = d.4 in
       let old : ClientShadow (downs_of s) k number client w.commands = (h.clients k on.old number client on.at d.2).1 in
       unseen-step k (Did number Parted) s s' w on on.seen.4

@@ -4,7 +4,7 @@ use Rattle.proxy_turns.specs.Port.{Moves}
 use Rattle.turn_laws.specs.Wire.{Wire}
 
 abbrev pub any_moves : {C : Type 0} → Moves C
-any_moves {C} old pulled pushed noted new = Unit {0}
+any_moves {C} = record { between = λ old pulled pushed noted new. Unit {0}; gone = λ port. Unit {0} }
 
 abbrev pub any_failures : Wire → ℕ
 any_failures wire = 2 ^ 64 - 1

@@ -1,5 +1,5 @@
 -- A worker of a list has its turn, and a list of workers grows.
-use Rattle.std.proofs.Common.{◌≡◌, ℕ, zero, suc, Bool, true, false, List, [], ◌∷◌, ◌++◌, Some, Ok, Err, refl, sym, ap, ◌∙◌}
+use Rattle.std.proofs.Common.{◌≡◌, ℕ, zero, suc, Bool, List, [], ◌∷◌, ◌++◌, Some, refl, sym, ap, ◌∙◌}
 use Rattle.std.specs.Prelude.{Option, Result, map, slice_get, slice_set}
 use Rattle.resp_wire.specs.declared.fault.NoMemory.{NoMemory}
 use Rattle.proxy_lanes.specs.declared.ends.WorkerEnds.{WorkerEnds}
@@ -8,8 +8,8 @@ use Rattle.proxy_turns.specs.ClientRest.{IfStill}
 use Rattle.proxy_turns.specs.Port.{Moves}
 use Rattle.proxy_turns.specs.Worker.{new_worker}
 use Rattle.proxy_turns.specs.WorkerModel.{WorkerModel, WorkerTurns}
-use Rattle.proxy_turns.specs.WorkerRest.{AreClientsAtRest, ArePostedAtRest, HasNoNewcomer, HasNothingToTell}
-use Rattle.turn_play.specs.Obeying.{IsAtRest, IsTurned}
+use Rattle.proxy_turns.specs.WorkerRest.{IsWorkerAtRest}
+use Rattle.turn_play.specs.Obeying.{IsTurned}
 use Rattle.turn_play.specs.Playing.{PlayModel}
 use Rattle.turn_play.specs.Starting.{workers_on}
 
@@ -28,16 +28,9 @@ map-more f [] x = refl
 map-more f (y ∷ xs) x = ap (λ ys. f y ∷ ys) (map-more f xs x)
 
 module _ {C J : Type 0} where
-  -- what a turn leaves that moved nothing
-  pub at-rest : (gives_none takes_none : C → Type 0) (result : Result Bool NoMemory) (worker : WorkerModel C J) → IfStill result (HasNoNewcomer worker) → IfStill result (HasNothingToTell worker)
-      → IfStill result (AreClientsAtRest gives_none takes_none worker) → IfStill result (ArePostedAtRest worker) → IfStill result (IsAtRest gives_none takes_none worker)
-  at-rest gives_none takes_none (Ok true) worker n t c p = tt
-  at-rest gives_none takes_none (Ok false) worker n t c p = record { newcomers = n; told = t; clients = c; posted = p }
-  at-rest gives_none takes_none (Err refused) worker n t c p = tt
-
   -- a worker of a list has had its turn
   pub turned-at : {W : Type 0} (moves : Moves C) (gives_none takes_none : C → Type 0) (model : W → WorkerModel C J) (workers : List W) (old : PlayModel C J) (k : ℕ) (worker worker' : W) (result : Result Bool NoMemory) → old.workers ≡ map model workers
-      → slice_get workers k ≡ Some worker → WorkerTurns moves (model worker) result (model worker') → IfStill result (IsAtRest gives_none takes_none (model worker'))
+      → slice_get workers k ≡ Some worker → WorkerTurns moves (model worker) result (model worker') → IfStill result (IsWorkerAtRest gives_none takes_none (model worker'))
       → IsTurned moves gives_none takes_none old k result (record old { workers = map model (slice_set workers k worker') })
   turned-at moves gives_none takes_none model workers old k worker worker' result is at turns rests = (
     model worker,

@@ -7,7 +7,7 @@ use Rattle.node_model.specs.declared.role.Verdict.{Verdict}
 use Rattle.proxy_turns.specs.Port.{Moves}
 use Rattle.proxy_turns.specs.Backend.{GaveNone}
 use Rattle.proxy_turns.specs.ClientRest.{IfStill}
-use Rattle.proxy_turns.specs.WorkerRest.{AreClientsAtRest, ArePostedAtRest, HasNoNewcomer, HasNothingToTell}
+use Rattle.proxy_turns.specs.WorkerRest.{IsWorkerAtRest}
 use Rattle.proxy_turns.specs.WorkerModel.{WorkerModel, WorkerTurns}
 use Rattle.proxy_turns.specs.CarrierModel.{CarrierTurns, RestsAfter}
 use Rattle.turn_play.specs.declared.fault.PlayFault.{PlayFault}
@@ -22,19 +22,12 @@ use Rattle.turn_play.specs.Others.{AreServed, CannotCome}
 use Rattle.turn_play.specs.Playing.{PlayModel, PlaysSoundly, PlaysSoundlyBeside}
 
 module _ {C J : Type 0} where
-  -- what a turn of a worker leaves that moved nothing
-  pub record IsAtRest (gives_none takes_none : C → Type 0) (worker : WorkerModel C J) : Type 0 where
-    pub newcomers : HasNoNewcomer worker
-    pub told : HasNothingToTell worker
-    pub clients : AreClientsAtRest gives_none takes_none worker
-    pub posted : ArePostedAtRest worker
-
   module _ (moves : Moves C) (gives_none takes_none : C → Type 0) where
     -- the worker at place k had its turn
     abbrev pub IsTurned : PlayModel C J → ℕ → Result Bool NoMemory → PlayModel C J → Type 0
     IsTurned old k result new =
         (worker : WorkerModel C J) × (worker' : WorkerModel C J)
-        × (slice_get old.workers k ≡ Some worker) × WorkerTurns moves worker result worker' × IfStill result (IsAtRest gives_none takes_none worker')
+        × (slice_get old.workers k ≡ Some worker) × WorkerTurns moves worker result worker' × IfStill result (IsWorkerAtRest gives_none takes_none worker')
         × (new ≡ record old { workers = slice_set old.workers k worker' })
 
     -- the same, where there is a worker k

@@ -63,7 +63,7 @@ impl SharedClient {
 
 impl ClientPort for SharedClient {
     // It promises nothing: the rows look at what it holds.
-    ghost moves = { λ old pulled pushed noted new. Unit {0} };
+    ghost moves = { record { between = λ old pulled pushed noted new. Unit {0}; gone = λ port. Unit {0} } };
 
     fn pull(&mut self, buffer: &mut [u8]) -> Result<Flow, NoMemory> {
         let Ok(mut script) = self.script.try_borrow_mut() else {

@@ -25,7 +25,8 @@ returns-in-Nothing-clause-pulls g c = λ outlet view.
 pub returns-in-Gone-clause-pulls : goal.returns-in-Gone-clause-pulls
 returns-in-Gone-clause-pulls g c = λ outlet view.
     let clear = rw (← c.self.view_is) at (c.may_pull.ensures.0 c.if-not-may_pull.false) in
-    rw (← c.self.view_is) (goes_then g.C.ClientPort.moves is_pull _ false _ true _ (takes_none g.C.ClientPort.moves is_pull _ outlet view refl _ _ clear.2 (rw c.in-Gone.is at c.in_ok-count.ensures.takes)) (parted g.C.ClientPort.moves is_pull _ outlet view refl _ clear.1 c.leave.ensures.hung_up c.leave.ensures.kept))
+    let done = rw c.in-Gone.is at c.in_ok-count.ensures.takes in
+    rw (← c.self.view_is) (goes_then g.C.ClientPort.moves is_pull _ false _ true _ (takes_none g.C.ClientPort.moves is_pull _ outlet view refl _ _ clear.2 (done.0, done.1)) (parted g.C.ClientPort.moves is_pull _ outlet view refl _ clear.1 done.2 c.leave.ensures.hung_up c.leave.ensures.kept))
 
 pub returns-then-not-may_pull-clause-none : goal.returns-then-not-may_pull-clause-none
 returns-then-not-may_pull-clause-none g c = unasked _ g.C.ClientPort.gives_none c.args.is_held_back c.may_pull.result c.may_pull.ensures c.if-not-may_pull.true

@@ -21,7 +21,8 @@ returns-in-Nothing-clause-pushes g c = λ outlet view. rw (← c.self.view_is) (
 pub returns-in-Gone-clause-pushes : goal.returns-in-Gone-clause-pushes
 returns-in-Gone-clause-pushes g c = λ outlet view.
     let here = rw (← c.self.view_is) at (c.may_push.ensures.0 c.if-not-may_push.false) in
-    rw (← c.self.view_is) (goes_then g.C.ClientPort.moves is_push _ false _ true _ (tried g.C.ClientPort.moves is_push _ outlet view refl _ (rw c.in-Gone.is at c.in_ok-count.ensures.pushed)) (parted g.C.ClientPort.moves is_push _ outlet view refl _ here.0 c.leave.ensures.hung_up c.leave.ensures.kept))
+    let done = rw c.in-Gone.is at c.in_ok-count.ensures.pushed in
+    rw (← c.self.view_is) (goes_then g.C.ClientPort.moves is_push _ false _ true _ (tried g.C.ClientPort.moves is_push _ outlet view refl _ done.0) (parted g.C.ClientPort.moves is_push _ outlet view refl _ here.0 done.1 c.leave.ensures.hung_up c.leave.ensures.kept))
 
 pub returns-then-not-may_push-clause-none : goal.returns-then-not-may_push-clause-none
 returns-then-not-may_push-clause-none g c = unoffered _ g.C.ClientPort.takes_none c.may_push.result c.may_push.ensures c.if-not-may_push.true

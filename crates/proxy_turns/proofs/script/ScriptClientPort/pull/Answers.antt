@@ -18,7 +18,7 @@ returns-in_err-is_served-clause-pulled c =
     rw is (rw c.in_err-is_served.ensures.kept (plays_nothing _))
 
 pub returns-then-branch-clause-pulled : goal.returns-then-branch-clause-pulled
-returns-then-branch-clause-pulled c = rw c.in_ok-is_served.ensures.kept (plays_nothing _)
+returns-then-branch-clause-pulled c = rw c.in_ok-is_served.ensures.kept (plays_nothing _, c.in_ok-is_served.ensures.served.0 c.if-branch.true)
 
 pub returns-then-branch-clause-answer : goal.returns-then-branch-clause-answer
 returns-then-branch-clause-answer c = c.in_ok-is_served.ensures.served.0 c.if-branch.true

@@ -7,13 +7,15 @@ use Rattle.proxy_turns.proofs.worker.WorkerFuture.poll.Goals as goal
 pub returns-in-Some-clause-value : goal.returns-in-Some-clause-value
 returns-in-Some-clause-value g c =
     let gate = c.args.self.now.gate.now in
-    gives_at_end g.C.ClientPort.moves (g.G.Gate.says gate) (g.G.Gate.rests gate) _ _ c.in-Some.outcome c.end.result c.in-Some.ensures.does c.end.ensures.back
+    let ports = g.C.ClientPort in
+    gives_at_end ports.moves ports.gives_none ports.takes_none (g.G.Gate.says gate) (g.G.Gate.rests gate) _ _ c.in-Some.outcome c.end.result c.in-Some.ensures.does c.end.ensures.back
 
 pub returns-in-Some-clause-polled : goal.returns-in-Some-clause-polled
 returns-in-Some-clause-polled g c =
     let gate = c.args.self.now.gate.now in
+    let ports = g.C.ClientPort in
     let P : WorkerOutcome → Type 0 =
-    λ outcome. StepOutcome g.C.ClientPort.moves (g.G.Gate.says gate) (g.G.Gate.rests gate) (worker_model c.args.self.now) (Some outcome) (worker_model c.step.new.self) in
+    λ outcome. StepOutcome ports.moves ports.gives_none ports.takes_none (g.G.Gate.says gate) (g.G.Gate.rests gate) (worker_model c.args.self.now) (Some outcome) (worker_model c.step.new.self) in
     (worker_model c.step.new.self, subst P (sym c.end.ensures.outcome) c.in-Some.ensures.does, c.end.ensures.back)
 
 pub returns-in-None-clause-again : goal.returns-in-None-clause-again
@@ -22,4 +24,5 @@ returns-in-None-clause-again g c = rw c.yield_now.ensures.pending (c.in-None.ens
 pub returns-in-None-clause-same : goal.returns-in-None-clause-same
 returns-in-None-clause-same g c =
     let gate = c.args.self.now.gate.now in
-    rw c.yield_now.ensures.pending (λ end given. gives_later g.C.ClientPort.moves (g.G.Gate.says gate) (g.G.Gate.rests gate) _ _ end c.in-None.ensures.does given)
+    let ports = g.C.ClientPort in
+    rw c.yield_now.ensures.pending (λ end given. gives_later ports.moves ports.gives_none ports.takes_none (g.G.Gate.says gate) (g.G.Gate.rests gate) _ _ end c.in-None.ensures.does given)

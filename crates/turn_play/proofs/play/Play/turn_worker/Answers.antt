@@ -5,7 +5,7 @@ use Rattle.proxy_turns.specs.Worker.{worker_model}
 use Rattle.turn_play.specs.declared.fault.PlayFault.TheVariants.{NoMemory}
 use Rattle.turn_play.specs.Obeying.{TurnsWorker}
 use Rattle.turn_play.specs.Play.{play_model}
-use Rattle.turn_play.proofs.Placed.{at-rest, turned-at}
+use Rattle.turn_play.proofs.Placed.{turned-at}
 use Rattle.turn_play.proofs.play.Play.turn_worker.Goals as goal
 
 pub returns-in_err-turn : goal.returns-in_err-turn
@@ -24,8 +24,7 @@ returns-in_err-turn g c = λ cluster.
       refl,
       (
         refused,
-        turned-at m.moves m.gives_none m.takes_none worker_model workers old c.args.k c.index_mut.result.now c.turn.new.self (Err refused) refl here e.turns
-            (at-rest m.gives_none m.takes_none (Err refused) (worker_model c.turn.new.self) e.no_newcomer e.nothing_to_tell e.clients_rest e.posted_rest),
+        turned-at m.moves m.gives_none m.takes_none worker_model workers old c.args.k c.index_mut.result.now c.turn.new.self (Err refused) refl here e.turns e.rests,
       ),
     )
 
@@ -40,6 +39,5 @@ returns g c = λ cluster.
     let m = g.C.ClientPort in
     inr (
       moved,
-      turned-at m.moves m.gives_none m.takes_none worker_model workers old c.args.k c.index_mut.result.now c.turn.new.self (Ok moved) refl here e.turns
-          (at-rest m.gives_none m.takes_none (Ok moved) (worker_model c.turn.new.self) e.no_newcomer e.nothing_to_tell e.clients_rest e.posted_rest),
+      turned-at m.moves m.gives_none m.takes_none worker_model workers old c.args.k c.index_mut.result.now c.turn.new.self (Ok moved) refl here e.turns e.rests,
     )
