@@ -77,6 +77,12 @@ impl Gate for Meeting {
         }
     }
 
+    fn time(&self) -> Option<u64> {
+        None
+    }
+
+    fn next_due(&self, _: Option<u64>) {}
+
     fn idle(&self) {
         thread::yield_now();
     }

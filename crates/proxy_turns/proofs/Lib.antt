@@ -24,3 +24,4 @@ pub mod Noting
 pub mod Settling
 pub mod Undrained
 pub mod Turns
+pub mod Waiting

@@ -66,10 +66,10 @@ keeps_then old mid new first next client part pause noted = next client part pau
 
 -- one more waits
 module _ (old new : DueCommands) (ticket : Ticket) (paused : Reverse PausedCommand) where
-  pub paused_kept : new ≡ record old { paused = new.paused } → IsPermutation (paused ∷ heap_items old.paused) (heap_items new.paused) → KeepsNoted old new
-  paused_kept same moved client part None noted = (λ i. list_any (is_ticket client part) (same i).ended.items) ∙ noted
-  paused_kept same moved client part (Some pause) noted =
-      (λ i. list_any (is_ticket client part) (same i).due.items || (nat_lt 0 pause && list_any (is_pause_of client part) (heap_items new.paused)))
+  pub paused_kept : new.ended ≡ old.ended → new.due ≡ old.due → IsPermutation (paused ∷ heap_items old.paused) (heap_items new.paused) → KeepsNoted old new
+  paused_kept same still moved client part None noted = (λ i. list_any (is_ticket client part) (same i).items) ∙ noted
+  paused_kept same still moved client part (Some pause) noted =
+      (λ i. list_any (is_ticket client part) (still i).items || (nat_lt 0 pause && list_any (is_pause_of client part) (heap_items new.paused)))
       ∙ or_both due (nat_lt 0 pause && waits) due (nat_lt 0 pause && list_any (is_pause_of client part) (heap_items new.paused)) (λ is. is)
       (and_on (nat_lt 0 pause) waits _ (λ is. sym (list_any-IsPermutation (is_pause_of client part) _ _ moved) ∙ or_right (is_pause_of client part paused) waits is)) noted
     where

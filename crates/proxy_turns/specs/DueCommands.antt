@@ -1,7 +1,8 @@
 -- Which commands of a worker have something to do, and that each of them is noted.
 -- Only private functions cite it.
-use Rattle.std.specs.Prelude.{◌≡◌, ◌≢◌, ◌⊎◌, ◌||◌, ◌&&◌, ◌<◌, ℕ, Bool, true, Option, Some, None, Result, Ok, Err, IsSomeAnd, nat_eq, nat_lt, ⊤}
+use Rattle.std.specs.Prelude.{◌≡◌, ◌≢◌, ◌⊎◌, ◌||◌, ◌&&◌, ◌++◌, ◌<◌, ◌∷◌, [], ℕ, Bool, true, false, List, Option, Some, None, Result, Ok, Err, IsSomeAnd, length, nat_eq, nat_lt, ⊤}
 use Rattle.std.specs.List.{list_any}
+use Rattle.std.specs.List.Sorted.{IsPermutation}
 use Rattle.std.specs.Ordering.{nat_cmp}
 use Rattle.std.specs.FinMap.{FinMap, get}
 use Rattle.std.specs.declared.cmp.Reverse.{Reverse}
@@ -24,6 +25,7 @@ use Rattle.proxy_turns.specs.declared.turned.Settled.TheVariants as settled
 use Rattle.proxy_turns.specs.ClientModel.{ClientModel}
 use Rattle.proxy_turns.specs.ClientRest.{HasNoPlace}
 use Rattle.proxy_turns.specs.Pause.{pause_at}
+use Rattle.proxy_turns.specs.Waiting.{AreLater, EndsThen}
 
 -- whether this is a ticket for this part of this client
 abbrev pub is_ticket : ℕ → ℕ → Ticket → Bool
@@ -47,11 +49,28 @@ KeepsNoted old new = (client part : ℕ) (pause : Option ℕ) → is_noted old c
 abbrev pub HasRoom : DueCommands → Type 0
 HasRoom due = (deque_len due.ended < deque_capacity due.ended) × (deque_len due.due < deque_capacity due.due) × (heap_len due.paused < heap_capacity due.paused)
 
+-- A refused command is due now, or waits until then.
+abbrev pub NotesUntil : DueCommands → Ticket → Option ℕ → DueCommands → Type 0
+NotesUntil old ticket None new = (new.due.items ≡ old.due.items ++ ticket ∷ []) × (heap_items new.paused ≡ heap_items old.paused)
+NotesUntil old ticket (Some due) new = (new.due ≡ old.due)
+    × ((paused : Reverse PausedCommand) × (paused.0 ≡ record { due = due; client = ticket.client; part = ticket.part }) × IsPermutation (paused ∷ heap_items old.paused) (heap_items new.paused))
+
+-- The same, until its pause ends, which began at a time that the gate told.
+abbrev pub NotesRefused : (Option ℕ → Type 0) → DueCommands → Ticket → ℕ → DueCommands → Type 0
+NotesRefused tells old ticket pause new = (due : Option ℕ) × EndsThen tells pause due × NotesUntil old ticket due new
+
+-- One pause ended; or none did, and each that waits is due later than at this time.
+abbrev pub EndedOne : Option ℕ → List (Reverse PausedCommand) → Result Bool NoMemory → List (Reverse PausedCommand) → Type 0
+EndedOne time old (Ok true) new = length new < length old
+EndedOne time old (Ok false) new = AreLater time new
+EndedOne time old (Err refused) new = ⊤
+
 -- one of those that wait is taken off, or none
 abbrev pub TakesPaused : DueCommands → Option Ticket → DueCommands → Type 0
 TakesPaused old None new = (new.ended ≡ old.ended) × (new.due ≡ old.due) × (heap_items new.paused ≡ heap_items old.paused)
 TakesPaused old (Some ticket) new = (new.ended ≡ old.ended) × (new.due ≡ old.due)
     × ((client part : ℕ) → list_any (is_pause_of client part) (heap_items old.paused) ≡ (is_ticket client part ticket || list_any (is_pause_of client part) (heap_items new.paused)))
+    × ((taken : Reverse PausedCommand) × IsPermutation (heap_items old.paused) (taken ∷ heap_items new.paused))
 
 -- no earlier part for the slot of this one is out
 abbrev pub IsFirstOut : SessionModel → ℕ → Type 0

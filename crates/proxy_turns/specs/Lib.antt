@@ -7,6 +7,7 @@ pub mod ClientRest
 pub mod ClientState
 pub mod WorkerModel
 pub mod ClientTable
+pub mod Waiting
 pub mod DueCommands
 pub mod Arrivals
 pub mod WorkerRest

@@ -1,8 +1,9 @@
 -- A worker, and what one poll of it does.
 -- A worker is ready where all its clients were served, its gate stopped it, or memory ran out. That it ever is ready is
 -- not said.
-use Rattle.std.specs.Prelude.{◌≡◌, [], ℕ, Bool, true, false, Option, Some, None, List}
+use Rattle.std.specs.Prelude.{◌≡◌, [], ℕ, Bool, true, false, Option, Some, None, List, ⊤}
 use Rattle.std.specs.FinMap.{empty}
+use Rattle.std.specs.declared.cmp.Reverse.{Reverse}
 use Rattle.futures.specs.declared.task.Poll.{Poll}
 use Rattle.futures.specs.declared.task.Poll.TheVariants.{Ready, Pending}
 use Rattle.proxy_lanes.specs.declared.ends.WorkerEnds.{WorkerEnds}
@@ -16,6 +17,8 @@ use Rattle.proxy_turns.specs.declared.worker_end.WorkerOutcome.TheVariants as ca
 use Rattle.proxy_turns.specs.declared.worker_end.WorkerOutcome.TheVariants.{Served, Stopped}
 use Rattle.proxy_turns.specs.Port.{Moves}
 use Rattle.proxy_turns.specs.WorkerModel.{WorkerModel, WorkerGoes, GivesBack, AreAllServed}
+use Rattle.proxy_turns.specs.declared.due_commands.PausedCommand.{PausedCommand}
+use Rattle.proxy_turns.specs.Waiting.{AreAllLater, IsFirstDue}
 use Rattle.proxy_turns.specs.WorkerRest.{IsWorkerAtRest}
 use Rattle.proxy_turns.specs.WorkerState.{state_model}
 
@@ -51,6 +54,13 @@ module _ {C J : Type 0} where
     -- whatever it does until then, it gives this back at its end
     abbrev pub Gives : WorkerModel C J → WorkerEnd C → Type 0
     Gives model end = (moved : Bool) × (last : WorkerModel C J) × WorkerGoes moves model moved last × HandsBack last end
+
+    -- Where a worker goes on after a turn that moved nothing, each of the commands that wait did so at a time that its gate told, and the
+    -- gate was told when the first of them is due.
+    abbrev pub TellsDue : (Option ℕ → Type 0) → (Option ℕ → Type 0) → WorkerModel C J → Option WorkerOutcome → WorkerModel C J → List (Reverse PausedCommand) → Type 0
+    TellsDue tells waits old (Some outcome) new paused = ⊤
+    TellsDue tells waits old None new paused =
+        (moved : Bool) × WorkerGoes moves old moved new × (moved ≡ false → AreAllLater tells paused × ((due : Option ℕ) × IsFirstDue paused due × waits due))
 
     -- a client's last pull gave nothing, and its last push took nothing; what a gate answered to a worker of this number of whose parts so
     -- many had ended, and that it was told of a turn that moved nothing

@@ -1,5 +1,5 @@
 -- When nothing is left to do for a worker but to wait.
--- That a pause ends when its time has come is not said: no model has the time.
+-- That a pause ends when its time has come is said of the worker's state (Waiting.antt), since no model has the time.
 use Rattle.std.specs.Prelude.{◌≡◌, ◌⊎◌, ◌<◌, ℕ, Some, None, IsSomeAnd}
 use Rattle.std.specs.FinMap.{get}
 use Rattle.key_split.specs.Runs.{RunModel}

@@ -1,13 +1,12 @@
 //! The commands of a worker that have something to do, now or after a pause.
 
-ghost use Rattle.std.specs.Prelude.{◌≡◌, ◌<◌, ◌∷◌, ◌||◌, [], ℕ, List, IfSome, MatchOption, OnOk, Some, drop, true};
+ghost use Rattle.std.specs.Prelude.{◌≡◌, ◌<◌, ◌∷◌, ◌||◌, ◌↔◌, [], ℕ, List, IfOk, IsTrue, MatchOption, OnOk, Some, drop, true, ⊤};
 ghost use Rattle.std.specs.List.{list_any};
-ghost use Rattle.std.specs.BinaryHeap.{heap_items, heap_len, heap_capacity};
-ghost use Rattle.proxy_turns.specs.DueCommands.{HasRoom, KeepsNoted, TakesPaused, is_noted};
+ghost use Rattle.std.specs.BinaryHeap.{IsHeap, IsHeap-prop, heap_items, heap_len, heap_capacity};
+ghost use Rattle.proxy_turns.specs.Waiting.{AreAllLater, AreLater, BeganNone, EndsThen, IsFirstDue, IsLater, first_due_first};
 
 use crate::gate::Gate;
 use key_split::Ticket;
-use proxy_lanes::LANE_PLACES;
 use resp_wire::NoMemory;
 use std::alloc::Global;
 use std::cmp::Reverse;
@@ -31,9 +30,12 @@ pub(crate) struct DueCommands {
     due: VecDeque<Ticket>,
     /// Those that were refused and wait.
     paused: BinaryHeap<Reverse<PausedCommand>>,
+    ghost in_order: { IsHeap first_due_first (heap_items paused) } by { IsHeap-prop first_due_first (heap_items paused) },
 }
 
 impl DueCommands {
+    ghost use Rattle.proxy_turns.specs.DueCommands.{EndedOne, HasRoom, KeepsNoted, NotesRefused, NotesUntil, TakesPaused, is_noted};
+
     /// Those of the worker of this number: none.
     pub(crate) fn new(alloc: Global, worker: u16) -> DueCommands {
         DueCommands {
@@ -48,6 +50,7 @@ impl DueCommands {
     pub(crate) fn reserve_one(&mut self) -> Result<(), NoMemory>
         ensures kept { KeepsNoted self.old self.new }
         ensures ended { self.new.ended.items ≡ self.old.ended.items }
+        ensures paused { heap_items self.new.paused ≡ heap_items self.old.paused }
         ensures room { OnOk result (HasRoom self.new) }
     {
         self.ended.reserve(1)?;
@@ -75,6 +78,7 @@ impl DueCommands {
         ensures kept { KeepsNoted self.old self.new }
         ensures ended { self.new.ended ≡ self.old.ended }
         ensures noted { is_noted self.new ticket.client ticket.part (Some pause) ≡ true }
+        ensures until { NotesRefused (G.tells gate.now) self.old ticket pause self.new }
     {
         match time_after(pause, gate) {
             Some(due) => self.pause_until(due, ticket),
@@ -87,6 +91,7 @@ impl DueCommands {
         ensures kept { KeepsNoted self.old self.new }
         ensures ended { self.new.ended ≡ self.old.ended }
         ensures noted { (pause : ℕ) → 0 < pause → is_noted self.new ticket.client ticket.part (Some pause) ≡ true }
+        ensures until { NotesUntil self.old ticket (Some due) self.new }
     {
         let _ = self.paused.push(Reverse(PausedCommand {
             due,
@@ -98,25 +103,25 @@ impl DueCommands {
     /// The pauses end of those that are due by now.
     pub(crate) fn end_pauses<G: Gate>(&mut self, gate: &G) -> Result<(), NoMemory>
         ensures kept { KeepsNoted self.old self.new }
+        ensures none { BeganNone (heap_items self.old.paused) (heap_items self.new.paused) }
+        ensures later { OnOk result (AreAllLater (G.tells gate.now) (heap_items self.new.paused)) }
     {
         if self.paused.is_empty() {
             return Ok(());
         }
-        let now = gate.time().unwrap_or(u64::MAX);
-        for _ in 0..LANE_PLACES {
-            if !self.end_pause(now)? {
-                return Ok(());
-            }
-        }
+        let time = gate.time();
+        while self.end_pause(time)? {}
         Ok(())
     }
 
-    // The pause ends of the first of those that wait, where it is due by now.
-    fn end_pause(&mut self, now: u64) -> Result<bool, NoMemory>
+    // The pause ends of the first of those that wait, where it is due by this time.
+    fn end_pause(&mut self, time: Option<u64>) -> Result<bool, NoMemory>
         ensures kept { KeepsNoted self.old self.new }
+        ensures none { BeganNone (heap_items self.old.paused) (heap_items self.new.paused) }
+        ensures ended { EndedOne time (heap_items self.old.paused) result (heap_items self.new.paused) }
     {
         self.due.reserve(1)?;
-        let Some(ticket) = self.take_paused(now) else {
+        let Some(ticket) = self.take_paused(time) else {
             return Ok(false);
         };
         self.due.push_back_reserved(ticket);
@@ -124,18 +129,21 @@ impl DueCommands {
     }
 
     /// When the first of those that wait is due.
-    pub(crate) fn next_due(&self) -> Option<u64> {
+    pub(crate) fn next_due(&self) -> Option<u64>
+        ensures { IsFirstDue (heap_items self.now.paused) result }
+    {
         match self.paused.peek() {
             Some(Reverse(command)) => Some(command.due),
             None => None,
         }
     }
 
-    // Takes off the first of those that wait, where it is due by now.
-    fn take_paused(&mut self, now: u64) -> Option<Ticket>
-        ensures { TakesPaused self.old result self.new }
+    // Takes off the first of those that wait, where it is due by this time.
+    fn take_paused(&mut self, time: Option<u64>) -> Option<Ticket>
+        ensures takes { TakesPaused self.old result self.new }
+        ensures later { MatchOption result (AreLater time (heap_items self.new.paused)) (λ _. ⊤) }
     {
-        if self.next_due()? > now {
+        if is_later(self.next_due()?, time) {
             return None;
         }
         let Reverse(
@@ -183,12 +191,22 @@ impl DueCommands {
     }
 }
 
-// What time it is after so many milliseconds; `None` where there is no pause, or no time.
+// When a pause ends that begins now; `None` where there is no pause, or no time.
 fn time_after<G: Gate>(pause: u64, gate: &G) -> Option<u64>
-    ensures { IfSome result (λ _. 0 < pause) }
+    ensures { EndsThen (G.tells gate.now) pause result }
 {
     if pause == 0 {
         return None;
     }
     Some(gate.time()?.saturating_add(pause))
+}
+
+// Whether what is due then waits at this time. Where there is no time it does not.
+fn is_later(due: u64, time: Option<u64>) -> bool
+    ensures { IsTrue result ↔ IsLater time due }
+{
+    match time {
+        Some(now) => due > now,
+        None => false,
+    }
 }

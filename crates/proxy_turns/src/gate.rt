@@ -1,6 +1,6 @@
 //! Who lets a worker go on.
 
-ghost use Rattle.std.specs.Prelude.{ℕ, Bool, ⊤};
+ghost use Rattle.std.specs.Prelude.{ℕ, Bool, Option, ⊤};
 
 /// Asked before each turn of a worker and once after the last, and told of turns that moved nothing.
 pub trait Gate {
@@ -9,6 +9,12 @@ pub trait Gate {
 
     /// It was told that a turn moved nothing.
     ghost rests: { Self → Type 0 } = { λ _. ⊤ };
+
+    /// It told this time, or that there is none.
+    ghost tells: { Self → Option ℕ → Type 0 } = { λ _ _. ⊤ };
+
+    /// It was told that the first of the commands that wait is due then, or that none waits.
+    ghost waits: { Self → Option ℕ → Type 0 } = { λ _ _. ⊤ };
 
     /// Whether the worker goes on. `answered` counts the parts that have ended so far.
     fn pass(&self, worker: u16, answered: u64) -> bool
@@ -24,12 +30,12 @@ pub trait Gate {
     fn posted(&self, _count: u64) {}
 
     /// What time it is, in milliseconds since some moment. Where there is no time, refused commands do not wait.
-    fn time(&self) -> Option<u64> {
-        None
-    }
+    fn time(&self) -> Option<u64>
+        ensures told { tells self.now result };
 
     /// When the first of the commands that wait is to be posted again, by `time`. Told before `idle`.
-    fn next_due(&self, _time: Option<u64>) {}
+    fn next_due(&self, time: Option<u64>)
+        ensures waits { waits self.now time };
 
     /// The last turn moved nothing.
     fn idle(&self)

@@ -11,8 +11,8 @@
 //! carrier `CarrierDoes` of `specs/CarrierModel.antt`.
 //! A worker posts only what its commands want, in the turn of their parts; it is a future, a poll of which is one pass of its
 //! gate and one turn (`PollOutcome` of `specs/Worker.antt`), and at its end it gives back every port that it still holds. A turn
-//! of it that moved nothing leaves each of its clients at rest (`AreClientsAtRest` of `specs/WorkerRest.antt`), and each command
-//! that was posted: it awaits its answer, pauses, or wants its next post at a lane that takes no more (`ArePostedAtRest`).
+//! or poll of it that moved nothing leaves nothing to do (`IsWorkerAtRest` of `specs/WorkerRest.antt`): each of its clients is at
+//! rest, and each command that was posted awaits its answer, pauses, or wants its next post at a lane that takes no more.
 //! The carrier sends each run as one item; what is given is what a link received, Lost for the tickets that a failed link
 //! lost, and Unsent for each command of a run whose dial failed, or that is longer than its link takes; the slot map is renewed
 //! by MOVED and CLUSTER SLOTS. A turn of its that moved nothing leaves it at rest (`IsAtRest` of `specs/CarrierModel.antt`):

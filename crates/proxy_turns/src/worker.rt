@@ -1,12 +1,13 @@
 //! A worker, as a future: each poll is one pass of its gate and one turn.
 
 ghost use Rattle.std.specs.Prelude.{◌≡◌, false, true, ⊤};
+ghost use Rattle.std.specs.BinaryHeap.{heap_items};
 ghost use Rattle.futures.specs.Task.{Covers, Keeps};
 ghost use Rattle.futures.specs.Poll.{IfReady, OnPending};
 ghost use Rattle.proxy_turns.specs.WorkerModel.{WorkerTurns};
 ghost use Rattle.proxy_turns.specs.ClientRest.{IfStill};
 ghost use Rattle.proxy_turns.specs.WorkerRest.{IsWorkerAtRest};
-ghost use Rattle.proxy_turns.specs.Worker.{Gives, HandsBack, IsRunning, PollOutcome, StepOutcome, new_worker, worker_model};
+ghost use Rattle.proxy_turns.specs.Worker.{Gives, HandsBack, IsRunning, PollOutcome, StepOutcome, TellsDue, new_worker, worker_model};
 
 use crate::gate::Gate;
 use crate::newcomer::Newcomer;
@@ -70,6 +71,7 @@ impl<'g, C: ClientPort + Drop, J: Naming, G: Gate> Worker<'g, C, J, G> {
     // One pass of the gate, and one turn where it lets the worker go on. What ends the worker, where something does.
     fn step(&mut self) -> Option<WorkerOutcome>
         ensures does { StepOutcome C.moves C.gives_none C.takes_none (G.says self.old.gate.now) (G.rests self.old.gate.now) (worker_model self.old) result (worker_model self.new) }
+        ensures due { TellsDue C.moves (G.tells self.old.gate.now) (G.waits self.old.gate.now) (worker_model self.old) result (worker_model self.new) (heap_items self.new.state.due.paused) }
         ensures runs { IsRunning self.old → IsRunning self.new }
     {
         if !self.pass() {

@@ -1,6 +1,7 @@
 //! The clients of a worker, between them and the carrier the lanes.
 
 ghost use Rattle.std.specs.Prelude.{◌≡◌, ◌⊎◌, ◌<◌, ◌≤◌, ◌+◌, ◌∷◌, [], List, drop, IfOk, IfSome, IsTrue, ◌↔◌, OnOk, Ok, Some, length, true, vec_capacity};
+ghost use Rattle.std.specs.BinaryHeap.{heap_items};
 ghost use Rattle.proxy_turns.specs.WorkerModel.{AdmitsClients, AreAllServed, Learns, RemovesClient, ServesClients, SettlesDue, TakesTold, TurnsClient, WorkerTurns, clients_in};
 ghost use Rattle.proxy_turns.specs.ClientRest.{HasNoPlace, IfStill};
 ghost use Rattle.command_future.specs.CommandModel.{CommandModel, WantsPost};
@@ -8,6 +9,7 @@ ghost use Rattle.proxy_turns.specs.Pause.{pause_at};
 ghost use Rattle.proxy_turns.specs.DueCommands.{AreNoted, AreSettled, HasRoom, IsSettled, IsToSettleAt, KeepsNoted, is_noted};
 ghost use Rattle.proxy_turns.specs.WorkerRest.{AreClientsAtRest, ArePostedAtRest, HasNoNewcomer, HasNothingToTell};
 ghost use Rattle.proxy_turns.specs.Arrivals.{settled_in, turned_in};
+ghost use Rattle.proxy_turns.specs.Waiting.{AreAllLater, IsFirstDue};
 
 use crate::client_state::ClientState;
 use crate::client_table::{
@@ -104,6 +106,7 @@ impl<C: ClientPort + Drop, J: Naming> WorkerState<C, J> {
         ensures nothing_to_tell { IfStill result (HasNothingToTell (state_model self.new)) }
         ensures clients_rest { IfStill result (AreClientsAtRest C.gives_none C.takes_none (state_model self.new)) }
         ensures posted_rest { IfStill result (ArePostedAtRest (state_model self.new)) }
+        ensures pauses { IfStill result (AreAllLater (G.tells gate.now) (heap_items self.new.due.paused)) }
     {
         let came = self.admit_all()?;
         let told = self.take_told(gate)?;
@@ -120,7 +123,9 @@ impl<C: ClientPort + Drop, J: Naming> WorkerState<C, J> {
     }
 
     /// When the first of the commands that wait is due.
-    pub(crate) fn next_due(&self) -> Option<u64> {
+    pub(crate) fn next_due(&self) -> Option<u64>
+        ensures { IsFirstDue (heap_items self.now.due.paused) result }
+    {
         self.due.next_due()
     }
 
@@ -231,6 +236,7 @@ impl<C: ClientPort + Drop, J: Naming> WorkerState<C, J> {
     fn settle_due<G: Gate>(&mut self, gate: &G) -> Result<bool, NoMemory>
         ensures settles { SettlesDue C.moves (state_model self.old) result (state_model self.new) }
         ensures rest { OnOk result (AreSettled (clients_in self.new.clients.entries) self.new.outlet) }
+        ensures pauses { IfStill result (AreAllLater (G.tells gate.now) (heap_items self.new.due.paused)) }
     {
         self.due.end_pauses(gate)?;
         let ended = self.end_all(gate)?;
@@ -242,6 +248,7 @@ impl<C: ClientPort + Drop, J: Naming> WorkerState<C, J> {
     fn end_all<G: Gate>(&mut self, gate: &G) -> Result<bool, NoMemory>
         ensures settles { SettlesDue C.moves (state_model self.old) result (state_model self.new) }
         ensures none { OnOk result (self.new.due.ended.items ≡ []) }
+        ensures paused { IfStill result (heap_items self.new.due.paused ≡ heap_items self.old.due.paused) }
     {
         let mut moved = false;
         while let Some(ticket) = self.due.first_ended() {
@@ -255,6 +262,7 @@ impl<C: ClientPort + Drop, J: Naming> WorkerState<C, J> {
         requires { (rest : List Ticket) × (self.old.due.ended.items ≡ ticket ∷ rest) }
         ensures settles { SettlesDue C.moves (state_model self.old) result (state_model self.new) }
         ensures ended { OnOk result (self.new.due.ended.items ≡ drop 1 self.old.due.ended.items) }
+        ensures paused { IfStill result (heap_items self.new.due.paused ≡ heap_items self.old.due.paused) }
     {
         self.due.reserve_one()?;
         match finish_at(&mut self.clients, ticket)? {
@@ -275,6 +283,7 @@ impl<C: ClientPort + Drop, J: Naming> WorkerState<C, J> {
     fn post_due(&mut self) -> Result<bool, NoMemory>
         ensures settles { SettlesDue C.moves (state_model self.old) result (state_model self.new) }
         ensures ended { self.new.due.ended ≡ self.old.due.ended }
+        ensures paused { self.new.due.paused ≡ self.old.due.paused }
         ensures none { OnOk result ((self.new.due.due.items ≡ []) ⊎ HasNoPlace self.new.outlet) }
     {
         let mut moved = false;
@@ -301,6 +310,7 @@ impl<C: ClientPort + Drop, J: Naming> WorkerState<C, J> {
     fn serve_clients<G: Gate>(&mut self, gate: &G) -> Result<bool, NoMemory>
         ensures serves { ServesClients C.moves (state_model self.old) result (state_model self.new) }
         ensures rest { IfStill result (AreClientsAtRest C.gives_none C.takes_none (state_model self.new)) }
+        ensures due { self.new.due ≡ self.old.due }
     {
         let mut moved = false;
         let round = self.round;
@@ -316,6 +326,7 @@ impl<C: ClientPort + Drop, J: Naming> WorkerState<C, J> {
     fn serve_client_at<G: Gate>(&mut self, place: usize, gate: &G) -> Result<bool, NoMemory>
         ensures serves { ServesClients C.moves (state_model self.old) result (state_model self.new) }
         ensures rests { IfStill result (IsStillAt C.gives_none C.takes_none self.old.clients.entries place self.new.outlet self.new.clients.entries) }
+        ensures due { self.new.due ≡ self.old.due }
     {
         let posted = self.outlet.posted();
         let turned = self.turn_client_at(place, gate)?;
@@ -331,6 +342,7 @@ impl<C: ClientPort + Drop, J: Naming> WorkerState<C, J> {
         ensures turns { TurnsClient C.moves (state_model self.old) (turned_in result) (state_model self.new) }
         ensures turned { IfOk result (λ turned. IsTurnedAt C.gives_none C.takes_none self.old.clients.entries place turned self.new.outlet self.new.clients.entries) }
         ensures len { length self.new.clients.entries ≡ length self.old.clients.entries }
+        ensures due { self.new.due ≡ self.old.due }
     {
         turn_at(
             &mut self.clients,
@@ -346,6 +358,7 @@ impl<C: ClientPort + Drop, J: Naming> WorkerState<C, J> {
     fn remove_done(&mut self, place: usize) -> bool
         ensures removes { RemovesClient C.moves (state_model self.old) (Ok result) (state_model self.new) }
         ensures done { IsDoneAt self.old.clients.entries place → result ≡ true }
+        ensures due { self.new.due ≡ self.old.due }
     {
         let Some(port) = take_done(&mut self.clients, place) else {
             return false;

@@ -55,5 +55,11 @@ impl<'a, C: Turned> Gate for TurningGate<'a, C> {
         went
     }
 
+    fn time(&self) -> Option<u64> {
+        None
+    }
+
+    fn next_due(&self, _: Option<u64>) {}
+
     fn idle(&self) {}
 }

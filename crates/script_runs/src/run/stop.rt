@@ -70,6 +70,14 @@ impl<'g, G: Gate> Gate for StopGate<'g, G> {
         self.gate.posted(count);
     }
 
+    fn time(&self) -> Option<u64> {
+        self.gate.time()
+    }
+
+    fn next_due(&self, time: Option<u64>) {
+        self.gate.next_due(time);
+    }
+
     fn idle(&self) {
         self.gate.idle();
     }

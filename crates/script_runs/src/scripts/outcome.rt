@@ -26,6 +26,12 @@ impl Gate for Open {
         true
     }
 
+    fn time(&self) -> Option<u64> {
+        None
+    }
+
+    fn next_due(&self, _: Option<u64>) {}
+
     fn idle(&self) {
         thread::yield_now();
     }

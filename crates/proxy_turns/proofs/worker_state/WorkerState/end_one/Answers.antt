@@ -1,5 +1,6 @@
 use Rattle.std.proofs.Common.{◌∙◌, Ok, ap, arith, refl, rules, subst}
 use Rattle.std.proofs.lemmas.Result.{err_from_is_err_and}
+use Rattle.std.specs.BinaryHeap.{heap_items}
 use Rattle.proxy_turns.specs.declared.turned.Finish.TheVariants as finish
 use Rattle.proxy_turns.specs.ClientTable.{ClientFinishes}
 use Rattle.proxy_turns.specs.WorkerModel.{clients_in, settles}
@@ -52,3 +53,6 @@ invariant_of-self-in-Ended g c =
 pub returns-in-Ended-clause-settles : goal.returns-in-Ended-clause-settles
 returns-in-Ended-clause-settles g c =
     finished g.C.ClientPort.moves settles (λ k t end. refl) (state_model c.args.self.now) c.args.ticket c.in-Ended.next (clients_in c.finish_at.new.clients.entries) _ (subst (λ f. ClientFinishes g.C.ClientPort.moves (clients_in c.args.self.now.clients.entries) c.args.ticket (Ok f) (clients_in c.finish_at.new.clients.entries)) c.in-Ended.is c.in_ok-finish_at.ensures.finishes) (search rules)
+
+pub returns-in-Open-clause-paused : goal.returns-in-Open-clause-paused
+returns-in-Open-clause-paused g c = ap (λ p. heap_items p) c.drop_ended.ensures.kept.1 ∙ c.reserve_one.ensures.paused

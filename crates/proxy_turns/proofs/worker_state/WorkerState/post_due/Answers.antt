@@ -9,7 +9,7 @@ use Rattle.proxy_turns.proofs.Settling.{shorter}
 use Rattle.proxy_turns.proofs.worker_state.WorkerState.post_due.Goals as goal
 
 pub loop-ticket-init : goal.loop-ticket-init
-loop-ticket-init g c = record { goes = stays_all g.C.ClientPort.moves settles _ _ refl; ended = refl }
+loop-ticket-init g c = record { goes = stays_all g.C.ClientPort.moves settles _ _ refl; ended = refl; paused = refl }
 
 pub returns-in_err-settled-clause-settles : goal.returns-in_err-settled-clause-settles
 returns-in_err-settled-clause-settles g c =
@@ -24,6 +24,15 @@ returns-in_err-settled-clause-ended g c = ap (λ d. d.ended) c.post_one.ensures.
 
 pub returns-then-is_held-clause-ended : goal.returns-then-is_held-clause-ended
 returns-then-is_held-clause-ended g c = ap (λ d. d.ended) c.post_one.ensures.due ∙ c.loop-ticket.invariant.ended
+
+pub returns-in_err-settled-clause-paused : goal.returns-in_err-settled-clause-paused
+returns-in_err-settled-clause-paused g c = ap (λ d. d.paused) c.post_one.ensures.due ∙ c.loop-ticket.invariant.paused
+
+pub returns-then-is_held-clause-paused : goal.returns-then-is_held-clause-paused
+returns-then-is_held-clause-paused g c = ap (λ d. d.paused) c.post_one.ensures.due ∙ c.loop-ticket.invariant.paused
+
+pub returns-clause-paused : goal.returns-clause-paused
+returns-clause-paused g c = c.loop-ticket.invariant.paused
 
 pub returns-then-is_held-clause-none : goal.returns-then-is_held-clause-none
 returns-then-is_held-clause-none g c = inr (held_full c.in_ok-settled.settled _ c.post_one.new.self.outlet (c.is_held.ensures.0 c.if-is_held.true) c.in_ok-settled.ensures.settled)
@@ -48,6 +57,7 @@ pub loop-ticket-preserved : goal.loop-ticket-preserved
 loop-ticket-preserved g c = record {
   goes = all_then g.C.ClientPort.moves settles _ _ _ _ _ c.loop-ticket.invariant.goes (rw (← c.is_move-moved.ensures) at c.in_ok-settled.ensures.settles);
   ended = c.drop_due.ensures.kept.0 ∙ ap (λ d. d.ended) c.post_one.ensures.due ∙ c.loop-ticket.invariant.ended;
+  paused = c.drop_due.ensures.kept.1 ∙ ap (λ d. d.paused) c.post_one.ensures.due ∙ c.loop-ticket.invariant.paused;
 }
 
 pub returns-clause-settles : goal.returns-clause-settles

@@ -7,6 +7,7 @@ abbrev pub invariant-loop-ticket : goal.invariant-loop-ticket
 invariant-loop-ticket g l = record {
   goes : WorkerGoesBy g.C.ClientPort.moves settles (state_model l.initial.self) l.moved (state_model l.self);
   ended : l.self.due.ended ≡ l.initial.self.due.ended;
+  paused : l.self.due.paused ≡ l.initial.self.due.paused;
 }
 
 abbrev pub decreases-loop-ticket : goal.decreases-loop-ticket

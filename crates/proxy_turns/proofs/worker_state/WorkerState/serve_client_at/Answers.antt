@@ -1,3 +1,4 @@
+use Rattle.std.proofs.Common.{◌∙◌}
 use Rattle.std.proofs.lemmas.Result.{err_from_is_err_and}
 use Rattle.proxy_turns.specs.WorkerModel.{removes_client, serves_client, turns_client}
 use Rattle.proxy_turns.proofs.EventKinds.{client_removed, client_turned}
@@ -26,3 +27,6 @@ returns-then-not-turned-clause-rests g c =
 
 pub returns-clause-rests : goal.returns-clause-rests
 returns-clause-rests g c = last_moved _ c.in_ok-turned.turned.moved c.remove_done-left.result (c.remove_done-left.ensures.done (c.in_ok-turned.ensures.turned.done (done_by _ c.if-not-turned.false)))
+
+pub returns-clause-due : goal.returns-clause-due
+returns-clause-due g c = c.remove_done-left.ensures.due ∙ c.in_ok-turned.ensures.due

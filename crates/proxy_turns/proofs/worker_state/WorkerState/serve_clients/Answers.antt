@@ -17,6 +17,7 @@ returns-in_err-moved-clause-serves g c =
 pub loop-step-init : goal.loop-step-init
 loop-step-init g c = record {
   goes = stays_all g.C.ClientPort.moves serves_client _ _ refl;
+  due = refl;
   len = λ none. sym c.len-count.ensures.len;
   rests = λ none k lt. absurd (omega (arith, lt));
 }
@@ -32,6 +33,7 @@ loop-step-preserved g c =
     let here : IsPlace first count c.loop-step.step c.place.result = (c.place.ensures.there, c.place.ensures.behind, c.place.ensures.beyond, c.place.ensures.around) in
     record {
       goes = all_then g.C.ClientPort.moves serves_client _ _ _ _ _ c.loop-step.invariant.goes c.in_ok-moved.ensures.serves;
+      due = c.in_ok-moved.ensures.due ∙ c.loop-step.invariant.due;
       len = λ none. let both = or_false _ _ none in
           let still : IsStillAt gives takes old.clients.entries c.place.result new.outlet new.clients.entries = if_turned _ c.in_ok-moved.ensures.rests both.1 in
           still.len ∙ c.loop-step.invariant.len both.0;
@@ -45,6 +47,12 @@ loop-step-preserved g c =
 
 pub returns-clause-serves : goal.returns-clause-serves
 returns-clause-serves g c = c.loop-step.invariant.goes
+
+pub returns-in_err-moved-clause-due : goal.returns-in_err-moved-clause-due
+returns-in_err-moved-clause-due g c = c.in_err-moved.ensures.due ∙ c.loop-step.invariant.due
+
+pub returns-clause-due : goal.returns-clause-due
+returns-clause-due g c = c.loop-step.invariant.due
 
 pub returns-clause-rest : goal.returns-clause-rest
 returns-clause-rest g c =

@@ -8,6 +8,7 @@ use Rattle.proxy_turns.proofs.worker_state.WorkerState.serve_clients.Given as go
 abbrev pub invariant-loop-step : goal.invariant-loop-step
 invariant-loop-step g l = record {
   goes : WorkerGoesBy g.C.ClientPort.moves serves_client (state_model l.initial.self) l.moved (state_model l.self);
+  due : l.self.due ≡ l.initial.self.due;
   len : l.moved ≡ false → length l.self.clients.entries ≡ l.count;
   rests : l.moved ≡ false → (k : ℕ) → k < l.step → (place : ℕ) → IsPlace l.round.first l.count k place
       → IsAtRestAt g.C.ClientPort.gives_none g.C.ClientPort.takes_none l.self.clients.entries l.self.outlet place;

@@ -1,9 +1,11 @@
 use Rattle.std.proofs.Common.{◌∙◌, ap, refl}
 use Rattle.std.proofs.lemmas.Result.{err_from_is_err_and}
+use Rattle.std.specs.BinaryHeap.{heap_items}
 use Rattle.proxy_turns.specs.WorkerModel.{clients_in, settles}
 use Rattle.proxy_turns.specs.WorkerState.{state_model}
 use Rattle.proxy_turns.proofs.Lifting.{all_err, all_then, stays_err}
 use Rattle.proxy_turns.proofs.Settling.{more_noted, settled_rest}
+use Rattle.proxy_turns.proofs.Waiting.{later_on}
 use Rattle.proxy_turns.proofs.worker_state.WorkerState.settle_due.Goals as goal
 
 pub invariant_of-self : goal.invariant_of-self
@@ -27,3 +29,8 @@ returns-clause-rest g c =
 pub returns-in_err-end_pauses-clause-settles : goal.returns-in_err-end_pauses-clause-settles
 returns-in_err-end_pauses-clause-settles g c =
     let is = (err_from_is_err_and c.from_residual.result c.from_residual.ensures.1).1 in stays_err g.C.ClientPort.moves settles _ _ _ _ is refl
+
+pub returns-clause-pauses : goal.returns-clause-pauses
+returns-clause-pauses g c =
+    later_on (g.G.Gate.tells c.args.gate.now) c.in_ok-ended.ended c.in_ok-posted.posted (heap_items c.end_pauses.new.self.paused) (heap_items c.end_all.new.self.due.paused) (heap_items c.post_due.new.self.due.paused)
+    c.in_ok-end_pauses.ensures.later c.in_ok-ended.ensures.paused (ap (λ p. heap_items p) c.in_ok-posted.ensures.paused)

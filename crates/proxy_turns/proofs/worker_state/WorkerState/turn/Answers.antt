@@ -1,4 +1,6 @@
+use Rattle.std.proofs.Common.{ap}
 use Rattle.std.proofs.lemmas.Result.{err_from_is_err_and}
+use Rattle.std.specs.BinaryHeap.{heap_items}
 use Rattle.proxy_turns.specs.WorkerModel.{admits, serves_client, settles, takes_told}
 use Rattle.proxy_turns.specs.WorkerState.{state_model}
 use Rattle.proxy_turns.proofs.EventKinds.{every_one, in_workers_turn}
@@ -7,6 +9,7 @@ use Rattle.proxy_turns.proofs.WorkerResting.{no_newcomer, nothing_to_tell, servi
 use Rattle.proxy_turns.proofs.ClientResting.{last_still}
 use Rattle.proxy_turns.proofs.Rounds.{full_on}
 use Rattle.proxy_turns.proofs.Settling.{posted_rest, served_new}
+use Rattle.proxy_turns.proofs.Waiting.{later_after}
 use Rattle.proxy_turns.proofs.worker_state.WorkerState.turn.Goals as goal
 
 pub returns-in_err-came-clause-turns : goal.returns-in_err-came-clause-turns
@@ -71,3 +74,8 @@ returns-clause-posted_rest g c =
     let served = c.in_ok-served.ensures.serves in
     posted_rest c.in_ok-came.came c.in_ok-told.told c.in_ok-settled.settled c.in_ok-served.served three four c.in_ok-settled.ensures.rest
     (served_new g.C.ClientPort.moves c.in_ok-served.served three four served) (λ none. full_on g.C.ClientPort.moves c.in_ok-served.served three four none served)
+
+pub returns-clause-pauses : goal.returns-clause-pauses
+returns-clause-pauses g c =
+    later_after (g.G.Gate.tells c.args.gate.now) c.in_ok-came.came c.in_ok-told.told c.in_ok-settled.settled c.in_ok-served.served (heap_items c.settle_due.new.self.due.paused) (heap_items c.serve_clients.new.self.due.paused)
+    c.in_ok-settled.ensures.pauses (ap (λ d. heap_items d.paused) c.in_ok-served.ensures.due)
