@@ -23,7 +23,7 @@ use Rattle.proxy_turns.specs.declared.turned.Settled.TheVariants as settled
 use Rattle.proxy_turns.specs.ClientModel.{ClientModel}
 use Rattle.proxy_turns.specs.ClientRest.{HasNoPlace}
 use Rattle.proxy_turns.specs.Pause.{pause_at}
-use Rattle.proxy_turns.specs.DueCommands.{AreNoted, IsSettled, IsToSettleAt, KeepsNoted, is_noted, is_pause_of, is_ticket}
+use Rattle.proxy_turns.specs.DueCommands.{AreNoted, IsSettled, IsToSettleAt, KeepsNoted, NotesPause, is_noted, is_pause_of, is_ticket}
 use Rattle.proxy_turns.proofs.EventKinds.{and_both, and_true}
 
 or_left : (a b : Bool) → a ≡ true → (a || b) ≡ true
@@ -63,6 +63,10 @@ to_same m n is = eqb→eq m n (subst T (sym is) tt)
 
 pub keeps_then : (old mid new : DueCommands) → KeepsNoted old mid → KeepsNoted mid new → KeepsNoted old new
 keeps_then old mid new first next client part pause noted = next client part pause (first client part pause noted)
+
+-- a command is noted with the pause that it has
+pub pause_noted : (tells : Option ℕ → Type 0) (old new : DueCommands) (ticket : Ticket) (pause has : Option ℕ) → has ≡ pause → NotesPause tells old ticket pause new → NotesPause tells old ticket has new
+pause_noted tells old new ticket pause has is noted = subst (λ p. NotesPause tells old ticket p new) (sym is) noted
 
 -- one more waits
 module _ (old new : DueCommands) (ticket : Ticket) (paused : Reverse PausedCommand) where

@@ -59,6 +59,11 @@ NotesUntil old ticket (Some due) new = (new.due ≡ old.due)
 abbrev pub NotesRefused : (Option ℕ → Type 0) → DueCommands → Ticket → ℕ → DueCommands → Type 0
 NotesRefused tells old ticket pause new = (due : Option ℕ) × EndsThen tells pause due × NotesUntil old ticket due new
 
+-- A command that was told something is noted so, where it has a pause before its next post.
+abbrev pub NotesPause : (Option ℕ → Type 0) → DueCommands → Ticket → Option ℕ → DueCommands → Type 0
+NotesPause tells old ticket None new = ⊤
+NotesPause tells old ticket (Some pause) new = NotesRefused tells old ticket pause new
+
 -- One pause ended; or none did, and each that waits is due later than at this time.
 abbrev pub EndedOne : Option ℕ → List (Reverse PausedCommand) → Result Bool NoMemory → List (Reverse PausedCommand) → Type 0
 EndedOne time old (Ok true) new = length new < length old

@@ -34,7 +34,7 @@ pub(crate) struct DueCommands {
 }
 
 impl DueCommands {
-    ghost use Rattle.proxy_turns.specs.DueCommands.{EndedOne, HasRoom, KeepsNoted, NotesRefused, NotesUntil, TakesPaused, is_noted};
+    ghost use Rattle.proxy_turns.specs.DueCommands.{EndedOne, HasRoom, KeepsNoted, NotesPause, NotesRefused, NotesUntil, TakesPaused, is_noted};
 
     /// Those of the worker of this number: none.
     pub(crate) fn new(alloc: Global, worker: u16) -> DueCommands {
@@ -65,6 +65,7 @@ impl DueCommands {
         requires { HasRoom self.old }
         ensures kept { KeepsNoted self.old self.new }
         ensures noted { is_noted self.new ticket.client ticket.part pause ≡ true }
+        ensures until { NotesPause (G.tells gate.now) self.old ticket pause self.new }
     {
         match pause {
             None => self.ended.push_back_reserved(ticket),

@@ -6,7 +6,7 @@ ghost use Rattle.proxy_turns.specs.WorkerModel.{AdmitsClients, AreAllServed, Lea
 ghost use Rattle.proxy_turns.specs.ClientRest.{HasNoPlace, IfStill};
 ghost use Rattle.command_future.specs.CommandModel.{CommandModel, WantsPost};
 ghost use Rattle.proxy_turns.specs.Pause.{pause_at};
-ghost use Rattle.proxy_turns.specs.DueCommands.{AreNoted, AreSettled, HasRoom, IsSettled, IsToSettleAt, KeepsNoted, is_noted};
+ghost use Rattle.proxy_turns.specs.DueCommands.{AreNoted, AreSettled, HasRoom, IsSettled, IsToSettleAt, KeepsNoted, NotesPause, is_noted};
 ghost use Rattle.proxy_turns.specs.WorkerRest.{AreClientsAtRest, ArePostedAtRest, HasNoNewcomer, HasNothingToTell};
 ghost use Rattle.proxy_turns.specs.Arrivals.{settled_in, turned_in};
 ghost use Rattle.proxy_turns.specs.Waiting.{AreAllLater, IsFirstDue};
@@ -389,6 +389,8 @@ fn note_step<C: ClientPort + Drop, G: Gate>(
     ensures kept { KeepsNoted due.old due.new }
     ensures noted { (c : CommandModel) → IsToSettleAt (clients_in clients.now.entries) ticket.client ticket.part c
         → is_noted due.new ticket.client ticket.part (pause_at c.stage c.followed) ≡ true }
+    ensures until { (c : CommandModel) → IsToSettleAt (clients_in clients.now.entries) ticket.client ticket.part c
+        → NotesPause (G.tells gate.now) due.old ticket (pause_at c.stage c.followed) due.new }
 {
     match next_step_at(clients, ticket) {
         NextStep::Rest => {}
@@ -411,6 +413,8 @@ fn note_next<C: ClientPort + Drop, G: Gate>(
     ensures ended { due.new.ended ≡ due.old.ended }
     ensures noted { IfSome next (λ ticket. (c : CommandModel) → WantsPost c.stage → IsToSettleAt (clients_in clients.now.entries) client ticket.part c
         → is_noted due.new client ticket.part (pause_at c.stage c.followed) ≡ true) }
+    ensures until { IfSome next (λ ticket. (c : CommandModel) → WantsPost c.stage → IsToSettleAt (clients_in clients.now.entries) client ticket.part c
+        → NotesPause (G.tells gate.now) due.old (record ticket { client = client }) (pause_at c.stage c.followed) due.new) }
 {
     let Some(Ticket { worker, part, .. }) = next else {
         return;
