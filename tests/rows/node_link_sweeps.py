@@ -207,12 +207,13 @@ def commands_that_wait():
     begin(row, [])
     row.call("link patience", str(PATIENCE))
     row.call("link send 0.0.0 0 plain SET a 1")
-    row.call("link receive", "none")
     row.call("link send 0.0.1 0 plain SET a 1")
+    row.call("link receive", "none")
+    row.call("link send 0.0.2 0 plain SET a 1")
     for _ in range(PATIENCE + 1):
         row.call("link written", '""')
         row.call("link receive", "none")
-    row.call("link written", quoted(SET * 2))
+    row.call("link written", quoted(SET * 3))
     return row
 
 

@@ -4,12 +4,12 @@ use crate::held::{Held, put};
 use crate::notation::{CallFault, Line, Object};
 use crate::stream::MemoryStream;
 use key_split::Batch;
-use node_link::{BytePort, FLUSH_AFTER_READS, Got, Link, LinkFault, NodePort, PortFault};
+use node_link::{BlockPort, FLUSH_AFTER_READS, Got, Link, LinkFault, NodePort, PortFault};
 use resp_wire::{Limits, Value};
 use slot_map::NodeTable;
 use std::alloc::Global;
 
-type Port = BytePort<MemoryStream>;
+type Port = BlockPort<MemoryStream>;
 
 #[derive(Drop)]
 pub struct LinkObjects {
@@ -88,7 +88,7 @@ impl LinkObjects {
 /// A port over the stream that was described.
 fn next_port(stream: &mut MemoryStream, alloc: Global) -> Port {
     let next = MemoryStream::new(alloc, Vec::new(alloc));
-    BytePort::new(alloc, std::mem::replace(stream, next), Limits::full())
+    BlockPort::new(alloc, std::mem::replace(stream, next), Limits::full(), true)
 }
 
 /// How the next stream is.

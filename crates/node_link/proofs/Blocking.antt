@@ -67,11 +67,13 @@ settles_collected old came = ([], rw (append-nil old.awaited) (tells-nothing old
 
 -- a draft that is finished stands behind what waits
 pub finished : (out drafted done : OutboxModel) (bytes : List ℕ) → out.draft ≡ [] → drafted.unsent ≡ out.unsent → drafted.draft ≡ out.draft ++ bytes
-    → done ≡ record { unsent = record drafted.unsent { bytes = drafted.unsent.bytes ++ drafted.draft }; draft = [] } → done.unsent ≡ record out.unsent { bytes = out.unsent.bytes ++ bytes }
+    → done ≡ record { unsent = record { bytes = drafted.unsent.bytes ++ drafted.draft; refused = drafted.unsent.refused; quiet_reads = done.unsent.quiet_reads }; draft = [] }
+    → done.unsent ≡ record { bytes = out.unsent.bytes ++ bytes; refused = out.unsent.refused; quiet_reads = done.unsent.quiet_reads }
 finished out drafted done bytes none kept draft is =
     let whole : drafted.draft ≡ bytes = draft ∙ ap (λ (d : List ℕ). d ++ bytes) none in
-    ap (λ (o : OutboxModel). o.unsent) is ∙ ap (λ (u : UnsentModel). record u { bytes = u.bytes ++ drafted.draft }) kept
-    ∙ ap (λ (d : List ℕ). record out.unsent { bytes = out.unsent.bytes ++ d }) whole
+    ap (λ (o : OutboxModel). o.unsent) is
+    ∙ ap (λ (u : UnsentModel). record { bytes = u.bytes ++ drafted.draft; refused = u.refused; quiet_reads = done.unsent.quiet_reads }) kept
+    ∙ ap (λ (d : List ℕ). record { bytes = out.unsent.bytes ++ d; refused = out.unsent.refused; quiet_reads = done.unsent.quiet_reads }) whole
 
 -- and one that is forgotten leaves what waits
 pub forgotten : (out drafted done : OutboxModel) → drafted.unsent ≡ out.unsent → done ≡ record drafted { draft = [] } → done.unsent ≡ out.unsent

@@ -7,14 +7,14 @@ use Rattle.std.specs.declared.collections.VecDeque.{VecDeque}
 use Rattle.std.specs.List.{flat_map}
 use Rattle.std.specs.declared.alloc.Global.{Global}
 use Rattle.node_link.specs.declared.stream.Flow.{Flow}
-use Rattle.node_link.specs.Bytes.{IsOffer, Offers, OutboxModel, least_offer, left_of}
+use Rattle.node_link.specs.Bytes.{IsOffer, Offers, least_offer, left_of}
 use Rattle.node_link.specs.Piece.{bytes_in, word_in}
-use Rattle.node_link.specs.Pieces.{AreLong, IsSettled, IsSound, begun_in, drafted_in, finished_in, first_of, front_of, held_in, joined, spelled_first, waiting_in, whole_in}
+use Rattle.node_link.specs.Pieces.{AreLong, PiecesModel, IsSettled, IsSound, begun_in, drafted_in, finished_in, first_of, front_of, held_in, joined, spelled_first, waiting_in, whole_in}
 use Rattle.node_link.specs.declared.piece.Piece.{Piece}
 use Rattle.node_link.specs.declared.pieces.Pieces.{Pieces}
 
-abbrev made : List ℕ → ℕ → List ℕ → OutboxModel
-made bytes refused draft = record { unsent = record { bytes = bytes; refused = refused }; draft = draft }
+abbrev made : List ℕ → ℕ → List ℕ → PiecesModel
+made bytes refused draft = record { bytes = bytes; refused = refused; draft = draft }
 
 pub outgoing : (a b c d : List ℕ) (r : ℕ) → a ≡ c → b ≡ d → made a r b ≡ made c r d
 outgoing a b c d r ac bd = rw (ac, bd) refl
@@ -217,7 +217,7 @@ waiting_whole whole drafted last written finished within =
     ∙ grown whole (take finished begun) (drop finished begun) written within
 
 pub finish_held : (old : Pieces) (len : ℕ) → IsSound old → len ≡ length old.last.items
-    → held_in (record old { drafted = 0; finished = len }) ≡ record { unsent = record (held_in old).unsent { bytes = (held_in old).unsent.bytes ++ (held_in old).draft }; draft = [] }
+    → held_in (record old { drafted = 0; finished = len }) ≡ record (held_in old) { bytes = (held_in old).bytes ++ (held_in old).draft; draft = [] }
 finish_held old len sound is =
     held_settled (record old { drafted = 0; finished = len }) (finish_settled old len sound is)
     ∙ outgoing _ _ _ _ old.refused
@@ -342,7 +342,7 @@ is_offer pieces settled =
 -- a write of the front is one that may be made
 offers_front : {S : Type 0} (offered : S → List ℕ → Flow → S → Type 0) (old new : S) (pieces : Pieces) (front : List ℕ) (given : Flow) (left : ℕ)
     → IsSettled pieces → front ≡ front_of pieces → offered old front given new → left ≡ left_of (length front) given
-    → Offers offered old (waiting_in pieces) pieces.refused new left
+    → Offers offered (waiting_in pieces ≡ []) old (waiting_in pieces) pieces.refused new left
 offers_front offered old new pieces front given left settled is made left_is =
     let count = length (front_of pieces) in
     let all = taken_off pieces count settled (omega arith) ∙ take_all count (front_of pieces) (omega arith) in
@@ -383,23 +383,39 @@ left_in_two spelled word written skipped is =
 
 -- One write of the front.
 
-waits : (pieces : Pieces) → IsSettled pieces → waiting_in pieces ≡ (held_in pieces).unsent.bytes
-waits pieces settled = ap (λ (o : OutboxModel). o.unsent.bytes) (sym (held_settled pieces settled))
+waits : (pieces : Pieces) → IsSettled pieces → waiting_in pieces ≡ (held_in pieces).bytes
+waits pieces settled = ap (λ (held : PiecesModel). held.bytes) (sym (held_settled pieces settled))
+
+-- where the first piece has no bytes, none wait
+no_front : (full : List Piece) (last : List ℕ) (written refused : ℕ) → (refused ≡ 0 → written ≡ 0) → written + refused ≤ length (first_of full last) → AreLong full
+    → length (drop written (first_of full last)) ≡ 0 → drop written (joined full last) ≡ []
+no_front [] last written refused begun within long none = no_items (drop written last) none where
+  no_items : (bytes : List ℕ) → length bytes ≡ 0 → bytes ≡ []
+  no_items [] none = refl
+  no_items (byte ∷ bytes) none = absurd (omega (arith, none))
+no_front (piece ∷ later) last written refused begun within long none =
+    let all : written ≡ length (bytes_in piece) = omega (arith, none, within, length-drop written (bytes_in piece)) in
+    let left : refused ≡ 0 = omega (arith, all, within) in
+    absurd (omega (arith, all, begun left, long.0))
+
+pub none_waits : (pieces : Pieces) (len : ℕ) → IsSettled pieces → len ≡ length (front_of pieces) → len ≡ 0 → (held_in pieces).bytes ≡ []
+none_waits pieces len settled is none =
+    sym (waits pieces settled) ∙ no_front pieces.full.items pieces.last.items pieces.written pieces.refused settled.begun settled.front settled.long (sym is ∙ none)
 
 -- the stream took some of it
 pub wrote : (old new : Pieces) (front : List ℕ) (len count : ℕ) → IsSettled old → IsSettled new → front ≡ front_of old → len ≡ length front → count ≤ length front
-    → waiting_in new ≡ drop (length (front_of old) - (len - count)) (waiting_in old) → (held_in old).unsent.bytes ≡ take count front ++ (held_in new).unsent.bytes
+    → waiting_in new ≡ drop (length (front_of old) - (len - count)) (waiting_in old) → (held_in old).bytes ≡ take count front ++ (held_in new).bytes
 wrote old new front len count before after is len_is within rest =
     let gone : length (front_of old) - (len - count) ≡ count = omega (arith, ap length is, len_is, within) in
-    let left : drop count (waiting_in old) ≡ (held_in new).unsent.bytes = ap (λ (n : ℕ). drop n (waiting_in old)) (sym gone) ∙ sym rest ∙ waits new after in
+    let left : drop count (waiting_in old) ≡ (held_in new).bytes = ap (λ (n : ℕ). drop n (waiting_in old)) (sym gone) ∙ sym rest ∙ waits new after in
     sym (waits old before) ∙ written_off old front count before is within ∙ ap (λ (bytes : List ℕ). take count front ++ bytes) left
 
 -- it is one that may be made
 pub offered_front : {S : Type 0} (offered : S → List ℕ → Flow → S → Type 0) (old new : S) (pieces : Pieces) (front : List ℕ) (given : Flow) (left : ℕ)
     → IsSettled pieces → front ≡ front_of pieces → offered old front given new → left ≡ left_of (length front) given
-    → Offers offered old (held_in pieces).unsent.bytes pieces.refused new left
+    → Offers offered ((held_in pieces).bytes ≡ []) old (held_in pieces).bytes pieces.refused new left
 offered_front offered old new pieces front given left settled is made left_is =
-    subst (λ (bytes : List ℕ). Offers offered old bytes pieces.refused new left) (waits pieces settled) (offers_front offered old new pieces front given left settled is made left_is)
+    subst (λ (bytes : List ℕ). Offers offered (bytes ≡ []) old bytes pieces.refused new left) (waits pieces settled) (offers_front offered old new pieces front given left settled is made left_is)
 
 -- it took nothing
 pub refused_sound : (old : Pieces) (len : ℕ) → IsSettled old → len ≡ length (front_of old) → (len ≡ 0 → ⊥) → IsSound (record old { refused = len })

@@ -13,7 +13,7 @@ use Rattle.key_split.specs.Runs.{RunModel}
 use Rattle.node_link.specs.declared.replies.Awaited.{Awaited}
 use Rattle.node_link.specs.declared.replies.Awaited.TheVariants as awaited
 use Rattle.node_link.specs.declared.stream.Flow.{Flow}
-use Rattle.node_link.specs.Bytes.{BytePortModel, Carries, IsGarbled, spelled, spelled_words, words_in}
+use Rattle.node_link.specs.Bytes.{Carries, IsGarbled, PortBytes, spelled, spelled_words, words_in}
 use Rattle.node_link.specs.Runs.{IsToldByBlock, is_answer}
 use Rattle.node_link.specs.Waiting.{GivesNone}
 
@@ -86,7 +86,7 @@ HasBadBlock replies =
 
 -- what a port over bytes that sends blocks holds: what such a port holds anyway, and the replies
 pub record BlockPortModel (S : Type 0) : Type 0 where
-  pub bytes : BytePortModel S
+  pub bytes : PortBytes S
   pub replies : RepliesModel
   -- whether a run may go as a block
   pub takes_blocks : Bool
@@ -122,8 +122,8 @@ abbrev pub IsBlockGarbled : {S : Type 0} → BlockPortModel S → Type 0
 IsBlockGarbled port = IsGarbled port.bytes ⊎ HasBadBlock port.replies
 
 -- what a port that gave none is left with
-abbrev pub BlockGivesNone : {S : Type 0} → (S → Flow → S → Type 0) → BlockPortModel S → Type 0
-BlockGivesNone asked port = GivesNone asked port.bytes × IsShort port.replies
+abbrev pub BlockGivesNone : {S : Type 0} → (S → Flow → S → Type 0) → (S → List ℕ → Flow → S → Type 0) → BlockPortModel S → Type 0
+BlockGivesNone asked offered port = GivesNone asked offered port.bytes × IsShort port.replies
 
 -- where nothing is sent and nothing comes, all is awaited still
 pub tells-nothing : (awaited : List Awaited) (replies : List Value) → Tells awaited replies [] awaited replies

@@ -1,7 +1,7 @@
 -- A connection in bytes: the canonical spellings of the requests go out, and the spellings of the values come in.
 -- Redis serialization protocol (RESP2) specification, "Sending commands to a Redis server".
 -- Commands of any size may be cut at any byte. What a node sends is read within the largest limits of resp_wire.
-use Rattle.std.specs.Prelude.{◌≡◌, ◌⊎◌, ◌++◌, ◌∷◌, List, [], ℕ, ◌<◌, ◌≤◌, ◌-◌, Bool, true, Option, Some, None, Result, Ok, Err, codes, length, map, take}
+use Rattle.std.specs.Prelude.{◌≡◌, ◌⊎◌, ◌++◌, ◌∷◌, List, [], ℕ, ◌<◌, ◌≤◌, ◌+◌, ◌-◌, ⊤, OnErr, Bool, true, Option, Some, None, Result, Ok, Err, codes, length, map, take}
 use Rattle.std.specs.List.{flat_map}
 use Rattle.resp_wire.specs.LimitsModel.{LimitsModel}
 use Rattle.resp_wire.specs.Canonical.{canonical}
@@ -39,31 +39,29 @@ Splits bounds bytes [] rest = bytes ≡ rest
 Splits bounds bytes (value ∷ values) rest =
     (more : List ℕ) × (front bounds bytes ≡ Whole (data_of value) more) × Splits bounds more values rest
 
--- what a port over bytes holds: the stream, the bytes that it did not write yet, and what it read and gave no value for
-pub record BytePortModel (S : Type 0) : Type 0 where
+-- what a port holds in bytes: the stream, the bytes that it did not write yet, and what it read and gave no value for
+pub record PortBytes (S : Type 0) : Type 0 where
   pub stream : S
   pub unsent : List ℕ
   -- how many bytes the stream left of those that it was offered last
   pub refused : ℕ
+  -- how many reads came since the last request was sent; one that is not to wait starts with as many as let it be written
+  pub quiet_reads : ℕ
   pub input : ReaderModel
 
 module _ {S : Type 0} (moved : S → List ℕ → List ℕ → S → Type 0) where
   -- what was written and what is still to be written are these bytes, behind those that waited; what was read is the spellings of the
   -- values and a rest
-  abbrev pub Carries : BytePortModel S → List ℕ → List Value → BytePortModel S → Type 0
+  abbrev pub Carries : PortBytes S → List ℕ → List Value → PortBytes S → Type 0
   Carries old bytes values new =
       (written : List ℕ) × (read : List ℕ) × moved old.stream written read new.stream
       × (old.unsent ++ bytes ≡ written ++ new.unsent)
       × Splits old.input.bounds (old.input.unread ++ read) values new.input.unread
       × (new.input.bounds ≡ old.input.bounds)
 
-  -- what goes out is the spellings of the requests
-  abbrev pub Exchanges : BytePortModel S → List Request → List Value → BytePortModel S → Type 0
-  Exchanges old requests values new = Carries old (spelled requests) values new
-
 -- the bytes that came and were given no value begin with a fault
-abbrev pub IsGarbled : {S : Type 0} → BytePortModel S → Type 0
-IsGarbled pipe = (fault : WireFault) × (front pipe.input.bounds pipe.input.unread ≡ Faulty fault)
+abbrev pub IsGarbled : {S : Type 0} → PortBytes S → Type 0
+IsGarbled port = (fault : WireFault) × (front port.input.bounds port.input.unread ≡ Faulty fault)
 
 -- a write is offered so many bytes at least, where as many wait
 abbrev pub least_offer : ℕ
@@ -81,23 +79,45 @@ left_of count (flow.Bytes taken) = count - taken
 left_of count flow.Nothing = count
 left_of count flow.Gone = count
 
--- one write is made; or none, which may be only where no byte was refused
-abbrev pub Offers : {S : Type 0} → (S → List ℕ → Flow → S → Type 0) → S → List ℕ → ℕ → S → ℕ → Type 0
-Offers offered old unsent refused new refused' =
+-- one write is made; or none, which may be only where no byte was refused and what waits may wait
+abbrev pub Offers : {S : Type 0} → (S → List ℕ → Flow → S → Type 0) → Type 0 → S → List ℕ → ℕ → S → ℕ → Type 0
+Offers offered may_wait old unsent refused new refused' =
     ((count : ℕ) × IsOffer unsent refused count × (given : Flow) × offered old (take count unsent) given new × (refused' ≡ left_of count given))
-    ⊎ ((refused ≡ 0) × (refused' ≡ 0) × (new ≡ old))
+    ⊎ ((refused ≡ 0) × (refused' ≡ 0) × (new ≡ old) × may_wait)
 
--- what a call of a port asks of its stream: bytes that were refused are offered again before anything else, and after the
--- write comes one read, or none
-abbrev pub OffersFirst : {S : Type 0} → (S → Flow → S → Type 0) → (S → List ℕ → Flow → S → Type 0) → BytePortModel S → BytePortModel S → Type 0
-OffersFirst {S} asked offered old new =
-    (between : S) × Offers offered old.stream old.unsent old.refused between new.refused
-    × ((new.stream ≡ between) ⊎ ((given : Flow) × asked between given new.stream))
+-- bytes that were never offered are held back until so many reads came with nothing sent between them
+abbrev pub flush_after_reads : ℕ
+flush_after_reads = 4
 
--- the bytes of whole requests that wait, and how many of them the stream left of those that it was offered last
+-- none waits, or fewer reads came with nothing sent
+abbrev pub MayWait : List ℕ → ℕ → Type 0
+MayWait unsent quiet_reads = (unsent ≡ []) ⊎ (quiet_reads < flush_after_reads)
+
+-- one read more is counted, but for those past the bound
+abbrev pub CountsRead : ℕ → ℕ → Type 0
+CountsRead before now = (now ≡ before + 1) ⊎ ((flush_after_reads < before) × (now ≡ before))
+
+module _ {S : Type 0} (offered : S → List ℕ → Flow → S → Type 0) where
+  -- what a call that sends asks of its stream: bytes that were refused are offered again before anything else; where nothing was sent
+  -- the reads count on
+  abbrev pub OffersFirst : PortBytes S → Result (Unit {0}) PortFault → PortBytes S → Type 0
+  OffersFirst old result new =
+      Offers offered ⊤ old.stream old.unsent old.refused new.stream new.refused × OnErr result (new.quiet_reads ≡ old.quiet_reads)
+
+  -- what a call for a value asks of it: the same, and bytes that waited long enough are offered too; after the write comes one
+  -- read, which is counted, or none
+  abbrev pub OffersThenReads : (S → Flow → S → Type 0) → PortBytes S → PortBytes S → Type 0
+  OffersThenReads asked old new =
+      (between : S) × Offers offered (MayWait old.unsent old.quiet_reads) old.stream old.unsent old.refused between new.refused
+      × (((new.stream ≡ between) × (new.quiet_reads ≡ old.quiet_reads))
+      ⊎ ((given : Flow) × asked between given new.stream × CountsRead old.quiet_reads new.quiet_reads))
+
+-- the bytes of whole requests that wait, how many of them the stream left of those that it was offered last, and how many reads came
+-- since the last request
 pub record UnsentModel : Type 0 where
   pub bytes : List ℕ
   pub refused : ℕ
+  pub quiet_reads : ℕ
 
 -- the bytes to be written: those of whole requests, and of one that is being spelled
 pub record OutboxModel : Type 0 where

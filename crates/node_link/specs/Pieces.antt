@@ -2,7 +2,7 @@
 -- spelled, which may have filled some of the pieces. Only private functions cite it.
 use Rattle.std.specs.Prelude.{◌≡◌, ◌≤◌, ◌+◌, ◌-◌, ◌++◌, ◌∷◌, List, [], ℕ, drop, length, take}
 use Rattle.std.specs.List.{AllByRecursion, flat_map}
-use Rattle.node_link.specs.Bytes.{OutboxModel, least_offer}
+use Rattle.node_link.specs.Bytes.{least_offer}
 use Rattle.node_link.specs.Piece.{bytes_in}
 use Rattle.node_link.specs.declared.piece.Piece.{Piece}
 use Rattle.node_link.specs.declared.pieces.Pieces.{Pieces}
@@ -37,9 +37,16 @@ begun_in pieces = joined (drafted_in pieces) pieces.last.items
 abbrev pub finished_in : Pieces → List ℕ
 finished_in pieces = take pieces.finished (begun_in pieces)
 
-abbrev pub held_in : Pieces → OutboxModel
+-- the bytes of whole requests that wait, how many of them the stream left, and those of a request that is being spelled
+pub record PiecesModel : Type 0 where
+  pub bytes : List ℕ
+  pub refused : ℕ
+  pub draft : List ℕ
+
+abbrev pub held_in : Pieces → PiecesModel
 held_in pieces = record {
-  unsent = record { bytes = drop pieces.written (joined (whole_in pieces) (finished_in pieces)); refused = pieces.refused };
+  bytes = drop pieces.written (joined (whole_in pieces) (finished_in pieces));
+  refused = pieces.refused;
   draft = drop pieces.finished (begun_in pieces);
 }
 

@@ -1,6 +1,6 @@
--- What it means that a port over bytes gives no value: its stream was read and is not gone, and nothing whole waits in what
--- came.
-use Rattle.std.specs.Prelude.{◌≡◌, ◌⊎◌, ⊤, ◌∷◌, Bool, true, false, Option, Some, None, Result, Ok, Err}
+-- What it means that a port over bytes gives no value: its stream was read and is not gone, nothing whole waits in what came, and
+-- what waits to be written was offered before or has not waited long.
+use Rattle.std.specs.Prelude.{◌≡◌, ◌≤◌, ◌⊎◌, ◌++◌, ⊤, List, [], ◌∷◌, ℕ, take, Bool, true, false, Option, Some, None, Result, Ok, Err}
 use Rattle.resp_wire.specs.Front.{front, Partial}
 use Rattle.resp_wire.specs.ReaderModel.{ReaderModel}
 use Rattle.resp_wire.specs.declared.value.Value.{Value}
@@ -10,7 +10,7 @@ use Rattle.node_link.specs.declared.link.LinkFault.{LinkFault}
 use Rattle.node_link.specs.declared.port.PortFault.{PortFault}
 use Rattle.node_link.specs.declared.stream.Flow.{Flow}
 use Rattle.node_link.specs.declared.stream.Flow.TheVariants as flow
-use Rattle.node_link.specs.Bytes.{BytePortModel}
+use Rattle.node_link.specs.Bytes.{IsOffer, PortBytes, flush_after_reads}
 use Rattle.node_link.specs.LinkModel.{LinkModel}
 
 -- the port was asked for a value and gave none
@@ -29,12 +29,21 @@ is_gone flow.Nothing = false
 is_gone flow.Gone = true
 
 -- the last call on the stream was a read, and it did not say that the stream failed or ended
-abbrev pub WasRead : {S : Type 0} → (S → Flow → S → Type 0) → S → Type 0
-WasRead {S} asked stream = (before : S) × (given : Flow) × asked before given stream × (is_gone given ≡ false)
+abbrev pub WasRead : {S : Type 0} → (S → Flow → S → Type 0) → S → S → Type 0
+WasRead asked before stream = (given : Flow) × asked before given stream × (is_gone given ≡ false)
+
+-- nothing waits to be written; or no more reads came with nothing sent than it is held back for; or it was offered by a write that
+-- led to this state of the stream, and what was written of it is gone
+abbrev pub WasOffered : {S : Type 0} → (S → List ℕ → Flow → S → Type 0) → PortBytes S → S → Type 0
+WasOffered {S} offered port written_at =
+    (port.unsent ≡ []) ⊎ ((port.quiet_reads ≤ flush_after_reads)
+    ⊎ ((before : PortBytes S) × (count : ℕ) × IsOffer before.unsent before.refused count × (given : Flow)
+    × offered before.stream (take count before.unsent) given written_at × (written : List ℕ) × (before.unsent ≡ written ++ port.unsent)))
 
 -- what a port that gave none is left with
-abbrev pub GivesNone : {S : Type 0} → (S → Flow → S → Type 0) → BytePortModel S → Type 0
-GivesNone asked port = IsWaiting port.input × WasRead asked port.stream
+abbrev pub GivesNone : {S : Type 0} → (S → Flow → S → Type 0) → (S → List ℕ → Flow → S → Type 0) → PortBytes S → Type 0
+GivesNone {S} asked offered port =
+    IsWaiting port.input × (between : S) × WasRead asked between port.stream × WasOffered offered port between
 
 -- where nothing was received, the reply to ASKING came, or the port gave none
 abbrev pub ReceivesNone : {P : Type 0} → (P → Type 0) → LinkModel P → Result (Option Got) LinkFault → LinkModel P → Type 0

@@ -1,11 +1,11 @@
-//! A port over a stream of bytes that sends runs as blocks.
+//! A port over a stream of bytes.
 
 ghost use Rattle.std.specs.Prelude.{◌≡◌, ◌≤◌, ◌<◌, ◌∷◌, [], None, OnOk, length, map};
 ghost use Rattle.std.specs.List.{list_any};
 ghost use Rattle.key_split.specs.Requests.{Slots, requests_of};
 ghost use Rattle.key_split.specs.Runs.{IsTogether, count_in, requests_of_run};
 ghost use Rattle.node_link.specs.Blocks.{Block, BlockExchanges, BlockGivesNone, GoesAs, IsBlockGarbled, Plain, is_block, items_of, longest_at, spelled_block};
-ghost use Rattle.node_link.specs.Bytes.{OffersFirst, spelled};
+ghost use Rattle.node_link.specs.Bytes.{OffersFirst, OffersThenReads, spelled};
 ghost use Rattle.node_link.specs.Collecting.{DraftOutcome, await_each};
 ghost use Rattle.node_link.specs.Port.{SendOutcome, NextOutcome};
 ghost use Rattle.node_link.specs.Waiting.{GaveNone};
@@ -27,8 +27,11 @@ use std::marker::Model;
 const LONGEST_BLOCK: usize = 64;
 
 /// A port over a stream that does not block. A run of several commands goes as a block: MULTI, the commands, EXEC. Nothing is told
-/// before EXEC is answered. It writes and reads as `BytePort` does, but a request that finds nothing under way is written with the
-/// next read, unless another comes before.
+/// before EXEC is answered.
+///
+/// It holds what is sent until `FLUSH_AFTER_READS` reads came with nothing sent between them, or 16 KiB wait, so that under load one
+/// write and one read serve many commands; a request that finds nothing under way is written with the next read, unless another
+/// comes before. What the stream refused is offered again at the next call. One write is offered 64 KiB and a request at most.
 #[derive(Drop)]
 pub struct BlockPort<S> {
     stream: S,
@@ -51,7 +54,7 @@ impl<S> Model for BlockPort<S> {
     ghost coded = { Prim.hlevel (codes, coded_data) };
 
     ghost view = { λ a. record {
-      bytes = record { stream = a.stream; unsent = a.outbox.unsent.bytes; refused = a.outbox.unsent.refused; input = input_of a.inbox };
+      bytes = record { stream = a.stream; unsent = a.outbox.unsent.bytes; refused = a.outbox.unsent.refused; quiet_reads = a.outbox.unsent.quiet_reads; input = input_of a.inbox };
       replies = a.replies;
       takes_blocks = a.takes_blocks;
     } };
@@ -64,7 +67,7 @@ impl<S> BlockPort<S> {
     /// port takes runs of one.
     pub fn new(alloc: Global, stream: S, limits: Limits, takes_blocks: bool) -> Self
         ensures { result ≡ record {
-          bytes = record { stream = stream; unsent = []; refused = 0; input = record { bounds = limits; unread = []; fault = None } };
+          bytes = record { stream = stream; unsent = []; refused = 0; quiet_reads = 0; input = record { bounds = limits; unread = []; fault = None } };
           replies = record { awaited = []; came = []; told = [] };
           takes_blocks = takes_blocks;
         } }
@@ -103,7 +106,7 @@ impl<S: Stream> NodePort for BlockPort<S> {
 
     ghost exchange = { BlockExchanges S.moved };
 
-    ghost gives_none = { BlockGivesNone S.asked };
+    ghost gives_none = { BlockGivesNone S.asked S.offered };
 
     ghost still = { λ p. ([], [], refl, ([], [], S.still p.bytes.stream, append-nil p.bytes.unsent, append-nil p.bytes.input.unread, refl), still_settles p.replies, refl) };
 
@@ -111,7 +114,7 @@ impl<S: Stream> NodePort for BlockPort<S> {
         ensures does { SendOutcome (λ (p : BlockPortModel S). S.failures p.bytes.stream) IsBlockGarbled (BlockExchanges S.moved) self.old (requests_of batch.now) result self.new }
         ensures goes { OnOk result (GoesAs S.moved self.old (map Plain (requests_of batch.now)) self.new) }
         ensures count { S.failures self.old.bytes.stream ≤ S.failures self.new.bytes.stream }
-        ensures offers { OffersFirst S.asked S.offered self.old.bytes self.new.bytes }
+        ensures offers { OffersFirst S.offered self.old.bytes result self.new.bytes }
     {
         if let Err(Gone) = self.outbox.flush_before_send(&mut self.stream) {
             return Err(PortFault::Failed);
@@ -132,7 +135,7 @@ impl<S: Stream> NodePort for BlockPort<S> {
     fn ask_slots(&mut self) -> Result<(), PortFault>
         ensures does { SendOutcome (λ (p : BlockPortModel S). S.failures p.bytes.stream) IsBlockGarbled (BlockExchanges S.moved) self.old (Slots ∷ []) result self.new }
         ensures count { S.failures self.old.bytes.stream ≤ S.failures self.new.bytes.stream }
-        ensures offers { OffersFirst S.asked S.offered self.old.bytes self.new.bytes }
+        ensures offers { OffersFirst S.offered self.old.bytes result self.new.bytes }
     {
         if let Err(Gone) = self.outbox.flush_before_send(&mut self.stream) {
             return Err(PortFault::Failed);
@@ -157,8 +160,8 @@ impl<S: Stream> NodePort for BlockPort<S> {
     fn next(&mut self) -> Result<Option<Value>, PortFault>
         ensures does { NextOutcome (λ (p : BlockPortModel S). S.failures p.bytes.stream) IsBlockGarbled (BlockExchanges S.moved) self.old result self.new }
         ensures count { S.failures self.old.bytes.stream ≤ S.failures self.new.bytes.stream }
-        ensures offers { OffersFirst S.asked S.offered self.old.bytes self.new.bytes }
-        ensures none { GaveNone result → BlockGivesNone S.asked self.new }
+        ensures offers { OffersThenReads S.offered S.asked self.old.bytes self.new.bytes }
+        ensures none { GaveNone result → BlockGivesNone S.asked S.offered self.new }
     {
         let flushed = self.outbox.flush_before_read(&mut self.stream);
         match self.replies.take(&mut self.inbox) {
@@ -194,7 +197,7 @@ impl<S: Stream> RunPort for BlockPort<S> {
         ensures does { SendOutcome (λ (p : BlockPortModel S). S.failures p.bytes.stream) IsBlockGarbled (BlockExchanges S.moved) self.old (requests_of_run run.now) result self.new }
         ensures goes { OnOk result (GoesAs S.moved self.old (items_of run.now) self.new) }
         ensures count { S.failures self.old.bytes.stream ≤ S.failures self.new.bytes.stream }
-        ensures offers { OffersFirst S.asked S.offered self.old.bytes self.new.bytes }
+        ensures offers { OffersFirst S.offered self.old.bytes result self.new.bytes }
     {
         if run.later().is_empty() {
             return self.send(run.first());
@@ -214,7 +217,7 @@ impl<S: Stream> BlockPort<S> {
         ensures does { SendOutcome (λ (p : BlockPortModel S). S.failures p.bytes.stream) IsBlockGarbled (BlockExchanges S.moved) self.old (requests_of_run run.now) result self.new }
         ensures goes { OnOk result (GoesAs S.moved self.old (Block (requests_of_run run.now) ∷ []) self.new) }
         ensures count { S.failures self.old.bytes.stream ≤ S.failures self.new.bytes.stream }
-        ensures offers { OffersFirst S.asked S.offered self.old.bytes self.new.bytes }
+        ensures offers { OffersFirst S.offered self.old.bytes result self.new.bytes }
     {
         if let Err(Gone) = self.outbox.flush_before_send(&mut self.stream) {
             return Err(PortFault::Failed);

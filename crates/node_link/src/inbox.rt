@@ -123,7 +123,7 @@ impl Inbox {
         ensures read { FillOutcome S.failures S.moved stream.old self.old result stream.new self.new }
         ensures count { S.failures stream.old ≤ S.failures stream.new }
         ensures asked { (given : Flow) × S.asked stream.old given stream.new }
-        ensures read_now { OnOk result (WasRead S.asked stream.new) }
+        ensures read_now { OnOk result (WasRead S.asked stream.old stream.new) }
     {
         match read_chunk(stream, &mut self.chunk) {
             Ok(count) => {
@@ -140,7 +140,7 @@ fn read_chunk<S: Stream>(stream: &mut S, chunk: &mut Vec<u8>) -> Result<usize, G
     ensures read { ReadChunkOutcome S.failures S.moved stream.old result stream.new chunk.new.items }
     ensures count { S.failures stream.old ≤ S.failures stream.new }
     ensures asked { (given : Flow) × S.asked stream.old given stream.new }
-    ensures read_now { OnOk result (WasRead S.asked stream.new) }
+    ensures read_now { OnOk result (WasRead S.asked stream.old stream.new) }
 {
     match stream.read(chunk) {
         Flow::Bytes(count) => Ok(count),

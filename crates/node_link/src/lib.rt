@@ -2,19 +2,18 @@
 //! oldest request that has none yet.
 //!
 //! ```text
-//! let mut link = Link::new(alloc, BytePort::new(alloc, stream, Limits::full()), node);
+//! let mut link = Link::new(alloc, BlockPort::new(alloc, stream, Limits::full(), false), node);
 //! link.send(&batch)?;
 //! while let Some(Got::Ticket(ticket, told)) = link.receive(&mut table)? { tell(ticket, told); }
 //! ```
 //!
-//! Exact links: `Sends` and `Receives` of specs/LinkCalls.antt, and `replies_match`. Exact byte port: `Exchanges` and
-//! `OffersFirst` of specs/Bytes.antt; with runs as blocks: `BlockExchanges` and `GoesAs` of specs/Blocks.antt. What a line of a
-//! node says is `told_by` of specs/Telling.antt, what the replies to a block tell is `IsToldByBlock` of specs/Runs.antt.
+//! Exact links: `Sends` and `Receives` of specs/LinkCalls.antt, and `replies_match`. Exact port: `BlockExchanges` and `GoesAs` of
+//! specs/Blocks.antt; when it writes and reads: `OffersFirst` and `OffersThenReads` of specs/Bytes.antt. What a line of a node says
+//! is `told_by` of specs/Telling.antt, what the replies to a block tell is `IsToldByBlock` of specs/Runs.antt.
 #![tactic(auto)]
 
 mod block;
 mod block_port;
-mod byte_port;
 mod byte_queue;
 mod dial;
 mod fuse;
@@ -34,7 +33,6 @@ mod told;
 
 pub use block::take_told;
 pub use block_port::BlockPort;
-pub use byte_port::BytePort;
 pub use byte_queue::{drop_front, free_large};
 pub use dial::{Dial, DialFault};
 pub use fuse::Fuse;

@@ -1,8 +1,8 @@
 //! The bytes that wait to be written, and when they are.
 
-ghost use Rattle.std.specs.Prelude.{◌≡◌, ◌≤◌, ◌++◌, ◌∷◌, [], OnOk, OnErr, length};
+ghost use Rattle.std.specs.Prelude.{◌≡◌, ◌≤◌, ◌++◌, ◌∷◌, [], ⊤, OnOk, OnErr, length};
 ghost use Rattle.resp_wire.specs.Spelling.{cr, lf};
-ghost use Rattle.node_link.specs.Bytes.{FlushOutcome, Offers, least_offer};
+ghost use Rattle.node_link.specs.Bytes.{CountsRead, FlushOutcome, MayWait, Offers, least_offer};
 
 use crate::pieces::Pieces;
 use crate::stream::{Gone, Stream};
@@ -34,7 +34,7 @@ pub enum Urgency {
 pub struct Outbox {
     alloc: Global,
     pieces: Pieces,
-    /// How many reads came since the last request was spelled.
+    /// How many reads came since the last request was spelled; those past `FLUSH_AFTER_READS` count as one.
     quiet_reads: u32,
 }
 
@@ -56,14 +56,17 @@ impl Model for Outbox {
 
     ghost Value = { OutboxModel };
 
-    ghost view = { λ a. held_in a.pieces };
+    ghost view = { λ a. record {
+      unsent = record { bytes = (held_in a.pieces).bytes; refused = (held_in a.pieces).refused; quiet_reads = a.quiet_reads };
+      draft = (held_in a.pieces).draft;
+    } };
 
     ghost invariant = { λ a. IsSound a.pieces };
 }
 
 impl Outbox {
     pub fn new(alloc: Global) -> Outbox
-        ensures { result ≡ record { unsent = record { bytes = []; refused = 0 }; draft = [] } }
+        ensures { result ≡ record { unsent = record { bytes = []; refused = 0; quiet_reads = 0 }; draft = [] } }
     {
         Outbox {
             alloc,
@@ -122,7 +125,7 @@ impl Outbox {
 
     /// The request that is being spelled is whole.
     pub fn finish(&mut self, urgency: Urgency)
-        ensures { self.new ≡ record { unsent = record self.old.unsent { bytes = self.old.unsent.bytes ++ self.old.draft }; draft = [] } }
+        ensures { self.new ≡ record { unsent = record { bytes = self.old.unsent.bytes ++ self.old.draft; refused = self.old.unsent.refused; quiet_reads = self.new.unsent.quiet_reads }; draft = [] } }
     {
         self.pieces.finish();
         self.quiet_reads = reads_waited(urgency);
@@ -139,7 +142,8 @@ impl Outbox {
     pub fn flush_before_send<S: Stream>(&mut self, stream: &mut S) -> Result<(), Gone>
         requires { self.old.draft ≡ [] }
         ensures written { FlushOutcome S.failures S.moved stream.old self.old.unsent.bytes result stream.new self.new.unsent.bytes }
-        ensures offers { Offers S.offered stream.old self.old.unsent.bytes self.old.unsent.refused stream.new self.new.unsent.refused }
+        ensures offers { Offers S.offered ⊤ stream.old self.old.unsent.bytes self.old.unsent.refused stream.new self.new.unsent.refused }
+        ensures quiet { self.new.unsent.quiet_reads ≡ self.old.unsent.quiet_reads }
         ensures draft { self.new.draft ≡ [] }
         ensures count { S.failures stream.old ≤ S.failures stream.new }
     {
@@ -157,7 +161,8 @@ impl Outbox {
     pub fn flush_before_read<S: Stream>(&mut self, stream: &mut S) -> Result<(), Gone>
         requires { self.old.draft ≡ [] }
         ensures written { FlushOutcome S.failures S.moved stream.old self.old.unsent.bytes result stream.new self.new.unsent.bytes }
-        ensures offers { Offers S.offered stream.old self.old.unsent.bytes self.old.unsent.refused stream.new self.new.unsent.refused }
+        ensures offers { Offers S.offered (MayWait self.old.unsent.bytes self.old.unsent.quiet_reads) stream.old self.old.unsent.bytes self.old.unsent.refused stream.new self.new.unsent.refused }
+        ensures quiet { self.new.unsent.quiet_reads ≡ self.old.unsent.quiet_reads }
         ensures draft { self.new.draft ≡ [] }
         ensures count { S.failures stream.old ≤ S.failures stream.new }
     {
@@ -169,9 +174,10 @@ impl Outbox {
 
     /// A read comes.
     pub fn count_read(&mut self)
-        ensures { self.new ≡ self.old }
+        ensures counts { CountsRead self.old.unsent.quiet_reads self.new.unsent.quiet_reads }
+        ensures kept { self.new ≡ record self.old { unsent = record self.old.unsent { quiet_reads = self.new.unsent.quiet_reads } } }
     {
-        if self.quiet_reads < FLUSH_AFTER_READS {
+        if self.quiet_reads <= FLUSH_AFTER_READS {
             self.quiet_reads += 1;
         }
     }

@@ -40,7 +40,7 @@ pub struct Pieces {
 
 impl Pieces {
     pub fn new(alloc: Global) -> Pieces
-        ensures held { held_in result ≡ record { unsent = record { bytes = []; refused = 0 }; draft = [] } }
+        ensures held { held_in result ≡ record { bytes = []; refused = 0; draft = [] } }
         ensures sound { IsSound result }
     {
         Pieces {
@@ -91,7 +91,7 @@ impl Pieces {
     /// The request that is being spelled is whole.
     pub fn finish(&mut self)
         requires { IsSound self.old }
-        ensures held { held_in self.new ≡ record { unsent = record (held_in self.old).unsent { bytes = (held_in self.old).unsent.bytes ++ (held_in self.old).draft }; draft = [] } }
+        ensures held { held_in self.new ≡ record (held_in self.old) { bytes = (held_in self.old).bytes ++ (held_in self.old).draft; draft = [] } }
         ensures sound { IsSound self.new }
     {
         self.drafted = 0;
@@ -158,8 +158,8 @@ impl Pieces {
     pub fn write_front<S: Stream>(&mut self, stream: &mut S) -> Result<(), Gone>
         requires sound { IsSound self.old }
         requires no_draft { (held_in self.old).draft ≡ [] }
-        ensures written { FlushOutcome S.failures S.moved stream.old (held_in self.old).unsent.bytes result stream.new (held_in self.new).unsent.bytes }
-        ensures offers { Offers S.offered stream.old (held_in self.old).unsent.bytes self.old.refused stream.new self.new.refused }
+        ensures written { FlushOutcome S.failures S.moved stream.old (held_in self.old).bytes result stream.new (held_in self.new).bytes }
+        ensures offers { Offers S.offered ((held_in self.old).bytes ≡ []) stream.old (held_in self.old).bytes self.old.refused stream.new self.new.refused }
         ensures draft { (held_in self.new).draft ≡ [] }
         ensures count { S.failures stream.old ≤ S.failures stream.new }
         ensures sound { IsSound self.new }

@@ -4,9 +4,7 @@ ghost use Rattle.std.specs.Prelude.{◌≡◌, ◌≤◌, ℕ};
 ghost use Rattle.key_split.specs.Runs.{count_in, requests_of_run};
 ghost use Rattle.node_link.specs.Port.{SendOutcome};
 
-use crate::byte_port::BytePort;
 use crate::port::{NodePort, PortFault};
-use crate::stream::Stream;
 use key_split::Run;
 
 /// A connection to a node over which runs go. The node executes the commands of one in order and at once, or none of them, and
@@ -24,17 +22,4 @@ pub trait RunPort: NodePort {
         requires { count_in run.now ≤ longest self.old }
         ensures does { SendOutcome Self.failures Self.is_garbled Self.exchange self.old (requests_of_run run.now) result self.new }
         ensures count { Self.failures self.old ≤ Self.failures self.new };
-}
-
-/// Runs of one command.
-impl<S: Stream> RunPort for BytePort<S> {
-    ghost longest = { λ _. 1 };
-
-    fn longest_run(&self) -> usize {
-        1
-    }
-
-    fn send_run(&mut self, run: &Run) -> Result<(), PortFault> {
-        self.send(run.first())
-    }
 }

@@ -1,6 +1,6 @@
 //! Requests as bytes: each is spelled where it will be written from, with no value and no list of words in between.
 
-ghost use Rattle.std.specs.Prelude.{◌≡◌, ◌<◌, ◌≤◌, ◌+◌, ◌*◌, ◌++◌, ◌∷◌, [], List, ℕ, OnOk, OnErr, length, decimal, codes};
+ghost use Rattle.std.specs.Prelude.{◌≡◌, ◌<◌, ◌≤◌, ◌+◌, ◌*◌, ◌++◌, ◌∷◌, [], List, ℕ, OnOk, length, decimal, codes};
 ghost use Rattle.std.specs.List.{flat_map};
 ghost use Rattle.key_split.specs.PartModel.{Pair};
 ghost use Rattle.key_split.specs.Requests.{Slots, requests_of};
@@ -10,46 +10,10 @@ ghost use Rattle.node_link.specs.Blocks.{spelled_block};
 ghost use Rattle.node_link.specs.Bytes.{spelled, spelled_words};
 ghost use Rattle.node_link.specs.Spelling.{head, spelled_bulk, spelled_bulks};
 
-use crate::outbox::{Outbox, Urgency};
+use crate::outbox::Outbox;
 use itoa::Buffer;
 use key_split::{Batch, Mode, Op, Pair, Part, Run, op_name};
 use resp_wire::{Bytes, NoMemory};
-
-/// Adds a batch's requests to what waits to be written, or nothing.
-pub fn append_batch(out: &mut Outbox, batch: &Batch) -> Result<(), NoMemory>
-    requires { out.old.draft ≡ [] }
-    ensures ok { OnOk result (out.new ≡ record { unsent = record out.old.unsent { bytes = out.old.unsent.bytes ++ spelled (requests_of batch.now) }; draft = [] }) }
-    ensures err { OnErr result (out.new ≡ out.old) }
-{
-    match push_batch(out, batch) {
-        Ok(()) => {
-            out.finish(Urgency::CanWait);
-            Ok(())
-        }
-        Err(NoMemory) => {
-            out.discard();
-            Err(NoMemory)
-        }
-    }
-}
-
-/// Adds the question for the slots of all nodes, or nothing.
-pub fn append_slots(out: &mut Outbox) -> Result<(), NoMemory>
-    requires { out.old.draft ≡ [] }
-    ensures ok { OnOk result (out.new ≡ record { unsent = record out.old.unsent { bytes = out.old.unsent.bytes ++ spelled (Slots ∷ []) }; draft = [] }) }
-    ensures err { OnErr result (out.new ≡ out.old) }
-{
-    match push_slots(out) {
-        Ok(()) => {
-            out.finish(Urgency::CanWait);
-            Ok(())
-        }
-        Err(NoMemory) => {
-            out.discard();
-            Err(NoMemory)
-        }
-    }
-}
 
 /// Spells a batch's requests behind what is spelled already.
 pub fn push_batch(out: &mut Outbox, batch: &Batch) -> Result<(), NoMemory>

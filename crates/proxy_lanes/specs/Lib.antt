@@ -4,3 +4,4 @@ pub mod Carrier
 pub mod History
 pub mod Opened
 pub mod Published
+pub mod Publishing

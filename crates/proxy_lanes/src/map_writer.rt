@@ -5,7 +5,8 @@ use crate::map_view::MapView;
 use crate::table::Publication;
 use crate::tables::{ShowsOps, Tables};
 use resp_wire::NoMemory;
-use slot_map::MapOp;
+use slot_hash::Slot;
+use slot_map::{MapOp, NodeId};
 use std::alloc::Global;
 use std::marker::Model;
 use std::sync::Wait;
@@ -16,6 +17,8 @@ pub struct MapWriter<J: Naming, T: ShowsOps + Drop> {
     tables: T,
     history: History<J>,
     front: Front<J>,
+    /// The slot and its node that were published last, where they were published alone.
+    last: Option<(Slot, NodeId)>,
 }
 
 // By hand, so that the crates above prove one call.
@@ -26,6 +29,7 @@ impl<J: Naming, T: ShowsOps + Drop> Drop for MapWriter<J, T> {
             tables,
             history,
             front,
+            last: _,
         } = self;
         drop(tables);
         drop(history);
@@ -39,12 +43,13 @@ pub type Publisher<J, R> = MapWriter<J, Tables<J, R>>;
 impl<J: Naming, T: ShowsOps + Drop> Model for MapWriter<J, T> {
     ghost use Rattle.std.specs.Prelude.{◌≡◌, List};
     ghost use Rattle.slot_map.specs.declared.ops.MapOp.{MapOp};
+    ghost use Rattle.proxy_lanes.specs.Publishing.{IsNoted};
 
     ghost Value = { List MapOp };
 
     ghost view = { λ w. w.front };
 
-    ghost invariant = { λ w. T.shown w.tables ≡ w.front };
+    ghost invariant = { λ w. (T.shown w.tables ≡ w.front) × IsNoted w.last w.front };
 }
 
 impl<J: Naming, T: ShowsOps + Drop> MapWriter<J, T> {
@@ -62,6 +67,8 @@ impl<J: Naming, T: ShowsOps + Drop> MapWriter<J, T> {
 impl<J: Naming, R: Wait + Drop> MapWriter<J, Tables<J, R>> {
     ghost use Rattle.std.specs.Prelude.{◌≡◌, ◌++◌, ◌<◌, ◌^◌, [], IfOk, OnOk, OnErr, IfSome};
     ghost use Rattle.proxy_lanes.specs.Opened.{book_of};
+    ghost use Rattle.proxy_lanes.specs.Publishing.{IsPublished};
+    ghost use Rattle.slot_map.specs.declared.ops.MapOp.TheVariants.{SetSlot};
 
     /// A map in which no slot has a node, with room for so many views.
     pub(crate) fn new(
@@ -81,6 +88,7 @@ impl<J: Naming, R: Wait + Drop> MapWriter<J, Tables<J, R>> {
             tables,
             history,
             front,
+            last: None,
         };
         // Two publications of nothing make the room that each later one needs.
         writer.publish(&[])?;
@@ -102,6 +110,20 @@ impl<J: Naming, R: Wait + Drop> MapWriter<J, Tables<J, R>> {
         let next = after.again();
         self.tables.show(Publication::new(list, before, after))?;
         self.front = next;
+        self.last = None;
+        Ok(())
+    }
+
+    /// Publishes that a slot lives on a node, unless that is what was published last.
+    pub fn publish_slot(&mut self, slot: Slot, node: NodeId) -> Result<(), NoMemory>
+        ensures ok { OnOk result (IsPublished self.old (SetSlot slot node) self.new) }
+        ensures err { OnErr result (self.new ≡ self.old) }
+    {
+        if self.last == Some((slot, node)) {
+            return Ok(());
+        }
+        self.publish(&[MapOp::SetSlot(slot, node)])?;
+        self.last = Some((slot, node));
         Ok(())
     }
 

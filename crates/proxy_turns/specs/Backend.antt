@@ -14,6 +14,7 @@ use Rattle.slot_map.specs.declared.ops.MapOp.{MapOp}
 use Rattle.slot_map.specs.declared.ops.MapOp.TheVariants.{SetSlot}
 use Rattle.slot_map.specs.declared.fault.MapFault.{MapFault}
 use Rattle.node_link.specs.LinkModel.{LinkModel}
+use Rattle.proxy_lanes.specs.Publishing.{IsPublished}
 use Rattle.node_link.specs.LinkCalls.{Sends, Receives, tickets_of}
 use Rattle.node_link.specs.Waiting.{ReceivesNone}
 use Rattle.node_link.specs.declared.link.Got.{Got}
@@ -192,8 +193,9 @@ module _ {P : Type 0} (failures : P → ℕ) (is_garbled : P → Type 0) (exchan
   BackendDoes unanswered old Published new = (pending_told : PendingTold) × (op : MapOp) × (old.backend.pending_told ≡ Some pending_told) × (pending_told.change ≡ Some op)
       × (new ≡ record old {
         backend = record old.backend { pending_told = Some (record pending_told { change = None }); to_ask = true };
-        published = old.published ++ op ∷ [];
+        published = new.published;
       })
+      × IsPublished old.published op new.published
   BackendDoes unanswered old Asked new = (link : LinkModel P) × (link' : LinkModel P)
       × (old.backend.to_ask ≡ true) × (unanswered ≡ false) × (old.backend.link ≡ Some link) × GoesOut failures is_garbled exchange link (Slots ∷ []) link'
       × (new ≡ record old { backend = record old.backend { link = Some link'; to_ask = false; asked = true } })

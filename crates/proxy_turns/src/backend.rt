@@ -1,10 +1,11 @@
 //! A backend: what the carrier keeps for one node.
 
-ghost use Rattle.std.specs.Prelude.{◌≡◌, ◌<◌, ◌↔◌, ℕ, List, Bool, IsTrue, IsSome, IsSomeAnd, None, Ok, Err, ◌≢◌, length};
+ghost use Rattle.std.specs.Prelude.{◌≡◌, ◌<◌, ◌↔◌, ℕ, List, Bool, IsTrue, IsSome, IsSomeAnd, None, Ok, Err, OnOk, OnErr, ◌≢◌, length};
 ghost use Rattle.slot_map.specs.Table.{Endpoint};
 ghost use Rattle.node_link.specs.declared.link.LinkFault.TheVariants as link_fault;
 ghost use Rattle.slot_map.specs.declared.fault.MapFault.TheVariants as map_fault;
 ghost use Rattle.proxy_lanes.specs.Carrier.{lanes_of};
+ghost use Rattle.proxy_lanes.specs.Publishing.{IsPublished};
 ghost use Rattle.proxy_turns.specs.Backend.{change_in, has_map_work, has_open_link, is_unanswered, is_unpublished};
 ghost use Rattle.proxy_turns.specs.declared.backend.MapTask.TheVariants as map_task;
 ghost use Rattle.proxy_turns.specs.PendingRun.{GiveOutcome};
@@ -58,6 +59,19 @@ fn change_in(told: &Told) -> Option<MapOp>
         | Told::Unclear
         | Told::Lost
         | Told::Unsent => None,
+    }
+}
+
+fn publish_change<J: Naming, R: Wait + Drop>(
+    map: &mut Publisher<J, R>,
+    change: MapOp,
+) -> Result<(), NoMemory>
+    ensures ok { OnOk result (IsPublished map.old change map.new) }
+    ensures err { OnErr result (map.new ≡ map.old) }
+{
+    match change {
+        MapOp::SetSlot(slot, node) => map.publish_slot(slot, node),
+        MapOp::SetRange(..) => map.publish(&[change]),
     }
 }
 
@@ -288,7 +302,8 @@ impl<P: NodePort + Drop> Backend<P> {
         BackendStep::GaveUp
     }
 
-    /// Publishes the slot of a MOVED. Its node is then to be asked for CLUSTER SLOTS.
+    /// Publishes the slot of a MOVED, unless that is what was published last: the commands of a refused run are all told the same. Its
+    /// node is then to be asked for CLUSTER SLOTS.
     pub(crate) fn publish<J: Naming, R: Wait + Drop>(
         &mut self,
         map: &mut Publisher<J, R>,
@@ -303,7 +318,7 @@ impl<P: NodePort + Drop> Backend<P> {
         let Some(change) = pending_told.change else {
             return Ok(BackendStep::Idle);
         };
-        map.publish(&[change])?;
+        publish_change(map, change)?;
         pending_told.change = None;
         self.to_ask = true;
         Ok(BackendStep::Published)

@@ -285,7 +285,7 @@ module _ {C J : Type 0} (port : C) where
                   got,
                   published,
                   refl,
-                  (new_pending_told (ticket 0) (told.Moved 1 1), SetSlot 1 1, refl, refl, refl),
+                  (new_pending_told (ticket 0) (told.Moved 1 1), SetSlot 1 1, refl, refl, refl, inl refl),
                   refl,
                 ) (refl, (refl, tt)) refl ([], refl) refl,
                 (

@@ -1,5 +1,5 @@
 -- What the carrier names are nodes of the cluster, after each of its events.
-use Rattle.std.proofs.Common.{◌≡◌, ◌≢◌, ◌⊎◌, ⊎_elim, ℕ, ◌≤◌, Bool, true, false, List, [], ◌∷◌, ◌++◌, Some, None, length, refl, sym, ap, ◌∙◌, subst, arith}
+use Rattle.std.proofs.Common.{◌≡◌, ◌≢◌, ◌⊎◌, ⊎_elim, inl, inr, ℕ, ◌≤◌, Bool, true, false, List, [], ◌∷◌, ◌++◌, Some, None, length, refl, sym, ap, ◌∙◌, subst, arith}
 use Rattle.std.specs.Prelude.{slice_get, slice_set, Option, Ok, All}
 use Rattle.std.specs.List.{list_any}
 use Rattle.std.proofs.lemmas.List.Elements.{All-nil, All-cons, All-append}
@@ -13,6 +13,7 @@ use Rattle.slot_map.specs.declared.ops.MapOp.TheVariants.{SetSlot}
 use Rattle.slot_map.specs.Table.{Endpoint}
 use Rattle.proxy_lanes.specs.declared.ends.lane_ends.LaneEnds.{LaneEnds}
 use Rattle.proxy_lanes.specs.Ends.{ChangesAt, GivesDown, TakesUp}
+use Rattle.proxy_lanes.specs.Publishing.{IsPublished}
 use Rattle.proxy_turns.specs.declared.newcomer.Newcomer.{Newcomer}
 use Rattle.proxy_turns.specs.declared.pending_run.PendingRun.{PendingRun}
 use Rattle.proxy_turns.specs.declared.backend.Backend.{Backend}
@@ -71,6 +72,12 @@ module _ {P : Type 0} (n : ℕ) where
       none : {X : Type 0} (x : X) → None ≡ Some x → ⊥
       none x e = cc
 
+-- one more operation is published, or none
+set-more : (n : ℕ) (old : List MapOp) (op : MapOp) (new : List MapOp) → IsPublished old op new → All (SetsOneOf n) old → SetsOneOf n op → All (SetsOneOf n) new
+set-more n old op new (inl more) sets one =
+    subst (All (SetsOneOf n)) (sym more) (All-append (SetsOneOf n) old (op ∷ []) sets (All-cons (SetsOneOf n) op [] one (All-nil (SetsOneOf n))))
+set-more n old op new (inr none) sets one = subst (All (SetsOneOf n)) (sym none.1) sets
+
 module _ {P : Type 0} (n : ℕ) where
   -- what was pending stays, and what was published
   fine-still : (old new : BackendContext P) → new.backend.pending_told ≡ old.backend.pending_told → new.backend.changes ≡ old.backend.changes → new.published ≡ old.published
@@ -100,8 +107,7 @@ module _ {P : Type 0} (failures : P → ℕ) (is_garbled : P → Type 0) (exchan
       change = λ p op e f. absurd (no-op op (ap (λ (y : PendingTold). y.change) (one-pending new.backend.pending_told (record x.0 { change = None }) p (ap (λ (c : BackendContext P). c.backend.pending_told) x.4) e) ∙ f));
       changes = λ ops e. (h.0).changes ops (sym (ap (λ (c : BackendContext P). c.backend.changes) x.4) ∙ e);
     },
-    subst (All (SetsOneOf n)) (sym (ap (λ (c : BackendContext P). c.published) x.4))
-        (All-append (SetsOneOf n) old.published (x.1 ∷ []) h.1 (All-cons (SetsOneOf n) x.1 [] ((h.0).change x.0 x.1 x.2 x.3) (All-nil (SetsOneOf n)))),
+    set-more n old.published x.1 new.published x.5 h.1 ((h.0).change x.0 x.1 x.2 x.3),
   )
   step-names unanswered old Asked new x few h = fine-still n old new (ap (λ (c : BackendContext P). c.backend.pending_told) x.6) (ap (λ (c : BackendContext P). c.backend.changes) x.6) (ap (λ (c : BackendContext P). c.published) x.6) h
   step-names unanswered old Spared new x few h = fine-still n old new (ap (λ (c : BackendContext P). c.backend.pending_told) x.2) (ap (λ (c : BackendContext P). c.backend.changes) x.2) (ap (λ (c : BackendContext P). c.published) x.2) h

@@ -95,7 +95,7 @@ module _ {P : Type 0} (wired : P → Wire → Type 0) (failures : P → ℕ) (is
         )
     does-over gives_none unanswered Closed x =
         (wire, wired-as new _ wire (ap (λ (c : BackendContext P). c.backend) x.5) tt, (over_link x.0 wire, x.1, linked old.backend.link x.0 wire x.2, x.3, x.4, λ i. over_context (x.5 i) wire))
-    does-over gives_none unanswered Published x = stays _ (ap (λ (c : BackendContext P). c.backend.link) x.4) (x.0, x.1, x.2, x.3, λ i. over_context (x.4 i) wire)
+    does-over gives_none unanswered Published x = stays _ (ap (λ (c : BackendContext P). c.backend.link) x.4) (x.0, x.1, x.2, x.3, (λ i. over_context (x.4 i) wire), x.5)
     does-over gives_none unanswered Asked x =
         let r = goes-out wired failures is_garbled exchange stands x.0 x.1 wire (port-of old.backend.link x.0 wire x.4 on) _ x.5 in
         (r.0, wired-as new _ r.0 (ap (λ (c : BackendContext P). c.backend) x.6) r.1, (over_link x.0 wire, over_link x.1 r.0, x.2, x.3, linked old.backend.link x.0 wire x.4, r.2, λ i. over_context (x.6 i) r.0))

@@ -1,7 +1,7 @@
 use Rattle.std.proofs.Common.{◌≡◌, ◌++◌, ◌+◌, ◌-◌, ◌∙◌, ap, arith, inr, length, length-append, refl, sym, take}
-use Rattle.node_link.specs.Bytes.{OutboxModel}
+use Rattle.node_link.specs.Pieces.{PiecesModel}
 use Rattle.node_link.specs.declared.stream.Flow.TheVariants as flow
-use Rattle.node_link.proofs.Piecing.{held_settled, is_sound, none_refused, offered_front, refused_sound, settled, wrote}
+use Rattle.node_link.proofs.Piecing.{held_settled, is_sound, none_refused, none_waits, offered_front, refused_sound, settled, wrote}
 use Rattle.node_link.proofs.pieces.Pieces.write_front.Goals as goal
 
 pub front-requires : goal.front-requires
@@ -12,7 +12,7 @@ returns-then-len-eq0-clause-offers g c =
     let old = c.args.self.now in
     let len = sym (length-append c.front.result.0.now c.front.result.1.now) ∙ ap length c.front.ensures in
     let none = none_refused old _ (settled old c.requires.sound c.requires.no_draft) len c.if-len-eq0.true in
-    inr (none, none, refl)
+    inr (none, none, refl, none_waits old _ (settled old c.requires.sound c.requires.no_draft) len c.if-len-eq0.true)
 
 pub overflow_sub-len : goal.overflow_sub-len
 overflow_sub-len g c = omega (arith, c.in-Bytes.ensures.written.0, length-append c.front.result.0.now c.front.result.1.now)
@@ -26,7 +26,7 @@ leave-requires-clause-within g c =
     omega (arith, len)
 
 pub returns-in-Bytes-clause-draft : goal.returns-in-Bytes-clause-draft
-returns-in-Bytes-clause-draft g c = ap (λ (held : OutboxModel). held.draft) (held_settled c.leave.new.self c.leave.ensures.settled)
+returns-in-Bytes-clause-draft g c = ap (λ (held : PiecesModel). held.draft) (held_settled c.leave.new.self c.leave.ensures.settled)
 
 pub returns-in-Bytes-clause-sound : goal.returns-in-Bytes-clause-sound
 returns-in-Bytes-clause-sound g c = is_sound c.leave.new.self c.leave.ensures.settled
