@@ -2,3 +2,4 @@ pub mod AskSchedule
 pub mod DialPause
 pub mod NodeSet
 pub mod NewPort
+pub mod LostNodes

@@ -26,6 +26,13 @@ impl AskSchedule {
         }
     }
 
+    /// When a node is asked next, in milliseconds.
+    pub(crate) fn next(&self) -> u64
+        ensures { result ≡ self.now.next }
+    {
+        self.next
+    }
+
     /// The next pause is the shortest again.
     pub(crate) fn shorten(&mut self)
         ensures { self.new ≡ shortened self.old }

@@ -7,14 +7,14 @@ use event_log::{Event, Figure, NodeName, SlotsTold, ThreadReport};
 use resp_wire::NoMemory;
 use slot_map::{MapOp, NodeId};
 use std::alloc::Global;
-use std::cell::RefCell;
+use std::cell::{Cell, RefCell};
 use std::io;
 use std::rc::Rc;
 
 /// What is noted of the cluster's nodes by all that belongs to the carrier.
 #[derive(Drop)]
 pub(crate) struct ClusterNotes {
-    pub(crate) lost: RefCell<LostNodes>,
+    pub(crate) lost: Cell<LostNodes>,
     owners: RefCell<SlotOwners>,
     /// The nodes whose connection was garbled while a block was under way: a node that refuses MULTI is one. They take runs of one.
     plain: RefCell<NodeSet>,
@@ -28,7 +28,7 @@ impl ClusterNotes {
     pub(crate) fn new(alloc: Global) -> Result<SharedNotes, NoMemory> {
         let owners = SlotOwners::new(alloc)?;
         let notes = ClusterNotes {
-            lost: RefCell::new(LostNodes::new()),
+            lost: Cell::new(LostNodes::new()),
             owners: RefCell::new(owners),
             plain: RefCell::new(NodeSet::new()),
         };

@@ -1,13 +1,14 @@
 //! How the proxy dials the nodes.
 
 ghost use Rattle.std.specs.Prelude.{◌≡◌, ◌<◌, ◌+◌, ◌-◌, ◌^◌, IfOk};
+ghost use Rattle.node_dial.specs.LostNodes.{IsCalm};
 ghost use Rattle.node_dial.specs.NewPort.{IsUnused};
 
 use crate::cluster_notes::{ClusterNotes, SharedNotes, share};
 use crate::connector::Connector;
 use crate::known_node::{DialOutcome, KnownNode};
 use crate::link_watch::LinkWatch;
-use crate::lost_nodes::{is_ask_due, note_lost, note_reached};
+use crate::lost_nodes::{Look, look_at, note_asked, note_lost, note_reached};
 use crate::node_stream::NodeStream;
 use event_log::{Figure, NodeName};
 use key_split::Told;
@@ -29,6 +30,8 @@ pub struct SocketDial<'b, R> {
     /// What is known of each node, by its number.
     nodes: Vec<KnownNode>,
     cluster: SharedNotes,
+    /// What was seen of the lost nodes when it was last asked whether one seeks.
+    look: Look,
     /// How often no port was given.
     failures: u64,
 }
@@ -40,6 +43,7 @@ impl<R> Drop for SocketDial<'_, R> {
             alloc: _,
             nodes,
             cluster,
+            look: _,
             failures: _,
         } = self;
         drop(connector);
@@ -52,11 +56,14 @@ impl<'b, R: Clock + Net<Listener = TcpListener, Stream = TcpStream>> SocketDial<
     /// A dial that has dialled no node yet.
     pub fn new(alloc: Global, connector: Connector<'b, R>) -> Result<SocketDial<'b, R>, NoMemory> {
         let nodes = unknown_nodes(alloc)?;
+        let cluster = ClusterNotes::new(alloc)?;
+        let look = look_at(&cluster.lost, 0);
         Ok(SocketDial {
             connector,
             alloc,
             nodes,
-            cluster: ClusterNotes::new(alloc)?,
+            cluster,
+            look,
             failures: 0,
         })
     }
@@ -89,8 +96,17 @@ impl<'b, R: Clock + Net<Listener = TcpListener, Stream = TcpStream>> Dial for So
     // Nothing went over the socket. To which machine it leads no contract says.
     ghost opens = { λ _ port. IsUnused port };
 
+    // No node was lost when it was last looked, or the pause between two requests had not passed.
+    ghost is_calm = { λ dial. IsCalm dial.look };
+
     fn seeks(&mut self) -> bool {
-        is_ask_due(&self.cluster.lost, self.connector.last_time())
+        let time = self.connector.last_time();
+        self.look = look_at(&self.cluster.lost, time);
+        if !self.look.is_due() {
+            return false;
+        }
+        note_asked(&self.cluster.lost, time);
+        true
     }
 
     fn unsent(&self) {

@@ -12,7 +12,8 @@
 //! `advance_look_ups` starts; meanwhile no port is given. Runs go as blocks, except to a node whose connection was garbled while a
 //! block was under way: it may refuse MULTI.
 //!
-//! Promise: `SocketDial` keeps the contract of `Dial`. `Credentials` is AUTH, byte by byte; that each connection begins with it
+//! Promise: `SocketDial` keeps the contract of `Dial`, and says that no node is to be asked only where a look at the lost nodes saw
+//! none, or saw that the pause had not passed. `Credentials` is AUTH, byte by byte; that each connection begins with it
 //! is not proved. The pauses of dials and of requests after a loss are exact, and so are the sets of nodes that are lost
 //! and that take no blocks; that a node is noted there is not proved. Of the sockets nothing more is proved.
 #![tactic(auto)]

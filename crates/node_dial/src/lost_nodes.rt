@@ -1,12 +1,15 @@
 //! The nodes that were lost: another is then asked for CLUSTER SLOTS.
 
+ghost use Rattle.std.specs.Prelude.{◌≡◌, false};
+ghost use Rattle.node_dial.specs.LostNodes.{IsCalm, IsLook};
+
 use crate::ask_schedule::AskSchedule;
 use crate::node_set::NodeSet;
 use slot_map::{MapOp, NodeId};
-use std::cell::RefCell;
+use std::cell::Cell;
 
 /// The nodes whose connection broke or could not be made, until one is made, or an answer to CLUSTER SLOTS gives them no slot.
-#[derive(Drop)]
+#[derive(Clone, Copy)]
 pub(crate) struct LostNodes {
     nodes: NodeSet,
     schedule: AskSchedule,
@@ -28,38 +31,75 @@ impl LostNodes {
         }
     }
 
-    fn is_due(&mut self, now: u64) -> bool {
-        !self.nodes.is_empty() && self.schedule.take(now)
+    // What a look at it sees at this time.
+    fn look(&self, time: u64) -> Look
+        ensures { IsLook self.now time result }
+    {
+        Look {
+            any_lost: self.nodes.has_any(),
+            next: self.schedule.next(),
+            time,
+        }
+    }
+}
+
+/// What a look at the lost nodes saw.
+#[derive(Clone, Copy)]
+pub(crate) struct Look {
+    /// Whether a node was lost.
+    any_lost: bool,
+    /// When a node is to be asked next, in milliseconds.
+    next: u64,
+    /// What time it was, in milliseconds.
+    time: u64,
+}
+
+impl Look {
+    /// Whether a node is to be asked for CLUSTER SLOTS.
+    pub(crate) fn is_due(self) -> bool
+        ensures { result ≡ false → IsCalm self }
+    {
+        if !self.any_lost {
+            return false;
+        }
+        if self.time < self.next {
+            return false;
+        }
+        true
     }
 }
 
 /// The node was lost: its connection broke, or could not be made.
-pub(crate) fn note_lost(lost: &RefCell<LostNodes>, node: NodeId) {
-    if let Ok(mut lost) = lost.try_borrow_mut() {
-        lost.add(node);
-    }
+pub(crate) fn note_lost(lost: &Cell<LostNodes>, node: NodeId) {
+    let mut held = lost.get();
+    held.add(node);
+    lost.set(held);
 }
 
 /// A connection to the node was made.
-pub(crate) fn note_reached(lost: &RefCell<LostNodes>, node: NodeId) {
-    if let Ok(mut lost) = lost.try_borrow_mut() {
-        lost.nodes.remove(node);
-    }
+pub(crate) fn note_reached(lost: &Cell<LostNodes>, node: NodeId) {
+    let mut held = lost.get();
+    held.nodes.remove(node);
+    lost.set(held);
 }
 
 /// An answer to CLUSTER SLOTS came, which says this: a node that it gives no slot is no longer lost.
-pub(crate) fn note_slots(lost: &RefCell<LostNodes>, changes: &[MapOp]) {
-    if let Ok(mut lost) = lost.try_borrow_mut() {
-        lost.nodes.keep_those_in(&nodes_in(changes));
-    }
+pub(crate) fn note_slots(lost: &Cell<LostNodes>, changes: &[MapOp]) {
+    let mut held = lost.get();
+    held.nodes.keep_those_in(&nodes_in(changes));
+    lost.set(held);
 }
 
-/// Whether a node is to be asked for CLUSTER SLOTS now.
-pub(crate) fn is_ask_due(lost: &RefCell<LostNodes>, now: u64) -> bool {
-    match lost.try_borrow_mut() {
-        Ok(mut lost) => lost.is_due(now),
-        Err(_) => false,
-    }
+/// What is to be seen of the lost nodes at this time.
+pub(crate) fn look_at(lost: &Cell<LostNodes>, time: u64) -> Look {
+    lost.get().look(time)
+}
+
+/// A node is asked for CLUSTER SLOTS at this time.
+pub(crate) fn note_asked(lost: &Cell<LostNodes>, time: u64) {
+    let mut held = lost.get();
+    held.schedule.take(time);
+    lost.set(held);
 }
 
 /// The nodes that are given slots.

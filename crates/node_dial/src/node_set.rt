@@ -1,7 +1,8 @@
 //! A set of nodes.
 
 ghost use Rattle.std.specs.Prelude.{◌≡◌, ◌≢◌, ℕ, true, false};
-ghost use Rattle.node_dial.specs.NodeSet.{holds};
+ghost use Rattle.std.specs.List.{list_any};
+ghost use Rattle.node_dial.specs.NodeSet.{holds, has_any};
 
 use slot_map::{NODE_LIMIT, NodeId};
 
@@ -44,9 +45,11 @@ impl NodeSet {
         self.held[usize::from(node.number())] = false;
     }
 
-    /// Whether it has no node.
-    pub(crate) fn is_empty(&self) -> bool {
-        !self.held.iter().any(|held| *held)
+    /// Whether it has a node.
+    pub(crate) fn has_any(&self) -> bool
+        ensures { result ≡ has_any self.now }
+    {
+        any(&self.held)
     }
 
     /// Lets go the nodes that the other set lacks.
@@ -55,4 +58,10 @@ impl NodeSet {
             *held &= *kept;
         }
     }
+}
+
+fn any(held: &[bool]) -> bool
+    ensures { result ≡ list_any (λ held. held) held.now }
+{
+    held.iter().any(|held| *held)
 }

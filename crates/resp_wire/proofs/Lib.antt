@@ -23,3 +23,4 @@ pub mod WriteLaws
 pub mod CanonicalLaws
 pub mod SameLaws
 pub mod WordLaws
+pub mod SkipLaws

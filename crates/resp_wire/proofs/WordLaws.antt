@@ -16,7 +16,7 @@ kept_some : {A B : Type 0} (f : A → B) (o : Option A) → is_some (option_map 
 kept_some f None = refl
 kept_some f (Some x) = refl
 
-bulk_kept : (d : Data) (vs : Items) → is_bulk d ≡ true → is_some (bulks_of (item d vs)) ≡ is_some (bulks_of vs)
+pub bulk_kept : (d : Data) (vs : Items) → is_bulk d ≡ true → is_some (bulks_of (item d vs)) ≡ is_some (bulks_of vs)
 bulk_kept (bulk word) vs e = kept_some _ (bulks_of vs)
 bulk_kept (simple t) vs e = absurd (false≢true e)
 bulk_kept (error t) vs e = absurd (false≢true e)
@@ -25,7 +25,7 @@ bulk_kept null_bulk vs e = absurd (false≢true e)
 bulk_kept (array ds) vs e = absurd (false≢true e)
 bulk_kept null_array vs e = absurd (false≢true e)
 
-none_kept : (d : Data) (vs : Items) → is_bulk d ≡ false → bulks_of (item d vs) ≡ None
+pub none_kept : (d : Data) (vs : Items) → is_bulk d ≡ false → bulks_of (item d vs) ≡ None
 none_kept (bulk word) vs e = absurd (false≢true (sym e))
 none_kept (simple t) vs e = refl
 none_kept (error t) vs e = refl

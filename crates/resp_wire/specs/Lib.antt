@@ -22,4 +22,5 @@ pub mod Taken
 pub mod Heads
 pub mod Resume
 pub mod Places
+pub mod Skipping
 pub mod Laws

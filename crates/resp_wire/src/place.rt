@@ -38,7 +38,9 @@ impl Place {
     }
 
     /// Where the next item begins: behind the value at the front, once that is whole.
-    pub(crate) fn end(&self) -> usize {
+    pub(crate) fn end(&self) -> usize
+        ensures { result ≡ self.now.position }
+    {
         self.position
     }
 

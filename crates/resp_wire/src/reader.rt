@@ -3,12 +3,14 @@
 ghost use Rattle.std.specs.Prelude.{◌≡◌, [], None};
 ghost use Rattle.resp_wire.specs.Stream.{ReaderAnswers};
 ghost use Rattle.resp_wire.specs.Front.{Feeds, ReaderTakes};
+ghost use Rattle.resp_wire.specs.Skipping.{Skips};
 ghost use Rattle.resp_wire.specs.Taken.{TakesOff, TakesAtOnce, AnswersAndTakes};
 
 use crate::build::{Building, build};
 use crate::fault::{NoMemory, WireFault};
 use crate::limits::Limits;
 use crate::place::Place;
+use crate::skip::{Skipped, skipped_at};
 use crate::unread::Unread;
 use crate::value::Value;
 use std::alloc::Global;
@@ -88,6 +90,26 @@ impl Reader {
             Some(value) => Ok(Some(value)),
             None => self.read_on(),
         }
+    }
+
+    /// Passes over the value at the front, where it is whole and no request with words. It takes no memory.
+    pub fn skip_other(&mut self) -> Option<Skipped>
+        ensures { Skips self.old result self.new }
+    {
+        if let Some(_) = self.fault {
+            return None;
+        }
+        match self.place.read_on(&self.limits, self.unread.as_slice()) {
+            Ok(true) => {}
+            Ok(false) => return None,
+            Err(_) => return None,
+        }
+        let Some(skipped) = skipped_at(&self.limits, self.unread.as_slice()) else {
+            return None;
+        };
+        self.unread.skip(self.place.end());
+        self.place = Place::start();
+        Some(skipped)
     }
 
     /// Takes the value at the front off, where it is looked at for the first time and is whole.

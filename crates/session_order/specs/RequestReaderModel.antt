@@ -3,7 +3,8 @@
 -- them: no request is lost or read twice.
 use Rattle.std.specs.Prelude.{◌≡◌, ◌⊎◌, ◌<◌, ℕ, List, Option, Some, None, Result, Ok, Err, length}
 use Rattle.resp_wire.specs.ReaderModel.{ReaderModel}
-use Rattle.resp_wire.specs.Front.{ReaderTakes, front, Faulty}
+use Rattle.resp_wire.specs.Front.{ReaderTakes, front, Whole, Faulty}
+use Rattle.resp_wire.specs.Data.{Data}
 use Rattle.resp_wire.specs.Seen.{data_of}
 use Rattle.resp_wire.specs.declared.value.Value.{Value}
 use Rattle.resp_wire.specs.declared.fault.WireFault.{WireFault}
@@ -31,10 +32,20 @@ abbrev pub NextWords : RequestReaderModel → List (List ℕ) → RequestReaderM
 NextWords old words rest = ((old.ahead ≡ Some words) × (rest ≡ record old { ahead = None })) ⊎ TakesValue old (Words words) rest
 
 -- the first value is whole, and there is no memory for it
-abbrev pub LacksMemory : RequestReaderModel → Type 0
-LacksMemory incoming = (incoming.ahead ≡ None) × ReaderTakes incoming.input (Err wire.NoMemory) incoming.input
+abbrev pub LacksValue : RequestReaderModel → Type 0
+LacksValue incoming = (incoming.ahead ≡ None) × ReaderTakes incoming.input (Err wire.NoMemory) incoming.input
 
--- nothing was read, though a whole value stands first; the words of a request may have been taken ahead
+-- a whole request stands first, and has words
+abbrev pub HasRequest : RequestReaderModel → Type 0
+HasRequest incoming =
+    (value : Data) × (after : List ℕ) × (words : List (List ℕ)) × (front incoming.input.bounds incoming.input.unread ≡ Whole value after)
+    × (asked_of value ≡ Words words)
+
+-- it is a whole request, and there is no memory for it
+abbrev pub LacksMemory : RequestReaderModel → Type 0
+LacksMemory incoming = LacksValue incoming × HasRequest incoming
+
+-- nothing was read, though a whole request stands first; its words may have been taken ahead
 abbrev pub KeepsWords : RequestReaderModel → RequestReaderModel → Type 0
 KeepsWords old new = (LacksMemory old × (new ≡ old)) ⊎ ((words : List (List ℕ)) × (rest : RequestReaderModel) × NextWords old words rest × (new ≡ record rest { ahead = Some words }))
 

@@ -91,7 +91,7 @@ ReadOutcome old (Ok false) new = (new ≡ old) × (
     (old.closing ≡ Quit)
     ⊎ ((old.closing ≡ Open) × (length old.requests ≡ 1024))
     ⊎ (MayRead old × IsDry old.incoming))
--- nothing was read, though a whole value or the words of a request stand first; the words may have been taken ahead
+-- nothing was read, though a whole request or the words of one stand first; the words may have been taken ahead
 ReadOutcome old (Err NoMemory) new = MayRead old × KeepsWords old.incoming new.incoming × (new ≡ with_incoming old new.incoming)
 ReadOutcome old (Err (Wire fault)) new =
     (FaultedBy (broken.Wire fault) old.closing × (new ≡ old))

@@ -6,7 +6,7 @@ ghost use Rattle.session_order.specs.Ahead.{GiveOutcome};
 
 use crate::fault::SessionFault;
 use crate::request_kind::{RequestKind, kind_of};
-use resp_wire::{Limits, Reader, Value, WireFault, Words};
+use resp_wire::{Limits, Reader, Skipped, Value, WireFault, Words};
 use std::alloc::Global;
 use std::marker::Model;
 use std::mem;
@@ -50,7 +50,7 @@ impl Model for RequestReader {
 }
 
 impl RequestReader {
-    ghost use Rattle.session_order.specs.RequestReaderModel.{TakeOutcome, HasWords};
+    ghost use Rattle.session_order.specs.RequestReaderModel.{TakeOutcome, HasWords, LacksValue};
     ghost use Rattle.resp_wire.specs.Front.{Feeds};
 
     pub fn new(alloc: Global, limits: Limits) -> RequestReader
@@ -82,9 +82,22 @@ impl RequestReader {
             Ahead::Nothing => match self.reader.next() {
                 Ok(Some(value)) => classify(self.alloc, value, &mut self.ahead),
                 Ok(None) => Ok(NextRequest::Nothing),
-                Err(WireFault::NoMemory) => Err(SessionFault::NoMemory),
+                Err(WireFault::NoMemory) => self.next_without_memory(),
                 Err(fault) => Err(SessionFault::Wire(fault)),
             },
+        }
+    }
+
+    // A whole value stands first for which there is no memory: it is passed over where it is no request.
+    fn next_without_memory(&mut self) -> Result<NextRequest, SessionFault>
+        requires { LacksValue self.old }
+        ensures does { TakeOutcome self.old result self.new }
+        ensures words { HasWords result }
+    {
+        match self.reader.skip_other() {
+            None => Err(SessionFault::NoMemory),
+            Some(Skipped::Empty) => Ok(NextRequest::Skipped),
+            Some(Skipped::Other) => Err(SessionFault::NotRequest),
         }
     }
 
