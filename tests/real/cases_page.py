@@ -49,17 +49,20 @@ class Page:
 @case
 def the_page_has_what_clients_counted(world):
     """Requests, parts and bytes of clients; each node is up."""
-    seed = world.cluster.nodes[0].port
-    with Page(world, seed, "paged") as page, page.proxy.client() as client:
+    names = [f"cluster_proxy_{name}_total" for name in ["requests", "client_received_bytes", "client_sent_bytes"]]
+    with Page(world, world.cluster.nodes[0].port, "paged") as page, page.proxy.client() as client:
+        client.value("GET", "a")
+        wait_until(lambda: page.figures()["cluster_proxy_clients"] == 1, "the client that looked for the proxy to be gone")
+        before = [page.total(name) for name in names]
+        counted = page.figures()["cluster_proxy_request_duration_seconds_count"]
         sent = received = 0
         for number in range(300):
             words = request("SET", f"k{number}", "1") + request("MGET", f"k{number}", f"k{number + 1}")
             client.send(words)
             sent, received = sent + len(words), received + sum(map(len, client.replies(2)))
-        wait_until(lambda: page.total("cluster_proxy_request_duration_seconds_count") >= 600, "the last request to be counted")
-        check_same(page.total("cluster_proxy_requests_total"), 600, "requests")
-        check_same(page.total("cluster_proxy_client_received_bytes_total"), sent, "bytes of clients")
-        check_same(page.total("cluster_proxy_client_sent_bytes_total"), received, "bytes to clients")
+        wait_until(lambda: page.figures()["cluster_proxy_request_duration_seconds_count"] >= counted + 600, "the last request to be counted")
+        more = [page.total(name) - was for name, was in zip(names, before)]
+        check_same(more, [600, sent, received], "requests, bytes of the client and bytes to it")
         check_same(page.figures()["cluster_proxy_clients"], 1, "clients")
         for node in world.cluster.nodes[:3]:
             check_same(page.figures()[f'cluster_proxy_node_up{{node="127.0.0.1:{node.port}"}}'], 1, "a node")
