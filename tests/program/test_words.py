@@ -11,7 +11,7 @@ HINT = b"\n\nUsage: cluster_proxy <COMMAND>\n\nFor more information, try '--help
 
 LOCAL_TAKES = b"error: --workers takes a number from 1 to 64" + HINT
 NODES_TAKES = b"error: --ports takes three ports from 1 to 65535, with a comma between them" + HINT
-SERVE_TAKES = b"error: --listen and --seed take HOST:PORT with a port from 1 to 65535, and --workers 1 to 64" + HINT
+SERVE_TAKES = b"error: --listen, --seed and --admin take HOST:PORT with a port from 1 to 65535, and --workers 1 to 64" + HINT
 
 # What the system says of a port that another program listens on.
 TAKEN = b"Address already in use (os error 98)"
@@ -68,6 +68,7 @@ class Refused(Runs):
         for address in ["h", ":1", "h:", "h:0", "h:-1", "h:x", "h:65536", "h:000080", "h\n:1", "\r:2"]:
             self.check_refused(serving(listen=address), SERVE_TAKES)
             self.check_refused(serving(seed=address), SERVE_TAKES)
+            self.check_refused([*serving(), "--admin", address], SERVE_TAKES)
 
     def test_a_user_without_a_password(self):
         """`serve` alone reads the environment."""
@@ -137,3 +138,11 @@ class Taken(Runs):
             said = b"cluster_proxy: cannot listen on 127.0.0.1:%d: %s\n" % (port, TAKEN)
             self.check_complaint(serving(listen=f"127.0.0.1:{port}"), said)
             self.check_complaint(["nodes", "--ports", f"{port},{port},{port}"], said)
+
+    def test_an_address_of_the_page_that_is_taken(self):
+        """It is said before any client is accepted."""
+        with socket.create_server(("127.0.0.1", 0)) as taken:
+            port = taken.getsockname()[1]
+            (own,) = free_ports(1)
+            said = b"cluster_proxy: cannot listen on 127.0.0.1:%d (admin): %s\n" % (port, TAKEN)
+            self.check_complaint([*serving(listen=f"127.0.0.1:{own}"), "--admin", f"127.0.0.1:{port}"], said)

@@ -20,13 +20,18 @@ fn start_line<R: Clock>(rt: &R, alloc: Global, serving: Serving<'_>) -> Result<L
         listen,
         seed,
         workers,
+        admin,
     } = serving;
     let line = new_line(rt, alloc, "info", "started")?;
     let line = line.pair("version", VERSION.as_bytes())?;
     let line = with_pair(alloc, line, "listen", &listen)?;
     let line = with_pair(alloc, line, "seed", &seed)?;
     let line = with_pair(alloc, line, "workers", &workers)?;
-    with_pair(alloc, line, "descriptors", &descriptor_limit().unwrap_or(0))
+    let line = with_pair(alloc, line, "descriptors", &descriptor_limit().unwrap_or(0))?;
+    match admin {
+        Some(at) => with_pair(alloc, line, "admin", &at),
+        None => Ok(line),
+    }
 }
 
 /// A line of this moment.

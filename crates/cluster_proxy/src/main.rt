@@ -20,10 +20,12 @@ use script_runs::run_scripts;
 use serve::serve_clients;
 use std::env::Env;
 use std::fmt::Display;
+use std::fs::File;
 use std::net::{Net, TcpListener, TcpStream};
 use std::os::fd::AsFd;
 use std::process::ExitCode;
 use std::random::RandomSource;
+use std::rt::Files;
 use std::sync::Wait;
 use std::thread::Threads;
 use std::time::Clock;
@@ -40,6 +42,7 @@ where
         + RandomSource
         + Clock
         + Env
+        + Files<File = File>
         + Net<Listener = TcpListener, Stream = TcpStream>
         + Copy
         + Send
@@ -78,6 +81,7 @@ where
         + RandomSource
         + Clock
         + Env
+        + Files<File = File>
         + Net<Listener = TcpListener, Stream = TcpStream>
         + Copy
         + Send

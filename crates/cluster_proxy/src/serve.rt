@@ -4,23 +4,30 @@ use crate::descriptors::descriptor_limit;
 use crate::log_lines::{log_end, log_start};
 use event_log::ErrorStream;
 use node_dial::Credentials;
-use program_words::{Address, Serving};
+use program_words::{Address, Serving, VERSION};
 use proxy_runtime::WireRunFault;
-use socket_proxy::{Proxy, listen, run_wire};
+use socket_proxy::{Admin, Proxy, listen, run_wire};
 use std::alloc::AllocGlobal;
-use std::io;
+use std::fs::File;
 use std::net::{Net, TcpListener, TcpStream};
 use std::random::RandomSource;
+use std::rt::Files;
 use std::sync::Wait;
 use std::thread::Threads;
 use std::time::Clock;
+use std::{fs, io};
 use thiserror::Error;
+
+/// In which the system tells of this process.
+const STATUS: &str = "/proc/self/status";
 
 /// Why clients are not served.
 #[derive(Debug, Drop, Error)]
 pub enum ServeFault<'a> {
     #[error("cannot listen on {0}: {1}")]
     Listen(Address<'a>, io::Error),
+    #[error("cannot listen on {0} (admin): {1}")]
+    ListenAdmin(Address<'a>, io::Error),
     #[error("cannot serve clients: {0}")]
     Run(WireRunFault),
 }
@@ -37,6 +44,7 @@ where
         + Wait
         + RandomSource
         + Clock
+        + Files<File = File>
         + AllocGlobal
         + Net<Listener = TcpListener, Stream = TcpStream>
         + Copy
@@ -48,11 +56,13 @@ where
         listen: at,
         seed,
         workers,
+        admin,
     } = serving;
     let listener = match listen(rt, at.host, at.port) {
         Ok(listener) => listener,
         Err(error) => return Err(ServeFault::Listen(at, error)),
     };
+    let admin = listen_admin(rt, admin)?;
     log_start(rt, rt.alloc(), serving, log);
     let proxy = Proxy {
         listener,
@@ -64,10 +74,28 @@ where
         credentials,
         log,
     };
-    let ended = run_wire(rt, rt.alloc(), proxy);
+    let ended = run_wire(rt, rt.alloc(), proxy, admin);
     log_end(rt, rt.alloc(), &ended, log);
     match ended {
         Ok(()) => Ok(()),
         Err(fault) => Err(ServeFault::Run(fault)),
+    }
+}
+
+/// Where the page is asked for, at this address, where there is one.
+fn listen_admin<'a, R: Net + Files<File = File>>(
+    rt: &R,
+    at: Option<Address<'a>>,
+) -> Result<Option<Admin<'static>>, ServeFault<'a>> {
+    let Some(at) = at else {
+        return Ok(None);
+    };
+    match listen(rt, at.host, at.port) {
+        Ok(listener) => Ok(Some(Admin {
+            listener,
+            version: VERSION,
+            status: fs::open(rt, STATUS).ok(),
+        })),
+        Err(error) => Err(ServeFault::ListenAdmin(at, error)),
     }
 }

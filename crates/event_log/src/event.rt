@@ -47,6 +47,16 @@ impl NodeName {
         })
     }
 
+    /// The node's number.
+    pub(crate) fn number(&self) -> u8 {
+        self.number
+    }
+
+    /// Its host and port, as the log shows them.
+    pub(crate) fn address(&self) -> &[u8] {
+        self.address.as_bytes()
+    }
+
     /// Whether it names the node of this number.
     pub fn is_of(&self, node: NodeId) -> bool {
         self.number == node.number()
@@ -104,10 +114,12 @@ pub struct SlotsTold {
     pub ranges: usize,
     /// How many slots it gave another owner than the answers before, where that is known.
     pub slots_changed: Option<usize>,
+    /// The nodes that it gave slots, each a bit by its number.
+    pub nodes: u64,
 }
 
 /// How many nodes an event may be of: the most that a table holds.
-const NODES: usize = 64;
+pub(crate) const NODES: usize = 64;
 // Where the limits of each kind of event begin. Those of a node's events have one for each node.
 const CLIENTS_REFUSED: usize = 0;
 

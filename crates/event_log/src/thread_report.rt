@@ -3,21 +3,32 @@
 use crate::event::Event;
 use crate::figures::{FIGURES, Figure, Figures};
 use crate::journal::Journal;
+use crate::node_board::{NodeBoard, NodeStanding};
+use crate::time_counts::{TimeCounts, TimeSums};
 use resp_wire::NoMemory;
 use std::alloc::Global;
 use std::sync::Arc;
 
-/// The events of a thread that are not logged yet, and its counts.
+/// The events of a thread that are not logged yet, its counts, and what its events told of the nodes.
 pub struct ThreadReport {
     journal: Journal,
     figures: Figures,
+    times: TimeCounts,
+    nodes: NodeBoard,
 }
 
 impl Drop for ThreadReport {
     fn drop(self) {
-        let ThreadReport { journal, figures } = self;
+        let ThreadReport {
+            journal,
+            figures,
+            times,
+            nodes,
+        } = self;
         drop(journal);
         drop(figures);
+        drop(times);
+        drop(nodes);
     }
 }
 
@@ -27,6 +38,8 @@ impl ThreadReport {
         let report = ThreadReport {
             journal: Journal::new(alloc)?,
             figures: Figures::new(),
+            times: TimeCounts::new(),
+            nodes: NodeBoard::new(alloc)?,
         };
         Ok(Arc::new(alloc, report)?)
     }
@@ -41,8 +54,29 @@ impl ThreadReport {
         self.figures.count_of(figure)
     }
 
+    /// Counts so many requests more in the bucket of this place, each of which took so long.
+    pub fn count_times(&self, place: usize, requests: u64, micros: u64) {
+        self.times.add(place, requests, micros);
+    }
+
+    /// Adds how long requests took to a sum over all threads.
+    pub fn add_times_to(&self, sums: &mut TimeSums) {
+        self.times.add_to(sums);
+    }
+
+    /// Whether an answer to CLUSTER SLOTS was told.
+    pub fn has_map(&self) -> bool {
+        self.nodes.has_map()
+    }
+
+    /// What the events told of each node that was dialled.
+    pub fn nodes(&self, alloc: Global) -> Result<Vec<NodeStanding>, NoMemory> {
+        self.nodes.standings(alloc)
+    }
+
     /// Keeps an event for the log.
     pub fn tell(&self, event: Event) {
+        self.nodes.note(&event);
         self.journal.keep(event);
     }
 

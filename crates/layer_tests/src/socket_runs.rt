@@ -67,6 +67,7 @@ fn a_run_for_no_client_ends_at_once(rt: HostRuntime) -> Result<(), Fail> {
         &rt,
         rt.alloc(),
         proxy(listener, 1, 0, &ErrorStream::new(None)),
+        None,
     )?;
     Ok(())
 }
@@ -90,6 +91,7 @@ fn clients_that_leave_early_are_counted(rt: HostRuntime) -> Result<(), Fail> {
         &rt,
         rt.alloc(),
         proxy(listener, seed, 3, &ErrorStream::new(None)),
+        None,
     )?;
     let wanted = b"-ERR proxy: gave up, not executed\r\n+OK\r\n";
     assert!(rt; hears(rt.alloc(), &mut staying, wanted));

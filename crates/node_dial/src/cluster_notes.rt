@@ -2,7 +2,7 @@
 
 use crate::lost_nodes::{LostNodes, note_lost, note_slots};
 use crate::node_set::NodeSet;
-use crate::slot_owners::{SlotOwners, note_owners};
+use crate::slot_owners::{SlotOwners, nodes_of, note_owners};
 use event_log::{Event, Figure, NodeName, SlotsTold, ThreadReport};
 use resp_wire::NoMemory;
 use slot_map::{MapOp, NodeId};
@@ -56,6 +56,7 @@ impl ClusterNotes {
         let told = SlotsTold {
             ranges: changes.len(),
             slots_changed: note_owners(&self.owners, changes),
+            nodes: nodes_of(changes),
         };
         report.tell(Event::SlotsTold(name, told));
     }

@@ -81,3 +81,13 @@ fn parts_of(op: MapOp) -> (u16, u16, NodeId) {
         MapOp::SetSlot(slot, node) => (slot.number(), slot.number(), node),
     }
 }
+
+/// The nodes that an answer to CLUSTER SLOTS gives slots, each a bit by its number.
+pub(crate) fn nodes_of(changes: &[MapOp]) -> u64 {
+    let mut nodes: u64 = 0;
+    for change in changes {
+        let (_, _, node) = parts_of(*change);
+        nodes |= 1u64.wrapping_shl(u32::from(node.number()));
+    }
+    nodes
+}

@@ -33,18 +33,24 @@ ports_in text =
     let rest = after_first is_comma text in
     three (port_in (before_first is_comma text)) (port_in (before_first is_comma rest)) (port_in (after_first is_comma rest))
 
--- where the proxy listens, a node of its cluster, and how many workers it has
+-- HOST:PORT, where it is given
+abbrev pub optional_address : Option (List ℕ) → Option (Option Endpoint)
+optional_address None = Some None
+optional_address (Some text) = option_map Some (address_in text)
+
+-- where the proxy listens, a node of its cluster, how many workers it has, and where its page is, if it has one
 pub record Asked : Type 0 where
   pub listen : Endpoint
   pub seed : Endpoint
   pub workers : ℕ
+  pub admin : Option Endpoint
 
-abbrev pub asked : Option Endpoint → Option Endpoint → Option ℕ → Option Asked
-asked (Some listen) (Some seed) (Some workers) = Some (record { listen = listen; seed = seed; workers = workers })
-asked _ _ _ = None
+abbrev pub asked : Option Endpoint → Option Endpoint → Option ℕ → Option (Option Endpoint) → Option Asked
+asked (Some listen) (Some seed) (Some workers) (Some admin) = Some (record { listen = listen; seed = seed; workers = workers; admin = admin })
+asked _ _ _ _ = None
 
 -- the words of `serve`, each by its name: 1 to 64 workers
 abbrev pub serving_in : (List ℕ → Option (List ℕ)) → Option Asked
 serving_in word =
     asked (option_and_then address_in (word (codes "listen"))) (option_and_then address_in (word (codes "seed")))
-    (option_and_then (number_within 1 64) (word (codes "workers")))
+    (option_and_then (number_within 1 64) (word (codes "workers"))) (optional_address (word (codes "admin")))

@@ -32,7 +32,7 @@ const WORKERS_WANTED: &str = "--workers takes a number from 1 to 64";
 const PORTS_WANTED: &str = "--ports takes three ports from 1 to 65535, with a comma between them";
 /// What `serve` takes.
 const SERVING_WANTED: &str =
-    "--listen and --seed take HOST:PORT with a port from 1 to 65535, and --workers 1 to 64";
+    "--listen, --seed and --admin take HOST:PORT with a port from 1 to 65535, and --workers 1 to 64";
 
 /// What follows the program's name. (clap refuses words without a subcommand by itself.)
 const SUBCOMMAND_WANTED: &str = "a subcommand is asked for";

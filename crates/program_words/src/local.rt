@@ -25,6 +25,7 @@ pub(crate) const LOCAL: Subcommand = Subcommand {
         name: "workers",
         value_name: "N",
         help: "Threads that serve clients, 1 to 64",
+        required: true,
     }],
 };
 

@@ -20,6 +20,7 @@ pub(crate) const NODES: Subcommand = Subcommand {
         name: "ports",
         value_name: "A,B,C",
         help: "Ports of the three nodes",
+        required: true,
     }],
 };
 

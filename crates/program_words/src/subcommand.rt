@@ -3,7 +3,7 @@
 use clap::{Arg, ArgAction, Command};
 use std::alloc::{AllocError, Global};
 
-/// A subcommand, and the settings that its words have to give.
+/// A subcommand, and the settings that its words give.
 #[derive(Clone, Copy)]
 pub(crate) struct Subcommand {
     pub name: &'static str,
@@ -19,6 +19,8 @@ pub(crate) struct Setting {
     pub name: &'static str,
     pub value_name: &'static str,
     pub help: &'static str,
+    /// The words have to give it.
+    pub required: bool,
 }
 
 impl Subcommand {
@@ -46,7 +48,7 @@ impl Setting {
             .long(self.name)
             .value_name(self.value_name)
             .help(self.help)
-            .required(true)
+            .required(self.required)
             .action(ArgAction::Set)
     }
 }

@@ -71,6 +71,11 @@ impl PolledSocket {
         self.socket.has_ended() || self.socket.reason().is_some()
     }
 
+    /// What time it is, in microseconds, as its thread last saw it.
+    pub fn micros(&self) -> u64 {
+        self.registration.micros()
+    }
+
     /// Counts so many more of this figure.
     pub fn count(&self, figure: Figure, more: u64) {
         self.registration.count(figure, more);

@@ -64,6 +64,8 @@ impl Readiness {
 pub struct ReadySet {
     /// Milliseconds on the system's clock, as the thread last saw it.
     time: AtomicU64,
+    /// The same in microseconds.
+    micros: AtomicU64,
     /// A socket gave or took bytes since the thread last asked.
     traffic: AtomicBool,
     /// The entry of the socket that gave bytes last.
@@ -82,6 +84,7 @@ impl Drop for ReadySet {
     fn drop(self) {
         let ReadySet {
             time: _,
+            micros: _,
             traffic: _,
             reader: _,
             reads: _,
@@ -104,6 +107,7 @@ impl ReadySet {
         }
         Ok(ReadySet {
             time: AtomicU64::new(0),
+            micros: AtomicU64::new(0),
             traffic: AtomicBool::new(false),
             reader: AtomicU64::new(0),
             reads: AtomicU64::new(0),
@@ -130,12 +134,19 @@ impl ReadySet {
         if let Ok(time) = rt.monotonic() {
             let millis = u64::try_from(time.as_millis()).unwrap_or(u64::MAX);
             self.time.store(millis, Ordering::Relaxed);
+            let micros = u64::try_from(time.as_micros()).unwrap_or(u64::MAX);
+            self.micros.store(micros, Ordering::Relaxed);
         }
     }
 
     /// What time it is, in milliseconds, as the thread last saw it.
     pub fn time(&self) -> u64 {
         self.time.load(Ordering::Relaxed)
+    }
+
+    /// What time it is, in microseconds, as the thread last saw it.
+    pub fn micros(&self) -> u64 {
+        self.micros.load(Ordering::Relaxed)
     }
 
     /// What the thread reports.
@@ -260,6 +271,11 @@ impl Registration {
     pub(crate) fn note_written(&self, count: usize) {
         self.ready.traffic.store(true, Ordering::Relaxed);
         self.count(Figure::BytesOut, count as u64);
+    }
+
+    /// What time it is, in microseconds, as the thread last saw it.
+    pub(crate) fn micros(&self) -> u64 {
+        self.ready.micros()
     }
 
     /// Counts so many more of this figure.

@@ -1,6 +1,8 @@
 //! A client's end over a socket.
 
+use crate::request_times::RequestTimes;
 use crate::unfinished::UnfinishedRequest;
+use admin_page::bucket_of;
 use event_log::{Event, Figure, ThreadReport};
 use key_split::{Ended, Ticket};
 use node_link::{Flow, Stream};
@@ -21,6 +23,7 @@ pub(crate) struct SocketClient {
     report: Arc<ThreadReport, Global>,
     address: SocketAddr,
     request: UnfinishedRequest,
+    times: RequestTimes,
     is_owed: Cell<bool>,
     /// Its protocol error was reported.
     is_faulted: Cell<bool>,
@@ -33,6 +36,7 @@ impl Drop for SocketClient {
             report,
             address: _,
             request,
+            times: _,
             is_owed: _,
             is_faulted: _,
         } = self;
@@ -55,6 +59,7 @@ impl SocketClient {
             report,
             address,
             request,
+            times: RequestTimes::new(),
             is_owed: Cell::new(false),
             is_faulted: Cell::new(false),
         }
@@ -67,6 +72,21 @@ impl SocketClient {
         match &self.socket {
             Some(socket) => self.is_owed.get() && socket.has_ended(),
             None => false,
+        }
+    }
+
+    /// What time it is, in microseconds, as its thread last saw it.
+    fn micros(&self) -> u64 {
+        match &self.socket {
+            Some(socket) => socket.micros(),
+            None => 0,
+        }
+    }
+
+    /// Counts how long the requests took whose replies are all written now.
+    fn note_answered(&self) {
+        if let Some((requests, micros)) = self.times.end(self.micros()) {
+            self.report.count_times(bucket_of(micros), requests, micros);
         }
     }
 
@@ -101,10 +121,14 @@ impl ClientPort for SocketClient {
 
     fn owes(&self, more: bool) {
         self.is_owed.set(more);
+        if !more {
+            self.note_answered();
+        }
     }
 
     fn requests_read(&self, count: usize) {
         self.report.count(Figure::Requests, count as u64);
+        self.times.begin(count as u64, self.micros());
         self.request.finish();
     }
 

@@ -166,6 +166,7 @@ impl<R: Clock> Gate for SocketGate<'_, R> {
         if self.shared.is_stopped() {
             return false;
         }
+        self.handle.ready.update_time(self.rt);
         let posted = self.count.get().posted;
         self.count.set(WorkCount {
             posted,

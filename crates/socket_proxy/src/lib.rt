@@ -2,7 +2,7 @@
 //!
 //! ```text
 //! let listener = listen(rt, "127.0.0.1", 7000)?;
-//! run_wire(rt, rt.alloc(), proxy)?;
+//! run_wire(rt, rt.alloc(), proxy, None)?;
 //! ```
 //!
 //! Each worker serves its clients in a thread of its own, and the carrier talks to the nodes and accepts clients in the
@@ -22,6 +22,11 @@ mod client;
 mod client_room;
 mod gate;
 mod lookout;
+mod page_client;
+mod page_figures;
+mod page_thread;
+mod process_figures;
+mod request_times;
 mod run;
 mod setup;
 mod shared;
@@ -29,4 +34,4 @@ mod unfinished;
 mod worker_thread;
 
 pub use acceptor::listen;
-pub use run::{Proxy, run_wire};
+pub use run::{Admin, Proxy, run_wire};

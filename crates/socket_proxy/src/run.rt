@@ -7,6 +7,7 @@ ghost use Rattle.proxy_lanes.specs.Opened.{book_of};
 use crate::carrier_setup::{CarrierSetup, carrier_setup};
 use crate::carrier_thread::run_carrier;
 use crate::client::SocketClient;
+use crate::page_thread::{PageSetup, page_setups, run_page};
 use crate::setup::{ThreadSetups, client_share, push, setup_threads};
 use crate::shared::Shared;
 use crate::worker_thread::{SocketWorkerSetup, WorkerSetup, run_worker};
@@ -19,6 +20,7 @@ use proxy_runtime::{Poller, ThreadsFault, WireRunFault, run_threads};
 use proxy_turns::Newcomer;
 use resp_wire::NoMemory;
 use std::alloc::{AllocGlobal, Global};
+use std::fs::File;
 use std::marker::Brand;
 use std::net::{self, Net};
 use std::random::RandomSource;
@@ -47,9 +49,25 @@ pub struct Proxy<'a> {
     pub log: &'a ErrorStream,
 }
 
+/// Where the page of figures is asked for.
+#[derive(Drop)]
+pub struct Admin<'a> {
+    pub listener: TcpListener,
+    /// What the page names as the version that runs.
+    pub version: &'a str,
+    /// The file in which the system tells of this process, `/proc/self/status`, where it can be read.
+    pub status: Option<File>,
+}
+
 /// Serves clients that come to the listener, by workers in threads of their own and a carrier in this one, before the cluster
-/// that the seed belongs to. After a fault all threads have ended.
-pub fn run_wire<R>(rt: &R, alloc: Global, proxy: Proxy<'_>) -> Result<(), WireRunFault>
+/// that the seed belongs to. Where there is an `admin`, one more thread answers for the page. After a fault all threads have
+/// ended.
+pub fn run_wire<R>(
+    rt: &R,
+    alloc: Global,
+    proxy: Proxy<'_>,
+    admin: Option<Admin<'_>>,
+) -> Result<(), WireRunFault>
 where
     R: Threads
         + Wait
@@ -65,6 +83,7 @@ where
     requires host { IsTrue (is_one_line proxy.host.now) }
 {
     let (workers, clients) = (proxy.workers, proxy.clients);
+    let pages = page_setups(rt, alloc, admin, proxy.descriptors)?;
     let ThreadSetups {
         shared,
         pollers,
@@ -75,6 +94,7 @@ where
         rt,
         alloc,
         &shared,
+        pages,
         pollers,
         carrier,
         workers,
@@ -88,6 +108,7 @@ fn run_named<J, R>(
     rt: &R,
     alloc: Global,
     shared: &Shared,
+    pages: Vec<PageSetup<'_>>,
     pollers: Vec<Poller>,
     carrier: CarrierSetup<'_>,
     workers: u16,
@@ -113,9 +134,42 @@ where
         alloc, rt, opened, workers,
     )?;
     let setups = worker_setups(alloc, worker_ends, pollers, clients)?;
-    run_workers(rt, alloc, setups, shared, || -> Option<WireRunFault> {
-        run_carrier(rt, alloc, ends, carrier, shared)
+    run_beside_page(rt, alloc, pages, shared, || -> Option<WireRunFault> {
+        run_workers(rt, alloc, setups, shared, || -> Option<WireRunFault> {
+            run_carrier(rt, alloc, ends, carrier, shared)
+        })
     })
+}
+
+/// Answers for the page in a thread of its own, where it is wanted, while clients are served in this one.
+fn run_beside_page<C, R>(
+    rt: &R,
+    alloc: Global,
+    pages: Vec<PageSetup<'_>>,
+    shared: &Shared,
+    serve: C,
+) -> Result<(), WireRunFault>
+where
+    C: FnOnce() -> Option<WireRunFault>,
+    R: Threads + Wait + RandomSource + Clock + Sync,
+    requires serve { C.IsAlwaysCallable serve }
+{
+    let faults = run_threads(
+        rt,
+        alloc,
+        pages,
+        &|setup| -> Option<WireRunFault> { run_page(rt, alloc, setup, shared) },
+        &|| shared.stop(),
+        serve,
+    )?;
+    match first_fault(faults) {
+        Some(fault) => Err(fault),
+        None => Ok(()),
+    }
+}
+
+fn first_fault(faults: Vec<Option<WireRunFault>>) -> Option<WireRunFault> {
+    faults.into_iter().flatten().next()
 }
 
 /// The workers run in threads of their own, and the carrier in this one.
@@ -125,7 +179,7 @@ fn run_workers<J, C, R>(
     workers: Vec<SocketWorkerSetup<J>>,
     shared: &Shared,
     carry: C,
-) -> Result<(), WireRunFault>
+) -> Option<WireRunFault>
 where
     J: Naming + Send + Sync,
     C: FnOnce() -> Option<WireRunFault>,
@@ -145,10 +199,10 @@ where
         &|setup| -> Option<WireRunFault> { run_worker(rt, alloc, setup, shared) },
         &|| shared.stop(),
         carry,
-    )?;
-    match faults.into_iter().flatten().next() {
-        Some(fault) => Err(fault),
-        None => Ok(()),
+    );
+    match faults {
+        Ok(faults) => first_fault(faults),
+        Err(fault) => Some(WireRunFault::from(fault)),
     }
 }
 

@@ -1,0 +1,6 @@
+pub mod Answers
+pub mod Connection
+pub mod Health
+pub mod Page
+pub mod Text
+pub mod Times

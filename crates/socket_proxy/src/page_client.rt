@@ -1,0 +1,120 @@
+//! A connection for the page.
+
+use admin_page::{Figures, PageConnection, PageService};
+use node_link::{Flow, Stream};
+use proxy_runtime::{PolledSocket, ReadySet};
+use resp_wire::NoMemory;
+use std::alloc::Global;
+
+/// So many bytes are read at once.
+const PIECE: usize = 4096;
+
+/// So many times that are read at most before a connection is closed.
+const DISCARDED_PIECES: u32 = 16;
+
+/// A connection for the page, with its socket.
+pub(crate) struct PageClient {
+    socket: PolledSocket,
+    connection: PageConnection,
+}
+
+impl Drop for PageClient {
+    fn drop(self) {
+        let PageClient { socket, connection } = self;
+        socket.shut();
+        drop(socket);
+        drop(connection);
+    }
+}
+
+impl PageClient {
+    pub(crate) fn new(socket: PolledSocket, connection: PageConnection) -> PageClient {
+        PageClient { socket, connection }
+    }
+
+    /// When it is closed at the latest, in milliseconds.
+    pub(crate) fn deadline(&self) -> u64 {
+        self.connection.deadline()
+    }
+
+    /// Whether there may be something to read of it, or to write.
+    pub(crate) fn has_work(&self, ready: &ReadySet) -> bool {
+        !self.connection.output().is_empty()
+            || (self.connection.wants_read() && self.may_read(ready))
+    }
+
+    fn may_read(&self, ready: &ReadySet) -> bool {
+        match self.socket.watched() {
+            Some(entry) => ready.may_read(entry),
+            None => true,
+        }
+    }
+
+    /// Whether it is to be closed at this time, in milliseconds.
+    pub(crate) fn is_over(&self, now: u64) -> bool {
+        self.connection.is_over(now)
+    }
+
+    /// Reads what came and was not asked for: a connection that is closed over such bytes may take the last answer with it.
+    pub(crate) fn discard(&mut self) {
+        let mut piece = [0u8; PIECE];
+        for _ in 0..DISCARDED_PIECES {
+            match self.socket.read(&mut piece) {
+                Flow::Bytes(_) => {}
+                Flow::Nothing | Flow::Gone => return,
+            }
+        }
+    }
+
+    /// One read, what it asks for, and one write. False where nothing moved.
+    pub(crate) fn step(
+        &mut self,
+        alloc: Global,
+        figures: &Figures<'_>,
+        now: u64,
+    ) -> Result<bool, NoMemory> {
+        let read = self.read()?;
+        self.connection.answer(&mut PageService { alloc, figures });
+        let wrote = self.write(now)?;
+        Ok(read | wrote)
+    }
+
+    fn read(&mut self) -> Result<bool, NoMemory> {
+        if !self.connection.wants_read() {
+            return Ok(false);
+        }
+        let mut piece = [0u8; PIECE];
+        match self.socket.read(&mut piece) {
+            Flow::Bytes(count) => self.receive(piece.get(..count).unwrap_or(&[])),
+            Flow::Nothing => Ok(false),
+            Flow::Gone => match self.connection.end_input() {
+                Ok(()) => Ok(true),
+                Err(_) => Err(NoMemory),
+            },
+        }
+    }
+
+    /// Takes bytes that came. It takes all of them, or has no memory for them.
+    fn receive(&mut self, bytes: &[u8]) -> Result<bool, NoMemory> {
+        match self.connection.receive(bytes) {
+            Ok(count) if count == bytes.len() => Ok(true),
+            _ => Err(NoMemory),
+        }
+    }
+
+    fn write(&mut self, now: u64) -> Result<bool, NoMemory> {
+        let output = self.connection.output();
+        if output.is_empty() {
+            return Ok(false);
+        }
+        let length = output.len();
+        match self.socket.write(output, &[]) {
+            Flow::Bytes(count) => {
+                self.connection.sent(count.min(length), now);
+                Ok(count > 0)
+            }
+            Flow::Nothing => Ok(false),
+            Flow::Gone => Err(NoMemory),
+        }
+    }
+}
