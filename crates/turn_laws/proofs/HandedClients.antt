@@ -1,20 +1,16 @@
 -- Those that come to a worker are those that were handed to it.
-use Rattle.std.proofs.Common.{◌≡◌, ◌≢◌, ◌⊎◌, inl, inr, ⊎_elim, ℕ, List, [], ◌∷◌, ◌++◌, Some, Ok, Err, Result, refl, sym, ap, ◌∙◌, subst, append_assoc, length}
-use Rattle.std.specs.Prelude.{slice_get, slice_set, map}
+use Rattle.std.proofs.Common.{◌≡◌, ◌≢◌, ◌⊎◌, inl, inr, ⊎_elim, ℕ, List, [], ◌∷◌, ◌++◌, Some, Ok, Err, Result, sym, ap, ◌∙◌, subst, append_assoc, length}
+use Rattle.std.specs.Prelude.{slice_get}
 use Rattle.std.specs.List.{FoldsTo, flat_map}
 use mathlib.Core.List.{IsPrefix}
 use Rattle.std.proofs.lemmas.List.{append-nil, map-append}
-use Rattle.key_split.specs.declared.travel.Ticket.{Ticket}
 use Rattle.proxy_lanes.specs.declared.ends.lane_ends.LaneEnds.{LaneEnds}
 use Rattle.proxy_lanes.specs.declared.ring.Outlet.{Outlet}
-use Rattle.proxy_lanes.specs.declared.ring.Inlet.{Inlet}
 use Rattle.proxy_lanes.specs.declared.ring.Numbered.{Numbered}
 use Rattle.proxy_lanes.specs.Lane.{Posts, Takes, numbered, posted, taken}
 use Rattle.proxy_turns.specs.declared.newcomer.Newcomer.{Newcomer}
 use Rattle.proxy_turns.specs.WorkerModel.{WorkerModel, WorkerEvent, Did, Finished, Took, FoundNone, Came, TurnedAway, FoundNobody, Left, WorkerDoes}
-use Rattle.world_laws.proofs.Recorded.{at-set, set-same}
-use Rattle.turn_laws.specs.System.{System, IsInStep}
-use Rattle.turn_laws.specs.Steps.{SystemEvent, SystemStep, Hands}
+use Rattle.world_laws.proofs.Recorded.{at-set}
 use Rattle.turn_laws.specs.PortsMay.{any_moves}
 use Rattle.turn_laws.specs.ClientOutput.{events_at}
 use Rattle.turn_laws.specs.Handing.{taken_in, numbers_of, HandedOnce, TakenAsHanded}

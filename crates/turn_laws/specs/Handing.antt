@@ -2,14 +2,10 @@
 use Rattle.std.specs.Prelude.{◌≡◌, ◌⊎◌, ℕ, List, [], ◌∷◌, ◌++◌, Some, map, slice_get}
 use Rattle.std.specs.List.{FoldsTo, flat_map}
 use mathlib.Core.List.{IsPrefix}
-use Rattle.key_split.specs.declared.travel.Ticket.{Ticket}
-use Rattle.key_split.specs.declared.travel.Told.{Told}
-use Rattle.key_split.specs.declared.travel.Ended.{Ended}
 use Rattle.proxy_lanes.specs.declared.ends.lane_ends.LaneEnds.{LaneEnds}
 use Rattle.proxy_lanes.specs.declared.ring.Numbered.{Numbered}
 use Rattle.proxy_lanes.specs.Lane.{posted, taken}
 use Rattle.proxy_turns.specs.declared.newcomer.Newcomer.{Newcomer}
-use Rattle.proxy_turns.specs.ClientTurn.{ClientEvent}
 use Rattle.proxy_turns.specs.WorkerModel.{WorkerModel, WorkerEvent, Did, Finished, Took, FoundNone, Came, TurnedAway, FoundNobody, Left}
 use Rattle.turn_laws.specs.System.{System, IsInStep}
 use Rattle.turn_laws.specs.Steps.{SystemEvent, SystemStep, Hands}
