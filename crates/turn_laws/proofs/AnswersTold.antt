@@ -25,7 +25,7 @@ use Rattle.proxy_turns.specs.ClientTurn.{Pulled, Fed, Read, HandedOut, Followed,
 use Rattle.proxy_turns.specs.WorkerModel.{WorkerModel, WorkerEvent, Did, Finished, Took, FoundNone, Came, TurnedAway, FoundNobody, Left}
 use Rattle.turn_laws.specs.Wire.{Execution}
 use Rattle.turn_laws.specs.System.{System, Mark, Answered}
-use Rattle.turn_laws.specs.Steps.{SystemEvent, AtWorker, AtCarrier, AtNode, AtBroken, Thrown, Moved, SystemStep, WorkerStep, answers, arrivals, log_of, ticket_at}
+use Rattle.turn_laws.specs.Steps.{SystemEvent, AtWorker, AtCarrier, Handed, AtNode, AtBroken, Thrown, Moved, SystemStep, WorkerStep, answers, arrivals, log_of, ticket_at}
 use Rattle.turn_laws.specs.PortsMay.{any_moves}
 use Rattle.turn_laws.specs.Refines.{IsStart}
 use Rattle.turn_laws.specs.LogOutput.{AnswersWereTold}
@@ -228,6 +228,7 @@ module _ (C J : Type 0) (law : DrainsOutput) (whole : FrontIsWhole) (faulty : Fr
   one-step done s s' steps (AtWorker k event) step before =
       subst (WereTold (done ++ AtWorker k event ∷ [])) (sym (ap log_in step.leaves)) (then-told done (AtWorker k event) s.log step.marks before (worker-marks done s s' steps k event step))
   one-step done s s' steps (AtCarrier event) step before = subst (WereTold (done ++ AtCarrier event ∷ [])) (sym (ap log_in step.leaves)) (same-log done (AtCarrier event) s.log before)
+  one-step done s s' steps (Handed k number) step before = subst (WereTold (done ++ Handed k number ∷ [])) (sym (ap log_in step.4)) (same-log done (Handed k number) s.log before)
   one-step done s s' steps (AtNode k verdict) step before =
       subst (WereTold (done ++ AtNode k verdict ∷ [])) (sym (ap log_in step.10)) (then-told done (AtNode k verdict) s.log (log_of step.4) before (executed-told done step.4))
   one-step done s s' steps (AtBroken j verdict) step before =

@@ -29,7 +29,7 @@ use Rattle.turn_laws.specs.Naming.{NamesNodes}
 use Rattle.turn_laws.specs.Walks.{IsSharedWalked}
 use Rattle.turn_laws.specs.Refines.{IsStart}
 use Rattle.turn_laws.specs.Sharing.{SharedEvent, SharedSystemStep}
-use Rattle.turn_laws.specs.Steps.{SystemEvent, AtWorker, AtCarrier, AtNode, AtBroken, Thrown, Moved, SystemStep, WorkerStep, IsSeen, arrivals, log_of, seen_at}
+use Rattle.turn_laws.specs.Steps.{SystemEvent, AtWorker, AtCarrier, Handed, AtNode, AtBroken, Thrown, Moved, SystemStep, WorkerStep, IsSeen, arrivals, log_of, seen_at}
 use Rattle.turn_laws.specs.ClientSees.{bytes_from, if_own, pulled_by}
 use Rattle.turn_laws.specs.ClientOutput.{events_at}
 use Rattle.turn_laws.specs.Arrivals.{ArrivalsAreSent, SharedArrivalsAreSent, AreSent, arrivals_for, own_events_at, ticketed}
@@ -346,6 +346,7 @@ module _ {C J : Type 0} (k number : ℕ) (came : List ℕ) (s s' : System C J) w
       → Known k number came s → Known k number (came ++ flat_map (bytes_from number) (own_events_at k event)) s'
   one-step law whole faulty (SharedEvent.Ours (AtWorker j event)) step housed known = at-worker law whole faulty j event step housed known
   one-step law whole faulty (SharedEvent.Ours (AtCarrier event)) step housed known = quiet-step (AtCarrier event) tt step [] (no-mark (ap log_in step.leaves)) refl known
+  one-step law whole faulty (SharedEvent.Ours (Handed j other)) step housed known = quiet-step (Handed j other) tt step [] (no-mark (ap log_in step.4)) refl known
   one-step law whole faulty (SharedEvent.Ours (AtNode j verdict)) step housed known = quiet-step (AtNode j verdict) tt step (log_of step.4) (ap log_in step.10) (executed-hidden k number step.4) known
   one-step law whole faulty (SharedEvent.Ours (AtBroken j verdict)) step housed known = quiet-step (AtBroken j verdict) tt step (log_of step.3) (ap log_in step.7) (executed-hidden k number step.3) known
   one-step law whole faulty (SharedEvent.Ours (Thrown j)) step housed known = quiet-step (Thrown j) tt step [] (no-mark (ap log_in step.2)) refl known

@@ -6,25 +6,30 @@ use Rattle.std.proofs.lemmas.Bool.Decides.{eqb_tells}
 use Rattle.std.proofs.lemmas.List.{append-nil}
 use Rattle.key_split.specs.Laws.{PlansArePlain}
 use Rattle.node_model.specs.Moves.{MayImport, MayMigrate, MayMoveKey, MayOwn, MayRelease, MayForget, MayStay, import_done, migrate_done, move_key_done, own_done, release_done, forget_done, stay_done}
-use Rattle.node_model.specs.Nodes.{ClusterModel}
+use Rattle.node_model.specs.Nodes.{ClusterModel, standing_at, with_store}
+use Rattle.node_model.specs.Store.{StoreModel}
 use Rattle.world_laws.specs.State.{WorldModel}
 use Rattle.world_laws.specs.declared.event.Event.{Event}
 use Rattle.world_laws.specs.declared.event.Event.TheVariants as core
+use Rattle.world_laws.proofs.Nodes.{size-with_store}
 use Rattle.shared_laws.specs.Shared.{IsOurs, OthersExecute}
 use Rattle.turn_laws.specs.Wire.{Execution}
 use Rattle.turn_laws.specs.System.{System}
 use Rattle.turn_laws.specs.Asking.{NoneAsksIn}
 use Rattle.turn_laws.specs.Shadow.{IsShadow, entry_at}
 use Rattle.turn_laws.specs.Naming.{NamesNodes}
-use Rattle.turn_laws.specs.Steps.{SystemEvent, Moved, MovesOn, SystemStep, log_of}
+use Rattle.turn_laws.specs.Steps.{SystemEvent, AtWorker, AtCarrier, Handed, AtNode, AtBroken, Thrown, Moved, MovesOn, SystemStep, log_of}
+use Rattle.turn_laws.specs.Writing.{StandsAmong, StandsAtItsNodes}
 use Rattle.turn_laws.specs.Walks.{IsSharedWalked}
 use Rattle.turn_laws.specs.LogHeadline.{IsHeld, history}
 use Rattle.turn_laws.specs.SharedLog.{SharedLogHeadline}
 use Rattle.turn_laws.specs.Sharing.{OthersDo, SharedEvent, SharedSystemStep}
-use Rattle.turn_laws.specs.Fleet.{EveryFleet, Fleet, FleetFollows, FleetEvent, FleetRun, FleetStep, foreign}
+use Rattle.turn_laws.specs.Fleet.{EveryFleet, Fleet, FleetFollows, FleetsStand, FleetEvent, FleetRun, FleetStep, foreign}
 use Rattle.turn_laws.proofs.Impacts.{RunImpact, shows, step-impact}
 use Rattle.turn_laws.proofs.LogHeadline.{log-headline, log-held}
 use Rattle.turn_laws.proofs.Sharing.{all}
+use Rattle.turn_laws.proofs.Scenes.{and-then}
+use Rattle.turn_laws.proofs.SlotsStand.{slots-stay}
 use Rattle.turn_laws.proofs.Starts.{start-shadow}
 use Rattle.turn_laws.proofs.Walks.{alone-walked, every_shared_walk}
 
@@ -93,6 +98,37 @@ module _ {C J : Type 0} where
     pub shadow : IsShadow s world
     pub names : NamesNodes s
 
+-- ---- what no step changes
+
+module _ (C J : Type 0) where
+  -- the nodes' endpoints, and where slots stand
+  abbrev Keeps : System C J → System C J → Type 0
+  Keeps s s' = (s'.nodes ≡ s.nodes) × (StandsAtItsNodes s.cluster → StandsAtItsNodes s'.cluster)
+
+  endpoints-stay : (event : SystemEvent) (s s' : System C J) → SystemStep s event s' → s'.nodes ≡ s.nodes
+  endpoints-stay (AtWorker k event) s s' x = ap (λ (t : System C J). t.nodes) x.leaves
+  endpoints-stay (AtCarrier event) s s' x = ap (λ (t : System C J). t.nodes) x.leaves
+  endpoints-stay (Handed k number) s s' x = ap (λ (t : System C J). t.nodes) x.4
+  endpoints-stay (AtNode k verdict) s s' x = ap (λ (t : System C J). t.nodes) x.10
+  endpoints-stay (AtBroken j verdict) s s' x = ap (λ (t : System C J). t.nodes) x.7
+  endpoints-stay (Thrown j) s s' x = ap (λ (t : System C J). t.nodes) x.2
+  endpoints-stay (Moved event) s s' x = ap (λ (t : System C J). t.nodes) x.1
+
+  same-standing : (k : ClusterModel) (node : ℕ) (store : StoreModel) → StandsAtItsNodes k → StandsAtItsNodes (with_store k node store)
+  same-standing k node store stands slot small = subst (λ (n : ℕ). StandsAmong n (standing_at k slot)) (sym (size-with_store k node store)) (stands slot small)
+
+  step-keeps : (event : SharedEvent) (s s' : System C J) → SharedSystemStep s event s' → Keeps s s'
+  step-keeps (SharedEvent.Ours event) s s' x = (endpoints-stay event s s' x, slots-stay C J event s s' x)
+  step-keeps (SharedEvent.Theirs node asking done) s s' x =
+      (ap (λ (t : System C J). t.nodes) x.1, λ stands. subst StandsAtItsNodes (sym (x.0 0).7) (same-standing s.cluster node _ stands))
+
+  all-keep : (events : List SharedEvent) (s s' : System C J) → FoldsTo SharedSystemStep s events s' → Keeps s s'
+  all-keep [] s s' f = (ap (λ (t : System C J). t.nodes) (sym f), subst (λ (t : System C J). StandsAtItsNodes t.cluster) f)
+  all-keep (event ∷ events) s s' f =
+      let one = step-keeps event s f.0 f.1 in
+      let rest = all-keep events f.0 s' f.2 in
+      (rest.0 ∙ one.0, λ stands. rest.1 (one.1 stands))
+
 module _ (C J : Type 0) (plain : PlansArePlain) where
   abbrev Whole : Fleet C J → Type 0
   Whole f = ((p : ℕ) → Stands (f p)) × ((p q : ℕ) → (f p).cluster ≡ (f q).cluster)
@@ -119,6 +155,30 @@ module _ (C J : Type 0) (plain : PlansArePlain) where
   fleet : (events : List FleetEvent) (f f' : Fleet C J) → Whole f → FleetRun C J f events f' → Whole f'
   fleet [] f f' whole r = subst Whole (sym r) whole
   fleet (event ∷ events) f f' whole r = fleet events r.0 f' ((λ p. on (f p) (r.0 p) (whole.0 p) (each-goes event f r.0 whole r.1 p)), same-nodes event f r.0 whole r.1) r.2
+
+  -- what a proxy did, from first to last
+  fleet-goes : (events : List FleetEvent) (f f' : Fleet C J) → Whole f → FleetRun C J f events f' → (p : ℕ) → Goes (f p) (f' p)
+  fleet-goes [] f f' whole r p = ([], sym (ap (λ (g : Fleet C J). g p) r))
+  fleet-goes (event ∷ events) f f' whole r p =
+      let one = each-goes event f r.0 whole r.1 p in
+      let rest = fleet-goes events r.0 f' ((λ q. on (f q) (r.0 q) (whole.0 q) (each-goes event f r.0 whole r.1 q)), same-nodes event f r.0 whole r.1) r.2 p in
+      (one.0 ++ rest.0, and-then SharedSystemStep (f p) one.0 (r.0 p) rest.0 (f' p) one.1 rest.1)
+
+  pub fleets-stand : FleetsStand C J
+  fleets-stand f f' events start r p =
+      let b = start-shadow C J (f p) (start.starts p) in
+      let goes = fleet-goes events f f' ((λ q. let a = start-shadow C J (f q) (start.starts q) in record { world = a.0; walked = alone-walked a.0 a.1; shadow = a.2; names = a.3 }), start.shared) r p in
+      let stands = all C J plain goes.0 (f p) (f' p) b.0 b.2 b.3 (alone-walked b.0 b.1) goes.1 in
+      record {
+        steps = goes.0;
+        does = goes.1;
+        world = stands.0;
+        walked = stands.1;
+        shadow = stands.2;
+        names = stands.3;
+        nodes = (all-keep C J goes.0 (f p) (f' p) goes.1).0;
+        slots = (all-keep C J goes.0 (f p) (f' p) goes.1).1;
+      }
 
   pub every-fleet : EveryFleet C J
   every-fleet f f' events start r p =

@@ -30,7 +30,7 @@ use Rattle.shared_laws.proofs.Executed.{executed-others}
 use Rattle.turn_laws.specs.Wire.{Item, Part, Runs, Execution, ServesNext, executions, parts_in, tickets_for}
 use Rattle.turn_laws.specs.System.{System, Mark}
 use Rattle.turn_laws.specs.Shadow.{IsShadow, IsKnown, HasPart, OpenShadow, ClosedShadow, IsIdle, IsUnnumbered, Numbers, entry_at, requests_in}
-use Rattle.turn_laws.specs.Steps.{SystemEvent, AtWorker, AtCarrier, AtNode, AtBroken, Thrown, Moved, SystemStep, Serves, ServesLate, IsSeen, arrivals, answers, seen_at, log_of}
+use Rattle.turn_laws.specs.Steps.{SystemEvent, AtWorker, AtCarrier, Handed, AtNode, AtBroken, Thrown, Moved, SystemStep, Serves, ServesLate, IsSeen, arrivals, answers, seen_at, log_of}
 use Rattle.turn_laws.specs.Walks.{IsSharedWalked, ticked}
 use Rattle.turn_laws.specs.LogHeadline.{executed_by, history}
 use Rattle.turn_laws.specs.Fleet.{foreign}
@@ -180,6 +180,7 @@ module _ {C J : Type 0} where
   step-impact (AtWorker k event) s s' w h walked x done is =
       inl (inl (ap (λ (z : System C J). z.cluster) x.leaves, added s s' done [] x.marks is (ap (λ (z : System C J). z.log) x.leaves) (worker-quiet event x.old x.new x.marks x.seen)))
   step-impact (AtCarrier event) s s' w h walked x done is = inl (inl (ap (λ (z : System C J). z.cluster) x.leaves, quiet s s' done is (ap (λ (z : System C J). z.log) x.leaves)))
+  step-impact (Handed k number) s s' w h walked x done is = inl (inl (ap (λ (z : System C J). z.cluster) x.4, quiet s s' done is (ap (λ (z : System C J). z.log) x.4)))
   step-impact (AtNode k verdict) s s' w h walked x done is =
       inl (subst (RunImpact s.cluster s'.cluster) (sym (added s s' done x.4 (log_of x.4) is (ap (λ (z : System C J). z.log) x.10) (shown x.4))) (at-node s s' w h walked k verdict x))
   step-impact (AtBroken j verdict) s s' w h walked x done is =
@@ -194,6 +195,7 @@ module _ {C J : Type 0} where
       marks : (event : SystemEvent) → SystemStep s event s' → (more : List Mark) × (s'.log ≡ s.log ++ more)
       marks (AtWorker k event) x = (x.marks, ap (λ (z : System C J). z.log) x.leaves)
       marks (AtCarrier event) x = ([], ap (λ (z : System C J). z.log) x.leaves ∙ sym (append-nil s.log))
+      marks (Handed k number) x = ([], ap (λ (z : System C J). z.log) x.4 ∙ sym (append-nil s.log))
       marks (AtNode k verdict) x = (log_of x.4, ap (λ (z : System C J). z.log) x.10)
       marks (AtBroken j verdict) x = (log_of x.3, ap (λ (z : System C J). z.log) x.7)
       marks (Thrown j) x = ([], ap (λ (z : System C J). z.log) x.2 ∙ sym (append-nil s.log))

@@ -33,7 +33,7 @@ use Rattle.proxy_turns.specs.ClientModel.{ClientModel, new_client}
 use Rattle.proxy_turns.specs.ClientTurn.{ClientContext, ClientEvent, Pulled, Fed, Read, HandedOut, Followed, Looked, CameBack, Posted, Drained, Pushed, Tried, Parted, Dropped, ClientDoes}
 use Rattle.proxy_turns.specs.WorkerModel.{WorkerModel, WorkerEvent, Did, Finished, Took, FoundNone, Came, TurnedAway, FoundNobody, Left, WorkerDoes, Tells}
 use Rattle.turn_laws.specs.Refines.{IsStart}
-use Rattle.turn_laws.specs.Steps.{SystemEvent, AtWorker, AtCarrier, AtNode, AtBroken, Thrown, Moved, SystemStep, WorkerStep, answers, log_of, ticket_at}
+use Rattle.turn_laws.specs.Steps.{SystemEvent, AtWorker, AtCarrier, Handed, AtNode, AtBroken, Thrown, Moved, SystemStep, WorkerStep, answers, log_of, ticket_at}
 use Rattle.turn_laws.specs.PortsMay.{any_moves}
 use Rattle.turn_laws.proofs.Tables.{put-apart, put-same}
 use Rattle.world_laws.proofs.Recorded.{set-same}
@@ -243,6 +243,7 @@ module _ {C J : Type 0} where
   log-more : (event : SystemEvent) (s s' : System C J) → SystemStep s event s' → (more : List Mark) × (s'.log ≡ s.log ++ more)
   log-more (AtWorker k event) s s' step = (step.marks, ap (λ (x : System C J). x.log) step.leaves)
   log-more (AtCarrier event) s s' step = ([], ap (λ (x : System C J). x.log) step.leaves ∙ sym (append-nil s.log))
+  log-more (Handed k number) s s' step = ([], ap (λ (x : System C J). x.log) step.4 ∙ sym (append-nil s.log))
   log-more (AtNode k verdict) s s' step = (log_of step.4, ap (λ (x : System C J). x.log) step.10)
   log-more (AtBroken j verdict) s s' step = (log_of step.3, ap (λ (x : System C J). x.log) step.7)
   log-more (Thrown j) s s' step = ([], ap (λ (x : System C J). x.log) step.2 ∙ sym (append-nil s.log))
@@ -328,6 +329,7 @@ module _ (C J : Type 0) (law : DrainsOutput) (whole : FrontIsWhole) (faulty : Fr
     step-shown : (event : SystemEvent) → SystemStep s event s' → AllShown s'
     step-shown (AtWorker j event) step = worker-shown j event step
     step-shown (AtCarrier event) step = workers-same (AtCarrier event) s s' step shown (workers-stay (AtCarrier event) s s' tt step)
+    step-shown (Handed k number) step = workers-same (Handed k number) s s' step shown (workers-stay (Handed k number) s s' tt step)
     step-shown (AtNode k verdict) step = workers-same (AtNode k verdict) s s' step shown (workers-stay (AtNode k verdict) s s' tt step)
     step-shown (AtBroken j verdict) step = workers-same (AtBroken j verdict) s s' step shown (workers-stay (AtBroken j verdict) s s' tt step)
     step-shown (Thrown j) step = workers-same (Thrown j) s s' step shown (workers-stay (Thrown j) s s' tt step)
@@ -439,6 +441,7 @@ module _ (C J : Type 0) (law : DrainsOutput) (whole : FrontIsWhole) (faulty : Fr
         (λ (z : (nat_eq j k ≡ false) × (j ≢ k)). quiet before k number (AtWorker j event) step (ap (flat_map (bytes_to number)) (not-own k j (event ∷ []) z.0)))
         (eqb_tells j k)
     step-front before (AtCarrier event) step k number = quiet before k number (AtCarrier event) step refl
+    step-front before (Handed j other) step k number = quiet before k number (Handed j other) step refl
     step-front before (AtNode j verdict) step k number = quiet before k number (AtNode j verdict) step refl
     step-front before (AtBroken j verdict) step k number = quiet before k number (AtBroken j verdict) step refl
     step-front before (Thrown j) step k number = quiet before k number (Thrown j) step refl

@@ -14,11 +14,13 @@ use Rattle.node_link.specs.declared.link.Failure.TheVariants as failure
 use Rattle.node_link.specs.declared.link.LinkFault.TheVariants as fault
 use Rattle.proxy_lanes.specs.Lane.{numbered}
 use Rattle.proxy_lanes.specs.declared.ring.Numbered.{Numbered}
+use Rattle.proxy_lanes.specs.declared.ends.lane_ends.LaneEnds.{LaneEnds}
 use Rattle.proxy_turns.specs.declared.newcomer.Newcomer.{Newcomer}
 use Rattle.proxy_turns.specs.declared.backend.Backend.{Backend}
 use Rattle.proxy_turns.specs.Backend.{new_backend}
 use Rattle.proxy_turns.specs.ClientModel.{ClientModel, new_client}
 use Rattle.proxy_turns.specs.WorkerModel.{WorkerModel, one_more}
+use Rattle.proxy_turns.specs.CarrierModel.{CarrierModel}
 use Rattle.session_order.specs.HangingUp.{HangsUp}
 use Rattle.session_order.specs.SessionModel.{SessionModel}
 use Rattle.session_order.specs.Life.{fresh}
@@ -29,8 +31,8 @@ use Rattle.turn_laws.specs.System.{System}
 use Rattle.turn_laws.specs.Steps.{SystemStep}
 use Rattle.turn_laws.specs.Scripts as script
 use Rattle.turn_laws.specs.Scripts.{ticket, ok, Happens, story_of_loss}
-use Rattle.turn_laws.proofs.Rings.{takes, outlet_with, inlet_with}
-use Rattle.turn_laws.proofs.Scenes.{scene, and-then, put, at-worker, at-client, at-carrier, past-failure, breaking, down-in}
+use Rattle.turn_laws.proofs.Rings.{posts, takes, outlet_with, inlet_with}
+use Rattle.turn_laws.proofs.Scenes.{scene, and-then, put, at-worker, at-client, at-carrier, past-failure, breaking, handing, down-in}
 use Rattle.turn_laws.proofs.ScriptStates.{wire, link, backend, pending, newcomer}
 use Rattle.turn_laws.proofs.ScriptAsking.{doors}
 use Rattle.turn_laws.proofs.ScriptSetting.{idle}
@@ -225,9 +227,19 @@ module _ {C J : Type 0} (port : C) where
   abbrev of : WorkerModel C J → System C J
   of model = scene model r7.carrier r7.closed 3 j1 log4
 
+  -- the lane of new clients, after each was handed over
+  abbrev handed-in : List (Numbered (Newcomer C J)) → LaneEnds (Newcomer C J)
+  handed-in clients = record (ends port v3 d3) { door = outlet_with clients }
+
+  abbrev on : LaneEnds (Newcomer C J) → CarrierModel (Newcomer C J) Wire
+  on lane = record r7.carrier { lanes = lane ∷ [] }
+
+  abbrev where-handed : List (Numbered (Newcomer C J)) → WorkerModel C J → System C J
+  where-handed clients model = scene model (on (handed-in clients)) r7.closed 3 j1 log4
+
   -- its view shows the change of the map
   abbrev r8 : System C J
-  r8 = of (record (with-doors (insert (u16 port) 0 (e13 port)) doors3) { view = op })
+  r8 = where-handed doors3 (record (with-doors (insert (u16 port) 0 (e13 port)) doors3) { view = op })
 
   parts : FoldsTo SystemStep r7 script.parting r8
   parts = (
@@ -247,26 +259,34 @@ module _ {C J : Type 0} (port : C) where
         at-client {J = J} (ends port v3 d3) 0 (e12 port) (e13 port) (outlet_with v3) [] refl (put _ (e12 port) 0) (refl, (λ e. absurd (cc)), refl, refl)
             (put _ (e13 port) 0) (down-in {J = J} (ends port v3 d3) (w port (u12 port) v3 d3 0) _ refl ([], refl)) refl,
         (
-          of (with-doors (u14 port) doors2),
-          at-worker {J = J} (ends port v3 d3) [] refl (second, takes (doors port) second, refl, refl, ((omega arith, refl), (omega arith, nobody port)), refl, refl) refl
-              (down-in {J = J} (ends port v3 d3) (w port (u13 port) v3 d3 0) _ refl ([], refl)) refl,
+          where-handed doors2 (w port (u13 port) v3 d3 (one_more 0)),
+          handing r7.carrier (on (handed-in doors2)) (ends port v3 d3) (handed-in doors2) second refl (refl, posts (doors port) second) refl refl,
           (
-            of (with-doors (u14 port) doors3),
-            at-worker {J = J} (ends port v3 d3) [] refl (second, port, takes doors2 second, refl, refl, (λ may. absurd (omega (arith, may.1.0))), refl, tt, refl) refl
-                (down-in {J = J} (ends port v3 d3) (w port (u14 port) v3 d3 0) _ refl ([], refl)) refl,
+            where-handed doors2 (with-doors (u14 port) doors2),
+            at-worker {J = J} (handed-in doors2) [] refl (second, takes (doors port) second, refl, refl, ((omega arith, refl), (omega arith, nobody port)), refl, refl) refl
+                (down-in {J = J} (handed-in doors2) (w port (u13 port) v3 d3 0) _ refl ([], refl)) refl,
             (
-              of (with-doors (u15 port) doors3),
-              at-client {J = J} (ends port v3 d3) 1 (f0 port) (gone (f0 port)) (outlet_with v3) [] refl (put _ (f0 port) 1) (refl, tt, hangs-other, refl)
-                  (put _ (gone (f0 port)) 1) (down-in {J = J} (ends port v3 d3) (w port (u14 port) v3 d3 0) _ refl ([], refl)) refl,
+              where-handed doors3 (with-doors (u14 port) doors2),
+              handing (on (handed-in doors2)) (on (handed-in doors3)) (handed-in doors2) (handed-in doors3) second refl (refl, posts doors2 second) refl refl,
               (
-                of (with-doors (u16 port) doors3),
-                at-worker {J = J} (ends port v3 d3) [] refl (port, port, (gone (f0 port), put _ (gone (f0 port)) 1, inr (refl, refl), refl, refl), tt, refl) refl
-                    (down-in {J = J} (ends port v3 d3) (w port (u15 port) v3 d3 0) _ refl ([], refl)) refl,
+                where-handed doors3 (with-doors (u14 port) doors3),
+                at-worker {J = J} (handed-in doors3) [] refl (second, port, takes doors2 second, refl, refl, (λ may. absurd (omega (arith, may.1.0))), refl, tt, refl) refl
+                    (down-in {J = J} (handed-in doors3) (w port (u14 port) v3 d3 0) _ refl ([], refl)) refl,
                 (
-                  r8,
-                  at-client {J = J} (ends port v3 d3) 0 (e13 port) (e13 port) (outlet_with v3) op refl (first-there port) ((Ok (Some 1), ((op, refl), refl)), refl)
-                      (put _ (e13 port) 0) (down-in {J = J} (ends port v3 d3) (w port (u16 port) v3 d3 0) _ refl ([], refl)) refl,
-                  refl,
+                  where-handed doors3 (with-doors (u15 port) doors3),
+                  at-client {J = J} (handed-in doors3) 1 (f0 port) (gone (f0 port)) (outlet_with v3) [] refl (put _ (f0 port) 1) (refl, tt, hangs-other, refl)
+                      (put _ (gone (f0 port)) 1) (down-in {J = J} (handed-in doors3) (w port (u14 port) v3 d3 0) _ refl ([], refl)) refl,
+                  (
+                    where-handed doors3 (with-doors (u16 port) doors3),
+                    at-worker {J = J} (handed-in doors3) [] refl (port, port, (gone (f0 port), put _ (gone (f0 port)) 1, inr (refl, refl), refl, refl), tt, refl) refl
+                        (down-in {J = J} (handed-in doors3) (w port (u15 port) v3 d3 0) _ refl ([], refl)) refl,
+                    (
+                      r8,
+                      at-client {J = J} (handed-in doors3) 0 (e13 port) (e13 port) (outlet_with v3) op refl (first-there port) ((Ok (Some 1), ((op, refl), refl)), refl)
+                          (put _ (e13 port) 0) (down-in {J = J} (handed-in doors3) (w port (u16 port) v3 d3 0) _ refl ([], refl)) refl,
+                      refl,
+                    ),
+                  ),
                 ),
               ),
             ),

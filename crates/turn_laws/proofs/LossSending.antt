@@ -28,7 +28,7 @@ use Rattle.turn_laws.specs.Scripts.{key, set, ticket, plain}
 use Rattle.turn_laws.proofs.Rings.{posts, takes, outlet_with}
 use Rattle.turn_laws.proofs.Scenes.{scene, put, at-worker, at-client, at-carrier, down-in}
 use Rattle.turn_laws.proofs.ScriptFacts.{table, fresh-alone, goes-alone}
-use Rattle.turn_laws.proofs.ScriptStates.{Pair, commands, setting, wire, link, backend, pending, lane, carrier, worker}
+use Rattle.turn_laws.proofs.ScriptStates.{Pair, commands, setting, wire, link, backend, pending, lane, new_lane, carrier, worker}
 use Rattle.turn_laws.proofs.ScriptOpening.{starts-in}
 use Rattle.turn_laws.proofs.ScriptOpening as opening
 use Rattle.turn_laws.proofs.ScriptAsking.{a4, t6, log2, doors, asks-at}
@@ -66,33 +66,33 @@ module _ {C J : Type 0} (port : C) where
   w clients ups downs answered = worker clients (Some 0) (doors port) ups downs answered
 
   abbrev pub r0 : System C J
-  r0 = scene (opening.w0 port) (carrier (ends [] []) [] [] true) [] 0 j0 []
+  r0 = scene (opening.w0 port) (carrier new_lane [] [] true) [] 0 j0 []
 
   pub begins : IsStart r0
   begins = starts-in port j0 refl new
 
   abbrev pub r1 : System C J
-  r1 = scene (opening.w0 port) (c (ends [] []) (pending None ∷ []) (new_backend ∷ new_backend ∷ []) 2 []) [] 0 j0 []
+  r1 = scene (opening.w0 port) (c new_lane (pending None ∷ []) (new_backend ∷ new_backend ∷ []) 2 []) [] 0 j0 []
 
   pub fails : FoldsTo SystemStep r0 script.unreached r1
   fails = (
-    scene (opening.w0 port) (c (ends [] []) [] [] 1 []) [] 0 j0 [],
-    at-carrier (ends [] []) (refl, inl (omega arith), refl) tt refl ([], refl) refl,
+    scene (opening.w0 port) (c new_lane [] [] 1 []) [] 0 j0 [],
+    at-carrier new_lane (refl, inl (omega arith), refl) tt refl ([], refl) refl,
     (
-      scene (opening.w0 port) (c (ends [] []) (pending None ∷ []) [] 1 []) [] 0 j0 [],
-      at-carrier (ends [] []) refl tt refl ([], refl) refl,
+      scene (opening.w0 port) (c new_lane (pending None ∷ []) [] 1 []) [] 0 j0 [],
+      at-carrier new_lane refl tt refl ([], refl) refl,
       (
-        scene (opening.w0 port) (c (ends [] []) (pending None ∷ []) (new_backend ∷ []) 1 []) [] 0 j0 [],
-        at-carrier (ends [] []) refl (refl, tt) refl ([], refl) refl,
+        scene (opening.w0 port) (c new_lane (pending None ∷ []) (new_backend ∷ []) 1 []) [] 0 j0 [],
+        at-carrier new_lane refl (refl, tt) refl ([], refl) refl,
         (
-          scene (opening.w0 port) (c (ends [] []) (pending None ∷ []) (new_backend ∷ new_backend ∷ []) 1 []) [] 0 j0 [],
-          at-carrier (ends [] []) refl (refl, (refl, tt)) refl ([], refl) refl,
+          scene (opening.w0 port) (c new_lane (pending None ∷ []) (new_backend ∷ new_backend ∷ []) 1 []) [] 0 j0 [],
+          at-carrier new_lane refl (refl, (refl, tt)) refl ([], refl) refl,
           (
             r1,
-            at-carrier (ends [] []) (0, refl, refl, inl (inl (omega arith))) (refl, (refl, tt)) refl ([], refl) refl,
+            at-carrier new_lane (0, refl, refl, inl (inl (omega arith))) (refl, (refl, tt)) refl ([], refl) refl,
             (
               r1,
-              at-carrier (ends [] []) (inl (0, new_backend, new_backend, refl, inl refl, refl)) (refl, (refl, tt)) refl ([], refl) refl,
+              at-carrier new_lane (inl (0, new_backend, new_backend, refl, inl refl, refl)) (refl, (refl, tt)) refl ([], refl) refl,
               refl,
             ),
           ),
@@ -105,7 +105,7 @@ module _ {C J : Type 0} (port : C) where
   r2 = scene (w (t6 port) [] [] 0) (c (ends [] []) (pending None ∷ []) (new_backend ∷ new_backend ∷ []) 2 []) [] 0 j0 log2
 
   pub asks : FrontIsWhole → FoldsTo SystemStep r1 script.asking r2
-  asks law = asks-at port (c (ends [] []) (pending None ∷ []) (new_backend ∷ new_backend ∷ []) 2 []) 0 j0 refl law
+  asks law = asks-at port (c new_lane (pending None ∷ []) (new_backend ∷ new_backend ∷ []) 2 []) 0 j0 refl law
 
   -- the dial of the first node fails
   abbrev pub r3 : System C J

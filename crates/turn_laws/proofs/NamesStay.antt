@@ -22,12 +22,13 @@ use Rattle.turn_laws.specs.System.{System}
 use Rattle.turn_laws.specs.Shadow.{IsShadow}
 use Rattle.turn_laws.specs.Underway.{down_in}
 use Rattle.turn_laws.specs.Naming.{NamesNodes, PendsOneOf}
-use Rattle.turn_laws.specs.Steps.{WorkerStep, CarrierStep, Opens, Serves, ServesLate, Discards, MovesOn, AtWorker, AtCarrier, AtNode, AtBroken, Thrown, Moved}
+use Rattle.turn_laws.specs.Steps.{WorkerStep, CarrierStep, Opens, Serves, ServesLate, Discards, MovesOn, AtWorker, AtCarrier, Handed, AtNode, AtBroken, Thrown, Moved}
 use Rattle.turn_laws.specs.PortsMay.{any_moves, any_failures, any_garbled, any_none}
 use Rattle.turn_laws.specs.Refines.{NamesStay}
 use Rattle.turn_laws.proofs.NamedCarrier.{CarrierNames, AllSay, pends-still, does-names}
 use Rattle.turn_laws.proofs.RunsLead.{ClientsWant}
 use Rattle.turn_laws.proofs.NamedWorker.{worker-wants}
+use Rattle.turn_laws.proofs.Handing.{hands-names}
 
 -- a node that serves, serves as many nodes
 served-size : (table : List Endpoint) (k k' : ClusterModel) (old new : Wire) (verdict : Verdict) (values : List Value) (done : List Execution) → ServesNext table k old verdict k' new values done → length k'.stores ≡ length k.stores
@@ -145,6 +146,7 @@ module _ (C J : Type 0) where
   pub names-stay : NamesStay C J
   names-stay (AtWorker k event) s s' w h names on = worker-stays k event s s' w h names on
   names-stay (AtCarrier event) s s' w h names on = carrier-stays event s s' w h names on
+  names-stay (Handed k number) s s' w h names on = hands-names s s' k number on names
   names-stay (AtNode k verdict) s s' w h names on = node-stays k verdict s s' names on
   names-stay (AtBroken j verdict) s s' w h names on = late-stays j verdict s s' names on
   names-stay (Thrown j) s s' w h names on = thrown-stays j s s' names on

@@ -6,13 +6,14 @@ use Rattle.turn_laws.specs.Walks.{IsWalked}
 use Rattle.turn_laws.specs.System.{System}
 use Rattle.turn_laws.specs.Shadow.{IsShadow}
 use Rattle.turn_laws.specs.Naming.{NamesNodes}
-use Rattle.turn_laws.specs.Steps.{SystemEvent, AtWorker, AtCarrier, AtNode, AtBroken, Thrown, Moved, SystemStep}
+use Rattle.turn_laws.specs.Steps.{SystemEvent, AtWorker, AtCarrier, Handed, AtNode, AtBroken, Thrown, Moved, SystemStep}
 use Rattle.turn_laws.specs.Refines.{SimulatesNaming, Refines}
 use Rattle.turn_laws.proofs.Walks.{alone-on, alone-walked, every_walk}
 use Rattle.turn_laws.proofs.Simulates.{anyhow, carrier-step, worker-step}
 use Rattle.turn_laws.proofs.NamesStay.{names-stay}
 use Rattle.turn_laws.proofs.AtNodes.{moved}
 use Rattle.turn_laws.proofs.Throwing.{thrown}
+use Rattle.turn_laws.proofs.Handing.{handed}
 use Rattle.turn_laws.proofs.Starts.{start-shadow}
 use Rattle.turn_laws.proofs.Served.{served}
 use Rattle.turn_laws.proofs.ServedLate.{served-late}
@@ -22,6 +23,7 @@ module _ (C J : Type 0) (plain : PlansArePlain) where
   pub simulates : (step : SystemEvent) → SimulatesNaming C J step
   simulates (AtWorker k event) = worker-step C J plain k event
   simulates (AtCarrier event) = anyhow C J (AtCarrier event) (carrier-step C J event)
+  simulates (Handed k number) = anyhow C J (Handed k number) (handed C J k number)
   simulates (AtNode k verdict) = anyhow C J (AtNode k verdict) (served C J k verdict)
   simulates (AtBroken j verdict) = anyhow C J (AtBroken j verdict) (served-late C J j verdict)
   simulates (Thrown j) = anyhow C J (Thrown j) (thrown C J j)

@@ -1,6 +1,6 @@
 -- Systems of one worker, and their steps.
-use Rattle.std.proofs.Common.{◌≡◌, ◌⊎◌, inl, inr, ⊎_elim, ℕ, zero, suc, Bool, true, false, List, [], ◌∷◌, ◌++◌, Some, None, refl, sym, ap, ◌∙◌, subst}
-use Rattle.std.specs.Prelude.{slice_get, take, drop, length, Option, IsSome, is_none, is_some, unwrap_or, cond}
+use Rattle.std.proofs.Common.{◌≡◌, ◌⊎◌, inl, inr, ⊎_elim, ℕ, zero, suc, Bool, true, false, List, [], ◌∷◌, ◌++◌, Some, None, Ok, refl, sym, ap, ◌∙◌, subst}
+use Rattle.std.specs.Prelude.{slice_get, slice_set, take, drop, length, Option, IsSome, is_none, is_some, unwrap_or, cond}
 use Rattle.std.specs.List.{FoldsTo}
 use mathlib.Core.List.{IsPrefix}
 use Rattle.std.proofs.lemmas.List.{take-append-drop}
@@ -15,6 +15,7 @@ use Rattle.node_model.specs.Nodes.{ClusterModel}
 use Rattle.node_link.specs.LinkModel.{LinkModel}
 use Rattle.proxy_lanes.specs.declared.ends.lane_ends.LaneEnds.{LaneEnds}
 use Rattle.proxy_lanes.specs.declared.ring.Outlet.{Outlet}
+use Rattle.proxy_lanes.specs.Ends.{HandsOver}
 use Rattle.proxy_turns.specs.declared.newcomer.Newcomer.{Newcomer}
 use Rattle.proxy_turns.specs.declared.backend.Backend.{Backend}
 use Rattle.proxy_turns.specs.ClientModel.{ClientModel}
@@ -24,7 +25,7 @@ use Rattle.proxy_turns.specs.CarrierModel.{CarrierModel, CarrierEvent, CarrierDo
 use Rattle.turn_laws.specs.Wire.{Wire, Exchanges, Dials}
 use Rattle.turn_laws.specs.System.{System, Mark, IsInStep}
 use Rattle.turn_laws.specs.Underway.{DownInStep}
-use Rattle.turn_laws.specs.Steps.{WorkerStep, CarrierStep, IsSeen, UpsInStep, opened_by, seen_at}
+use Rattle.turn_laws.specs.Steps.{WorkerStep, CarrierStep, Hands, IsSeen, UpsInStep, opened_by, seen_at}
 use Rattle.turn_laws.specs.PortsMay.{any_moves, any_failures, any_garbled, any_none}
 use Rattle.turn_laws.proofs.Elements.{nothing-there}
 use Rattle.turn_laws.proofs.ScriptFacts.{table}
@@ -168,6 +169,13 @@ module _ {C J : Type 0} where
     in_step = ups-in worker new closed (opened_by event opened) cluster log lane only up;
     table = front-of new.nodes table first;
   }
+
+  -- a client is handed to the worker
+  pub handing : {worker : WorkerModel C J} {closed : List Wire} {opened : ℕ} {cluster : ClusterModel} {log : List Mark} (old new : CarrierModel (Newcomer C J) Wire) (x y : LaneEnds (Newcomer C J)) (client : Newcomer C J)
+      → slice_get old.lanes 0 ≡ Some x → HandsOver x y client (Ok tt) → new.lanes ≡ slice_set old.lanes 0 y → new ≡ record old { lanes = new.lanes }
+      → Hands (scene worker old closed opened cluster log) 0 client.number (scene worker new closed opened cluster log)
+  handing {worker} {closed} {opened} {cluster} {log} old new x y client at hands lanes only =
+      (client, Ok tt, refl, (x, y, at, lanes, hands), ap (λ c. scene worker c closed opened cluster log) only)
 
   -- where one fails
   pub breaking : {worker : WorkerModel C J} {old new : CarrierModel (Newcomer C J) Wire} {closed : List Wire} {opened : ℕ} {cluster : ClusterModel} {log : List Mark} {event : CarrierEvent} (lane : LaneEnds (Newcomer C J))

@@ -1,6 +1,6 @@
 -- A client comes, and its two requests are read.
-use Rattle.std.proofs.Common.{◌≡◌, inl, inr, ℕ, List, [], ◌∷◌, Some, refl, ap, arith}
-use Rattle.std.specs.Prelude.{codes, slice_get}
+use Rattle.std.proofs.Common.{◌≡◌, inl, inr, ℕ, List, [], ◌∷◌, Some, refl, sym, ap, arith}
+use Rattle.std.specs.Prelude.{codes, slice_get, slice_set}
 use Rattle.std.specs.List.{FoldsTo}
 use Rattle.std.specs.FinMap.{FinMap, insert, empty, get-empty}
 use Rattle.std.specs.Ordering.{nat_cmp}
@@ -13,6 +13,7 @@ use Rattle.session_order.specs.Steps.{added, with_incoming}
 use Rattle.session_order.specs.declared.queue.PartStage.TheVariants.{Waiting}
 use Rattle.proxy_lanes.specs.Lane.{numbered}
 use Rattle.proxy_lanes.specs.declared.ring.Numbered.{Numbered}
+use Rattle.proxy_lanes.specs.declared.ends.lane_ends.LaneEnds.{LaneEnds}
 use Rattle.proxy_turns.specs.declared.newcomer.Newcomer.{Newcomer}
 use Rattle.proxy_turns.specs.ClientModel.{ClientModel}
 use Rattle.proxy_turns.specs.WorkerModel.{WorkerModel}
@@ -23,11 +24,12 @@ use Rattle.turn_laws.specs.System.{System, Mark, Arrived}
 use Rattle.turn_laws.specs.Steps.{SystemStep}
 use Rattle.turn_laws.specs.Scripts as script
 use Rattle.turn_laws.specs.Scripts.{key, set, ticket, asked}
-use Rattle.turn_laws.proofs.Rings.{takes, outlet_with}
-use Rattle.turn_laws.proofs.Scenes.{scene, put, at-worker, at-client, down-in}
+use Rattle.turn_laws.proofs.Rings.{posts, takes, outlet_with}
+use Rattle.turn_laws.proofs.Scenes.{scene, put, at-worker, at-client, handing, down-in}
 use Rattle.turn_laws.proofs.ScriptFacts.{k5, get-bytes, front-set, front-get, planned-set, planned-get}
-use Rattle.turn_laws.proofs.ScriptStates.{session, one, commands, client, newcomer, worker}
-use Rattle.turn_laws.proofs.ScriptOpening.{w0, l0, s2}
+use Rattle.turn_laws.proofs.ScriptStates.{session, one, commands, client, newcomer, lane, worker}
+use Rattle.turn_laws.proofs.ScriptOpening.{w0, s2}
+use Rattle.turn_laws.proofs.ScriptOpening as opening
 
 abbrev pub n0 : SessionModel
 n0 = session [] [] [] 0 []
@@ -89,59 +91,70 @@ module _ {C J : Type 0} (port : C) where
   abbrev pub w1 : FinMap nat_cmp (ClientModel C) → WorkerModel C J
   w1 clients = worker clients (Some 0) doors [] [] 0
 
-  abbrev pub s3 : System C J
-  s3 = scene (w1 (t6 port)) (s2 port).carrier [] 1 k5 log2
+  -- the lane in which the client was handed over, and a carrier that has it
+  abbrev l0 : LaneEnds (Newcomer C J)
+  l0 = lane port [] []
 
-  module _ (c : CarrierModel (Newcomer C J) Wire) (opened : ℕ) (k : ClusterModel) (lane-at : slice_get c.lanes 0 ≡ Some (l0 port)) where
+  abbrev on : CarrierModel (Newcomer C J) Wire → CarrierModel (Newcomer C J) Wire
+  on c = record c { lanes = l0 ∷ [] }
+
+  abbrev pub s3 : System C J
+  s3 = scene (w1 (t6 port)) (on (s2 port).carrier) [] 1 k5 log2
+
+  module _ (c : CarrierModel (Newcomer C J) Wire) (opened : ℕ) (k : ClusterModel) (lane-at : c.lanes ≡ opening.l0 port ∷ []) where
     abbrev at1 : FinMap nat_cmp (ClientModel C) → List Mark → System C J
-    at1 clients log = scene (w1 clients) c [] opened k log
+    at1 clients log = scene (w1 clients) (on c) [] opened k log
 
     pub asks-at : FrontIsWhole → FoldsTo SystemStep (scene (w0 port) c [] opened k []) script.asking (at1 (t6 port) log2)
     asks-at law = (
-      at1 (t1 port) [],
-      at-worker (l0 port) [] lane-at (newcomer port, takes [] (newcomer port), refl, refl, ((omega arith, refl), (tt, get-empty nat_cmp 0)), refl, refl) refl (down-in (l0 port) (w1 (t1 port)) _ refl ([], refl)) refl,
+      scene (w0 port) (on c) [] opened k [],
+      handing c (on c) (opening.l0 port) l0 (newcomer port) (ap (λ ls. slice_get ls 0) lane-at) (refl, posts [] (newcomer port)) (ap (λ ls. slice_set ls 0 l0) (sym lane-at)) refl,
       (
-        at1 (t2 port) [],
-        at-client (l0 port) 0 (a0 port) (a0 port) (outlet_with []) [] lane-at (put empty (a0 port) 0) (tt, refl) (put (t1 port) (a0 port) 0) (down-in (l0 port) (w1 (t1 port)) _ refl ([], refl)) refl,
+        at1 (t1 port) [],
+        at-worker l0 [] refl (newcomer port, takes [] (newcomer port), refl, refl, ((omega arith, refl), (tt, get-empty nat_cmp 0)), refl, refl) refl (down-in l0 (w1 (t1 port)) _ refl ([], refl)) refl,
         (
-          at1 (t3 port) [],
-          at-client (l0 port) 0 (a0 port) (a1 port) (outlet_with []) [] lane-at (put (t1 port) (a0 port) 0) (tt, refl) (put (t2 port) (a1 port) 0) (down-in (l0 port) (w1 (t2 port)) _ refl ([], refl)) refl,
+          at1 (t2 port) [],
+          at-client l0 0 (a0 port) (a0 port) (outlet_with []) [] refl (put empty (a0 port) 0) (tt, refl) (put (t1 port) (a0 port) 0) (down-in l0 (w1 (t1 port)) _ refl ([], refl)) refl,
           (
-            at1 (t4 port) [],
-            at-client (l0 port) 0 (a1 port) (a2 port) (outlet_with []) [] lane-at (put (t2 port) (a1 port) 0) (inr (omega arith, refl, inl (refl, refl)), refl) (put (t3 port) (a2 port) 0) (down-in (l0 port) (w1 (t3 port)) _ refl ([], refl)) refl,
+            at1 (t3 port) [],
+            at-client l0 0 (a0 port) (a1 port) (outlet_with []) [] refl (put (t1 port) (a0 port) 0) (tt, refl) (put (t2 port) (a1 port) 0) (down-in l0 (w1 (t2 port)) _ refl ([], refl)) refl,
             (
-              at1 (t5 port) log1,
-              at-client (l0 port) 0 (a2 port) (a3 port) (outlet_with []) [] lane-at (put (t3 port) (a2 port) 0) (
-                (
-                  (refl, omega arith),
-                  inl (
-                    codes "SET" ∷ key ∷ codes "5" ∷ [],
-                    n2.incoming,
-                    (
-                      inr (refl, Array (bulk (codes "SET") ∷ bulk key ∷ bulk (codes "5") ∷ []), (refl, front-set law, refl), refl, refl),
-                      ap (added (with_incoming n1 n2.incoming)) planned-set,
-                    ),
-                  ),
-                ),
-                refl,
-              ) (put (t4 port) (a3 port) 0) (down-in (l0 port) (w1 (t4 port)) _ refl ([], refl)) refl,
+              at1 (t4 port) [],
+              at-client l0 0 (a1 port) (a2 port) (outlet_with []) [] refl (put (t2 port) (a1 port) 0) (inr (omega arith, refl, inl (refl, refl)), refl) (put (t3 port) (a2 port) 0) (down-in l0 (w1 (t3 port)) _ refl ([], refl)) refl,
               (
-                at1 (t6 port) log2,
-                at-client (l0 port) 0 (a3 port) (a4 port) (outlet_with []) [] lane-at (put (t4 port) (a3 port) 0) (
+                at1 (t5 port) log1,
+                at-client l0 0 (a2 port) (a3 port) (outlet_with []) [] refl (put (t3 port) (a2 port) 0) (
                   (
                     (refl, omega arith),
                     inl (
-                      codes "GET" ∷ key ∷ [],
-                      n3.incoming,
+                      codes "SET" ∷ key ∷ codes "5" ∷ [],
+                      n2.incoming,
                       (
-                        inr (refl, Array (bulk (codes "GET") ∷ bulk key ∷ []), (refl, front-get law, refl), refl, refl),
-                        ap (added (with_incoming n2 n3.incoming)) planned-get,
+                        inr (refl, Array (bulk (codes "SET") ∷ bulk key ∷ bulk (codes "5") ∷ []), (refl, front-set law, refl), refl, refl),
+                        ap (added (with_incoming n1 n2.incoming)) planned-set,
                       ),
                     ),
                   ),
                   refl,
-                ) (put (t5 port) (a4 port) 0) (down-in (l0 port) (w1 (t5 port)) _ refl ([], refl)) refl,
-                refl,
+                ) (put (t4 port) (a3 port) 0) (down-in l0 (w1 (t4 port)) _ refl ([], refl)) refl,
+                (
+                  at1 (t6 port) log2,
+                  at-client l0 0 (a3 port) (a4 port) (outlet_with []) [] refl (put (t4 port) (a3 port) 0) (
+                    (
+                      (refl, omega arith),
+                      inl (
+                        codes "GET" ∷ key ∷ [],
+                        n3.incoming,
+                        (
+                          inr (refl, Array (bulk (codes "GET") ∷ bulk key ∷ []), (refl, front-get law, refl), refl, refl),
+                          ap (added (with_incoming n2 n3.incoming)) planned-get,
+                        ),
+                      ),
+                    ),
+                    refl,
+                  ) (put (t5 port) (a4 port) 0) (down-in l0 (w1 (t5 port)) _ refl ([], refl)) refl,
+                  refl,
+                ),
               ),
             ),
           ),

@@ -8,7 +8,7 @@ use Rattle.turn_laws.specs.Wire.{Execution}
 use Rattle.turn_laws.specs.System.{System, Mark}
 use Rattle.turn_laws.specs.System as seen
 use Rattle.turn_laws.specs.Asking.{NoneAsksIn}
-use Rattle.turn_laws.specs.Steps.{SystemEvent, AtWorker, AtCarrier, AtNode, AtBroken, Thrown, Moved, SystemStep}
+use Rattle.turn_laws.specs.Steps.{SystemEvent, AtWorker, AtCarrier, Handed, AtNode, AtBroken, Thrown, Moved, SystemStep}
 use Rattle.turn_laws.specs.LogHeadline.{history}
 use Rattle.turn_laws.specs.Fleet.{Fleet, FleetEvent, foreign}
 use Rattle.turn_laws.specs.Scripts as script
@@ -27,6 +27,7 @@ use Rattle.turn_laws.proofs.ScriptReading.{answered, connected, reads, sends, wa
 abbrev moves_none : SystemEvent → Bool
 moves_none (AtWorker k event) = true
 moves_none (AtCarrier event) = true
+moves_none (Handed k number) = true
 moves_none (AtNode k verdict) = true
 moves_none (AtBroken j verdict) = true
 moves_none (Thrown j) = true

@@ -33,7 +33,7 @@ use Rattle.turn_laws.proofs.Elements.{nothing-there}
 use Rattle.turn_laws.proofs.Rings.{takes-none}
 use Rattle.turn_laws.proofs.Scenes.{scene, at-worker, at-carrier, down-in}
 use Rattle.turn_laws.proofs.ScriptFacts.{table, seed_alone, new, k0, k1, k2, k3, k4, k5}
-use Rattle.turn_laws.proofs.ScriptStates.{lane, carrier, worker, wire, link}
+use Rattle.turn_laws.proofs.ScriptStates.{new_lane, carrier, worker, wire, link}
 
 -- the one item of a list
 pub only-one : {X : Type 0} (P : ℕ → X → Type 0) (x : X) → P 0 x → (k : ℕ) (y : X) → slice_get (x ∷ []) k ≡ Some y → P k y
@@ -107,7 +107,7 @@ module _ {C J : Type 0} (port : C) where
   w0 = worker empty None [] [] [] 0
 
   abbrev pub l0 : LaneEnds (Newcomer C J)
-  l0 = lane port [] []
+  l0 = new_lane
 
   abbrev c0 : List (Backend Wire) → Bool → CarrierModel (Newcomer C J) Wire
   c0 backends seed = carrier l0 (no_pending_run ∷ []) backends seed

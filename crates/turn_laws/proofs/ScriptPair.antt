@@ -43,7 +43,7 @@ use Rattle.turn_laws.specs.Scripts.{key, set, ok, five, ticket, did, both, openi
 use Rattle.turn_laws.proofs.Rings.{posts, takes, outlet_with}
 use Rattle.turn_laws.proofs.Scenes.{scene, and-then, put, at-worker, at-client, at-carrier, down-in}
 use Rattle.turn_laws.proofs.ScriptFacts.{k0, none, slot-is, in-held}
-use Rattle.turn_laws.proofs.ScriptStates.{Pair, Posted, session, one, commands, awaits, setting, getting, wire, link, backend, pending, lane, carrier, worker, client}
+use Rattle.turn_laws.proofs.ScriptStates.{Pair, Posted, session, one, commands, awaits, setting, getting, wire, link, backend, pending, lane, new_lane, carrier, worker, client}
 use Rattle.turn_laws.proofs.ScriptOpening.{s0, s1, starts, opens}
 use Rattle.turn_laws.proofs.ScriptAsking.{a4, t6, log2, doors, asks-at}
 use Rattle.turn_laws.proofs.ScriptSetting.{a5, t7, idle}
@@ -233,7 +233,7 @@ module _ {C J : Type 0} (port : C) where
   r0 = scene (w (t6 port) [] [] 0) (c l0 (pending None) idle) [] 1 k0 log2
 
   asks : FrontIsWhole → FoldsTo SystemStep (s1 {C = C} {J = J} port) script.asking r0
-  asks law = asks-at port (c l0 (pending None) idle) 1 k0 refl law
+  asks law = asks-at port (c new_lane (pending None) idle) 1 k0 refl law
 
   -- both commands go out
   abbrev r1 : System C J

@@ -42,9 +42,9 @@ use Rattle.turn_laws.specs.Scripts as script
 use Rattle.turn_laws.specs.Scripts.{key, ok, five, ticket, plain, did}
 use Rattle.turn_laws.specs.SharedScripts.{asked, sending, reading}
 use Rattle.turn_laws.proofs.Rings.{posts, takes, outlet_with}
-use Rattle.turn_laws.proofs.Scenes.{scene, put, at-worker, at-client, at-carrier, down-in}
+use Rattle.turn_laws.proofs.Scenes.{scene, put, at-worker, at-client, at-carrier, handing, down-in}
 use Rattle.turn_laws.proofs.ScriptFacts.{held, read, none, k5, k6, slot-is, in-held, alone, front-get, planned-get, written-five, fresh-alone, goes-alone}
-use Rattle.turn_laws.proofs.ScriptStates.{Pair, Posted, session, one, commands, awaits, wire, link, backend, pending, newcomer, lane, carrier, worker, client}
+use Rattle.turn_laws.proofs.ScriptStates.{Pair, Posted, session, one, commands, awaits, wire, link, backend, pending, newcomer, lane, new_lane, carrier, worker, client}
 use Rattle.turn_laws.proofs.ScriptAsking.{doors}
 use Rattle.turn_laws.proofs.ScriptSetting.{below-one, idle}
 
@@ -236,7 +236,7 @@ module _ {C J : Type 0} (port : C) where
 
   -- before
   abbrev pub connected : ClusterModel → List Mark → System C J
-  connected k log = scene nobody (c l0 (pending None) idle) [] 1 k log
+  connected k log = scene nobody (c new_lane (pending None) idle) [] 1 k log
 
   -- while the command is on its way
   abbrev pub waiting : ClusterModel → List Mark → System C J
@@ -248,83 +248,87 @@ module _ {C J : Type 0} (port : C) where
 
   pub sends : FrontIsWhole → (k : ClusterModel) (log : List Mark) → FoldsTo SystemStep (connected k log) sending (waiting k (quiet (quiet (arrived log))))
   sends law k log = (
-    scene (w0 (u0 port)) (c l0 (pending None) idle) [] 1 k (quiet log),
-    at-worker l0 [] refl (newcomer port, takes [] (newcomer port), refl, refl, ((omega arith, refl), (tt, get-empty nat_cmp 0)), refl, refl) refl (down-in l0 (w0 (u0 port)) _ refl ([], refl)) refl,
+    scene nobody (c l0 (pending None) idle) [] 1 k log,
+    handing (c new_lane (pending None) idle) (c l0 (pending None) idle) new_lane l0 (newcomer port) refl (refl, posts [] (newcomer port)) refl refl,
     (
-      scene (w0 (u1 port)) (c l0 (pending None) idle) [] 1 k (quiet (quiet log)),
-      at-client l0 0 (b0 port) (b0 port) (outlet_with []) [] refl (put empty (b0 port) 0) (tt, refl) (put (u0 port) (b0 port) 0) (down-in l0 (w0 (u0 port)) _ refl ([], refl)) refl,
+      scene (w0 (u0 port)) (c l0 (pending None) idle) [] 1 k (quiet log),
+      at-worker l0 [] refl (newcomer port, takes [] (newcomer port), refl, refl, ((omega arith, refl), (tt, get-empty nat_cmp 0)), refl, refl) refl (down-in l0 (w0 (u0 port)) _ refl ([], refl)) refl,
       (
-        scene (w0 (u2 port)) (c l0 (pending None) idle) [] 1 k (quiet (quiet (quiet log))),
-        at-client l0 0 (b0 port) (b1 port) (outlet_with []) [] refl (put (u0 port) (b0 port) 0) (tt, refl) (put (u1 port) (b1 port) 0) (down-in l0 (w0 (u1 port)) _ refl ([], refl)) refl,
+        scene (w0 (u1 port)) (c l0 (pending None) idle) [] 1 k (quiet (quiet log)),
+        at-client l0 0 (b0 port) (b0 port) (outlet_with []) [] refl (put empty (b0 port) 0) (tt, refl) (put (u0 port) (b0 port) 0) (down-in l0 (w0 (u0 port)) _ refl ([], refl)) refl,
         (
-          scene (w0 (u3 port)) (c l0 (pending None) idle) [] 1 k (quiet (quiet (quiet (quiet log)))),
-          at-client l0 0 (b1 port) (b2 port) (outlet_with []) [] refl (put (u1 port) (b1 port) 0) (inr (omega arith, refl, inl (refl, refl)), refl) (put (u2 port) (b2 port) 0) (down-in l0 (w0 (u2 port)) _ refl ([], refl)) refl,
+          scene (w0 (u2 port)) (c l0 (pending None) idle) [] 1 k (quiet (quiet (quiet log))),
+          at-client l0 0 (b0 port) (b1 port) (outlet_with []) [] refl (put (u0 port) (b0 port) 0) (tt, refl) (put (u1 port) (b1 port) 0) (down-in l0 (w0 (u1 port)) _ refl ([], refl)) refl,
           (
-            scene (w0 (u4 port)) (c l0 (pending None) idle) [] 1 k (arrived log),
-            at-client l0 0 (b2 port) (b3 port) (outlet_with []) [] refl (put (u2 port) (b2 port) 0) (
-              (
-                (refl, omega arith),
-                inl (
-                  codes "GET" ∷ key ∷ [],
-                  n2.incoming,
-                  (
-                    inr (refl, Array (bulk (codes "GET") ∷ bulk key ∷ []), (refl, front-get law, refl), refl, refl),
-                    ap (added (with_incoming n1 n2.incoming)) planned-get,
+            scene (w0 (u3 port)) (c l0 (pending None) idle) [] 1 k (quiet (quiet (quiet (quiet log)))),
+            at-client l0 0 (b1 port) (b2 port) (outlet_with []) [] refl (put (u1 port) (b1 port) 0) (inr (omega arith, refl, inl (refl, refl)), refl) (put (u2 port) (b2 port) 0) (down-in l0 (w0 (u2 port)) _ refl ([], refl)) refl,
+            (
+              scene (w0 (u4 port)) (c l0 (pending None) idle) [] 1 k (arrived log),
+              at-client l0 0 (b2 port) (b3 port) (outlet_with []) [] refl (put (u2 port) (b2 port) 0) (
+                (
+                  (refl, omega arith),
+                  inl (
+                    codes "GET" ∷ key ∷ [],
+                    n2.incoming,
+                    (
+                      inr (refl, Array (bulk (codes "GET") ∷ bulk key ∷ []), (refl, front-get law, refl), refl, refl),
+                      ap (added (with_incoming n1 n2.incoming)) planned-get,
+                    ),
                   ),
                 ),
-              ),
-              refl,
-            ) (put (u3 port) (b3 port) 0) (down-in l0 (w0 (u3 port)) _ refl ([], refl)) refl,
-            (
-              scene (w0 (u5 port)) (c l0 (pending None) idle) [] 1 k (quiet (arrived log)),
-              at-client l0 0 (b3 port) (b4 port) (outlet_with []) [] refl (put (u3 port) (b3 port) 0) (
                 refl,
-                refl,
-                (0, ((script.get, refl, refl), (λ j lt m. absurd (omega (arith, lt))), refl), refl, refl),
-                refl,
-              ) (put (u4 port) (b4 port) 0) (down-in l0 (w0 (u4 port)) _ refl ([], refl)) refl,
+              ) (put (u3 port) (b3 port) 0) (down-in l0 (w0 (u3 port)) _ refl ([], refl)) refl,
               (
-                scene (w1 (u6 port)) (c l0 (pending None) idle) [] 1 k (quiet (quiet (arrived log))),
-                at-client l0 0 (b4 port) (b5 port) (outlet_with up) [] refl (put (u4 port) (b4 port) 0) (
-                  getting,
-                  [],
-                  commands [] empty,
-                  inl (refl, fresh-alone getting refl, refl),
-                  (λ e. absurd (cc)),
-                  (slot_of key, omega arith, refl, refl, refl, refl),
-                  tt,
-                  (Ok None, (([], refl), refl), refl),
+                scene (w0 (u5 port)) (c l0 (pending None) idle) [] 1 k (quiet (arrived log)),
+                at-client l0 0 (b3 port) (b4 port) (outlet_with []) [] refl (put (u3 port) (b3 port) 0) (
                   refl,
-                  goes-alone,
-                  omega arith,
-                  posts [] (plain 0 0 script.get),
                   refl,
-                ) (put (u5 port) (b5 port) 0) (down-in l0 (w0 (u5 port)) _ refl ([], refl)) refl,
+                  (0, ((script.get, refl, refl), (λ j lt m. absurd (omega (arith, lt))), refl), refl, refl),
+                  refl,
+                ) (put (u4 port) (b4 port) 0) (down-in l0 (w0 (u4 port)) _ refl ([], refl)) refl,
                 (
-                  scene (w1 (u6 port)) (c l1 (pending (Some (plain 0 0 script.get))) idle) [] 1 k (quiet (quiet (arrived log))),
-                  at-carrier l1 (
-                    0,
-                    pending None,
-                    pending (Some (plain 0 0 script.get)),
+                  scene (w1 (u6 port)) (c l0 (pending None) idle) [] 1 k (quiet (quiet (arrived log))),
+                  at-client l0 0 (b4 port) (b5 port) (outlet_with up) [] refl (put (u4 port) (b4 port) 0) (
+                    getting,
+                    [],
+                    commands [] empty,
+                    inl (refl, fresh-alone getting refl, refl),
+                    (λ e. absurd (cc)),
+                    (slot_of key, omega arith, refl, refl, refl, refl),
+                    tt,
+                    (Ok None, (([], refl), refl), refl),
                     refl,
-                    (plain 0 0 script.get, refl, refl, (l0, l1, refl, refl, (refl, takes [] (plain 0 0 script.get)))),
+                    goes-alone,
+                    omega arith,
+                    posts [] (plain 0 0 script.get),
                     refl,
-                  ) (refl, (refl, tt)) refl ([], refl) refl,
+                  ) (put (u5 port) (b5 port) 0) (down-in l0 (w0 (u5 port)) _ refl ([], refl)) refl,
                   (
-                    waiting k (quiet (quiet (arrived log))),
+                    scene (w1 (u6 port)) (c l1 (pending (Some (plain 0 0 script.get))) idle) [] 1 k (quiet (quiet (arrived log))),
                     at-carrier l1 (
                       0,
+                      pending None,
                       pending (Some (plain 0 0 script.get)),
-                      plain 0 0 script.get,
-                      idle,
-                      sent,
                       refl,
-                      refl,
-                      refl,
-                      (link 0 (wire 0 [] [] false) [], link 0 (wire 0 (Runs ((ticket 0, script.get) ∷ []) ∷ []) [] false) (due.Command (ticket 0) ∷ []), refl, omega arith, (Ok tt, refl, (λ e. absurd (cc)), (refl, (refl, refl), refl)), refl),
+                      (plain 0 0 script.get, refl, refl, (l0, l1, refl, refl, (refl, takes [] (plain 0 0 script.get)))),
                       refl,
                     ) (refl, (refl, tt)) refl ([], refl) refl,
-                    refl,
+                    (
+                      waiting k (quiet (quiet (arrived log))),
+                      at-carrier l1 (
+                        0,
+                        pending (Some (plain 0 0 script.get)),
+                        plain 0 0 script.get,
+                        idle,
+                        sent,
+                        refl,
+                        refl,
+                        refl,
+                        (link 0 (wire 0 [] [] false) [], link 0 (wire 0 (Runs ((ticket 0, script.get) ∷ []) ∷ []) [] false) (due.Command (ticket 0) ∷ []), refl, omega arith, (Ok tt, refl, (λ e. absurd (cc)), (refl, (refl, refl), refl)), refl),
+                        refl,
+                      ) (refl, (refl, tt)) refl ([], refl) refl,
+                      refl,
+                    ),
                   ),
                 ),
               ),

@@ -147,6 +147,10 @@ module _ {C J : Type 0} where
   abbrev pub lane : C → List (Numbered RunModel) → List (Numbered Pair) → LaneEnds (Newcomer C J)
   lane port ups downs = record { up = inlet_with ups; down = Some (outlet_with downs); door = outlet_with (numbered 0 (newcomer port) ∷ []) }
 
+  -- before a client was handed over
+  abbrev pub new_lane : LaneEnds (Newcomer C J)
+  new_lane = record { up = inlet_with []; down = Some (outlet_with []); door = outlet_with [] }
+
   -- its table lists the first node
   abbrev pub carrier : LaneEnds (Newcomer C J) → List PendingRun → List (Backend Wire) → Bool → CarrierModel (Newcomer C J) Wire
   carrier l runs backends seed = record { lanes = l ∷ []; pending_runs = runs; backends = backends; nodes = seed_alone; published = []; seed_to_dial = seed; failures = 0 }

@@ -17,7 +17,7 @@ use Rattle.world_laws.specs.declared.event.Event.TheVariants as core
 use Rattle.world_laws.proofs.Nodes.{pick-slot, runs-size, runs-slots, set-size}
 use Rattle.turn_laws.specs.Wire.{Wire, Execution, ServesNext, parts_in}
 use Rattle.turn_laws.specs.System.{System}
-use Rattle.turn_laws.specs.Steps.{AtWorker, AtCarrier, AtNode, AtBroken, Thrown, Moved, MovesOn}
+use Rattle.turn_laws.specs.Steps.{AtWorker, AtCarrier, Handed, AtNode, AtBroken, Thrown, Moved, MovesOn}
 use Rattle.turn_laws.specs.Writing.{NewSlotsStand, SlotsStay, StandsAmong, StandsAtItsNodes}
 
 -- the second of a pair is below a count
@@ -122,6 +122,7 @@ module _ (C J : Type 0) where
   pub slots-stay : SlotsStay C J
   slots-stay (AtWorker k event) s s' on h = subst StandsAtItsNodes (sym (ap (λ (x : System C J). x.cluster) on.leaves)) h
   slots-stay (AtCarrier event) s s' on h = subst StandsAtItsNodes (sym (ap (λ (x : System C J). x.cluster) on.leaves)) h
+  slots-stay (Handed k number) s s' on h = subst StandsAtItsNodes (sym (ap (λ (x : System C J). x.cluster) on.4)) h
   slots-stay (AtNode k v) s s' on h = served s.nodes s.cluster (on.1).port v s'.cluster on.2 on.3 on.4 on.8 h
   slots-stay (AtBroken j v) s s' on h = served s.nodes s.cluster on.0 v s'.cluster on.1 on.2 on.3 on.5 h
   slots-stay (Thrown j) s s' on h = subst StandsAtItsNodes (sym (ap (λ (x : System C J). x.cluster) on.2)) h

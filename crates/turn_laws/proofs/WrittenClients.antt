@@ -20,7 +20,7 @@ use Rattle.proxy_turns.specs.ClientTurn.{ClientEvent}
 use Rattle.proxy_turns.specs.WorkerModel.{WorkerModel, WorkerEvent, Did, Finished, Took, FoundNone, Came, TurnedAway, FoundNobody, Left, WorkerDoes, IsAbove, Tells}
 use Rattle.world_laws.proofs.Recorded.{at-set, set-other, set-same}
 use Rattle.turn_laws.specs.System.{System}
-use Rattle.turn_laws.specs.Steps.{SystemEvent, AtWorker, AtCarrier, AtNode, AtBroken, Thrown, Moved, SystemStep, WorkerStep}
+use Rattle.turn_laws.specs.Steps.{SystemEvent, AtWorker, AtCarrier, Handed, AtNode, AtBroken, Thrown, Moved, SystemStep, WorkerStep}
 use Rattle.turn_laws.specs.PortsMay.{any_moves}
 use Rattle.turn_laws.specs.ClientSees.{bytes_from, bytes_to, ends_for, if_own, pulled_by, pushed_by}
 use Rattle.turn_laws.specs.ClientOutput.{events_at, ClientsAreWritten, AllClientsAreWritten}
@@ -210,6 +210,7 @@ module _ {C J : Type 0} where
   pub workers-stay : (event : SystemEvent) (s s' : System C J) → IsNoWorkers event → SystemStep s event s' → s'.workers ≡ s.workers
   workers-stay (AtWorker k event) s s' none step = absurd none
   workers-stay (AtCarrier event) s s' none step = ap workers_of step.leaves
+  workers-stay (Handed k number) s s' none step = ap workers_of step.4
   workers-stay (AtNode k verdict) s s' none step = ap workers_of step.10
   workers-stay (AtBroken j verdict) s s' none step = ap workers_of step.7
   workers-stay (Thrown j) s s' none step = ap workers_of step.2
@@ -256,6 +257,7 @@ module _ {C J : Type 0} where
   all-steps k last [] s s' same at = (last, ap (λ (x : System C J). slice_get x.workers k) same ∙ at, refl)
   all-steps k last (AtWorker j event ∷ events) s s' (mid, step, more) at = at-worker k j last event (flat_map (events_at k) events) s mid step (all-steps k last events mid s' more at)
   all-steps k last (AtCarrier event ∷ events) s s' (mid, step, more) at = quiet k last (AtCarrier event) (flat_map (events_at k) events) s mid tt step (all-steps k last events mid s' more at)
+  all-steps k last (Handed j number ∷ events) s s' (mid, step, more) at = quiet k last (Handed j number) (flat_map (events_at k) events) s mid tt step (all-steps k last events mid s' more at)
   all-steps k last (AtNode j verdict ∷ events) s s' (mid, step, more) at = quiet k last (AtNode j verdict) (flat_map (events_at k) events) s mid tt step (all-steps k last events mid s' more at)
   all-steps k last (AtBroken j verdict ∷ events) s s' (mid, step, more) at = quiet k last (AtBroken j verdict) (flat_map (events_at k) events) s mid tt step (all-steps k last events mid s' more at)
   all-steps k last (Thrown j ∷ events) s s' (mid, step, more) at = quiet k last (Thrown j) (flat_map (events_at k) events) s mid tt step (all-steps k last events mid s' more at)

@@ -4,13 +4,19 @@
 -- answers, and everybody's executions.
 -- One premise joins them: a slot is imported when no proxy has a command under way that an ASK sent to the node.
 use Rattle.std.specs.Prelude.{◌≡◌, ◌≢◌, ℕ, ◌+◌, ◌%◌, Bool, List, [], ◌∷◌, ◌++◌, length, map}
+use Rattle.std.specs.List.{FoldsTo}
+use Rattle.world_laws.specs.State.{WorldModel}
 use Rattle.world_laws.specs.declared.event.Event.TheVariants as core
 use Rattle.turn_laws.specs.Wire.{Execution}
 use Rattle.turn_laws.specs.System.{System}
 use Rattle.turn_laws.specs.Asking.{NoneAsksIn}
+use Rattle.turn_laws.specs.Shadow.{IsShadow}
+use Rattle.turn_laws.specs.Naming.{NamesNodes}
+use Rattle.turn_laws.specs.Walks.{IsSharedWalked}
 use Rattle.turn_laws.specs.Steps.{SystemEvent, Moved, SystemStep, log_of}
 use Rattle.turn_laws.specs.Refines.{IsStart}
-use Rattle.turn_laws.specs.Sharing.{OthersDo}
+use Rattle.turn_laws.specs.Sharing.{OthersDo, SharedEvent, SharedSystemStep}
+use Rattle.turn_laws.specs.Writing.{StandsAtItsNodes}
 use Rattle.turn_laws.specs.LogHeadline.{IsHeld, history}
 use Rattle.turn_laws.specs.SharedLog.{SharedLogHeadline}
 
@@ -50,6 +56,21 @@ module _ (C J : Type 0) where
   abbrev pub EveryFleet : Type 0
   EveryFleet = (f f' : Fleet) (events : List FleetEvent) → IsFleetStart f → FleetRun f events f'
       → (p : ℕ) → SharedLogHeadline (length (f' p).workers) (f' p).log × IsHeld (f' p).log (f' p).cluster
+
+  -- What a proxy of a fleet did is steps of its own and of others. So it stands for a world of the machine beside others; its nodes' endpoints
+  -- are what they were, and no slot stands at a node that is not of the cluster, if none did.
+  pub record ProxyStands (s s' : System C J) : Type 0 where
+    pub steps : List SharedEvent
+    pub does : FoldsTo SharedSystemStep s steps s'
+    pub world : WorldModel
+    pub walked : IsSharedWalked world
+    pub shadow : IsShadow s' world
+    pub names : NamesNodes s'
+    pub nodes : s'.nodes ≡ s.nodes
+    pub slots : StandsAtItsNodes s.cluster → StandsAtItsNodes s'.cluster
+
+  abbrev pub FleetsStand : Type 0
+  FleetsStand = (f f' : Fleet) (events : List FleetEvent) → IsFleetStart f → FleetRun f events f' → (p : ℕ) → ProxyStands (f p) (f' p)
 
   -- a fleet takes no step away from its proxies: what a system may do, it may do there, if an import waits for all
   abbrev pub FleetFollows : Type 0

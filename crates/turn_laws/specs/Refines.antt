@@ -17,7 +17,7 @@ use Rattle.turn_laws.specs.Shadow.{IsShadow}
 use Rattle.turn_laws.specs.Endpoints.{AreApart, most_nodes}
 use Rattle.turn_laws.specs.Underway.{down_in, DownInStep}
 use Rattle.proxy_turns.specs.CarrierModel.{CarrierEvent}
-use Rattle.turn_laws.specs.Steps.{SystemEvent, AtWorker, AtCarrier, AtNode, AtBroken, Thrown, Moved, SystemStep}
+use Rattle.turn_laws.specs.Steps.{SystemEvent, AtWorker, AtCarrier, Handed, AtNode, AtBroken, Thrown, Moved, SystemStep}
 
 -- nothing has happened: no clients, empty lanes, no backends, settled slots and no keys
 pub record IsStart {C J : Type 0} (s : System C J) : Type 0 where
@@ -72,6 +72,10 @@ module _ (C J : Type 0) where
 
   abbrev pub ThrownRefine : Type 0
   ThrownRefine = (j : ℕ) → Simulates (Thrown j)
+
+  -- a client that is handed to a worker
+  abbrev pub HandedRefine : Type 0
+  HandedRefine = (k number : ℕ) → Simulates (Handed k number)
 
   -- a node serves the next request of a connection that works, or of one that broke
   abbrev pub NodesRefine : Type 0

@@ -27,7 +27,7 @@ use Rattle.proxy_turns.specs.CarrierModel as carrier
 use Rattle.world_laws.specs.declared.event.Event.TheVariants.{Import, Migrate, MoveKey, Own, Release, Forget, Stay}
 use Rattle.turn_laws.specs.Wire.{Execution}
 use Rattle.turn_laws.specs.System.{System, Mark, Arrived, Executed, Answered}
-use Rattle.turn_laws.specs.Steps.{SystemEvent, AtWorker, AtCarrier, AtNode, AtBroken, Thrown, Moved, SystemStep}
+use Rattle.turn_laws.specs.Steps.{SystemEvent, AtWorker, AtCarrier, Handed, AtNode, AtBroken, Thrown, Moved, SystemStep}
 use Rattle.turn_laws.specs.Refines.{IsStart}
 
 -- ---- what one client asks, and what it is told
@@ -98,10 +98,11 @@ opening =
 abbrev pub moving : List SystemEvent
 moving = Moved (Import slot 1) ∷ Moved (Migrate slot) ∷ Moved (Forget slot) ∷ Moved (Stay slot) ∷ Moved (Import slot 1) ∷ []
 
--- a client comes, and two requests of it are read
+-- a client is handed over and comes, and two requests of it are read
 abbrev pub asking : List SystemEvent
 asking =
-    AtWorker 0 (Came 0)
+    Handed 0 0
+    ∷ AtWorker 0 (Came 0)
     ∷ AtWorker 0 (Did 0 Tried)
     ∷ AtWorker 0 (Did 0 (Pulled asked))
     ∷ AtWorker 0 (Did 0 (Fed (Ok (length asked))))
@@ -258,14 +259,16 @@ sought =
     ∷ AtCarrier carrier.Reached
     ∷ []
 
--- the client is gone before its second command is posted; another comes, is gone and leaves, and one of the same number is turned away; the
--- map shows what MOVED said
+-- the client is gone before its second command is posted; another is handed over, comes, is gone and leaves, and one of the same number is
+-- turned away; the map shows what MOVED said
 abbrev pub parting : List SystemEvent
 parting =
     AtWorker 0 (Did 0 (HandedOut (ticket 1) get))
     ∷ AtWorker 0 (Did 0 Parted)
     ∷ AtWorker 0 (Did 0 (Dropped (ticket 1 ∷ [])))
+    ∷ Handed 0 1
     ∷ AtWorker 0 (Came 1)
+    ∷ Handed 0 1
     ∷ AtWorker 0 (TurnedAway 1)
     ∷ AtWorker 0 (Did 1 Parted)
     ∷ AtWorker 0 (Left 1)

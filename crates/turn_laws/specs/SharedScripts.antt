@@ -14,7 +14,7 @@ use Rattle.proxy_turns.specs.CarrierModel.{AtBackend}
 use Rattle.proxy_turns.specs.CarrierModel as carrier
 use Rattle.turn_laws.specs.Wire.{Execution}
 use Rattle.turn_laws.specs.System.{System, Mark, Arrived, Executed, Answered}
-use Rattle.turn_laws.specs.Steps.{SystemEvent, AtWorker, AtCarrier, AtNode}
+use Rattle.turn_laws.specs.Steps.{SystemEvent, AtWorker, AtCarrier, Handed, AtNode}
 use Rattle.turn_laws.specs.Refines.{IsStart}
 use Rattle.turn_laws.specs.Sharing.{SharedEvent, SharedSystemStep}
 use Rattle.turn_laws.specs.Fleet.{Fleet, FleetEvent, FleetRun, IsFleetStart, foreign}
@@ -26,10 +26,11 @@ use Rattle.turn_laws.specs.Scripts.{set, get, ok, five, ticket, plain, did, open
 abbrev pub asked : List ℕ
 asked = codes "*2\r\n$3\r\nGET\r\n$2\r\nQi\r\n"
 
--- a client comes, and its command goes to the first node
+-- a client is handed over and comes, and its command goes to the first node
 abbrev pub sending : List SystemEvent
 sending =
-    AtWorker 0 (Came 0)
+    Handed 0 0
+    ∷ AtWorker 0 (Came 0)
     ∷ AtWorker 0 (Did 0 Tried)
     ∷ AtWorker 0 (Did 0 (Pulled asked))
     ∷ AtWorker 0 (Did 0 (Fed (Ok (length asked))))

@@ -1,6 +1,6 @@
--- What may happen in a system: an event of a worker's turn, an event of the carrier's turn, a node serves what is next of a
--- connection, what a broken one still has is thrown away, a slot moves one step.
-use Rattle.std.specs.Prelude.{◌≡◌, ◌⊎◌, ◌+◌, ◌-◌, ℕ, suc, List, [], ◌∷◌, ◌++◌, Some, None, IsSome, length, take, drop, slice_get, slice_set}
+-- What may happen in a system: an event of a worker's turn, an event of the carrier's turn, a new client is handed to a worker, a node
+-- serves what is next of a connection, what a broken one still has is thrown away, a slot moves one step.
+use Rattle.std.specs.Prelude.{◌≡◌, ◌⊎◌, ◌+◌, ◌-◌, ℕ, suc, List, [], ◌∷◌, ◌++◌, Some, None, IsSome, length, take, drop, slice_get, slice_set, Result}
 use Rattle.std.specs.FinMap.{get}
 use mathlib.Core.List.{IsPrefix}
 use Rattle.resp_wire.specs.declared.value.Value.{Value}
@@ -15,6 +15,7 @@ use Rattle.session_order.specs.SessionModel.{SessionModel}
 use Rattle.session_order.specs.declared.queue.PartStage.{PartStage}
 use Rattle.session_order.specs.declared.queue.PartStage.TheVariants.{Waiting, Out, Done}
 use Rattle.proxy_lanes.specs.declared.ends.lane_ends.LaneEnds.{LaneEnds}
+use Rattle.proxy_lanes.specs.Ends.{ChangesAt, HandsOver}
 use Rattle.proxy_turns.specs.declared.newcomer.Newcomer.{Newcomer}
 use Rattle.proxy_turns.specs.declared.backend.Backend.{Backend}
 use Rattle.proxy_turns.specs.ClientModel.{ClientModel}
@@ -138,6 +139,16 @@ module _ {C J : Type 0} where
     -- A premise: the table, as far as it has grown, lists nodes of the cluster, in their order. A node with two addresses is left out.
     pub table : IsPrefix s'.carrier.nodes s.nodes
 
+  -- ---- new clients
+
+  -- The client of this number is handed to worker k: it stands last in the lane of new clients, or comes back where no place is known to be
+  -- free. Whether it may come is for the worker to say, when it takes it.
+  abbrev pub Hands : System C J → ℕ → ℕ → System C J → Type 0
+  Hands s k number s' =
+      (client : Newcomer C J) × (handed : Result (Unit {0}) (Newcomer C J)) × (client.number ≡ number)
+      × ChangesAt s.carrier.lanes k s'.carrier.lanes (λ lane lane'. HandsOver lane lane' client handed)
+      × (s' ≡ record s { carrier = record s.carrier { lanes = s'.carrier.lanes } })
+
   -- ---- the nodes
 
   -- the node serves what is next of a connection that works
@@ -192,6 +203,7 @@ module _ {C J : Type 0} where
 pub data SystemEvent : Type 0 where
   AtWorker : ℕ → WorkerEvent → SystemEvent
   AtCarrier : CarrierEvent → SystemEvent
+  Handed : (k number : ℕ) → SystemEvent
   AtNode : ℕ → Verdict → SystemEvent
   AtBroken : ℕ → Verdict → SystemEvent
   Thrown : ℕ → SystemEvent
@@ -201,6 +213,7 @@ module _ {C J : Type 0} where
   abbrev pub SystemStep : System C J → SystemEvent → System C J → Type 0
   SystemStep s (AtWorker k event) s' = WorkerStep s k event s'
   SystemStep s (AtCarrier event) s' = CarrierStep s event s'
+  SystemStep s (Handed k number) s' = Hands s k number s'
   SystemStep s (AtNode k verdict) s' = Serves s k verdict s'
   SystemStep s (AtBroken j verdict) s' = ServesLate s j verdict s'
   SystemStep s (Thrown j) s' = Discards s j s'

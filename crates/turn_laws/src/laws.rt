@@ -7,12 +7,12 @@ ghost use Rattle.turn_laws.specs.LogOutput.{AnswersWereTold, LogIsWritten};
 ghost use Rattle.turn_laws.specs.Arrivals.{ArrivalsAreSent, SharedArrivalsAreSent};
 ghost use Rattle.turn_laws.specs.AnyPort.{AnyClients, AnyClientTurns, AnyPorts, WiresStand};
 ghost use Rattle.turn_laws.specs.Scripts.{GivesBack, LosesCommands, MisreadsLines, MovesUnderUse, PairsCommands};
-ghost use Rattle.turn_laws.specs.Refines.{CarrierRefines, MovesRefine, NamesStay, NodesRefine, Refines, StartsRefine, ThrownRefine, WorkersRefine};
+ghost use Rattle.turn_laws.specs.Refines.{CarrierRefines, HandedRefine, MovesRefine, NamesStay, NodesRefine, Refines, StartsRefine, ThrownRefine, WorkersRefine};
 ghost use Rattle.turn_laws.specs.LogHeadline.{HeadlineOfLogs, LogsAreHeld};
 ghost use Rattle.turn_laws.specs.SharedScripts.{OthersActBetween, ProxiesMeet};
 ghost use Rattle.turn_laws.specs.SharedLog.{HeadlineOfSharedLogs, SharedLogsAreHeld};
 ghost use Rattle.turn_laws.specs.Sharing.{SharedRefines};
-ghost use Rattle.turn_laws.specs.Fleet.{EveryFleet, FleetFollows};
+ghost use Rattle.turn_laws.specs.Fleet.{EveryFleet, FleetFollows, FleetsStand};
 ghost use Rattle.turn_laws.specs.Unclear.{HeardAlike, UnclearIsRefusal};
 ghost use Rattle.turn_laws.specs.Writing.{NamedIsReadBack, NewSlotsStand, SlotsStay, WrittenIsHeard};
 
@@ -64,10 +64,11 @@ pub fn names_stay<C: Drop, J: Naming>()
     ensures { NamesStay C J }
 {}
 
-/// Each step of a move is the machine's, and throwing away a broken connection's requests is none.
+/// Each step of a move is the machine's. Throwing away a broken connection's requests is none, nor is handing a client to a worker.
 pub fn moves_refine<C: Drop, J: Naming>()
     ensures moves { MovesRefine C J }
     ensures thrown { ThrownRefine C J }
+    ensures handed { HandedRefine C J }
 {}
 
 /// What a node serves of a connection, or of a broken one, is the machine's, but for CLUSTER SLOTS, which it does not see.
@@ -117,10 +118,12 @@ pub fn headline_beside_others<C: Drop, J: Naming>()
 }
 
 /// Several proxies before one cluster, each a system of its own, beside clients that are none: the headline holds of each one's
-/// commands, in one legal history of everybody's. What a proxy may do alone it may do there, if an import waits for all.
+/// commands, in one legal history of everybody's. What a proxy may do alone it may do there, if an import waits for all; and what it did
+/// there, with the others, is steps of its own and of others.
 pub fn headline_of_fleets<C: Drop, J: Naming>()
     ensures headline { EveryFleet C J }
     ensures follows { FleetFollows C J }
+    ensures stands { FleetsStand C J }
 {
     parts_of_plans_are_plain();
 }

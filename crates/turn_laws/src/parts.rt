@@ -3,6 +3,7 @@
 
 ghost use Rattle.turn_laws.specs.ClientOutput.{PartingOwesNothing};
 ghost use Rattle.turn_laws.specs.ClientSees.{ClientsSeeTheirOwn};
+ghost use Rattle.turn_laws.specs.Handing.{HandedOnce, TakenAsHanded};
 ghost use Rattle.turn_laws.specs.LogOutput.{EndsDecide};
 ghost use Rattle.turn_laws.specs.LogHeadline.{EachExecutionArrived, NoneIsExecutedTwice};
 ghost use Rattle.turn_laws.specs.LogTelling.{LogsTellHeadlines, LogsTellOfOurs};
@@ -60,6 +61,13 @@ pub fn none_is_left<C: Drop, J: Naming>()
 /// Where a slot may be imported at a node, a run that the node serves next behind ASKING has no command for it.
 pub fn imports_wait<C: Drop, J: Naming>()
     ensures { ImportsWait C J }
+{}
+
+/// A client that is handed to a worker stands in its lane once, and those that the worker takes are the next of those that were handed to
+/// it.
+pub fn clients_are_handed_once<C: Drop, J: Naming>()
+    ensures once { HandedOnce C J }
+    ensures taken { TakenAsHanded C J }
 {}
 
 /// A client sees the bytes that come from it and go to it, and none of another's.

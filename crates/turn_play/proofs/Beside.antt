@@ -1,25 +1,27 @@
 -- The steps of a play in which others act are steps of the system and of others.
-use Rattle.std.proofs.Common.{◌≡◌, ◌∙◌, ℕ, Bool, List, [], ◌∷◌, ◌++◌, refl, sym, ap, subst, length}
+use Rattle.std.proofs.Common.{◌∙◌, ℕ, Bool, List, [], ◌∷◌, ◌++◌, refl, sym, subst}
 use Rattle.std.specs.Prelude.{All}
 use Rattle.std.specs.List.{FoldsTo}
-use Rattle.slot_map.specs.Table.{Endpoint}
+use Rattle.std.proofs.lemmas.List.Elements.{All-cons, All-head, All-nil, All-tail}
 use Rattle.node_model.specs.Nodes.{ClusterModel, standing_at, with_store}
 use Rattle.node_model.specs.Store.{StoreModel}
 use Rattle.world_laws.specs.State.{WorldModel}
 use Rattle.world_laws.proofs.Nodes.{size-with_store}
 use Rattle.turn_laws.specs.Wire.{Execution}
 use Rattle.turn_laws.specs.System.{System}
+use Rattle.turn_laws.specs.Steps.{SystemEvent}
 use Rattle.turn_laws.specs.Shadow.{IsShadow}
-use Rattle.turn_laws.specs.Sharing.{OthersDo, SharedEvent, SharedRefines, SharedSystemStep}
+use Rattle.turn_laws.specs.Sharing.{SharedEvent, SharedRefines, SharedSystemStep}
 use Rattle.turn_laws.specs.Naming.{NamesNodes}
 use Rattle.turn_laws.specs.Refines.{IsStart}
-use Rattle.turn_laws.specs.LogHeadline.{IsHeld}
 use Rattle.turn_laws.specs.SharedLog.{HeadlineOfSharedLogs, SharedLogsAreHeld}
-use Rattle.turn_laws.specs.Writing.{CanBeNamed, StandsAmong, StandsAtItsNodes}
+use Rattle.turn_laws.specs.Writing.{StandsAmong, StandsAtItsNodes}
 use Rattle.turn_play.specs.May.{HearsItsNodes, IsInOrder}
 use Rattle.turn_play.specs.Beside.{AreInOrderBeside, LeadsBeside, MayNowBeside, MayStepBeside, OthersMay, PlaysRefineBeside, StepBeside, shared_events_of}
 use Rattle.turn_play.specs.Played.{Leads, Step}
-use Rattle.turn_play.specs.Playing.{PlayModel, PlaysSoundlyBeside, PlaysTo, PlaysToBeside}
+use Rattle.turn_play.specs.Playing.{PlayModel, PlaysSoundlyBeside, PlaysToBeside}
+use Rattle.turn_play.specs.Deeds.{IsReached, Reaches}
+use Rattle.turn_play.proofs.Playing.{AreMay, AreMayBeside, EachIs, PlaysWhere, PlaysWhereBeside}
 use Rattle.turn_play.proofs.Refining.{Laws, hears-on, step-holds}
 use Rattle.turn_play.proofs.Theirs.{others-do}
 
@@ -34,7 +36,7 @@ module _ {C J : Type 0} where
   leads-lifted s [] s' x = x
   leads-lifted s (step ∷ steps) s' x = (x.0, leads-lifted step.next steps s' x.1)
 
-  joined : (a : System C J) (steps : List (StepBeside C J)) (b : System C J) (later : List (StepBeside C J)) (c : System C J) → LeadsBeside a steps b → LeadsBeside b later c → LeadsBeside a (steps ++ later) c
+  pub joined : (a : System C J) (steps : List (StepBeside C J)) (b : System C J) (later : List (StepBeside C J)) (c : System C J) → LeadsBeside a steps b → LeadsBeside b later c → LeadsBeside a (steps ++ later) c
   joined a [] b later c x y = subst (λ (s : System C J). LeadsBeside s later c) (sym x) y
   joined a (step ∷ steps) b later c x y = (x.0, joined step.next steps b later c x.1 y)
 
@@ -44,9 +46,47 @@ module _ {C J : Type 0} where
       let two = y one.0 one.2 in
       (two.0, (one.1.0 ++ two.1.0, joined s one.1.0 one.0 two.1.0 two.0 one.1.1 two.1.1), two.2)
 
+  may-lifted : (s : System C J) (steps : List (Step C J)) → AreMay s steps → AreMayBeside s (lifted steps)
+  may-lifted s [] x = tt
+  may-lifted s (step ∷ steps) x = (x.0, may-lifted step.next steps x.1)
+
+  each-lifted : (Is : SystemEvent → Type 0) (Also : SharedEvent → Type 0) → ((event : SystemEvent) → Is event → Also (SharedEvent.Ours event)) → (steps : List (Step C J)) → EachIs Is steps
+      → All (λ (step : StepBeside C J). Also step.event) (lifted steps)
+  each-lifted Is Also same [] all = All-nil (λ (step : StepBeside C J). Also step.event)
+  each-lifted Is Also same (step ∷ steps) all =
+      All-cons (λ (x : StepBeside C J). Also x.event) (record { event = SharedEvent.Ours step.event; next = step.next }) (lifted steps)
+      (same step.event (All-head (λ (x : Step C J). Is x.event) step steps all)) (each-lifted Is Also same steps (All-tail (λ (x : Step C J). Is x.event) step steps all))
+
+  pub plainly-beside : (Given : System C J → Type 0) (Is : SharedEvent → Type 0) (old new : PlayModel C J) → PlaysWhereBeside Given Is old new → PlaysToBeside old new
+  plainly-beside Given Is old new x s shows = let one = x s shows in (one.0, (one.1.0, one.1.1), one.2)
+
   -- what the play does alone it does beside others
-  pub beside : (a b : PlayModel C J) → PlaysTo a b → PlaysToBeside a b
-  beside a b x s shows = let one = x s shows in (one.0, (lifted one.1.0, leads-lifted s one.1.0 one.0 one.1.1), one.2)
+  pub beside : (Given : System C J → Type 0) (Is : SystemEvent → Type 0) (Also : SharedEvent → Type 0) → ((event : SystemEvent) → Is event → Also (SharedEvent.Ours event)) → (a b : PlayModel C J) → PlaysWhere Given Is a b
+      → PlaysWhereBeside Given Also a b
+  beside Given Is Also same a b x s shows =
+      let one = x s shows in
+      (one.0, (lifted one.1.0, leads-lifted s one.1.0 one.0 one.1.1, (λ given. may-lifted s one.1.0 (one.1.2 given)), each-lifted Is Also same one.1.0 one.1.3), one.2)
+
+  -- ---- premises along steps
+
+  pub in-order : (s : System C J) (steps : List (StepBeside C J)) → AreMayBeside s steps → All (λ (step : StepBeside C J). IsInOrder step.next) steps → AreInOrderBeside s steps
+  in-order s [] may all = tt
+  in-order s (step ∷ steps) may all =
+      (may.0, All-head (λ (x : StepBeside C J). IsInOrder x.next) step steps all, in-order step.next steps may.1 (All-tail (λ (x : StepBeside C J). IsInOrder x.next) step steps all))
+
+  pub orders-join : (a : System C J) (steps : List (StepBeside C J)) (b : System C J) (later : List (StepBeside C J)) → LeadsBeside a steps b → AreInOrderBeside a steps → AreInOrderBeside b later → AreInOrderBeside a (steps ++ later)
+  orders-join a [] b later leads x y = subst (λ (s : System C J). AreInOrderBeside s later) (sym leads) y
+  orders-join a (step ∷ steps) b later leads x y = (x.0, x.1, orders-join step.next steps b later leads.1 x.2 y)
+
+  -- behind what was reached, more is
+  pub reach : PlaysRefineBeside C J → (start : System C J) (before : List (StepBeside C J)) (s : System C J) (steps : List (StepBeside C J)) (s' : System C J) → IsReached start before s → LeadsBeside s steps s' → AreInOrderBeside s steps
+      → Reaches start (before ++ steps) s'
+  reach refine start before s steps s' reached leads ordered =
+      let all = joined start before s steps s' reached.leads leads in
+      let order = orders-join start before s steps reached.leads reached.ordered ordered in (
+        record { starts = reached.starts; hears = reached.hears; leads = all; ordered = order },
+        refine start s' (before ++ steps) reached.starts reached.hears all order,
+      )
 
   pub soundly-beside : PlaysRefineBeside C J → (a b : PlayModel C J) → PlaysToBeside a b → PlaysSoundlyBeside a b
   soundly-beside refine a b x s shows =

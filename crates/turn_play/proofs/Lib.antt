@@ -3,10 +3,14 @@ mod Numbers
 mod Breaking
 mod Swapping
 mod Turning
+mod Playing
 mod Theirs
 mod Beside
-mod Playing
+mod Alone
 mod Obeyed
+mod Deeds
+mod Handed
+mod Fleets
 mod Starting
 mod Kept
 mod Said

@@ -6,23 +6,27 @@ use Rattle.resp_wire.specs.declared.fault.NoMemory.{NoMemory}
 use Rattle.node_model.specs.Nodes.{ClusterModel}
 use Rattle.node_model.specs.declared.standing.MoveFault.TheVariants as cause
 use Rattle.proxy_turns.specs.Port.{Moves}
+use Rattle.turn_laws.specs.System.{System}
 use Rattle.turn_play.specs.declared.fault.PlayFault.{PlayFault}
 use Rattle.turn_play.specs.declared.fault.PlayFault.TheVariants as fault
 use Rattle.turn_play.specs.declared.moves.Move.{Move}
 use Rattle.turn_play.specs.declared.moves.Move.TheVariants as step
 use Rattle.turn_play.specs.declared.order.Order.{Order}
 use Rattle.turn_play.specs.declared.order.Order.TheVariants as order
-use Rattle.turn_play.specs.May.{ClusterMoves}
+use Rattle.turn_play.specs.May.{ClusterMoves, MayMoveNow}
 use Rattle.turn_play.specs.Moving.{MoveOutcome, MovesOrNot, event_of}
 use Rattle.turn_play.specs.Obeying.{CarrierIsTurned, IsOurs, IsTurned, Obeys, ObeysAll, ObeyedIsSound, ObeyedIsSoundBeside}
 use Rattle.turn_play.specs.Played.{PlaysRefine}
+use Rattle.turn_laws.specs.Steps.{SystemEvent, Moved}
+use Rattle.turn_laws.specs.Sharing.{SharedEvent}
 use Rattle.turn_play.specs.Beside.{PlaysRefineBeside}
-use Rattle.turn_play.specs.Playing.{PlayModel, PlaysTo, PlaysToBeside}
+use Rattle.turn_play.specs.Deeds.{IsEventOf, IsEventOfOthers, IsGranted}
+use Rattle.turn_play.specs.Playing.{PlayModel, PlaysTo, PlaysToBeside, Shows}
 use Rattle.turn_play.specs.Port.{IsEnd, IsFresh, IsRead, PortExchanges, any_bytes, longest_run, no_count, port-opens}
-use Rattle.turn_play.specs.Turns.{CarriersPlay, WorkersPlay}
-use Rattle.turn_play.proofs.Beside.{beside, goes-beside, soundly-beside}
+use Rattle.turn_play.specs.Turns.{CarriersPlay, IsCarriers, IsWorkers, WorkersPlay}
+use Rattle.turn_play.proofs.Beside.{beside, goes-beside, plainly-beside, soundly-beside}
 use Rattle.turn_play.proofs.Theirs.{others-came}
-use Rattle.turn_play.proofs.Playing.{broke, carrier-turned, moved, plays-none, plays-on, plays-soundly, serves, worker-turned}
+use Rattle.turn_play.proofs.Playing.{Any, IsServed, PlaysWhere, PlaysWhereBeside, broke, carrier-turned, moved, plainly, plays-none, plays-on, plays-soundly, serves, worker-turned}
 
 -- ---- a step of a move
 
@@ -56,61 +60,88 @@ no-memory k (step.Release slot) k' x = x.1
 no-memory k (step.Forget slot) k' x = x.1
 no-memory k (step.Stay slot) k' x = x.1
 
+abbrev IsStepOf : Move → SystemEvent → Type 0
+IsStepOf move event = event ≡ Moved (event_of move)
+
 module _ {C J : Type 0} where
   -- nothing has changed
-  same : (old new : PlayModel C J) → new ≡ old → PlaysTo old new
-  same old new e = subst (PlaysTo old) (sym e) (plays-none old)
+  same : (Given : System C J → Type 0) (Is : SystemEvent → Type 0) (old new : PlayModel C J) → new ≡ old → PlaysWhere Given Is old new
+  same Given Is old new e = subst (PlaysWhere Given Is old) (sym e) (plays-none Given Is old)
 
-  same-cluster : (old : PlayModel C J) (k : ClusterModel) → k ≡ old.cluster → PlaysTo old (record old { cluster = k })
-  same-cluster old k e = same old (record old { cluster = k }) (λ i. record old { cluster = e i })
+  same-cluster : (Given : System C J → Type 0) (Is : SystemEvent → Type 0) (old : PlayModel C J) (k : ClusterModel) → k ≡ old.cluster → PlaysWhere Given Is old (record old { cluster = k })
+  same-cluster Given Is old k e = same Given Is old (record old { cluster = k }) (λ i. record old { cluster = e i })
 
-  moves-on : (old : PlayModel C J) (move : Move) (result : Result (Unit {0}) PlayFault) (k : ClusterModel) → MovesOrNot old.cluster move result k → PlaysTo old (record old { cluster = k })
+  -- it may happen now
+  abbrev MayMove : Move → System C J → Type 0
+  MayMove move s = MayMoveNow s (event_of move)
+
+  moves-on : (old : PlayModel C J) (move : Move) (result : Result (Unit {0}) PlayFault) (k : ClusterModel) → MovesOrNot old.cluster move result k → PlaysWhere (MayMove move) (IsStepOf move) old (record old { cluster = k })
   moves-on old move (Ok u) k (inl x) = moved old (event_of move) k (made-step old.cluster move k x)
-  moves-on old move (Ok u) k (inr x) = same-cluster old k (not-now old.cluster move k x)
-  moves-on old move (Err fault.NoMemory) k x = same-cluster old k (no-memory old.cluster move k x)
+  moves-on old move (Ok u) k (inr x) = same-cluster (MayMove move) (IsStepOf move) old k (not-now old.cluster move k x)
+  moves-on old move (Err fault.NoMemory) k x = same-cluster (MayMove move) (IsStepOf move) old k (no-memory old.cluster move k x)
   moves-on old move (Err fault.NotServed) k x = absurd x
 
 module _ (C J : Type 0) (moves : Moves C) (gives_none takes_none : C → Type 0) (workers : WorkersPlay C J moves) (carriers : CarriersPlay C J IsEnd no_count any_bytes PortExchanges IsRead IsFresh longest_run) where
-  turned : (old : PlayModel C J) (k : ℕ) (result : Result Bool NoMemory) (new : PlayModel C J) → IsTurned moves gives_none takes_none old k result new → PlaysTo old new
-  turned old k result new x = subst (PlaysTo old) (sym x.5) (worker-turned old k x.0 x.1 x.2 (λ s at. workers s k x.0 x.1 result at x.3))
+  turned : (old : PlayModel C J) (k : ℕ) (result : Result Bool NoMemory) (new : PlayModel C J) → IsTurned moves gives_none takes_none old k result new → PlaysWhere Any (IsWorkers k) old new
+  turned old k result new x = subst (PlaysWhere Any (IsWorkers k) old) (sym x.5) (worker-turned old k x.0 x.1 x.2 (λ s at. workers s k x.0 x.1 result at x.3))
 
-  carried : (old : PlayModel C J) (result : Result Bool NoMemory) (new : PlayModel C J) → CarrierIsTurned old result new → PlaysTo old new
-  carried old result new x = subst (PlaysTo old) (sym x.2) (carrier-turned old new.carrier (λ s shows. carriers port-opens s old.carrier new.carrier result shows x.0))
+  carried : (old : PlayModel C J) (result : Result Bool NoMemory) (new : PlayModel C J) → CarrierIsTurned old result new → PlaysWhere Any IsCarriers old new
+  carried old result new x = subst (PlaysWhere Any IsCarriers old) (sym x.2) (carrier-turned old new.carrier (λ s shows. carriers port-opens s old.carrier new.carrier result shows x.0))
 
-  obeyed : (old : PlayModel C J) (what : Order) (result : Result (Unit {0}) PlayFault) (new : PlayModel C J) → IsOurs what → Obeys moves gives_none takes_none old what result new → PlaysTo old new
-  obeyed old (order.Worker k) (Ok u) new ours (inl x) = same old new x.1
+  -- where what the order asks is granted
+  abbrev Asked : Order → System C J → Type 0
+  Asked what s = IsGranted s what
+
+  -- its own events
+  abbrev Own : Order → SystemEvent → Type 0
+  Own what event = IsEventOf what (SharedEvent.Ours event)
+
+  obeyed : (old : PlayModel C J) (what : Order) (result : Result (Unit {0}) PlayFault) (new : PlayModel C J) → IsOurs what → Obeys moves gives_none takes_none old what result new → PlaysWhere (Asked what) (Own what) old new
+  obeyed old (order.Worker k) (Ok u) new ours (inl x) = same Any (IsWorkers k) old new x.1
   obeyed old (order.Worker k) (Ok u) new ours (inr x) = turned old k (Ok x.0) new x.1
   obeyed old (order.Worker k) (Err why) new ours x = turned old k (Err x.1.0) new x.1.1
   obeyed old order.Carrier (Ok u) new ours x = carried old (Ok x.0) new x.1
   obeyed old order.Carrier (Err why) new ours x = carried old (Err x.1.0) new x.1.1
-  obeyed old (order.Serve node verdict) result new ours x = subst (PlaysTo old) (sym x.1) (serves old node verdict result new.cluster new.carrier x.0)
-  obeyed old (order.Break node) result new ours x = subst (PlaysTo old) (sym x.1.1) (broke old node new.carrier x.1.0)
-  obeyed old (order.Move move) result new ours x = subst (PlaysTo old) (sym x.1) (moves-on old move result new.cluster x.0)
+  obeyed old (order.Serve node verdict) result new ours x = subst (PlaysWhere Any (IsServed node verdict) old) (sym x.1) (serves old node verdict result new.cluster new.carrier x.0)
+  obeyed old (order.Break node) result new ours x = subst (PlaysWhere Any (λ event. ⊥) old) (sym x.1.1) (broke old node new.carrier x.1.0)
+  obeyed old (order.Move move) result new ours x = subst (PlaysWhere (MayMove move) (IsStepOf move) old) (sym x.1) (moves-on old move result new.cluster x.0)
   obeyed old (order.Others node asking parts) result new ours x = absurd ours
 
+  obeyed-plainly : (old : PlayModel C J) (what : Order) (result : Result (Unit {0}) PlayFault) (new : PlayModel C J) → IsOurs what → Obeys moves gives_none takes_none old what result new → PlaysTo old new
+  obeyed-plainly old what result new ours x = plainly (Asked what) (Own what) old new (obeyed old what result new ours x)
+
   obeyed-all : (orders : List Order) (old : PlayModel C J) (result : Result (Unit {0}) PlayFault) (new : PlayModel C J) → All IsOurs orders → ObeysAll moves gives_none takes_none old orders result new → PlaysTo old new
-  obeyed-all [] old result new ours x = same old new x.1
+  obeyed-all [] old result new ours x = plainly Any (λ event. ⊥) old new (same Any (λ event. ⊥) old new x.1)
   obeyed-all (what ∷ orders) old result new ours (inl x) =
-      plays-on old x.0 new (obeyed old what (Ok tt) x.0 (All-head IsOurs what orders ours) x.1) (obeyed-all orders x.0 result new (All-tail IsOurs what orders ours) x.2)
-  obeyed-all (what ∷ orders) old result new ours (inr x) = obeyed old what (Err x.0) new (All-head IsOurs what orders ours) x.2
+      plays-on old x.0 new (obeyed-plainly old what (Ok tt) x.0 (All-head IsOurs what orders ours) x.1) (obeyed-all orders x.0 result new (All-tail IsOurs what orders ours) x.2)
+  obeyed-all (what ∷ orders) old result new ours (inr x) = obeyed-plainly old what (Err x.0) new (All-head IsOurs what orders ours) x.2
 
   pub obeyed-is-sound : PlaysRefine C J → ObeyedIsSound C J moves gives_none takes_none
   obeyed-is-sound refine old new orders result x ours = plays-soundly refine old new (obeyed-all orders old result new ours x)
 
   -- the same where others come
-  obeyed-beside : (old : PlayModel C J) (what : Order) (result : Result (Unit {0}) PlayFault) (new : PlayModel C J) → Obeys moves gives_none takes_none old what result new → PlaysToBeside old new
-  obeyed-beside old (order.Worker k) result new x = beside old new (obeyed old (order.Worker k) result new tt x)
-  obeyed-beside old order.Carrier result new x = beside old new (obeyed old order.Carrier result new tt x)
-  obeyed-beside old (order.Serve node verdict) result new x = beside old new (obeyed old (order.Serve node verdict) result new tt x)
-  obeyed-beside old (order.Break node) result new x = beside old new (obeyed old (order.Break node) result new tt x)
-  obeyed-beside old (order.Move move) result new x = beside old new (obeyed old (order.Move move) result new tt x)
-  obeyed-beside old (order.Others node asking parts) (Ok u) new x = subst (PlaysToBeside old) (sym x.1) (others-came old node asking parts.items new.told new.cluster x.0)
-  obeyed-beside old (order.Others node asking parts) (Err why) new x = beside old new (same old new x.1)
+  alone-beside : (old : PlayModel C J) (what : Order) (result : Result (Unit {0}) PlayFault) (new : PlayModel C J) → IsOurs what → Obeys moves gives_none takes_none old what result new → PlaysWhereBeside (Asked what) (IsEventOf what) old new
+  alone-beside old what result new ours x = beside (Asked what) (Own what) (IsEventOf what) (λ event is. is) old new (obeyed old what result new ours x)
+
+  pub obeyed-beside : (old : PlayModel C J) (what : Order) (result : Result (Unit {0}) PlayFault) (new : PlayModel C J) → Obeys moves gives_none takes_none old what result new → PlaysWhereBeside (Asked what) (IsEventOf what) old new
+  obeyed-beside old (order.Worker k) result new x = alone-beside old (order.Worker k) result new tt x
+  obeyed-beside old order.Carrier result new x = alone-beside old order.Carrier result new tt x
+  obeyed-beside old (order.Serve node verdict) result new x = alone-beside old (order.Serve node verdict) result new tt x
+  obeyed-beside old (order.Break node) result new x = alone-beside old (order.Break node) result new tt x
+  obeyed-beside old (order.Move move) result new x = alone-beside old (order.Move move) result new tt x
+  obeyed-beside old (order.Others node asking parts) (Ok u) new x =
+      subst (PlaysWhereBeside (Asked (order.Others node asking parts)) (IsEventOfOthers node asking parts.items) old) (sym x.1) (others-came old node asking parts.items new.told new.cluster x.0)
+  obeyed-beside old (order.Others node asking parts) (Err why) new x =
+      let what : Order = order.Others node asking parts in
+      beside (Asked what) (Own what) (IsEventOf what) (λ event is. is) old new (same (Asked what) (Own what) old new x.1)
+
+  plainly-obeyed : (old : PlayModel C J) (what : Order) (result : Result (Unit {0}) PlayFault) (new : PlayModel C J) → Obeys moves gives_none takes_none old what result new → PlaysToBeside old new
+  plainly-obeyed old what result new x = plainly-beside (Asked what) (IsEventOf what) old new (obeyed-beside old what result new x)
 
   obeyed-all-beside : (orders : List Order) (old : PlayModel C J) (result : Result (Unit {0}) PlayFault) (new : PlayModel C J) → ObeysAll moves gives_none takes_none old orders result new → PlaysToBeside old new
-  obeyed-all-beside [] old result new x = beside old new (same old new x.1)
-  obeyed-all-beside (what ∷ orders) old result new (inl x) = goes-beside old x.0 new (obeyed-beside old what (Ok tt) x.0 x.1) (obeyed-all-beside orders x.0 result new x.2)
-  obeyed-all-beside (what ∷ orders) old result new (inr x) = obeyed-beside old what (Err x.0) new x.2
+  obeyed-all-beside [] old result new x = λ s shows. (s, ([], refl), subst (λ (p : PlayModel C J). Shows p s) (sym x.1) shows)
+  obeyed-all-beside (what ∷ orders) old result new (inl x) = goes-beside old x.0 new (plainly-obeyed old what (Ok tt) x.0 x.1) (obeyed-all-beside orders x.0 result new x.2)
+  obeyed-all-beside (what ∷ orders) old result new (inr x) = plainly-obeyed old what (Err x.0) new x.2
 
   pub obeyed-is-sound-beside : PlaysRefineBeside C J → ObeyedIsSoundBeside C J moves gives_none takes_none
   obeyed-is-sound-beside refine old new orders result x = soundly-beside refine old new (obeyed-all-beside orders old result new x)

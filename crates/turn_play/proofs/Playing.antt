@@ -1,6 +1,7 @@
 -- What each order does is steps of a system.
 use Rattle.std.proofs.Common.{◌≡◌, inl, inr, ℕ, zero, suc, Bool, true, false, List, [], ◌∷◌, ◌++◌, Some, Ok, refl, sym, ap, ◌∙◌, subst}
-use Rattle.std.specs.Prelude.{Result, Err, slice_get, slice_set}
+use Rattle.std.specs.Prelude.{Result, Err, All, slice_get, slice_set}
+use Rattle.std.proofs.lemmas.List.Elements.{All-cons, All-head, All-nil, All-tail}
 use Rattle.resp_wire.specs.declared.value.Value.{Value}
 use Rattle.slot_map.specs.Table.{Endpoint}
 use Rattle.node_model.specs.Nodes.{ClusterModel}
@@ -14,16 +15,18 @@ use Rattle.proxy_turns.specs.Swapping.{SwapOutcome, with_port}
 use Rattle.world_laws.specs.declared.event.Event.{Event}
 use Rattle.turn_laws.specs.Wire.{Wire, Item, Asks, Runs, Lists, Execution, executions, parts_in}
 use Rattle.turn_laws.specs.System.{System}
-use Rattle.turn_laws.specs.Steps.{AtNode, Moved, log_of}
+use Rattle.turn_laws.specs.Steps.{SystemEvent, AtWorker, AtCarrier, Handed, AtNode, AtBroken, Thrown, Moved, log_of}
 use Rattle.turn_laws.specs.AnyPort.{IsWired, AreWired, over_link, link_over, over_backend, over_backends, over_wires}
 use Rattle.turn_play.specs.declared.fault.PlayFault.{PlayFault}
-use Rattle.turn_play.specs.May.{MayServeNext, ClusterMoves}
+use Rattle.turn_play.specs.May.{MayServeNext, ClusterMoves, MayNow, MayMoveNow}
 use Rattle.turn_play.specs.Played.{Step, Leads, PlaysRefine}
-use Rattle.turn_play.specs.Turns.{PlaysWorker, ShowsCarrier, PlaysCarrier}
+use Rattle.turn_laws.specs.Sharing.{SharedEvent}
+use Rattle.turn_play.specs.Beside.{StepBeside, LeadsBeside, MayNowBeside}
+use Rattle.turn_play.specs.Turns.{IsWorkers, IsCarriers, PlaysWorker, ShowsCarrier, PlaysCarrier}
 use Rattle.turn_play.specs.Port.{PortModel, IsEnd}
 use Rattle.turn_play.specs.Waiting.{asking_after}
 use Rattle.turn_play.specs.Serving.{IsSaid, PortServes, ServeOutcome, ServesAt, BreaksAt, okay}
-use Rattle.turn_play.specs.Playing.{PlayModel, PlaysTo, PlaysSoundly}
+use Rattle.turn_play.specs.Playing.{PlayModel, Shows, PlaysTo, PlaysSoundly}
 use Rattle.turn_play.proofs.Turning.{set-itself}
 
 -- ---- the wire of a backend
@@ -111,10 +114,74 @@ served table k node port wire on verdict k' port' x = by-item table k node port 
 
 -- ---- a play
 
+-- the node serves, as the verdict says
+abbrev pub IsServed : ℕ → Verdict → SystemEvent → Type 0
+IsServed node verdict event = event ≡ AtNode node verdict
+
 module _ {C J : Type 0} where
   leads-join : (a : System C J) (steps : List (Step C J)) (b : System C J) (later : List (Step C J)) (c : System C J) → Leads a steps b → Leads b later c → Leads a (steps ++ later) c
   leads-join a [] b later c x y = subst (λ (s : System C J). Leads s later c) (sym x) y
   leads-join a (step ∷ steps) b later c x y = (x.0, leads-join step.next steps b later c x.1 y)
+
+  -- The events of these steps may happen, each in the system that it finds.
+  abbrev pub AreMay : System C J → List (Step C J) → Type 0
+  AreMay s [] = Unit {0}
+  AreMay s (step ∷ steps) = MayNow s step.event × AreMay step.next steps
+
+  abbrev pub EachIs : (SystemEvent → Type 0) → List (Step C J) → Type 0
+  EachIs Is steps = All (λ (step : Step C J). Is step.event) steps
+
+  none-is : (Is : SystemEvent → Type 0) → EachIs Is []
+  none-is Is = All-nil (λ (step : Step C J). Is step.event)
+
+  pub one-is : (Is : SystemEvent → Type 0) (step : Step C J) → Is step.event → EachIs Is (step ∷ [])
+  one-is Is step x = All-cons (λ (step : Step C J). Is step.event) step [] x (none-is Is)
+
+  -- Each system that showed the old play took steps to one that shows the new, each such an event. Where this is given of the system, they
+  -- may happen.
+  abbrev pub PlaysWhere : (System C J → Type 0) → (SystemEvent → Type 0) → PlayModel C J → PlayModel C J → Type 0
+  PlaysWhere Given Is old new = (s : System C J) → Shows old s → (s' : System C J) × ((steps : List (Step C J)) × Leads s steps s' × (Given s → AreMay s steps) × EachIs Is steps) × Shows new s'
+
+  -- the same where others act
+  abbrev pub AreMayBeside : System C J → List (StepBeside C J) → Type 0
+  AreMayBeside s [] = Unit {0}
+  AreMayBeside s (step ∷ steps) = MayNowBeside s step.event × AreMayBeside step.next steps
+
+  abbrev pub PlaysWhereBeside : (System C J → Type 0) → (SharedEvent → Type 0) → PlayModel C J → PlayModel C J → Type 0
+  PlaysWhereBeside Given Is old new =
+      (s : System C J) → Shows old s
+      → (s' : System C J) × ((steps : List (StepBeside C J)) × LeadsBeside s steps s' × (Given s → AreMayBeside s steps) × All (λ (step : StepBeside C J). Is step.event) steps) × Shows new s'
+
+  -- whatever is given of it
+  pub plainly : (Given : System C J → Type 0) (Is : SystemEvent → Type 0) (old new : PlayModel C J) → PlaysWhere Given Is old new → PlaysTo old new
+  plainly Given Is old new x s shows = let one = x s shows in (one.0, (one.1.0, one.1.1), one.2)
+
+  workers-may : (k : ℕ) (event : SystemEvent) (s : System C J) → IsWorkers k event → MayNow s event
+  workers-may k (AtWorker j event) s is = tt
+  workers-may k (AtCarrier event) s is = absurd is
+  workers-may k (Handed j number) s is = absurd is
+  workers-may k (AtNode j verdict) s is = absurd is
+  workers-may k (AtBroken j verdict) s is = absurd is
+  workers-may k (Thrown j) s is = absurd is
+  workers-may k (Moved event) s is = absurd is
+
+  carriers-may : (event : SystemEvent) (s : System C J) → IsCarriers event → MayNow s event
+  carriers-may (AtCarrier event) s is = tt
+  carriers-may (AtWorker j event) s is = absurd is
+  carriers-may (Handed j number) s is = absurd is
+  carriers-may (AtNode j verdict) s is = absurd is
+  carriers-may (AtBroken j verdict) s is = absurd is
+  carriers-may (Thrown j) s is = absurd is
+  carriers-may (Moved event) s is = absurd is
+
+  all-may : (Is : SystemEvent → Type 0) → ((event : SystemEvent) (s : System C J) → Is event → MayNow s event) → (steps : List (Step C J)) (s : System C J) → All (λ (step : Step C J). Is step.event) steps → AreMay s steps
+  all-may Is may [] s all = tt
+  all-may Is may (step ∷ steps) s all =
+      (may step.event s (All-head (λ (x : Step C J). Is x.event) step steps all), all-may Is may steps step.next (All-tail (λ (x : Step C J). Is x.event) step steps all))
+
+  -- nothing is asked of the system
+  abbrev pub Any : System C J → Type 0
+  Any s = Unit {0}
 
   pub plays-on : (a b c : PlayModel C J) → PlaysTo a b → PlaysTo b c → PlaysTo a c
   plays-on a b c x y s shows =
@@ -122,8 +189,8 @@ module _ {C J : Type 0} where
       let two = y one.0 one.2 in
       (two.0, (one.1.0 ++ two.1.0, leads-join s one.1.0 one.0 two.1.0 two.0 one.1.1 two.1.1), two.2)
 
-  pub plays-none : (a : PlayModel C J) → PlaysTo a a
-  plays-none a s shows = (s, ([], refl), shows)
+  pub plays-none : (Given : System C J → Type 0) (Is : SystemEvent → Type 0) (a : PlayModel C J) → PlaysWhere Given Is a a
+  plays-none Given Is a s shows = (s, ([], refl, (λ given. tt), none-is Is), shows)
 
   pub plays-soundly : PlaysRefine C J → (a b : PlayModel C J) → PlaysTo a b → PlaysSoundly a b
   plays-soundly refine a b x s shows =
@@ -132,11 +199,11 @@ module _ {C J : Type 0} where
 
   -- a worker's turn
   pub worker-turned : (old : PlayModel C J) (k : ℕ) (model new : WorkerModel C J) → slice_get old.workers k ≡ Some model
-      → ((s : System C J) → slice_get s.workers k ≡ Some model → PlaysWorker s k new) → PlaysTo old (record old { workers = slice_set old.workers k new })
+      → ((s : System C J) → slice_get s.workers k ≡ Some model → PlaysWorker s k new) → PlaysWhere Any (IsWorkers k) old (record old { workers = slice_set old.workers k new })
   worker-turned old k model new at turns s shows =
       let x = turns s (ap (λ ws. slice_get ws k) shows.workers ∙ at) in (
         x.0,
-        x.1,
+        (x.1.0, x.1.1, (λ given. all-may (IsWorkers k) (workers-may k) x.1.0 s x.1.2), x.1.2),
         record {
           workers = ap (λ (t : System C J). t.workers) x.2 ∙ ap (λ ws. slice_set ws k new) shows.workers;
           carrier = (shows.carrier.0, shows.carrier.1, ap (λ (t : System C J). t.carrier) x.2 ∙ shows.carrier.2);
@@ -146,11 +213,11 @@ module _ {C J : Type 0} where
       )
 
   -- the carrier's
-  pub carrier-turned : (old : PlayModel C J) (new : CarrierModel (Newcomer C J) PortModel) → ((s : System C J) → ShowsCarrier IsEnd old.carrier s → PlaysCarrier IsEnd s new) → PlaysTo old (record old { carrier = new })
+  pub carrier-turned : (old : PlayModel C J) (new : CarrierModel (Newcomer C J) PortModel) → ((s : System C J) → ShowsCarrier IsEnd old.carrier s → PlaysCarrier IsEnd s new) → PlaysWhere Any IsCarriers old (record old { carrier = new })
   carrier-turned old new turns s shows =
       let x = turns s shows.carrier in (
         x.0,
-        x.1,
+        (x.1.0, x.1.1, (λ given. all-may IsCarriers carriers-may x.1.0 s x.1.2), x.1.2),
         record {
           workers = ap (λ (t : System C J). t.workers) x.3 ∙ shows.workers;
           carrier = x.2;
@@ -160,11 +227,11 @@ module _ {C J : Type 0} where
       )
 
   -- a step of a move
-  pub moved : (old : PlayModel C J) (event : Event) (k : ClusterModel) → ClusterMoves old.cluster event k → PlaysTo old (record old { cluster = k })
+  pub moved : (old : PlayModel C J) (event : Event) (k : ClusterModel) → ClusterMoves old.cluster event k → PlaysWhere (λ s. MayMoveNow s event) (λ e. e ≡ Moved event) old (record old { cluster = k })
   moved old event k x s shows =
       let next : System C J = record s { cluster = k } in (
         next,
-        (record { event = Moved event; next = next } ∷ [], ((subst (λ (c : ClusterModel). ClusterMoves c event k) (sym shows.cluster) x, refl), refl)),
+        (record { event = Moved event; next = next } ∷ [], ((subst (λ (c : ClusterModel). ClusterMoves c event k) (sym shows.cluster) x, refl), refl), (λ given. (given, tt)), one-is (λ e. e ≡ Moved event) (record { event = Moved event; next = next }) refl),
         record { workers = shows.workers; carrier = shows.carrier; cluster = refl; nodes = shows.nodes },
       )
 
@@ -197,15 +264,15 @@ module _ {C J : Type 0} where
     )
 
   -- it is broken
-  pub broke : (old : PlayModel C J) (node : ℕ) (new : CarrierModel (Newcomer C J) PortModel) → BreaksAt node old.carrier new → PlaysTo old (record old { carrier = new })
-  broke old node new (inl same) s shows = (s, ([], refl), record { workers = shows.workers; carrier = subst (λ (c : CarrierModel (Newcomer C J) PortModel). ShowsCarrier IsEnd c s) (sym same.1) shows.carrier; cluster = shows.cluster; nodes = shows.nodes })
+  pub broke : (old : PlayModel C J) (node : ℕ) (new : CarrierModel (Newcomer C J) PortModel) → BreaksAt node old.carrier new → PlaysWhere Any (λ e. ⊥) old (record old { carrier = new })
+  broke old node new (inl same) s shows = (s, ([], refl, (λ given. tt), none-is (λ e. ⊥)), record { workers = shows.workers; carrier = subst (λ (c : CarrierModel (Newcomer C J) PortModel). ShowsCarrier IsEnd c s) (sym same.1) shows.carrier; cluster = shows.cluster; nodes = shows.nodes })
   broke old node new (inr x) s shows =
       let end = at-end old.carrier new node x.0 (record x.0 { broken = true }) x.1 s shows.carrier in
       let its = its-end old.carrier new node x.0 (record x.0 { broken = true }) x.1 s shows.carrier in
       let here = there old.carrier new node x.0 (record x.0 { broken = true }) x.1 s shows.carrier in
       let same : record (over_backend x.1.0 end.0) { link = Some (record (over_link x.1.1 end.0) { port = end.0 }) } ≡ over_backend x.1.0 end.0 = λ i. over_backend (record x.1.0 { link = sym x.1.3 i }) end.0 in (
         s,
-        ([], refl),
+        ([], refl, (λ given. tt), none-is (λ e. ⊥)),
         record {
           workers = shows.workers;
           carrier = shows-after old.carrier new node x.0 (record x.0 { broken = true }) x.1 s shows.carrier end.0 its s
@@ -217,7 +284,7 @@ module _ {C J : Type 0} where
 
   -- what waits first is served
   served-at : (old : PlayModel C J) (node : ℕ) (verdict : Verdict) (k : ClusterModel) (new : CarrierModel (Newcomer C J) PortModel) (port port' : PortModel) → SwapOutcome node old.carrier port' (Ok port) new → PortServes old.nodes old.cluster node port verdict k port'
-      → PlaysTo old (record old { carrier = new; cluster = k })
+      → PlaysWhere Any (IsServed node verdict) old (record old { carrier = new; cluster = k })
   served-at old node verdict k new port port' x y s shows =
       let end = at-end old.carrier new node port port' x s shows.carrier in
       let its = its-end old.carrier new node port port' x s shows.carrier in
@@ -231,6 +298,8 @@ module _ {C J : Type 0} where
         (
           record { event = AtNode node verdict; next = next } ∷ [],
           ((over_backend x.0 end.0, over_link x.1 end.0, r.0, r.1, r.2, here, ap (λ o. link_over o end.0) x.3, x.4, serves, r.4, refl), refl),
+          (λ given. (tt, tt)),
+          one-is (IsServed node verdict) (record { event = AtNode node verdict; next = next }) refl,
         ),
         record {
           workers = shows.workers;
@@ -241,14 +310,14 @@ module _ {C J : Type 0} where
       )
 
   -- nothing waited, so the port is as it was
-  idle-at : (old : PlayModel C J) (node : ℕ) (k : ClusterModel) (new : CarrierModel (Newcomer C J) PortModel) (port port' : PortModel) → SwapOutcome node old.carrier port' (Ok port) new → k ≡ old.cluster → port' ≡ port → PlaysTo old (record old { carrier = new; cluster = k })
-  idle-at old node k new port port' x same-cluster same-port s shows =
+  idle-at : (old : PlayModel C J) (node : ℕ) (verdict : Verdict) (k : ClusterModel) (new : CarrierModel (Newcomer C J) PortModel) (port port' : PortModel) → SwapOutcome node old.carrier port' (Ok port) new → k ≡ old.cluster → port' ≡ port → PlaysWhere Any (IsServed node verdict) old (record old { carrier = new; cluster = k })
+  idle-at old node verdict k new port port' x same-cluster same-port s shows =
       let end = at-end old.carrier new node port port' x s shows.carrier in
       let its = its-end old.carrier new node port port' x s shows.carrier in
       let here = there old.carrier new node port port' x s shows.carrier in
       let same : record (over_backend x.0 end.0) { link = Some (record (over_link x.1 end.0) { port = end.0 }) } ≡ over_backend x.0 end.0 = λ i. over_backend (record x.0 { link = sym x.3 i }) end.0 in (
         s,
-        ([], refl),
+        ([], refl, (λ given. tt), none-is (IsServed node verdict)),
         record {
           workers = shows.workers;
           carrier = shows-after old.carrier new node port port' x s shows.carrier end.0 (subst (λ (p : PortModel). IsEnd p end.0) (sym same-port) its) s
@@ -259,15 +328,15 @@ module _ {C J : Type 0} where
       )
 
   did-serve : (old : PlayModel C J) (node : ℕ) (verdict : Verdict) (k : ClusterModel) (new : CarrierModel (Newcomer C J) PortModel) (port port' : PortModel) (moved : Bool) → SwapOutcome node old.carrier port' (Ok port) new → ServeOutcome old.nodes old.cluster node port verdict (Ok moved) k port'
-      → PlaysTo old (record old { carrier = new; cluster = k })
+      → PlaysWhere Any (IsServed node verdict) old (record old { carrier = new; cluster = k })
   did-serve old node verdict k new port port' true x y = served-at old node verdict k new port port' x y
-  did-serve old node verdict k new port port' false x y = idle-at old node k new port port' x y.1 y.2
+  did-serve old node verdict k new port port' false x y = idle-at old node verdict k new port port' x y.1 y.2
 
   -- nothing has changed
-  stays : (old : PlayModel C J) (k : ClusterModel) (new : CarrierModel (Newcomer C J) PortModel) → k ≡ old.cluster → new ≡ old.carrier → PlaysTo old (record old { carrier = new; cluster = k })
-  stays old k new same same-carrier s shows = (s, ([], refl), record { workers = shows.workers; carrier = subst (λ (c : CarrierModel (Newcomer C J) PortModel). ShowsCarrier IsEnd c s) (sym same-carrier) shows.carrier; cluster = shows.cluster ∙ sym same; nodes = shows.nodes })
+  stays : (Is : SystemEvent → Type 0) (old : PlayModel C J) (k : ClusterModel) (new : CarrierModel (Newcomer C J) PortModel) → k ≡ old.cluster → new ≡ old.carrier → PlaysWhere Any Is old (record old { carrier = new; cluster = k })
+  stays Is old k new same same-carrier s shows = (s, ([], refl, (λ given. tt), none-is Is), record { workers = shows.workers; carrier = subst (λ (c : CarrierModel (Newcomer C J) PortModel). ShowsCarrier IsEnd c s) (sym same-carrier) shows.carrier; cluster = shows.cluster ∙ sym same; nodes = shows.nodes })
 
-  pub serves : (old : PlayModel C J) (node : ℕ) (verdict : Verdict) (result : Result (Unit {0}) PlayFault) (k : ClusterModel) (new : CarrierModel (Newcomer C J) PortModel) → ServesAt old.nodes old.cluster node old.carrier verdict result k new → PlaysTo old (record old { carrier = new; cluster = k })
-  serves old node verdict (Ok u) k new (inl x) = stays old k new x.1 x.2
+  pub serves : (old : PlayModel C J) (node : ℕ) (verdict : Verdict) (result : Result (Unit {0}) PlayFault) (k : ClusterModel) (new : CarrierModel (Newcomer C J) PortModel) → ServesAt old.nodes old.cluster node old.carrier verdict result k new → PlaysWhere Any (IsServed node verdict) old (record old { carrier = new; cluster = k })
+  serves old node verdict (Ok u) k new (inl x) = stays (IsServed node verdict) old k new x.1 x.2
   serves old node verdict (Ok u) k new (inr x) = did-serve old node verdict k new x.0 x.1 x.2 x.3 x.4
-  serves old node verdict (Err why) k new x = stays old k new x.3 x.4
+  serves old node verdict (Err why) k new x = stays (IsServed node verdict) old k new x.3 x.4

@@ -20,7 +20,7 @@ use Rattle.turn_laws.specs.Wire.{Wire, Execution, AreTold, ServesNext, parts_in}
 use Rattle.turn_laws.specs.System.{System}
 use Rattle.turn_laws.specs.Shadow.{IsShadow}
 use Rattle.turn_laws.specs.Underway.{IsWorking}
-use Rattle.turn_laws.specs.Steps.{SystemEvent, AtWorker, AtCarrier, AtNode, AtBroken, Thrown, Moved, SystemStep, WorkerStep, Serves, MovesOn}
+use Rattle.turn_laws.specs.Steps.{SystemEvent, AtWorker, AtCarrier, Handed, AtNode, AtBroken, Thrown, Moved, SystemStep, WorkerStep, Serves, MovesOn}
 use Rattle.turn_laws.specs.Naming.{NamesNodes}
 use Rattle.turn_laws.specs.Refines.{NamesStay, Refines, StartsRefine, IsStart}
 use Rattle.turn_laws.specs.LogHeadline.{HeadlineOfLogs, LogsAreHeld}
@@ -116,6 +116,7 @@ module _ {C J : Type 0} where
   pub step-holds : WrittenIsHeard → (s s' : System C J) (w : WorldModel) → IsShadow s w → NamesNodes s → HearsItsNodes s → (event : SystemEvent) → MayStep s event s' → MayNow s event → IsInOrder s' → SystemStep s event s'
   step-holds heard s s' w h names hears (AtWorker k event) x now order = worker-holds s s' w h k event x order
   step-holds heard s s' w h names hears (AtCarrier event) x now order = record { longest = x.longest; does = x.does; breaks = x.breaks; leaves = x.leaves; in_step = order.ups; table = subst (λ (nodes : List Endpoint). IsPrefix s'.carrier.nodes nodes) (ap (λ (t : System C J). t.nodes) x.leaves) order.table }
+  step-holds heard s s' w h names hears (Handed k number) x now order = x
   step-holds heard s s' w h names hears (AtNode k verdict) x now order = serves-holds heard s s' w h names hears k verdict x
   step-holds heard s s' w h names hears (AtBroken j verdict) x now order = x
   step-holds heard s s' w h names hears (Thrown j) x now order = x
@@ -125,6 +126,7 @@ module _ {C J : Type 0} where
   same-nodes : (s s' : System C J) (event : SystemEvent) → MayStep s event s' → s'.nodes ≡ s.nodes
   same-nodes s s' (AtWorker k event) x = ap (λ (t : System C J). t.nodes) x.leaves
   same-nodes s s' (AtCarrier event) x = ap (λ (t : System C J). t.nodes) x.leaves
+  same-nodes s s' (Handed k number) x = ap (λ (t : System C J). t.nodes) x.4
   same-nodes s s' (AtNode k verdict) x = ap (λ (t : System C J). t.nodes) x.10
   same-nodes s s' (AtBroken j verdict) x = ap (λ (t : System C J). t.nodes) x.7
   same-nodes s s' (Thrown j) x = ap (λ (t : System C J). t.nodes) x.2

@@ -1,15 +1,11 @@
 -- A run of others that a node executed is a step of others.
-use Rattle.std.proofs.Common.{◌≡◌, ◌∙◌, inl, inr, ℕ, ◌%◌, Bool, List, [], ◌∷◌, ◌++◌, refl, sym, ap, subst, arith, length}
+use Rattle.std.proofs.Common.{◌≡◌, ◌∙◌, ℕ, Bool, List, [], ◌∷◌, ◌++◌, refl, sym, ap, subst, arith, length}
 use Rattle.std.specs.Prelude.{All, map}
-use Rattle.std.proofs.lemmas.List.{append-nil}
 use Rattle.std.proofs.lemmas.List.Elements.{All-cons, All-head, All-nil, All-tail, All-weaker}
 use Rattle.slot_hash.specs.Slot.{slot_of}
-use Rattle.resp_wire.specs.Seen.{data_of}
-use Rattle.resp_wire.specs.declared.value.Value.{Value}
 use Rattle.key_split.specs.PartModel.{PartModel, HasOneSlot, keys_of}
 use Rattle.key_split.specs.declared.travel.Ticket.{Ticket}
 use Rattle.key_split.specs.declared.travel.Told.{Told}
-use Rattle.key_split.specs.declared.travel.Told.TheVariants.{Reply}
 use Rattle.node_model.specs.History.{EntryModel, IsLegal, left_by}
 use Rattle.node_model.specs.Nodes.{ClusterModel, store_at, with_store}
 use Rattle.node_model.specs.Runs.{AreReplies, DoesRun, HaveOneSlot, deed_for, first_key, keys_in, store_after_all}
@@ -28,7 +24,9 @@ use Rattle.turn_laws.specs.System.{System}
 use Rattle.turn_laws.specs.Steps.{log_of}
 use Rattle.turn_play.specs.Beside.{OthersMay, StepBeside, parts_of}
 use Rattle.turn_play.specs.Others.{AreServed}
-use Rattle.turn_play.specs.Playing.{PlayModel, PlaysToBeside, Shows}
+use Rattle.turn_play.specs.Playing.{PlayModel}
+use Rattle.turn_play.specs.Deeds.{IsEventOfOthers}
+use Rattle.turn_play.proofs.Playing.{PlaysWhereBeside}
 
 -- ---- keys
 
@@ -130,8 +128,24 @@ executed-each store (c ∷ cs) (told ∷ tolds) x =
       λ workers. All-cons (AreOfOne workers 0) one later.0 (refl, no-worker workers) (later.3 workers),
     )
 
+-- each of its commands follows a true ASK
+each-asks : (k : ClusterModel) (node : ℕ) (asking : Bool) (done : List Execution) → All (λ (part : PartModel). AskIsTrue k node asking part) (parts_of done) → All (λ (e : Execution). AskIsTrue k node asking e.part) done
+each-asks k node asking [] all = All-nil (λ (e : Execution). AskIsTrue k node asking e.part)
+each-asks k node asking (e ∷ done) all =
+    All-cons (λ (x : Execution). AskIsTrue k node asking x.part) e done
+    (All-head (λ (part : PartModel). AskIsTrue k node asking part) e.part (parts_of done) all)
+    (each-asks k node asking done (All-tail (λ (part : PartModel). AskIsTrue k node asking part) e.part (parts_of done) all))
+
 module _ {C J : Type 0} (old : PlayModel C J) (node : ℕ) (asking : Bool) (cs : List PartModel) (told : List Told) (k : ClusterModel) where
-  by-deed : (deed : Deed) → deed_for old.cluster node asking cs Plain ≡ deed → IsNode old.cluster node → HaveOneSlot cs → DoesRun deed old.cluster node cs told k → PlaysToBeside old (record old { cluster = k; told = told })
+  -- an ASK that they follow is true
+  abbrev Asks : System C J → Type 0
+  Asks s = All (λ (part : PartModel). AskIsTrue s.cluster node asking part) cs
+
+  -- they come to this node
+  abbrev Comes : SharedEvent → Type 0
+  Comes event = IsEventOfOthers node asking cs event
+
+  by-deed : (deed : Deed) → deed_for old.cluster node asking cs Plain ≡ deed → IsNode old.cluster node → HaveOneSlot cs → DoesRun deed old.cluster node cs told k → PlaysWhereBeside Asks Comes old (record old { cluster = k; told = told })
   by-deed Executes is there one x s shows =
       let run = executed-each (store_at old.cluster node) cs told x.0 in
       let next : System C J = record s { cluster = k; log = s.log ++ log_of run.0 } in
@@ -146,11 +160,11 @@ module _ {C J : Type 0} (old : PlayModel C J) (node : ℕ) (asking : Bool) (cs :
         leaves = λ i. record s { cluster = (x.1 ∙ (λ j. with_store (same j) node (store_after_all (store_at (same j) node) (sym run.1 j)))) i; log = s.log ++ log_of run.0 };
       } in (
         next,
-        (record { event = SharedEvent.Theirs node asking run.0; next = next } ∷ [], (may, refl)),
+        (record { event = SharedEvent.Theirs node asking run.0; next = next } ∷ [], (may, refl), (λ given. (each-asks s.cluster node asking run.0 (subst (λ parts. All (λ (part : PartModel). AskIsTrue s.cluster node asking part) parts) (sym run.1) given), tt)), All-cons (λ (step : StepBeside C J). Comes step.event) (record { event = SharedEvent.Theirs node asking run.0; next = next }) [] (refl, refl, run.1) (All-nil (λ (step : StepBeside C J). Comes step.event))),
         record { workers = shows.workers; carrier = shows.carrier; cluster = refl; nodes = shows.nodes },
       )
-  by-deed (Says said) is there one x s shows = (s, ([], refl), record { workers = shows.workers; carrier = shows.carrier; cluster = shows.cluster ∙ sym x.1; nodes = shows.nodes })
+  by-deed (Says said) is there one x s shows = (s, ([], refl, (λ given. tt), All-nil (λ (step : StepBeside C J). Comes step.event)), record { workers = shows.workers; carrier = shows.carrier; cluster = shows.cluster ∙ sym x.1; nodes = shows.nodes })
 
   -- they came to a node
-  pub others-came : AreServed old.cluster node asking cs told k → PlaysToBeside old (record old { cluster = k; told = told })
+  pub others-came : AreServed old.cluster node asking cs told k → PlaysWhereBeside Asks Comes old (record old { cluster = k; told = told })
   others-came x = by-deed (deed_for old.cluster node asking cs Plain) refl x.0 x.1 x.2

@@ -2,6 +2,7 @@
 use Rattle.std.proofs.Common.{◌≡◌, ℕ, zero, suc, Bool, List, [], ◌∷◌, ◌++◌, Some, Ok, Err, refl, sym, ap, ◌∙◌, subst, cond}
 use Rattle.std.specs.Prelude.{Result, slice_get, slice_set}
 use Rattle.std.specs.List.{FoldsTo}
+use Rattle.std.proofs.lemmas.List.Elements.{All-cons, All-nil}
 use Rattle.std.specs.Ordering.{nat_cmp}
 use Rattle.std.specs.FinMap.{FinMap, get, insert, get-insert}
 use Rattle.std.specs.Cmp.{nat_cmp_total}
@@ -20,7 +21,8 @@ use Rattle.turn_laws.specs.Steps.{AtWorker, AtCarrier, IsSeen, opened_by, seen_a
 use Rattle.turn_laws.specs.PortsMay.{any_moves, any_failures, any_garbled, any_none}
 use Rattle.turn_laws.specs.AnyPort.{AnyClientTurns, AnyPorts, AreWired, OpensWires, over_wires}
 use Rattle.turn_play.specs.May.{WorkerMay, CarrierMay}
-use Rattle.turn_play.specs.Turns.{PlaysWorker, WorkersPlay, ShowsCarrier, PlaysCarrier}
+use Rattle.turn_play.specs.Played.{Step}
+use Rattle.turn_play.specs.Turns.{IsWorkers, IsCarriers, PlaysWorker, WorkersPlay, ShowsCarrier, PlaysCarrier}
 use Rattle.turn_play.proofs.Breaking.{broken}
 use Rattle.turn_play.proofs.Numbers.{itself}
 
@@ -54,14 +56,14 @@ module _ {C J : Type 0} where
   worker-plays : (k : ℕ) (events : List WorkerEvent) (s : System C J) (old new : WorkerModel C J) → slice_get s.workers k ≡ Some old → FoldsTo (WorkerDoes any_moves) old events new → PlaysWorker s k new
   worker-plays k [] s old new at f =
       let same : slice_set s.workers k new ≡ s.workers = ap (λ x. slice_set s.workers k x) (sym f) ∙ set-itself s.workers k old at in
-      (s, ([], refl), λ i. record s { workers = sym same i })
+      (s, ([], refl, All-nil (λ (step : Step C J). IsWorkers k step.event)), λ i. record s { workers = sym same i })
   worker-plays k (event ∷ events) s old new at f =
       let look = seen event old f.0 f.1 in
       let next : System C J = record s { workers = slice_set s.workers k f.0; log = s.log ++ look.0 } in
       let here : WorkerMay s k event next = record { old = old; new = f.0; marks = look.0; at = at; does = f.1; seen = look.1; leaves = refl } in
       let later = worker-plays k events next f.0 new (set-same s.workers k old f.0 at) f.2 in (
         later.0,
-        (record { event = AtWorker k event; next = next } ∷ later.1.0, (here, later.1.1)),
+        (record { event = AtWorker k event; next = next } ∷ later.1.0, (here, later.1.1), All-cons (λ (step : Step C J). IsWorkers k step.event) (record { event = AtWorker k event; next = next }) later.1.0 refl later.1.2),
         later.2 ∙ (λ i. record s { workers = set-twice s.workers k f.0 new i; log = later.0.log }),
       )
 
@@ -93,12 +95,12 @@ module _ (C J : Type 0) {P : Type 0} (wired : P → Wire → Type 0) (failures :
       )
 
   carrier-plays : (events : List CarrierEvent) (s : System C J) (old new : Model) → ShowsCarrier wired old s → FoldsTo (CarrierDoes failures is_garbled exchange gives_none opens longest) old events new → PlaysCarrier wired s new
-  carrier-plays [] s old new shows f = (s, ([], refl), subst (λ c. ShowsCarrier wired c s) f shows, refl)
+  carrier-plays [] s old new shows f = (s, ([], refl, All-nil (λ (step : Step C J). IsCarriers step.event)), subst (λ c. ShowsCarrier wired c s) f shows, refl)
   carrier-plays (event ∷ events) s old new shows f =
       let one = at-wires event s old f.0 shows.0 shows.1 shows.2 f.1 in
       let later = carrier-plays events one.0 f.0 new one.2 f.2 in (
         later.0,
-        (record { event = AtCarrier event; next = one.0 } ∷ later.1.0, (one.1, later.1.1)),
+        (record { event = AtCarrier event; next = one.0 } ∷ later.1.0, (one.1, later.1.1), All-cons (λ (step : Step C J). IsCarriers step.event) (record { event = AtCarrier event; next = one.0 }) later.1.0 tt later.1.2),
         later.2,
         later.3 ∙ (λ i. record (one.3 i) { carrier = later.0.carrier; closed = later.0.closed; opened = later.0.opened }),
       )

@@ -10,6 +10,9 @@ pub mod Moving
 pub mod Others
 pub mod Beside
 pub mod Obeying
+pub mod Deeds
+pub mod Handing
+pub mod Fleets
 pub mod Play
 pub mod Dialling
 pub mod Starting

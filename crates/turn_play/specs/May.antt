@@ -23,7 +23,7 @@ use Rattle.turn_laws.specs.Wire.{Wire, Item, Part, Asks, Runs, Lists, Exchanges,
 use Rattle.turn_laws.specs.System.{System, Mark}
 use Rattle.turn_laws.specs.Underway.{DownInStep}
 use Rattle.turn_laws.specs.Asking.{NoneAsksIn}
-use Rattle.turn_laws.specs.Steps.{SystemEvent, AtWorker, AtCarrier, AtNode, AtBroken, Thrown, Moved, IsSeen, Opens, Breaks, UpsInStep, ServesLate, Discards, opened_by, log_of}
+use Rattle.turn_laws.specs.Steps.{SystemEvent, AtWorker, AtCarrier, Handed, AtNode, AtBroken, Thrown, Moved, IsSeen, Opens, Hands, Breaks, UpsInStep, ServesLate, Discards, opened_by, log_of}
 use Rattle.turn_laws.specs.PortsMay.{any_moves, any_failures, any_garbled, any_none}
 use Rattle.turn_laws.specs.Writing.{AreWritten, CanBeNamed, StandsAtItsNodes}
 
@@ -86,6 +86,7 @@ module _ {C J : Type 0} where
   abbrev pub MayStep : System C J → SystemEvent → System C J → Type 0
   MayStep s (AtWorker k event) s' = WorkerMay s k event s'
   MayStep s (AtCarrier event) s' = CarrierMay s event s'
+  MayStep s (Handed k number) s' = Hands s k number s'
   MayStep s (AtNode k verdict) s' = ServesMay s k verdict s'
   MayStep s (AtBroken j verdict) s' = ServesLate s j verdict s'
   MayStep s (Thrown j) s' = Discards s j s'
@@ -116,6 +117,7 @@ module _ {C J : Type 0} where
   abbrev pub MayNow : System C J → SystemEvent → Type 0
   MayNow s (AtWorker k event) = Unit {0}
   MayNow s (AtCarrier event) = Unit {0}
+  MayNow s (Handed k number) = Unit {0}
   MayNow s (AtNode k verdict) = Unit {0}
   MayNow s (AtBroken j verdict) = Unit {0}
   MayNow s (Thrown j) = Unit {0}

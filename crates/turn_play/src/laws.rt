@@ -1,6 +1,9 @@
 //! What follows of the steps that the code made. Each law is the contract of a function that does nothing.
 
 ghost use Rattle.turn_play.specs.Beside.{PlaysRefineBeside};
+ghost use Rattle.turn_play.specs.Deeds.{ObeyedPlaysOn, ReachedAlone};
+ghost use Rattle.turn_play.specs.Fleets.{HandedInFleets, PlaysAreFleets};
+ghost use Rattle.turn_play.specs.Handing.{HandedIsSound};
 ghost use Rattle.turn_play.specs.Obeying.{ObeyedIsSound, ObeyedIsSoundBeside};
 ghost use Rattle.turn_play.specs.Played.{PlaysRefine};
 ghost use Rattle.turn_play.specs.Starting.{HandingKeeps, LanesAreOpen, PlaysStart};
@@ -12,8 +15,8 @@ use proxy_lanes::Naming;
 use proxy_turns::{ClientPort, Dial, Newcomer};
 use turn_laws::WiredPort;
 use turn_laws::laws::{
-    any_client, any_port, headline_beside_others, headline_of_logs, names_stay, refines,
-    slots_stand_at_nodes, starts_refine, written_is_heard,
+    any_client, any_port, headline_beside_others, headline_of_fleets, headline_of_logs, names_stay,
+    refines, slots_stand_at_nodes, starts_refine, written_is_heard,
 };
 
 /// From a start that hears its nodes, where the premises hold along them, the steps that the code made are steps of the system: so the
@@ -57,15 +60,44 @@ pub fn carriers_play<C: Drop, J: Naming, P: WiredPort, D: Dial<Port = P>>()
 }
 
 /// Whatever orders a play obeyed, it made steps of a system, where others came to its nodes beside others. From a start that hears its
-/// nodes, where the premises hold along them and along those before, the headline holds of them.
+/// nodes, where the premises hold along them and along those before, the headline holds of them. Order by order too: where each finds what
+/// it asks, and what two threads would share is in order, the system that is left was reached as the first was.
 pub fn obeyed_is_sound<C: ClientPort + Drop, J: Naming>()
     ensures alone { ObeyedIsSound C J C.moves C.gives_none C.takes_none }
     ensures beside { ObeyedIsSoundBeside C J C.moves C.gives_none C.takes_none }
+    ensures plays_on { ObeyedPlaysOn C J C.moves C.gives_none C.takes_none }
 {
     workers_play::<C, J>();
     carriers_play::<C, J, PlayPort, PlayDial>();
     plays_refine::<C, J>();
     plays_refine_beside::<C, J>();
+}
+
+/// A client that is handed to a worker of a play is a step of a system, or none where it comes back from a worker that there is not.
+pub fn handed_is_sound<C: Drop, J: Naming>()
+    ensures { HandedIsSound C J }
+{
+    plays_refine_beside::<C, J>();
+}
+
+/// Where a system was reached and nobody else acted, the headline holds of the whole log.
+pub fn reached_alone<C: Drop, J: Naming>()
+    ensures { ReachedAlone C J }
+{
+    plays_refine::<C, J>();
+}
+
+/// Several plays before one cluster are a fleet: each is what one proxy of it shows. A call of one of them in which nobody else acts is
+/// steps of its proxy, to a fleet that shows all plays after it, and the headline holds of each proxy's commands. So is a client that is
+/// handed to a worker of one of them.
+pub fn plays_are_fleets<C: ClientPort + Drop, J: Naming>()
+    ensures plays { PlaysAreFleets C J C.moves C.gives_none C.takes_none }
+    ensures handed { HandedInFleets C J }
+{
+    workers_play::<C, J>();
+    carriers_play::<C, J, PlayPort, PlayDial>();
+    written_is_heard();
+    headline_of_fleets::<C, J>();
 }
 
 /// A play over new lanes, with a new cluster whose nodes can be named, shows a start that hears its nodes.

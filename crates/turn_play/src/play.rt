@@ -4,6 +4,8 @@ ghost use Rattle.std.specs.Prelude.{◌≡◌, All, IfOk, map};
 ghost use Rattle.proxy_lanes.specs.Carrier.{lanes_of};
 ghost use Rattle.proxy_turns.specs.Worker.{worker_model};
 ghost use Rattle.node_model.specs.Nodes.{ClusterModel};
+ghost use Rattle.turn_play.specs.Deeds.{PlaysOn};
+ghost use Rattle.turn_play.specs.Handing.{HandsClient, HandsOn};
 ghost use Rattle.turn_play.specs.Obeying.{IsOurs, Obeys, ObeysAll, OthersCome, TurnsCarrier, TurnsWorker};
 ghost use Rattle.turn_play.specs.Play.{play_model, told_in};
 ghost use Rattle.turn_play.specs.Playing.{PlaysSoundly, PlaysSoundlyBeside};
@@ -12,7 +14,8 @@ ghost use Rattle.turn_play.specs.Starting.{IsBeginning, ShowsStart, new_play, wo
 use crate::connection::{break_at, serve_at};
 use crate::dial::PlayDial;
 use crate::fault::PlayFault;
-use crate::laws::{obeyed_is_sound, plays_start};
+use crate::handing::hand_to;
+use crate::laws::{handed_is_sound, obeyed_is_sound, plays_start};
 use crate::moves::move_on;
 use crate::order::Order;
 use crate::others::serve_others;
@@ -41,7 +44,7 @@ pub struct Play<'g, C: ClientPort + Drop, J: Naming, R: Wait + Drop, G: Gate> {
 impl<'g, C: ClientPort + Drop, J: Naming, R: Wait + Drop, G: Gate> Play<'g, C, J, R, G> {
     /// A play in which nothing was done: a worker over each of these ends, which is to take so many clients, the carrier over
     /// the other ends, with the seeds for its table. The nodes of its cluster listen where `nodes` says. Clients are handed over
-    /// before, through the carrier's ends. The seeds are the first of `nodes`, which has the others in the order in which the
+    /// before, through the carrier's ends, or by `hand`. The seeds are the first of `nodes`, which has the others in the order in which the
     /// carrier learns them: where that is not known, let all be seeds.
     pub fn new(
         alloc: Global,
@@ -102,11 +105,13 @@ impl<'g, C: ClientPort + Drop, J: Naming, R: Wait + Drop, G: Gate> Play<'g, C, J
     ///
     /// Of a system that shows the play before, what was done is steps to one that shows it after. Behind the steps that led there from
     /// a start that hears its nodes, those of earlier calls and what others did, where the premises hold along all of them, the headline
-    /// holds of all.
+    /// holds of all. Each order's steps are told apart: so the premises can be said of what each order finds, and what a call leaves is
+    /// what the next goes on from.
     pub fn play(&mut self, cluster: &mut Cluster, orders: &[Order]) -> Result<(), PlayFault>
         ensures obeys { ObeysAll C.moves C.gives_none C.takes_none (play_model self.old cluster.old) orders.now result (play_model self.new cluster.new) }
         ensures sound { All IsOurs orders.now → PlaysSoundly (play_model self.old cluster.old) (play_model self.new cluster.new) }
         ensures beside { PlaysSoundlyBeside (play_model self.old cluster.old) (play_model self.new cluster.new) }
+        ensures plays_on { PlaysOn C.moves C.gives_none C.takes_none (play_model self.old cluster.old) orders.now result (play_model self.new cluster.new) }
     {
         obeyed_is_sound::<C, J>();
         let mut rest = orders;
@@ -115,6 +120,16 @@ impl<'g, C: ClientPort + Drop, J: Naming, R: Wait + Drop, G: Gate> Play<'g, C, J
             rest = later;
         }
         Ok(())
+    }
+
+    /// Hands a new client to the worker at that place. It comes back where there is no such worker, or its lane has no place that is
+    /// known to be free.
+    pub fn hand(&mut self, worker: u16, client: Newcomer<C, J>) -> Result<(), Newcomer<C, J>>
+        ensures hands { (cluster : ClusterModel) → HandsClient (play_model self.old cluster) worker client result (play_model self.new cluster) }
+        ensures plays_on { (cluster : ClusterModel) → HandsOn (play_model self.old cluster) (play_model self.new cluster) }
+    {
+        handed_is_sound::<C, J>();
+        hand_to(&mut self.carrier, worker, client)
     }
 
     fn obey(&mut self, cluster: &mut Cluster, order: &Order) -> Result<(), PlayFault>

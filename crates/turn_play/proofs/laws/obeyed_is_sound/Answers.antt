@@ -1,3 +1,4 @@
+use Rattle.turn_play.proofs.Deeds.{obeyed-plays-on}
 use Rattle.turn_play.proofs.Obeyed.{obeyed-is-sound, obeyed-is-sound-beside}
 use Rattle.turn_play.proofs.laws.obeyed_is_sound.Goals as goal
 
@@ -6,3 +7,6 @@ returns-clause-alone g c = obeyed-is-sound g.row.C.Denot g.row.J.Denot g.C.Clien
 
 pub returns-clause-beside : goal.returns-clause-beside
 returns-clause-beside g c = obeyed-is-sound-beside g.row.C.Denot g.row.J.Denot g.C.ClientPort.moves g.C.ClientPort.gives_none g.C.ClientPort.takes_none c.workers_play.ensures c.carriers_play.ensures c.plays_refine_beside.ensures
+
+pub returns-clause-plays_on : goal.returns-clause-plays_on
+returns-clause-plays_on g c = obeyed-plays-on g.row.C.Denot g.row.J.Denot g.C.ClientPort.moves g.C.ClientPort.gives_none g.C.ClientPort.takes_none c.workers_play.ensures c.carriers_play.ensures c.plays_refine_beside.ensures
