@@ -18,6 +18,8 @@ LEFT_OUT = {
     "a_run_is_sent",
     # behind a turn that is made again the replies of two nodes come in another order
     "an_ask_is_given",
+    # it counts turns, and one that finds no memory and is made again is one more
+    "a_client_that_is_gone_drops_what_was_not_posted",
     # a call that is made again offers bytes again, which are counted
     "refused_bytes_are_offered_at_the_next_call",
     # they run a worker to its end by one call, which is not made again
