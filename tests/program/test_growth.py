@@ -53,7 +53,10 @@ TWO_CLIENTS_TEXT = b"reply 0 0 simple OK\nreply 0 1 integer 2\nreply 1 0 simple 
 # The tests of runs in threads, a program that runs one of them by its name, and what it says of one that fails, by its status: one that
 # finds no memory itself, and one whose run did not end as it asserts, which ends by an abort behind this line.
 TESTS = os.environ.get("THREAD_TESTS") or os.path.join(os.path.dirname(os.path.abspath(__file__)), "../../crates/layer_tests/out/layer_tests_tests")
-FAILED_SAYS = {101: rb"error: [^\n]+\nthe test failed: its result gives status 1\n", -signal.SIGABRT: rb"assertion failed: lose_all\(&rt\)\?\n"}
+FAILED_SAYS = {101: rb"error: [^\n]+\nthe test failed: its result gives status 1\n", -signal.SIGABRT: rb"assertion failed: fail_after\(&rt, 12\)\?\n"}
+
+# The scripts in which a slot moves, with the numbers of the events that gave the lines of their outputs.
+MOVING = {MOVE_SCRIPT: [22, 23, 14, 16], "get_before_and_after_its_key_moves": [7, 16, 31, 4, 13, 27]}
 
 # So many runs in a row whose growths were fewer than the one that is refused end a sweep of runs in threads.
 AGREED = 3
@@ -103,13 +106,13 @@ class Growth(unittest.TestCase):
     def test_local(self):
         self.sweep("local", lambda: self.ran(["local", "--workers", "2"], TWO_CLIENTS, TWO_CLIENTS_TEXT), AGREED)
 
-    def test_connections_that_pass_no_call_on(self):
-        """`run_faulty`, which no word of the program calls: the test of it passes, or fails and says so."""
+    def test_connections_that_fail_after_twelve_calls(self):
+        """`run_faulty` with two clients while a slot moves. No word of the program calls it: the test of it passes, or fails and says so."""
         if not os.access(TESTS, os.X_OK):
             self.skipTest("the tests of layer_tests are not there: rt ci builds them")
 
         def attempt():
-            words = [TESTS, "local_runs::connections_that_pass_no_call_on"]
+            words = [TESTS, "local_runs::connections_that_fail_after_twelve_calls"]
             environment = {**os.environ, **self.growths.variables}
             ran = subprocess.run(words, capture_output=True, timeout=LIMIT, check=False, env=environment)
             if ran.returncode == 0:
@@ -121,13 +124,17 @@ class Growth(unittest.TestCase):
         self.sweep("run_faulty", attempt, AGREED)
 
     def test_simulate(self):
-        """The move script: a growth that is refused at an event ends the run there, with the answers and the entries before it."""
-        row = next(row for row in rows_of("simulate_scripts.txt") if row.name == MOVE_SCRIPT)
-        moments = [22, 23, 14, 16]  # of the events that gave the lines of the output
+        """A script in which a slot moves: a growth that is refused at an event ends the run there, with the answers and the entries
+        before it."""
+        for row in rows_of("simulate_scripts.txt"):
+            if row.name in MOVING:
+                self.sweep_simulate(row, MOVING[row.name])
+
+    def sweep_simulate(self, row, moments):
         lines = row.wanted.splitlines(keepends=True)
         partial = []
-        for event in range(1, 26):
-            before = b"".join(line for line, moment in zip(lines, moments) if moment < event)
+        for event in range(1, len(row.given.splitlines()) + 1):
+            before = b"".join(line for line, moment in zip(lines, moments, strict=True) if moment < event)
             partial.append((1, before + b"refused %d NoMemory\n" % event))
 
         def attempt():
@@ -139,7 +146,7 @@ class Growth(unittest.TestCase):
             self.check_said(SAYS, status, said)
             return False
 
-        self.sweep("simulate", attempt)
+        self.sweep(f"simulate, {row.name}", attempt)
 
     def served(self, words, port, answers):
         """A run that answers a client's requests so, or ends for want of memory, before it listens or behind some replies."""

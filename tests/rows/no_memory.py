@@ -43,6 +43,8 @@ BY_ROWS = {
     "Session::feed": ("session_order", "mset_then_mget_as_bytes", "session feed"),
     "Session::read": ("session_order", "mset_then_mget_as_bytes", "session read"),
     "Session::drain": ("session_order", "replies_keep_the_order_of_the_requests", "session drain"),
+    "World::new": ("cluster_world", "a_pair_behind_another_workers_command", "world new"),
+    "World::apply": ("cluster_world", "a_pair_behind_another_workers_command", "world do"),
     "audit": ("cluster_world", "answered_has_one_entry", "report audit"),
     "LocalState's calls": ("local_state", "an_ask_is_followed_once", "state serve"),
     "lanes, CarrierEnds::publish": ("proxy_lanes", "a_view_shows_what_was_published", "lanes publish"),
@@ -53,9 +55,9 @@ BY_ROWS = {
 }
 
 BY_TESTS = {
-    "World::new, apply, run; run_simulate": ("tests/program/simulate_scripts.txt", "# another_workers_batch_between_ask_and_its_pair 0"),
+    "World::run; run_simulate": ("tests/program/simulate_scripts.txt", "# another_workers_batch_between_ask_and_its_pair 0"),
     "LocalCluster::new, run_local; run_scripts": ("tests/program/test_local.py", "def test_two_clients("),
-    "run_faulty": ("crates/layer_tests/src/local_runs.rt", "fn connections_that_pass_no_call_on("),
+    "run_faulty": ("crates/layer_tests/src/local_runs.rt", "fn connections_that_fail_after_twelve_calls("),
     "run_wire": ("tests/program/test_serve.py", "def test_set_then_get_with_two_workers("),
     "run_nodes": ("tests/program/test_nodes.py", "def test_a_node_sends_to_the_owner_and_takes_one_key("),
     "write_bulk_head": ("tests/real/cases_commands.py", "def big_values(world"),

@@ -14,12 +14,11 @@ from growths import Growths, compiler
 # The rows of a table that are made, but for generated ones and these.
 MOST_CALLS = 80
 LEFT_OUT = {
-    # their nodes in memory, which are the driver's, execute a command for whose reply they find no memory
-    "a_reply_is_given",
+    # their nodes in memory, which are the driver's, execute the commands of a run one by one
     "a_run_is_sent",
-    "a_run_that_is_too_long_is_refused_whole",
+    # behind a turn that is made again the replies of two nodes come in another order
     "an_ask_is_given",
-    "the_first_post_is_moved",
+    # it counts turns, and one that finds no memory and is made again is one more
     "a_client_that_is_gone_drops_what_was_not_posted",
     # a call that is made again offers bytes again, which are counted
     "refused_bytes_are_offered_at_the_next_call",
@@ -61,14 +60,15 @@ QUIET = {
     "table": "endpoint new",
     "turns": " held jump worker",
     "value": "request show",
+    "world": "answers",
 }
 TAKE_NONE = {f"{thing} {name}".strip() for thing, names in QUIET.items() for name in names.split(" ")}
 
 # Seconds that a run of the driver may take, as a last resort.
 LIMIT = 60
 
-# A line that makes the driver's buffer for lines large, so that no growth of it is among those of a row.
-FIRST = 'none "' + 4096 * "x" + '"'
+# Of a row without long lines, how long the line is that stands before it.
+LONG = 4096
 
 # What is answered for want of memory: a fault, or by the driver that the words are no part or no plan.
 REFUSALS = ("NoMemory", "? NoMemory", "? NoPart", "? NotNow")
@@ -84,6 +84,7 @@ class Sweep:
 
     def __init__(self):
         self.growths = Growths()
+        self.first = first_before([])
         self.again = self.of_driver = self.unneeded = 0
         # the kinds of calls that were made, those that found no memory, and the growths of lines that make no call
         self.made, self.refused, self.of_words = set(), set(), {}
@@ -95,7 +96,7 @@ class Sweep:
         """The answers to these calls with this growth refused, or None where the driver does not end, or not well."""
         # a file, which is read alike each time
         with tempfile.TemporaryFile() as given:
-            given.write(text_of([FIRST, *calls]).encode())
+            given.write(text_of([self.first, *calls]).encode())
             given.seek(0)
             self.growths.refuse(number)
             try:
@@ -106,6 +107,7 @@ class Sweep:
 
     def failures(self, row):
         """A line for each growth of the row whose refusal leads to something else."""
+        self.first = first_before(row.calls)
         if self.answers(row.calls, 0) != row.wanted:
             return [f"{row.name}: is answered otherwise while there is memory"]
         ends = [self.growths_of(row.calls[:count]) for count in range(len(row.calls) + 1)]
@@ -197,6 +199,11 @@ def failures_refused(tables, are_all):
     failures += [f"{kind}: finds no memory, though it takes none" for kind in sorted(refused & TAKE_NONE)]
     print(f"{len(refused)} kinds of calls find no memory, {len(made & TAKE_NONE)} take none")
     return failures
+
+
+def first_before(calls):
+    """A line that makes the driver's buffer for lines large, so that no growth of it is among those of these calls."""
+    return 'none "' + "x" * max([LONG, *map(len, calls)]) + '"'
 
 
 def kind_of(call):

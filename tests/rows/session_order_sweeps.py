@@ -62,6 +62,20 @@ def requests_that_wait():
     return row
 
 
+def requests_read_together():
+    """The same by few calls, which are made again with each growth refused."""
+    row = Row("a_thousand_and_twenty_four_requests_are_read_together")
+    ping = request(b"PING")
+    row.call("session new 3 7")
+    feed(row, ping * 1025)
+    row.call("session readall", "no")
+    row.call("session feed *", "0")
+    row.call("session drain", quoted(b"+PONG\r\n" * 1024))
+    row.call("session readall", "no")
+    row.call("session drain", quoted(b"+PONG\r\n"))
+    return row
+
+
 def any_order():
     """Three requests of two parts each, in all 720 orders of their ends: what is drained along the way is one."""
     row = Row("the_order_of_the_ends_does_not_show")
@@ -197,6 +211,7 @@ def rows():
     different = [b"%d" % number for number in range(1000, 2000)]
     return [
         requests_that_wait(),
+        requests_read_together(),
         any_order(),
         thousand_sets("a_thousand_sets_of_one_key", one, True),
         thousand_sets("a_thousand_sets_of_different_keys", different, True),

@@ -13,6 +13,7 @@ impl Object for Session {
             "new" => renew(self, line),
             "feed" => feed(self, line),
             "read" => line.show(self.read()),
+            "readall" => read_all(self, line),
             "ready" => line.show(self.ready()),
             "finished" => line.show(self.finished()),
             "drain" => line.show(drained(line.alloc, self)),
@@ -33,6 +34,16 @@ fn feed(session: &mut Session, line: &mut Line) {
     if let Some(bytes) = line.bytes() {
         let fed = session.feed(bytes);
         line.show(fed);
+    }
+}
+
+/// Reads requests until none can be read now. Answers `no`, or the fault.
+fn read_all(session: &mut Session, line: &mut Line) {
+    for _ in 0..u64::MAX {
+        let read = session.read();
+        if !matches!(read, Ok(true)) {
+            return line.show(read);
+        }
     }
 }
 

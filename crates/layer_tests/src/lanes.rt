@@ -1,11 +1,15 @@
-//! One lane: between two threads, and when it is finished.
+//! One lane: between two threads, when it is finished, and as the only one of a carrier.
 
 ghost use Rattle.rtrb.specs.Ring.{SameConsumer, SameProducer};
+ghost use Rattle.std.specs.Prelude.{◌≡◌};
+ghost use Rattle.proxy_lanes.specs.Opened.{book_of};
 
 use crate::numbered::run;
 use key_split::Run;
-use proxy_lanes::{Inlet, Outlet, lane};
-use std::alloc::Global;
+use proxy_lanes::{CarrierEnds, Inlet, Naming, Opened, Outlet, lane, lanes};
+use std::alloc::{AllocGlobal, Global};
+use std::marker::Brand;
+use std::sync::Wait;
 use std::test::Fail;
 use std::thread;
 
@@ -45,6 +49,70 @@ fn what_is_left_is_settled(rt: HostRuntime) -> Result<(), Fail> {
     assert_eq!(rt; inlet.settle(note), 1);
     assert!(rt; takes(&mut inlet, 2));
     Ok(())
+}
+
+#[test]
+fn the_only_lane_takes_1024_posts(rt: HostRuntime) -> Result<(), Fail> {
+    let passed = passes_1024::<Brand, _>(rt, Opened::new())?;
+    assert!(rt; passed);
+    Ok(())
+}
+
+// The lanes of one worker: whether 1,024 posts find a place, the next comes back, and the carrier takes them in order.
+fn passes_1024<J, R>(rt: R, opened: Opened) -> Result<bool, Fail>
+where
+    J: Naming,
+    R: Wait + AllocGlobal + Copy + Drop,
+    requires { book_of opened ≡ J.book }
+{
+    let (ends, mut carrier) = lanes::<u32, J, R>(rt.alloc(), rt, opened, 1)?;
+    let mut worker = ends.into_iter().next().ok_or("a worker")?;
+    let posted = post_while_free(rt.alloc(), &mut worker.outlet);
+    let taken = take_while_held(&mut carrier);
+    Ok(posted == 1024 && taken == 1024 && is_finished_once(&mut carrier))
+}
+
+// How many runs, each with the number of those before it, find a place before one comes back.
+fn post_while_free(alloc: Global, outlet: &mut Outlet<Run>) -> u64 {
+    for number in 0..2048 {
+        if !posts(outlet, run(alloc, number)) {
+            return number;
+        }
+    }
+    2048
+}
+
+// How many runs the carrier takes, each with the number of those before it.
+fn take_while_held<M: Drop>(carrier: &mut CarrierEnds<u32, M>) -> u64 {
+    for number in 0..2048 {
+        if number_taken(carrier) != Some(number) {
+            return number;
+        }
+    }
+    2048
+}
+
+// The number of the next run of the first worker.
+fn number_taken<M: Drop>(carrier: &mut CarrierEnds<u32, M>) -> Option<u64> {
+    if carrier.workers() == 0 {
+        return None;
+    }
+    let taken = carrier.take(0)?;
+    Some(taken.first().ticket.part)
+}
+
+// Whether what goes down to the first worker can be finished, and once alone.
+fn is_finished_once<M: Drop>(carrier: &mut CarrierEnds<u32, M>) -> bool {
+    let first = finishes(carrier);
+    let second = finishes(carrier);
+    first && !second
+}
+
+fn finishes<M: Drop>(carrier: &mut CarrierEnds<u32, M>) -> bool {
+    if carrier.workers() == 0 {
+        return false;
+    }
+    carrier.finish_down(0).is_some()
 }
 
 const MILLION: u64 = 1_000_000;

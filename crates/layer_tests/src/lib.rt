@@ -27,3 +27,7 @@ mod rows;
 mod runs;
 #[cfg(test)]
 mod socket_runs;
+#[cfg(test)]
+mod way;
+#[cfg(test)]
+mod world;

@@ -84,6 +84,27 @@ fn two_clients_while_a_slot_moves(rt: HostRuntime) -> Result<(), Fail> {
     Ok(())
 }
 
+const SET_INCR_GET_A: &[u8] =
+    b"*3\r\n$3\r\nSET\r\n$1\r\na\r\n$1\r\n1\r\n*2\r\n$4\r\nINCR\r\n$1\r\na\r\n*2\r\n$3\r\nGET\r\n$1\r\na\r\n";
+
+// One client's SET, INCR and GET of one key, in one piece. The first post goes to the seed, which answers MOVED.
+fn ask_in_one_piece<R: Host>(rt: &R) -> Result<bool, Fail> {
+    let scripts = scripts_of(rt.alloc(), &[SET_INCR_GET_A])?;
+    let Some((report, state)) = ran(rt, &scripts, &[], 1, &Open, None)? else {
+        return Ok(false);
+    };
+    drop(state);
+    let is_told = report.history.len() == 3 && has_heard(&report, b"+OK\r\n:2\r\n$1\r\n2\r\n");
+    drop(report);
+    Ok(is_told)
+}
+
+#[test]
+fn set_incr_get_in_one_piece(rt: HostRuntime) -> Result<(), Fail> {
+    assert!(rt; ask_in_one_piece(&rt)?);
+    Ok(())
+}
+
 /// What two requests are answered where their connection fails.
 const LOST_TWICE: &[u8] =
     b"-ERR proxy: connection lost, outcome unknown\r\n-ERR proxy: connection lost, outcome unknown\r\n";
@@ -101,10 +122,15 @@ fn lose_all<R: Host>(rt: &R) -> Result<bool, Fail> {
 }
 
 fn is_lost(report: &RunReport) -> bool {
-    let [replies] = report.replies.as_slice() else {
-        return false;
-    };
-    report.history.is_empty() && replies.as_slice() == LOST_TWICE
+    report.history.is_empty() && has_heard(report, LOST_TWICE)
+}
+
+// Whether there was one client, and it heard these bytes.
+fn has_heard(report: &RunReport, bytes: &[u8]) -> bool {
+    match report.replies.as_slice() {
+        [replies] => replies.as_slice() == bytes,
+        _ => false,
+    }
 }
 
 #[test]
@@ -140,6 +166,12 @@ fn connections_that_fail_after_some_calls(rt: HostRuntime) -> Result<(), Fail> {
     for calls in 0..=64u64 {
         assert!(rt; fail_after(&rt, calls)?);
     }
+    Ok(())
+}
+
+#[test]
+fn connections_that_fail_after_twelve_calls(rt: HostRuntime) -> Result<(), Fail> {
+    assert!(rt; fail_after(&rt, 12)?);
     Ok(())
 }
 

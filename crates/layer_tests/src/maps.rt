@@ -37,6 +37,55 @@ where
     shows_the_later(&rt, &mut carrier.map, view_of(worker))
 }
 
+#[test]
+fn another_thread_sees_the_range_that_it_learnt(rt: HostRuntime) -> Result<(), Fail> {
+    let seen = learns_a_range::<Brand, _>(rt, Opened::new())?;
+    assert!(rt; seen);
+    Ok(())
+}
+
+// The only worker's view learns a range in another thread: whether it shows the range's node there.
+fn learns_a_range<J, R>(rt: R, opened: Opened) -> Result<bool, Fail>
+where
+    J: Naming + Send + Sync + 'static,
+    R: Threads + Wait + AllocGlobal + Copy + Drop + 'static,
+    requires { book_of opened ≡ J.book }
+{
+    let (ends, mut carrier) = lanes::<u32, J, R>(rt.alloc(), rt, opened, 1)?;
+    let worker = ends.into_iter().next().ok_or("a worker")?;
+    carrier.map.publish(&[first_third()?])?;
+    let front = carrier.map.tell().ok_or("a front")?;
+    shows_elsewhere(&rt, view_of(worker), front)
+}
+
+// The slots of the first of three nodes.
+fn first_third() -> Result<MapOp, Fail> {
+    let first = Slot::new(0).ok_or("a slot")?;
+    let last = Slot::new(5460).ok_or("a slot")?;
+    let node = NodeId::new(0).ok_or("a node")?;
+    Ok(MapOp::SetRange(first, last, node))
+}
+
+// Whether a view that learns this front in another thread shows there that the slot is at node 0.
+fn shows_elsewhere<J, R>(rt: &R, view: MapView<J>, front: Front<J>) -> Result<bool, Fail>
+where
+    J: Naming + Send + Sync + 'static,
+    R: Threads + Wait,
+{
+    match thread::spawn(rt, move || shows_the_first(view, front)) {
+        Ok(child) => Ok(child.join(rt)),
+        Err(_) => Err(Fail::new("a thread")),
+    }
+}
+
+fn shows_the_first<J: Naming>(mut view: MapView<J>, front: Front<J>) -> bool {
+    view.learn(front);
+    match view.node_of(slot()) {
+        Ok(node) => node == NodeId::new(0),
+        Err(_) => false,
+    }
+}
+
 fn view_of<J: Naming>(worker: WorkerEnds<u32, J>) -> MapView<J> {
     let WorkerEnds { view, .. } = worker;
     view

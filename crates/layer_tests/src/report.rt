@@ -1,13 +1,15 @@
-//! `report`: the report of a run, made by hand, and its audit.
+//! `report`: the report of a run, made by hand, and its audit; and `world` beside it.
 
-use cluster_world::{Entry, RunReport, audit};
-use layer_rows::{CallFault, Line, Object, Word, keep, put};
+use crate::world;
+use cluster_world::{Entry, RunReport, World, audit};
+use layer_rows::{CallFault, Held, Line, Object, Word, keep, put};
 use std::alloc::Global;
 
-/// A report, beside other objects.
+/// A report and a world, beside other objects.
 #[derive(Drop)]
 pub struct ReportObject<O> {
     report: RunReport,
+    world: Held<World>,
     others: O,
 }
 
@@ -15,6 +17,7 @@ impl<O> ReportObject<O> {
     pub fn new(alloc: Global, others: O) -> ReportObject<O> {
         ReportObject {
             report: new_report(alloc),
+            world: Held::none(),
             others,
         }
     }
@@ -24,6 +27,7 @@ impl<O: Object> Object for ReportObject<O> {
     fn call(&mut self, line: &mut Line) {
         match line.object() {
             "report" => call(&mut self.report, line),
+            "world" => world::call(&mut self.world, line),
             _ => self.others.call(line),
         }
     }

@@ -1,4 +1,6 @@
 //! Runs that end once so many clients have come and gone. The clients connect before the run begins.
+//!
+//! In one of them the nodes run in a thread of their own, and the proxy before them in that of the test.
 
 ghost use Rattle.std.specs.Prelude.{◌≡◌, IsTrue};
 ghost use Rattle.resp_wire.specs.Text.{is_one_line};
@@ -8,11 +10,12 @@ use local_cluster::{LocalState, three_nodes};
 use mio::net;
 use node_server::run_nodes;
 use socket_proxy::{Proxy, listen, run_wire};
-use std::alloc::Global;
+use std::alloc::{AllocGlobal, Global};
 use std::io::{Read, Write};
 use std::net::{Net, SocketAddr, TcpListener, TcpStream};
 use std::sync::Wait;
 use std::test::Fail;
+use std::thread::{self, JoinHandle, Threads};
 use turn_rows::table_at;
 
 /// SET a 1, and GET without its key.
@@ -124,5 +127,88 @@ fn nodes_end_behind_their_connections(rt: HostRuntime) -> Result<(), Fail> {
     let mut staying = client(&rt, port, GET).ok_or("a client")?;
     run_for_one(&rt, rt.alloc(), listener, port)?;
     assert!(rt; hears(rt.alloc(), &mut staying, MOVED));
+    Ok(())
+}
+
+/// SET a 1, GET a, QUIT.
+const SET_GET: &[u8] =
+    b"*3\r\n$3\r\nSET\r\n$1\r\na\r\n$1\r\n1\r\n*2\r\n$3\r\nGET\r\n$1\r\na\r\n*1\r\n$4\r\nQUIT\r\n";
+
+/// Three listeners, each at a port of its own, and these ports.
+fn three_listeners<R: Net>(
+    rt: &R,
+    alloc: Global,
+) -> Result<(Vec<net::TcpListener>, [u16; 3]), Fail> {
+    let first = listen(rt, "127.0.0.1", 0)?;
+    let second = listen(rt, "127.0.0.1", 0)?;
+    let third = listen(rt, "127.0.0.1", 0)?;
+    let ports = [
+        first.local_addr()?.port(),
+        second.local_addr()?.port(),
+        third.local_addr()?.port(),
+    ];
+    let mut listeners = Vec::new(alloc);
+    listeners.push(first)?;
+    listeners.push(second)?;
+    listeners.push(third)?;
+    Ok((listeners, ports))
+}
+
+/// Nodes that listen so, in a thread of their own. They end once two connections have come and gone, and then it tells whether
+/// they served them.
+fn start_nodes<R>(
+    rt: &R,
+    listeners: Vec<net::TcpListener>,
+    ports: [u16; 3],
+) -> Result<JoinHandle<bool>, Fail>
+where
+    R: Threads
+        + Wait
+        + AllocGlobal
+        + Net<Listener = TcpListener, Stream = TcpStream>
+        + Copy
+        + Drop
+        + Send
+        + 'static,
+{
+    let own = *rt;
+    match thread::spawn(rt, move || serve_two(own, listeners, &ports)) {
+        Ok(nodes) => Ok(nodes),
+        Err(_) => Err(Fail::new("a thread")),
+    }
+}
+
+fn serve_two<R: Wait + Net + AllocGlobal + Drop>(
+    rt: R,
+    listeners: Vec<net::TcpListener>,
+    ports: &[u16],
+) -> bool {
+    let alloc = rt.alloc();
+    let Ok(table) = table_at(alloc, ports) else {
+        return false;
+    };
+    let Ok(cluster) = three_nodes(alloc) else {
+        return false;
+    };
+    let state = LocalState::new(alloc, cluster);
+    run_nodes(&rt, alloc, listeners, state, &table, Some(2)).is_ok()
+}
+
+// The nodes and the proxy in one process: the proxy asks the first node, its seed, and follows MOVED to the last.
+#[test]
+fn nodes_and_a_proxy_in_one_process(rt: HostRuntime) -> Result<(), Fail> {
+    let (listeners, ports) = three_listeners(&rt, rt.alloc())?;
+    let [seed, ..] = ports;
+    let nodes = start_nodes(&rt, listeners, ports)?;
+    let listener = listen(&rt, "127.0.0.1", 0)?;
+    let mut asking = client(&rt, listener.local_addr()?.port(), SET_GET).ok_or("a client")?;
+    run_wire(
+        &rt,
+        rt.alloc(),
+        proxy(listener, seed, 1, &ErrorStream::new(None)),
+        None,
+    )?;
+    assert!(rt; nodes.join(&rt));
+    assert!(rt; hears(rt.alloc(), &mut asking, b"+OK\r\n$1\r\n1\r\n+OK\r\n"));
     Ok(())
 }

@@ -5,7 +5,7 @@ use crate::tables::{PORTS, table_at};
 use key_split::{Batch, Told};
 use layer_rows::written;
 use node_model::{Cluster, MoveFault, Verdict};
-use resp_wire::{Bytes, NoMemory, write_value};
+use resp_wire::{Bytes, NoMemory, Value};
 use slot_hash::Slot;
 use slot_map::{MapOp, NodeId, NodeTable, SlotMap};
 use std::alloc::Global;
@@ -93,54 +93,53 @@ impl Nodes {
         key.copy(self.alloc).ok()
     }
 
-    // What the node says to its command, and sometimes a refusal that any node may give.
-    fn verdict(&self, node: NodeId) -> Verdict {
+    // What the node says to the command of this number, and sometimes a refusal that any node may give.
+    fn verdict(&self, node: NodeId, number: u64) -> Verdict {
         if !self.refuses {
             return Verdict::Plain;
         }
-        if self.served % 41 == 0 {
+        if number % 41 == 0 {
             return Verdict::TryAgain;
         }
-        if self.served % 67 == 0 {
+        if number % 67 == 0 {
             return Verdict::ClusterDown;
         }
         match NodeId::new((node.number() + 1) % 3) {
-            Some(other) if self.served % 97 == 0 => Verdict::Moved(other),
+            Some(other) if number % 97 == 0 => Verdict::Moved(other),
             _ => Verdict::Plain,
         }
     }
 
-    /// The bytes of the node's reply.
-    pub fn answer(&mut self, at: NodeId, batch: &Batch) -> Result<Vec<u8>, NoMemory> {
-        self.served = self.served.wrapping_add(1);
-        let verdict = self.verdict(at);
-        let mut out = Vec::new(self.alloc);
-        match self.cluster.serve(at, batch.asking, &batch.part, verdict) {
-            Ok(told) => self.write_told(told, &mut out)?,
-            Err(_) => return Err(NoMemory),
-        }
-        Ok(out)
-    }
-
-    fn write_told(&self, told: Told, out: &mut Vec<u8>) -> Result<(), NoMemory> {
-        let written = match &told {
-            Told::Reply(value) => write_value(out, value),
-            _ => self.write_refusal(&told, out),
+    /// The node's reply. Where memory runs out, nothing is executed, and the command does not count as served.
+    pub fn answer(&mut self, at: NodeId, batch: &Batch) -> Result<Value, NoMemory> {
+        let number = self.served.wrapping_add(1);
+        let verdict = self.verdict(at, number);
+        let Ok(told) = self.cluster.serve(at, batch.asking, &batch.part, verdict) else {
+            return Err(NoMemory);
         };
-        drop(told);
-        written
+        let value = self.value_of(told)?;
+        self.served = number;
+        Ok(value)
     }
 
-    fn write_refusal(&self, told: &Told, out: &mut Vec<u8>) -> Result<(), NoMemory> {
-        match written(self.alloc, told, &self.table) {
-            Ok(value) => write_value(out, &value),
+    fn value_of(&self, told: Told) -> Result<Value, NoMemory> {
+        match told {
+            Told::Reply(value) => Ok(value),
+            refusal => self.value_of_refusal(refusal),
+        }
+    }
+
+    fn value_of_refusal(&self, told: Told) -> Result<Value, NoMemory> {
+        let value = written(self.alloc, &told, &self.table);
+        drop(told);
+        match value {
+            Ok(value) => Ok(value),
             Err(_) => Err(NoMemory),
         }
     }
 
-    /// Writes what CLUSTER SLOTS says.
-    pub fn write_slots(&self, out: &mut Vec<u8>) -> Result<(), NoMemory> {
-        let slots = self.cluster.slots_value(&self.table)?;
-        write_value(out, &slots)
+    /// What CLUSTER SLOTS says.
+    pub fn slots(&self) -> Result<Value, NoMemory> {
+        self.cluster.slots_value(&self.table)
     }
 }

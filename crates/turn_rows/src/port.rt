@@ -4,10 +4,15 @@ ghost use Rattle.std.specs.Prelude.{◌^◌, ◌+◌};
 
 use crate::nodes::SharedNodes;
 use key_split::{Batch, Run};
+use layer_rows::is_done;
 use node_link::{NodePort, PortFault, RunPort};
-use resp_wire::{Limits, NoMemory, Reader, Value};
+use resp_wire::{Line, NoMemory, Value};
 use slot_map::NodeId;
 use std::alloc::Global;
+use std::collections::VecDeque;
+
+/// What a command is answered at most: ASKING has a reply of its own.
+const MOST_VALUES: usize = 2;
 
 /// A connection to one of the nodes.
 #[derive(Drop)]
@@ -15,7 +20,8 @@ pub struct MemoryPort {
     alloc: Global,
     nodes: SharedNodes,
     at: NodeId,
-    replies: Reader,
+    /// What the node said and was not taken yet.
+    values: VecDeque<Value>,
     /// How many commands may go behind the first of a run.
     behind: u16,
 }
@@ -26,24 +32,37 @@ impl MemoryPort {
             alloc,
             nodes,
             at,
-            replies: Reader::new(alloc, Limits::full()),
+            values: VecDeque::new(alloc),
             behind,
         }
     }
 
-    fn put(&mut self, bytes: &[u8]) -> Result<(), PortFault> {
-        match self.replies.feed(bytes) {
-            Ok(()) => Ok(()),
-            Err(_) => Err(PortFault::NoMemory),
+    /// Makes room for so many values.
+    fn make_room(&mut self, count: usize) -> Result<(), NoMemory> {
+        if is_done(self.values.reserve(count)) {
+            Ok(())
+        } else {
+            Err(NoMemory)
         }
     }
 
-    fn serve(&mut self, batch: &Batch) -> Result<(), PortFault> {
-        if batch.asking {
-            self.put(b"+OK\r\n")?;
+    fn put(&mut self, value: Value) -> Result<(), NoMemory> {
+        if is_done(self.values.push_back(value)) {
+            Ok(())
+        } else {
+            Err(NoMemory)
         }
-        let bytes = self.answer(batch)?;
-        self.put(bytes.as_slice())
+    }
+
+    /// Has the node serve a command. Where memory runs out, nothing is executed: there is room for its replies before.
+    fn serve(&mut self, batch: &Batch) -> Result<(), NoMemory> {
+        self.make_room(MOST_VALUES)?;
+        let welcome = welcome(self.alloc)?;
+        let value = self.answer(batch)?;
+        if batch.asking {
+            self.put(welcome)?;
+        }
+        self.put(value)
     }
 
     /// Serves the commands of a run. False where memory ran out.
@@ -59,26 +78,31 @@ impl MemoryPort {
         true
     }
 
-    fn answer(&self, batch: &Batch) -> Result<Vec<u8>, PortFault> {
-        let Ok(mut nodes) = self.nodes.try_borrow_mut() else {
-            return Err(PortFault::NoMemory);
-        };
-        match nodes.answer(self.at, batch) {
-            Ok(bytes) => Ok(bytes),
-            Err(NoMemory) => Err(PortFault::NoMemory),
+    fn answer(&self, batch: &Batch) -> Result<Value, NoMemory> {
+        match self.nodes.try_borrow_mut() {
+            Ok(mut nodes) => nodes.answer(self.at, batch),
+            Err(_) => Err(NoMemory),
         }
     }
 
-    fn slots(&self) -> Result<Vec<u8>, PortFault> {
-        let Ok(nodes) = self.nodes.try_borrow() else {
-            return Err(PortFault::NoMemory);
-        };
-        let mut out = Vec::new(self.alloc);
-        match nodes.write_slots(&mut out) {
-            Ok(()) => Ok(out),
-            Err(NoMemory) => Err(PortFault::NoMemory),
+    /// Has the node say where the slots are.
+    fn list(&mut self) -> Result<(), NoMemory> {
+        self.make_room(1)?;
+        let slots = self.slots()?;
+        self.put(slots)
+    }
+
+    fn slots(&self) -> Result<Value, NoMemory> {
+        match self.nodes.try_borrow() {
+            Ok(nodes) => nodes.slots(),
+            Err(_) => Err(NoMemory),
         }
     }
+}
+
+/// What a node says to ASKING.
+fn welcome(alloc: Global) -> Result<Value, NoMemory> {
+    Ok(Value::Simple(Line::from_text(alloc, b"OK")?))
 }
 
 impl NodePort for MemoryPort {
@@ -99,15 +123,14 @@ impl NodePort for MemoryPort {
     }
 
     fn ask_slots(&mut self) -> Result<(), PortFault> {
-        let bytes = self.slots()?;
-        self.put(bytes.as_slice())
+        match self.list() {
+            Ok(()) => Ok(()),
+            Err(_) => Err(PortFault::NoMemory),
+        }
     }
 
     fn next(&mut self) -> Result<Option<Value>, PortFault> {
-        match self.replies.next() {
-            Ok(value) => Ok(value),
-            Err(_) => Err(PortFault::NoMemory),
-        }
+        Ok(self.values.pop_front())
     }
 }
 
