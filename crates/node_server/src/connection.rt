@@ -9,7 +9,7 @@ use crate::answer::{Answer, answer_request};
 use crate::block::Block;
 use crate::caller::Caller;
 use crate::next_value::{NextValue, feed_reader, take_next};
-use crate::told_value::error_line;
+use key_split::error_line;
 use local_cluster::{GhostHistory, LocalState};
 use node_link::{Flow, Stream};
 use resp_wire::{ByteQueue, Limits, NoMemory, Reader, Value, Words};

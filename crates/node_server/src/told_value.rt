@@ -1,12 +1,11 @@
 //! What a node says of what it did with a command.
 
-ghost use Rattle.std.specs.Prelude.{◌≡◌, ◌≤◌, IfOk, OnErr, IsTrue, [], true, false, is_some, length, slice_get, vec_capacity};
-ghost use Rattle.resp_wire.specs.Text.{is_one_line};
+ghost use Rattle.std.specs.Prelude.{◌≡◌, ◌≤◌, IfOk, OnErr, [], true, false, is_some, length, slice_get, vec_capacity};
 ghost use Rattle.node_server.specs.NodeAnswers.{can_write, cluster_down, refused_in, IsSaid, IsSaidTogether};
 ghost use Rattle.node_server.specs.NodeSaying.{is_reply, Parted, PartedAll};
 
-use key_split::{Told, told_value};
-use resp_wire::{Line, NoMemory, Value, Values};
+use key_split::{Told, error_line, told_value};
+use resp_wire::{NoMemory, Value, Values};
 use slot_map::{NodeId, NodeTable};
 use std::alloc::Global;
 
@@ -113,18 +112,4 @@ pub(crate) fn cluster_down(alloc: Global) -> Result<Value, NoMemory>
     ensures { IfOk result (λ value. value ≡ cluster_down) }
 {
     error_line(alloc, b"CLUSTERDOWN Hash slot not served")
-}
-
-pub(crate) fn simple_line(alloc: Global, text: &[u8]) -> Result<Value, NoMemory>
-    requires { IsTrue (is_one_line text.now) }
-    ensures { IfOk result (λ value. value ≡ Value.Simple text.now) }
-{
-    Ok(Value::Simple(Line::from_text(alloc, text)?))
-}
-
-pub(crate) fn error_line(alloc: Global, text: &[u8]) -> Result<Value, NoMemory>
-    requires { IsTrue (is_one_line text.now) }
-    ensures { IfOk result (λ value. value ≡ Value.Error text.now) }
-{
-    Ok(Value::Error(Line::from_text(alloc, text)?))
 }

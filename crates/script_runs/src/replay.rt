@@ -13,9 +13,10 @@ ghost use Rattle.script_runs.specs.Wanted.{IsNumbered, IsOpen};
 use crate::client_id::ClientId;
 use crate::ends::EndTable;
 use crate::reader::reader_of;
-use crate::wanted::{Wanted, goodbye, next_wanted, protocol_error};
+use crate::wanted::{Wanted, next_wanted};
 use key_split::{Ended, Joining, Part, Parts, Ticket, join};
 use resp_wire::{Bytes, NoMemory, Value, write_value};
+use session_order::{goodbye, protocol_error};
 use std::alloc::Global;
 
 /// A client's script, as far as it was planned.

@@ -3,13 +3,13 @@
 ghost use Rattle.std.specs.Prelude.{◌≡◌, ◌<◌, ◌≤◌, ◌+◌, ◌^◌, ℕ, List, IfOk, length};
 ghost use Rattle.resp_wire.specs.Seen.{data_of};
 ghost use Rattle.key_split.specs.Join.{CanBeJoined};
-ghost use Rattle.session_order.specs.PendingReply.{goodbye, plan_for, protocol_error};
+ghost use Rattle.session_order.specs.PendingReply.{plan_for};
 ghost use Rattle.session_order.specs.Requests.{asked_of};
 ghost use Rattle.script_runs.specs.Requests.{first_as, request_first};
 ghost use Rattle.script_runs.specs.Wanted.{Fits, IsOpen, Means, Wants};
 
 use key_split::{Joining, Parts, PlanFault, Planned, plan, refusal};
-use resp_wire::{Bytes, Line, NoMemory, Reader, Value, WireFault};
+use resp_wire::{Bytes, NoMemory, Reader, Value, WireFault};
 use session_order::{RequestKind, kind_of};
 use std::alloc::Global;
 
@@ -102,18 +102,4 @@ fn within_limit(how: Joining, parts: Parts, number: u64) -> Wanted
         return Wanted::Nothing(true);
     }
     Wanted::Parts(how, parts)
-}
-
-/// The reply to QUIT.
-pub(crate) fn goodbye(alloc: Global) -> Result<Value, NoMemory>
-    ensures { IfOk result (λ value. value ≡ goodbye) }
-{
-    Ok(Value::Simple(Line::from_text(alloc, b"OK")?))
-}
-
-/// The line after a fault of the client's.
-pub(crate) fn protocol_error(alloc: Global) -> Result<Value, NoMemory>
-    ensures { IfOk result (λ value. value ≡ protocol_error) }
-{
-    Ok(Value::Error(Line::from_text(alloc, b"ERR proxy: protocol error")?))
 }
