@@ -10,10 +10,10 @@ use mio::Registry;
 use proxy_runtime::{PolledSocket, ReadySet, Registration};
 use std::alloc::Global;
 use std::io;
-use std::io::{ErrorKind, Write};
+use std::io::ErrorKind;
 use std::net::{Net, SocketAddr, TcpListener, TcpStream};
 use std::sync::Arc;
-use std::time::{Clock, Duration};
+use std::time::Clock;
 
 /// Connects to nodes, whose sockets are watched by the poll of the registry.
 pub struct Connector<'b, R> {
@@ -94,21 +94,8 @@ impl<'b, R: Clock + Net<Listener = TcpListener, Stream = TcpStream>> Connector<'
         addresses.find(self.rt, &self.look_ups, host, port)
     }
 
-    /// Connects to the address. Until this time, and no longer, it waits for the connection and the answer to AUTH.
-    pub(crate) fn connect(&self, address: SocketAddr, until: u64) -> io::Result<Connection> {
-        let left = until.saturating_sub(self.time());
-        if left == 0 {
-            return self.start_connecting(address);
-        }
-        match TcpStream::connect_timeout(self.rt, &address, Duration::from_millis(left)) {
-            Ok(stream) => self.greet(stream, until),
-            Err(error) if error.kind() == ErrorKind::TimedOut => self.start_connecting(address),
-            Err(error) => Err(error),
-        }
-    }
-
-    /// Begins to connect, and does not wait.
-    fn start_connecting(&self, address: SocketAddr) -> io::Result<Connection> {
+    /// Begins to connect to the address, and does not wait.
+    pub(crate) fn connect(&self, address: SocketAddr) -> io::Result<Connection> {
         let stream = mio::net::TcpStream::connect(self.rt, address)?;
         self.go_on_connecting(stream)
     }
@@ -116,7 +103,7 @@ impl<'b, R: Clock + Net<Listener = TcpListener, Stream = TcpStream>> Connector<'
     /// Goes on with a connection that the system makes, as far as that needs no waiting.
     pub(crate) fn go_on_connecting(&self, stream: mio::net::TcpStream) -> io::Result<Connection> {
         if stream.peer_addr().is_ok() {
-            return self.watch(stream, 0);
+            return self.watch(stream);
         }
         match stream.take_error() {
             Ok(None) => Ok(Connection::Connecting(stream)),
@@ -124,42 +111,8 @@ impl<'b, R: Clock + Net<Listener = TcpListener, Stream = TcpStream>> Connector<'
         }
     }
 
-    /// Sends AUTH over the connection that was just made, where that is to be sent, and waits until this time for the answer.
-    fn greet(&self, mut stream: TcpStream, until: u64) -> io::Result<Connection> {
-        let sent = match &self.credentials {
-            Some(credentials) => self.send_auth(&mut stream, credentials, until),
-            None => 0,
-        };
-        stream.set_nonblocking(true)?;
-        self.watch(mio::net::TcpStream::from_std(stream), sent)
-    }
-
-    /// Sends AUTH, and waits until its reply begins. It says how many bytes were sent. What fails here fails again when the
-    /// reply is read.
-    fn send_auth(&self, stream: &mut TcpStream, credentials: &Credentials, until: u64) -> usize {
-        if stream
-            .set_write_timeout(Some(self.left_until(until)))
-            .is_err()
-        {
-            return 0;
-        }
-        let sent = stream.write(credentials.request()).unwrap_or(0);
-        if stream
-            .set_read_timeout(Some(self.left_until(until)))
-            .is_ok()
-        {
-            let _ = stream.peek(&mut [0]);
-        }
-        sent
-    }
-
-    /// What is left until this time, a millisecond at least.
-    fn left_until(&self, until: u64) -> Duration {
-        Duration::from_millis(until.saturating_sub(self.time()).max(1))
-    }
-
-    /// Has the connection watched, and reads the reply to AUTH as far as it has come, where so many bytes of AUTH were sent.
-    fn watch(&self, stream: mio::net::TcpStream, sent: usize) -> io::Result<Connection> {
+    /// Has the connection watched, and says AUTH over it where that is to be said.
+    fn watch(&self, stream: mio::net::TcpStream) -> io::Result<Connection> {
         let Ok(registration) = Registration::new(&self.ready) else {
             return Err(ErrorKind::OutOfMemory.into());
         };
@@ -170,6 +123,6 @@ impl<'b, R: Clock + Net<Listener = TcpListener, Stream = TcpStream>> Connector<'
         let Ok(credentials) = Arc::try_clone(credentials) else {
             return Err(ErrorKind::OutOfMemory.into());
         };
-        authenticate(socket, Handshake::new(self.alloc, credentials, sent))
+        authenticate(socket, Handshake::new(self.alloc, credentials))
     }
 }

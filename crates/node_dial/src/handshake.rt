@@ -8,7 +8,7 @@ use std::io;
 use std::io::ErrorKind;
 use std::sync::Arc;
 
-/// So many bytes of a reply to AUTH are read at most.
+/// The bytes of a reply to AUTH that are read at most.
 const REPLY_LIMIT: usize = 512;
 
 /// AUTH on a new connection, until the node has answered it.
@@ -42,15 +42,11 @@ pub(crate) enum HandshakeOutcome {
 }
 
 impl Handshake {
-    /// The handshake of which so many bytes were sent.
-    pub(crate) fn new(
-        alloc: Global,
-        credentials: Arc<Credentials, Global>,
-        sent: usize,
-    ) -> Handshake {
+    /// The handshake of which nothing was sent.
+    pub(crate) fn new(alloc: Global, credentials: Arc<Credentials, Global>) -> Handshake {
         Handshake {
             credentials,
-            sent,
+            sent: 0,
             reply: Vec::new(alloc),
         }
     }

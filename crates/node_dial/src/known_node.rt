@@ -130,13 +130,12 @@ impl KnownNode {
             return Ok(None);
         }
         let begun = connector.time().max(now);
-        let until = begun.saturating_add(self.pause.wait_millis());
         let mut failed = io::Error::new(ErrorKind::NotFound, "the host has no address");
         for _ in 0..self.addresses.len() {
             let Some(address) = self.addresses.current() else {
                 return Err(failed);
             };
-            match connector.connect(address, until) {
+            match connector.connect(address) {
                 Ok(connection) => return Ok(Some(PendingDial { connection, begun })),
                 Err(error) => failed = error,
             }
