@@ -1,5 +1,7 @@
 //! A client's end over a socket.
 
+ghost use Rattle.std.specs.Prelude.{◌≡◌, None};
+
 use crate::request_times::RequestTimes;
 use crate::unfinished::UnfinishedRequest;
 use admin_page::bucket_of;
@@ -91,14 +93,18 @@ impl SocketClient {
     }
 
     /// Closes the connection of a client whose unfinished request has so many bytes.
-    fn refuse(&mut self, bytes: u64) {
+    fn refuse(&mut self, bytes: u64)
+        ensures { self.new.socket ≡ None }
+    {
         self.report
             .tell(Event::UnfinishedRequest(self.address, bytes));
         self.leave();
     }
 
     /// Gives the socket back, which is closed. A command of it may be under way.
-    fn leave(&mut self) {
+    fn leave(&mut self)
+        ensures { self.new.socket ≡ None }
+    {
         let Some(socket) = self.socket.take() else {
             return;
         };
@@ -109,8 +115,8 @@ impl SocketClient {
 }
 
 impl ClientPort for SocketClient {
-    // The system does not tell which bytes the client got or gave.
-    ghost moves = { record { between = λ _ _ _ _ _. Unit {0}; gone = λ _. Unit {0} } };
+    // The system does not tell which bytes the client got or gave. It is gone only once its socket was given back.
+    ghost moves = { record { between = λ _ _ _ _ _. Unit {0}; gone = λ client. client.socket ≡ None } };
 
     fn watched(&self) -> Option<usize> {
         if self.is_owed.get() || self.request.is_begun() {
