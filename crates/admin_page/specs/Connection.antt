@@ -24,7 +24,7 @@ IsLimited limits = (limits.limits.max_head_len ≡ 8192) × (limits.max_body_len
 abbrev pub five_seconds_after : ℕ → ℕ
 five_seconds_after now = min (now + 5000) (2 ^ 64 - 1)
 
--- once so many bytes more were sent: 5 s from now where these were the last of an answer
+-- once `count` bytes more were sent: 5 s from now where these were the last of an answer
 abbrev pub deadline_after : ℕ → History → ℕ → ℕ → ℕ
 deadline_after deadline h count now =
     if nat_le 1 count && (length (drop count h.pending) == 0) then five_seconds_after now else deadline

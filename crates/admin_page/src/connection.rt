@@ -12,10 +12,10 @@ use std::alloc::Global;
 use std::hash::RandomState;
 use std::io;
 
-/// A connection is closed where for so many milliseconds no answer went out whole.
+/// Milliseconds in which no answer went out whole, after which a connection is closed.
 const PATIENCE: u64 = 5_000;
 
-/// A head has at most so many bytes.
+/// Bytes that a head has at most.
 const HEAD_LENGTH: usize = 8 * 1024;
 
 /// So many connections are to be open at most.

@@ -81,7 +81,7 @@ pub(crate) fn bound_at(place: usize) -> u64
     }
 }
 
-/// Adds so many microseconds, in seconds.
+/// Adds `micros` microseconds, in seconds.
 pub(crate) fn push_seconds(text: &mut Vec<u8>, micros: u64) -> Result<(), AllocError>
     ensures { OnOk result (text.new.items ≡ text.old.items ++ seconds_text micros) }
 {

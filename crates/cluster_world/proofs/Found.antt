@@ -119,7 +119,7 @@ module _ (xs : List Arrival) (t : Tables) (f : Find xs t) where
           omega (arith, small, same, rank-fits (of_turn d.command.ticket.client (slot_for d.command.part)) xs i)
       go None none = absurd (omega (arith, lt, past-none xs i none))
 
-  -- so many of a turn have ended
+  -- a number of a turn's commands have ended
   pub past-so : (c : Arrival) → ArePast (way_for c) [] (turn_in t c.command.ticket.client (slot_for c.command.part)).over xs
   past-so c i d there is lt = inl ((f.turns c.command.ticket.client (slot_for c.command.part)).over i d there is lt)
 

@@ -171,7 +171,7 @@ ended before mid now fed unread piece left limit consumes came empty is ends on 
     ended_within before now fed left limit (subst Q (ap (λ t. fed ++ t) (no_bytes piece empty) ∙ append-nil fed) (Consumes-trans before mid now fed piece consumes came)) is ends
     (on [] Ends (subst P (sym (append-nil unread)) (early unread none no_fault)))
 
--- so many bytes more were read
+-- a number of bytes more were read
 pub read_on : (old mid new : ReaderModel) (before then now : Option (List ℕ)) (fed piece : List ℕ) (left count limit : ℕ) → IsOpen mid → mid ≡ old
     → new ≡ record mid { unread = mid.unread ++ piece } → length piece ≡ count → count ≤ left → Consumes before then fed → Consumes then now piece
     → length fed + left ≡ limit → GoesOn fed old.unread

@@ -216,7 +216,7 @@ module _ {X : Type 0} (p : X → Bool) where
         ]);
       }
 
-    -- those before it are over exactly where so many are
+    -- those before it are over exactly where that number is
     pub come : (xs : List X) (i : ℕ) (r : Row) → IsRow p Over xs r → ((j : ℕ) (y : X) → j < i → slice_get xs j ≡ Some y → p y ≡ true → Over y) ↔ (rank p xs i ≤ r.over)
     come xs i r row = (
       λ all. elim (cases_lt r.over (rank p xs i)) [

@@ -57,7 +57,7 @@ shown_back history (Entry ticket place) = To ticket (Reply (value_of (reply_at h
 abbrev pub shown : List EntryModel → LinkModel → Link
 shown history l = record { node = l.node; is_open = l.is_open; requests = l.requests; backs = map (shown_back history) l.backs; asking = l.asking }
 
--- its entry is one of the first so many
+-- its entry is one of the first `count`
 abbrev pub IsBelow : ℕ → Kept → Type 0
 IsBelow count Welcome = Unit {0}
 IsBelow count (Refusal ticket told) = Unit {0}

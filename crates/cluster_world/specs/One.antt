@@ -18,6 +18,6 @@ Writes (Asks words) status bytes = (status ≡ 0) × ((reply : Value) × Answers
 Writes Breaks status bytes = (status ≡ 1) × (bytes ≡ canonical (data_of protocol_error))
 Writes Ends status bytes = (status ≡ 1) × (bytes ≡ [])
 
--- what is written for an input of which so many bytes are read at most
+-- what is written for an input of which at most `limit` bytes are read
 abbrev pub WritesFor : ℕ → List ℕ → ℕ → List ℕ → Type 0
 WritesFor limit input status bytes = (opening : Opening) × Opens (take limit input) opening × Writes opening status bytes

@@ -4,7 +4,7 @@ use Rattle.std.specs.Prelude.{◌≡◌, ◌<◌, ◌≤◌, ℕ, List, Option, 
 use Rattle.slot_map.specs.Map.{node_after, MapShows}
 use Rattle.slot_map.specs.declared.ops.MapOp.{MapOp}
 
--- the new map has the owners of so many slots, and none beyond
+-- the new map has the owners of the first `count` slots, and none beyond
 pub record TakenOver (new owners : List (Option ℕ)) (count : ℕ) (changes : List MapOp) : Type 0 where
   pub shown : MapShows new changes
   pub same : (ops : List MapOp) → MapShows owners ops → (slot : ℕ) → slot < count → node_after changes slot ≡ node_after ops slot

@@ -31,12 +31,12 @@ abbrev pub GoTogether : Way → ℕ → List Ticket → List Ticket → List Arr
 GoTogether way node before [] commands = Unit {0}
 GoTogether way node before (t ∷ ts) commands = MayFollow way node before t commands × GoTogether way node (before ++ t ∷ []) ts commands
 
--- of the commands of the way's turn the first so many have ended, or are among these
+-- of the commands of the way's turn the first `count` have ended, or are among these
 abbrev pub ArePast : Way → List Ticket → ℕ → List Arrival → Type 0
 ArePast way before count commands = (i : ℕ) (c : Arrival) → slice_get commands i ≡ Some c → of_turn way.client way.slot c ≡ true
     → rank (of_turn way.client way.slot) commands i < count → HasEnded c ⊎ IsAmong before c.command.ticket
 
--- one more follows, and so many are past then; or it may not
+-- one more follows, and this number is past then; or it may not
 abbrev pub Follows : Way → ℕ → List Ticket → Ticket → List Arrival → Option ℕ → Type 0
 Follows way node before t commands None = MayFollow way node before t commands → ⊥
 Follows way node before t commands (Some past) = MayFollow way node before t commands × ArePast way (before ++ t ∷ []) past commands

@@ -17,19 +17,19 @@ one_more r = record r { count = r.count + 1 }
 abbrev pub one_over : Row → Row
 one_over r = record r { over = r.over + 1 }
 
--- how many of the first so many are of the kind
+-- how many of the first `i` are of the kind
 abbrev pub rank : {X : Type 0} → (X → Bool) → List X → ℕ → ℕ
 rank p [] i = 0
 rank p (x ∷ xs) zero = 0
 rank p (x ∷ xs) (suc i) = (if p x then 1 else 0) + rank p xs i
 
--- so many things are of the kind, and the first of them are over
+-- `row.count` things are of the kind, and the first of them are over
 pub record IsRow {X : Type 0} (p : X → Bool) (Over : X → Type 0) (xs : List X) (row : Row) : Type 0 where
   pub counted : row.count ≡ rank p xs (length xs)
   pub within : row.over ≤ row.count
   pub over : (i : ℕ) (x : X) → slice_get xs i ≡ Some x → p x ≡ true → Over x ↔ (rank p xs i < row.over)
 
--- so many things are of the kind, and the first of them are over; so may others be
+-- `row.count` things are of the kind, and the first of them are over; so may others be
 pub record IsRowSoFar {X : Type 0} (p : X → Bool) (Over : X → Type 0) (xs : List X) (row : Row) : Type 0 where
   pub counted : row.count ≡ rank p xs (length xs)
   pub within : row.over ≤ row.count

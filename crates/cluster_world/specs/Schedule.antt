@@ -174,7 +174,7 @@ event_of workers (Some words) = event_with workers (verb_of (word_at words 0)) (
 
 -- The header.
 
--- the words behind a line's name, where it has this name and so many
+-- the words behind a line's name, where it has this name and `count` words behind it
 abbrev pub args_of : List ℕ → ℕ → ScriptLine → Option Words
 args_of name count None = None
 args_of name count (Some words) = if (length words == count + 1) && bytes_eq (word_at words 0) name then Some (drop 1 words) else None

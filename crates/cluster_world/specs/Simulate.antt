@@ -34,7 +34,7 @@ too_long_text = line (codes "too long")
 abbrev pub read_failed_text : List ℕ
 read_failed_text = line (codes "read failed")
 
--- the same for an input of which so many bytes are read at most, in as many reads: it was read to its end, or is too long, or a read failed
+-- the same for an input of which at most `limit` bytes are read, in as many reads: it was read to its end, or is too long, or a read failed
 abbrev pub WritesFor : {R : Type 0} → ℕ → List ℕ → ℕ → WatchedReaderModel R → ℕ → List ℕ → Type 0
 WritesFor limit input before now status text =
     ((length input ≤ limit) × (now.last ≡ End) × Writes input status text)

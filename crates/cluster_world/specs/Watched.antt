@@ -17,14 +17,14 @@ pub record WatchedWriterModel (W : Type 0) : Type 0 where
   -- whether a write failed
   pub has_failed : Bool
 
--- one read: so many bytes came; or none, at the end; or it failed
+-- one read: `count` bytes came; or none, at the end; or it failed
 abbrev pub Reads : {R : Type 0} → (R → Option (List ℕ)) → WatchedReaderModel R → List ℕ → Option ℕ → WatchedReaderModel R → Type 0
 Reads remaining old room (Some count) new =
     (count ≤ length room) × Consumes (remaining old.reader) (remaining new.reader) (take count room) × (new.reads ≡ old.reads + 1)
     × (((0 < count) × (new.last ≡ Bytes)) ⊎ ((count ≡ 0) × (new.last ≡ End) × IsAtEnd (remaining new.reader)))
 Reads remaining old room None new = (new.reads ≤ old.reads + 1) × (new.last ≡ Failure)
 
--- the input has more bytes, or so many reads have not come to its end
+-- the input has more than `limit` bytes, or as many reads have not come to its end
 abbrev pub IsTooLong : {R : Type 0} → ℕ → List ℕ → ℕ → WatchedReaderModel R → Type 0
 IsTooLong limit input before now = (limit < length input) ⊎ ((now.reads ≡ before + limit) × (now.last ≡ Bytes))
 

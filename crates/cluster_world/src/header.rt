@@ -135,7 +135,7 @@ fn read_owners<'a>(
     Ok(Owners { count, rest })
 }
 
-/// The words behind a line's name, where it has this name and so many.
+/// The words behind a line's name, where it has this name and `count` words behind it.
 fn args_of<'a>(name: &[u8], count: usize, line: &'a Option<Words>) -> Option<&'a [Bytes]>
     requires { count < 100 }
     ensures args { Shows (schedule.args_of name.now count line.now) result }

@@ -158,7 +158,7 @@ impl Link {
         request
     }
 
-    /// Makes room for so many replies.
+    /// Makes room for `count` more replies.
     pub(crate) fn reserve(&mut self, count: usize) -> Result<(), AllocError>
         ensures same { self.new ≡ record self.old { room = self.new.room } }
         ensures room { OnOk result (length self.new.backs + count ≤ self.new.room) }

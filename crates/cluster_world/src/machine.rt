@@ -100,7 +100,7 @@ impl Machine {
         self.moment < u64::MAX
     }
 
-    /// Makes an event, where there are so many nodes.
+    /// Makes an event in a cluster of this number of nodes.
     pub(crate) fn happen(&mut self, event: &Event, nodes: u8) -> Result<(), WorldFault>
         requires workers { 0 < self.old.workers }
         requires nodes { nodes ≡ length self.old.cluster.stores }

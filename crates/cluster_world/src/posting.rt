@@ -24,7 +24,7 @@ use world_laws::{Arrival, Posted, Tickets};
 const RUN_LIMIT: usize = 64;
 
 impl Machine {
-    /// Posts a run to one of so many nodes.
+    /// Posts a run to a node of the cluster, which has `nodes`.
     pub(crate) fn post(
         &mut self,
         tickets: &Tickets,

@@ -21,7 +21,7 @@ use std::alloc::Global;
 use world_laws::LinkRequest;
 
 impl Machine {
-    /// A link's node takes its first request, where there are so many nodes.
+    /// A link's node takes its first request, in a cluster of this number of nodes.
     pub(crate) fn serve(&mut self, link: u64, verdict: Verdict, nodes: u8) -> Result<(), WorldFault>
         requires nodes { nodes ≡ length self.old.cluster.stores }
         requires links { All (λ l. IsNode self.old.cluster l.node) self.old.links.links }
@@ -99,7 +99,7 @@ fn is_plain(verdict: Verdict) -> bool
     matches!(verdict, Verdict::Plain)
 }
 
-// Whether a node that the verdict names is one of so many.
+// Whether a node that the verdict names is one of the cluster's.
 fn names_node(verdict: &Verdict, nodes: u8) -> bool
     ensures { result ≡ named_among verdict.now nodes }
 {

@@ -89,7 +89,7 @@ pub enum Event {
     ClientsFull(u64),
     /// A client sent what is no request, for this reason.
     ProtocolError(SocketAddr, SessionFault),
-    /// A client was closed whose unfinished request had so many bytes.
+    /// A client was closed whose unfinished request had this number of bytes.
     UnfinishedRequest(SocketAddr, u64),
 }
 

@@ -11,7 +11,7 @@ use resp_wire::NoMemory;
 use std::alloc::{AllocError, Global};
 use std::time::Clock;
 
-/// Events of one kind and node are written at most once in so many milliseconds.
+/// Milliseconds in which events of one kind and node are written at most once.
 const EVENT_INTERVAL_MILLIS: u64 = 1_000;
 
 /// Writes events to a stream, those of one kind and node not too often.

@@ -84,7 +84,7 @@ impl Figures {
         }
     }
 
-    /// Counts so many more.
+    /// Adds to the figure.
     pub(crate) fn add(&self, figure: Figure, more: u64) {
         if let Some(count) = self.counts.get(figure as usize) {
             let sum = count.load(Ordering::Relaxed).wrapping_add(more);

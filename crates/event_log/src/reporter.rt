@@ -12,7 +12,7 @@ use std::alloc::{AllocError, Global};
 use std::sync::Arc;
 use std::time::Clock;
 
-/// Figures are written at most once in so many milliseconds.
+/// Milliseconds in which figures are written at most once.
 const FIGURES_INTERVAL_MILLIS: u64 = 60_000;
 
 /// Writes the events and figures of all threads. A line for which there is no memory is left out.

@@ -44,7 +44,7 @@ impl ThreadReport {
         Ok(Arc::new(alloc, report)?)
     }
 
-    /// Counts so many more of this figure.
+    /// Adds to this figure.
     pub fn count(&self, figure: Figure, more: u64) {
         self.figures.add(figure, more);
     }
@@ -54,7 +54,7 @@ impl ThreadReport {
         self.figures.count_of(figure)
     }
 
-    /// Counts so many requests more in the bucket of this place, each of which took so long.
+    /// Counts `requests` more in the bucket of this place, each of which took `micros`.
     pub fn count_times(&self, place: usize, requests: u64, micros: u64) {
         self.times.add(place, requests, micros);
     }

@@ -56,7 +56,7 @@ impl TimeCounts {
         }
     }
 
-    /// Counts so many requests more in the bucket of this place, each of which took so long.
+    /// Counts `requests` more in the bucket of this place, each of which took `micros`.
     pub(crate) fn add(&self, place: usize, requests: u64, micros: u64) {
         if let Some(count) = self.counts.get(place) {
             raise(count, requests);

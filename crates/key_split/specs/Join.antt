@@ -124,7 +124,7 @@ joined Sum vs = sum_reply (total_in_range vs)
 abbrev pub join_of : Joining → List Ended → Value
 join_of joining ends = let replies = map reply_of ends in unwrap_or (find is_error replies) (joined joining replies)
 
--- so many ends can be joined: there is one, or at least one, and each place is one of theirs
+-- `count` ends can be joined: there is one, or at least one, and each place is one of theirs
 abbrev pub CanJoin : Joining → ℕ → Type 0
 CanJoin One count = count ≡ 1
 CanJoin (Array places) count = (0 < count) × All (λ place. place < count) places

@@ -39,7 +39,7 @@ same_letters a b = bytes_eq (map to_ascii_lowercase a) (map to_ascii_lowercase b
 unfoldable pub name_of : List ℕ → Option Name
 name_of word = find (λ name. same_letters word (text_of name)) names
 
--- a request of the command may have so many words, its name among them
+-- a request of the command may have this number of words, its name among them
 abbrev pub allows : Name → ℕ → Bool
 allows Get n = n == 2
 allows Set n = nat_le 3 n

@@ -67,7 +67,7 @@ pub enum PlanFault {
     NoMemory,
     #[error("unknown command")]
     UnknownCommand,
-    /// The command does not take so many words.
+    /// The command does not take this number of words.
     #[error("wrong number of arguments for {0:?}")]
     WrongCount(Name),
     /// SET has an option other than NX and XX, or both kinds.

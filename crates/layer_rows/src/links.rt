@@ -68,7 +68,7 @@ impl LinkObjects {
         }
     }
 
-    /// Receives until something comes, so many times at most.
+    /// Receives until something comes, at most `calls` times.
     fn receive(
         &mut self,
         table: &mut NodeTable,
@@ -119,7 +119,7 @@ fn give(stream: &mut MemoryStream, line: &mut Line) {
     }
 }
 
-/// The next stream fails behind so many bytes.
+/// The next stream fails behind this number of bytes.
 fn make_room(stream: &mut MemoryStream, line: &mut Line) {
     if let Some(room) = line.read() {
         stream.make_room(room);
@@ -127,7 +127,7 @@ fn make_room(stream: &mut MemoryStream, line: &mut Line) {
     }
 }
 
-/// The next stream moves so many bytes at once.
+/// The next stream moves this number of bytes at once.
 fn slow_to(stream: &mut MemoryStream, line: &mut Line) {
     if let Some(at_once) = line.read() {
         stream.slow_to(at_once);
@@ -159,7 +159,7 @@ fn wait_over(port: &mut Port, line: &mut Line) {
     }
 }
 
-/// The next value, of so many calls at most.
+/// The next value, of `calls` calls at most.
 fn next_within(port: &mut Port, calls: u64) -> Result<Option<Value>, PortFault> {
     for _ in 0..calls {
         if let Some(next) = come(port.next()) {
@@ -206,7 +206,7 @@ fn send(link: &mut Link<Port>, line: &mut Line) {
     }
 }
 
-/// What is received of so many calls at most, or None where the link's node is not in the table.
+/// What is received of `calls` calls at most, or None where the link's node is not in the table.
 fn receive(
     link: &mut Link<Port>,
     table: &mut NodeTable,

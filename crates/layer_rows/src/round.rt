@@ -18,7 +18,7 @@ struct Round {
     bytes: u64,
 }
 
-/// `COUNT SIZE`: reads so many requests in pieces of so many bytes, and writes each back. Answers how many values came, and
+/// `COUNT SIZE`: reads COUNT requests in pieces of SIZE bytes, and writes each back. Answers how many values came, and
 /// how many bytes were written.
 pub fn call(line: &mut Line) {
     if let Some((count, size)) = line.read::<(u64, usize)>() {
@@ -57,7 +57,7 @@ impl Round {
         }
     }
 
-    /// Reads a text in pieces of so many bytes.
+    /// Reads a text in pieces of `size` bytes.
     fn read_all(&mut self, text: &[u8], size: usize) -> Result<(), WireFault>
         requires { 0 < size }
     {

@@ -45,7 +45,7 @@ impl MemoryStream {
         self.waits = true;
     }
 
-    /// From now on a call moves so many bytes at most.
+    /// From now on a call moves at most `at_once` bytes.
     pub fn slow_to(&mut self, at_once: usize) {
         self.at_once = at_once;
     }

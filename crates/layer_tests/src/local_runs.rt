@@ -139,7 +139,7 @@ fn connections_that_pass_no_call_on(rt: HostRuntime) -> Result<(), Fail> {
     Ok(())
 }
 
-// Two clients while a slot moves, over connections that pass so many calls on: each of the five parts ended.
+// Two clients while a slot moves, over connections that pass `calls` calls on: each of the five parts ended.
 fn fail_after<R: Host>(rt: &R, calls: u64) -> Result<bool, Fail> {
     let mut listing = Vec::new(rt.alloc());
     let moves = [Move::Moved(15495, 0)];

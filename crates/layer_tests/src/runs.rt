@@ -94,7 +94,7 @@ pub fn scripts_of(alloc: Global, texts: &[&[u8]]) -> Result<Vec<Bytes>, Fail> {
     Ok(scripts)
 }
 
-/// Runs the scripts, over connections that each pass so many calls on where `calls` says so. None where the run fails.
+/// Runs the scripts, over connections that each pass `calls` calls on, where it is given. None where the run fails.
 pub fn ran<R: Host, G: Gate + Sync>(
     rt: &R,
     scripts: &[Bytes],

@@ -1,4 +1,4 @@
-//! Runs that end once so many clients have come and gone. The clients connect before the run begins.
+//! Runs that end once a number of clients have come and gone. The clients connect before the run begins.
 //!
 //! In one of them the nodes run in a thread of their own, and the proxy before them in that of the test.
 
@@ -46,7 +46,7 @@ fn hears(alloc: Global, stream: &mut TcpStream, wanted: &[u8]) -> bool {
     stream.read_to_end(&mut heard).is_ok() && heard.as_slice() == wanted
 }
 
-/// A proxy with two workers that ends once so many clients have come and gone.
+/// A proxy with two workers that ends once `clients` clients have come and gone.
 fn proxy(listener: net::TcpListener, seed: u16, clients: u32, log: &ErrorStream) -> Proxy<'_>
     ensures workers { result.workers ≡ 2 }
     ensures host { IsTrue (is_one_line result.host.now) }

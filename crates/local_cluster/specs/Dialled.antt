@@ -11,7 +11,7 @@ use Rattle.local_cluster.specs.Conversation.{LocalPortModel, fresh_with}
 abbrev pub IsNewAt : Endpoint → LocalPortModel → Type 0
 IsNewAt at port = (node : ℕ) × (at ≡ address node) × (port ≡ fresh_with node)
 
--- of so many nodes the one that is listed there is reached; it failed only where none is
+-- the one of `nodes` nodes that is listed there is reached; it failed only where none is
 abbrev pub DialledLocally : ℕ → Endpoint → Result LocalPortModel DialFault → Type 0
 DialledLocally nodes at (Ok port) = (node : ℕ) × IsListedAt nodes at (Some node) × (port ≡ fresh_with node)
 DialledLocally nodes at (Err Failed) = IsListedAt nodes at None

@@ -30,7 +30,7 @@ WasTried step tried = (s : LocalStateModel) × (s' : LocalStateModel) × IsSound
 abbrev pub WasListed : List Endpoint → Value → Type 0
 WasListed table value = (s : LocalStateModel) × IsSound s × (data_of value ≡ slots_data s.nodes table)
 
--- there are so many nodes, counted up to 64
+-- there are `count` nodes, counted up to 64
 abbrev pub CountsNodes : ClusterModel → ℕ → Type 0
 CountsNodes k count = (node : ℕ) → node < 64 → (node < count) ↔ (node < length k.stores)
 

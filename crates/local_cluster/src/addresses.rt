@@ -39,7 +39,7 @@ fn list(table: &mut NodeTable, node: u16) -> Result<(), NoMemory>
     }
 }
 
-/// The node of so many that is listed there.
+/// The node of a cluster of `nodes` that is listed there.
 pub(crate) fn node_at(nodes: u8, host: &[u8], port: u16) -> Option<NodeId>
     requires { nodes ≤ 64 }
     ensures { IsListedAt nodes (record { host = host.now; port = port }) result }

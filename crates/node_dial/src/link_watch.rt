@@ -44,7 +44,7 @@ impl LinkWatch {
         self.since.set(None);
     }
 
-    /// The socket was offered bytes, and took so many.
+    /// The socket was offered bytes, and took `taken` of them.
     pub(crate) fn note_written(&self, taken: usize, offered: usize) {
         if self.full.get() && taken > 0 {
             self.since.set(None);

@@ -238,7 +238,7 @@ cut (piece ∷ later) (suc count) within =
     let h = cut later count (omega (arith, within)) in
     (h.0, ap (λ (all : List Piece). piece ∷ all) h.1, h.2)
 
--- all but the first of so many pieces are taken off the back, and then that one
+-- all but the first of `count` pieces are taken off the back, and then that one
 pub front_left : (full left : List Piece) (piece : Piece) (count cut_at : ℕ) → 0 < count → count ≤ length full → cut_at ≡ length full - count + 1
     → take cut_at full ≡ left ++ piece ∷ [] → (left ≡ take (length full - count) full) × ((last : List ℕ) → piece.spelled.items ≡ spelled_first (drop (length full - count) full) last)
 front_left full left piece count cut_at some within is all =

@@ -34,7 +34,7 @@ abbrev pub written_as : Item → List ℕ
 written_as (Plain request) = spelled_words (words_in request)
 written_as (Block requests) = spelled_block requests
 
--- the replies that are awaited then: one, or those to a block of so many commands
+-- the replies that are awaited then: one, or those to a block with its number of commands
 abbrev pub awaited_by : Item → Awaited
 awaited_by (Plain request) = awaited.Reply
 awaited_by (Block requests) = awaited.Block (length requests)

@@ -63,17 +63,17 @@ module _ {S : Type 0} (moved : S → List ℕ → List ℕ → S → Type 0) whe
 abbrev pub IsGarbled : {S : Type 0} → PortBytes S → Type 0
 IsGarbled port = (fault : WireFault) × (front port.input.bounds port.input.unread ≡ Faulty fault)
 
--- a write is offered so many bytes at least, where as many wait
+-- bytes that a write is offered at least, where as many wait
 abbrev pub least_offer : ℕ
 least_offer = 65536
 
--- A write may be offered so many bytes off the front: all that the stream left of what it was offered last; and where it left none,
--- all that wait, or so many that they are enough.
+-- A write may be offered `count` bytes off the front: all that the stream left of what it was offered last; and where it left none,
+-- all that wait, or enough of them.
 abbrev pub IsOffer : List ℕ → ℕ → ℕ → Type 0
 IsOffer unsent refused count =
     (count ≤ length unsent) × (refused ≤ count) × ((0 < refused) ⊎ ((count ≡ length unsent) ⊎ (least_offer ≤ count)))
 
--- how many of so many bytes a write leaves that was answered so
+-- how many of `count` bytes a write leaves that was answered so
 abbrev pub left_of : ℕ → Flow → ℕ
 left_of count (flow.Bytes taken) = count - taken
 left_of count flow.Nothing = count
@@ -85,7 +85,7 @@ Offers offered may_wait old unsent refused new refused' =
     ((count : ℕ) × IsOffer unsent refused count × (given : Flow) × offered old (take count unsent) given new × (refused' ≡ left_of count given))
     ⊎ ((refused ≡ 0) × (refused' ≡ 0) × (new ≡ old) × may_wait)
 
--- bytes that were never offered are held back until so many reads came with nothing sent between them
+-- reads with nothing sent between them, until which bytes that were never offered are held back
 abbrev pub flush_after_reads : ℕ
 flush_after_reads = 4
 

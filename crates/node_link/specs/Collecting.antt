@@ -15,7 +15,7 @@ use Rattle.node_link.specs.Bytes.{InboxModel, OutboxModel, Splits}
 use Rattle.node_link.specs.Blocks.{HasBadBlock, IsShort, RepliesModel, Settles, first_block}
 use Rattle.node_link.specs.Waiting.{IsWaiting}
 
--- so many replies may be held of what is awaited next
+-- replies that may be held of what is awaited next
 abbrev pub most_held : Option ℕ → ℕ
 most_held None = 0
 most_held (Some count) = count + 2
@@ -32,7 +32,7 @@ abbrev pub Gathers : ReaderModel → List Value → ReaderModel → List Value �
 Gathers input held input' held' =
     (read : List Value) × Splits input.bounds input.unread read input'.unread × (input'.bounds ≡ input.bounds) × (held' ≡ held ++ read)
 
--- so many are wanted: all of them have come, or fewer
+-- `wanted` are wanted: all of them have come, or fewer
 abbrev pub GatherOutcome : ℕ → ReaderModel → List Value → Result Bool PortFault → ReaderModel → List Value → Type 0
 GatherOutcome wanted input held (Ok true) input' held' = Gathers input held input' held' × (length held' ≡ wanted)
 GatherOutcome wanted input held (Ok false) input' held' = Gathers input held input' held' × (length held' < wanted) × IsWaiting input'

@@ -41,7 +41,7 @@ abbrev pub is_queued : Value → Bool
 is_queued (Error line) = true
 is_queued value = is_text (codes "QUEUED") value
 
--- the reply to EXEC behind so many commands
+-- the reply to EXEC behind `count` commands
 abbrev pub ends_block : ℕ → Value → Bool
 ends_block count (Error line) = true
 ends_block count (Array items) = nat_eq (length items) count
@@ -51,7 +51,7 @@ abbrev pub is_end : ℕ → Option Value → Bool
 is_end count None = false
 is_end count (Some value) = ends_block count value
 
--- whether these are replies to a block of so many commands, one at least: MULTI's, those of the commands, and EXEC's
+-- whether these are replies to a block of `count` commands, one at least: MULTI's, those of the commands, and EXEC's
 abbrev pub is_answer : ℕ → List Value → Bool
 is_answer count [] = false
 is_answer count (begun ∷ later) =
@@ -90,17 +90,17 @@ IsToldByExec queued (Bulk bytes) told = ⊥
 IsToldByExec queued NullBulk told = ⊥
 IsToldByExec queued NullArray told = ⊥
 
--- what the replies to a block of so many commands, each at its place, give the commands
+-- what the replies to a block of `count` commands, each at its place, give the commands
 abbrev pub IsToldByBlock : ℕ → List Value → List Value → Type 0
 IsToldByBlock count replies told =
     (begun : Value) × (queued : List Value) × (exec : Value) × (replies ≡ begun ∷ (queued ++ exec ∷ [])) × (length queued ≡ count)
     × IsTrue (is_text (codes "OK") begun) × IsTrue (list_all is_queued queued) × IsToldByExec queued exec told
 
--- behind so many commands EXEC was answered an error: none of them was executed
+-- behind `count` commands EXEC was answered an error: none of them was executed
 abbrev pub IsRefusedBlock : ℕ → List Value → Type 0
 IsRefusedBlock count replies = (is_answer count replies ≡ true) × ForSome (slice_get replies (count + 1)) (λ exec. is_error exec ≡ true)
 
--- taking what the replies to a block of so many commands give them, the last first: they stay where memory is wanting, which it can be
+-- taking what the replies to a block give its commands, the last first: they stay where memory is wanting, which it can be
 -- only where none was executed, and where they are no replies to such a block
 abbrev pub BlockOutcome : ℕ → List Value → Result (Vec Value Global) PortFault → List Value → Type 0
 BlockOutcome count old (Ok told) new = IsToldByBlock count old (reverse told.items) × (new ≡ []) × (0 < length (reverse told.items))

@@ -11,7 +11,7 @@ use key_split::error_line;
 use resp_wire::{NoMemory, Value};
 use std::alloc::Global;
 
-/// Takes what the replies to a block of so many commands give them, the last first. Where memory is wanting, and where they are no
+/// Takes what the replies to a block of `count` commands give them, the last first. Where memory is wanting, and where they are no
 /// replies to such a block, they stay.
 pub fn take_told(
     alloc: Global,

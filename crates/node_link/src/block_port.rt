@@ -23,7 +23,7 @@ use resp_wire::{Limits, NoMemory, Value};
 use std::alloc::Global;
 use std::marker::Model;
 
-/// A block has so many commands at most.
+/// Commands of a block at most.
 const LONGEST_BLOCK: usize = 64;
 
 /// A port over a stream that does not block. A run of several commands goes as a block: MULTI, the commands, EXEC. Nothing is told

@@ -12,7 +12,7 @@ use key_split::{Batch, Run};
 use resp_wire::Value;
 use std::marker::Model;
 
-/// Passes so many calls on to its port. From then on each call answers that the port failed, and does not reach it.
+/// Passes a number of calls on to its port. From then on each call answers that the port failed, and does not reach it.
 #[derive(Drop)]
 pub struct Fuse<P> {
     port: P,

@@ -15,10 +15,10 @@ const FLUSH_SIZE: usize = 16 * 1024;
 /// Writes are held back until this many reads came with nothing sent between them.
 pub const FLUSH_AFTER_READS: u32 = 4;
 
-/// A word of so many bytes is not copied where its line end stands behind it, in bytes: both are written from where they stand.
+/// Bytes from which on a word is not copied where its line end stands behind it: both are written from where they stand.
 /// A piece that ended with a shorter one could be less than one write has to be offered.
 const LARGE_LINE: usize = 64 * 1024;
-/// No word of so many bytes is copied, in bytes. A shorter one costs less to copy than a write of its own for its line end.
+/// Bytes from which on no word is copied. A shorter one costs less to copy than a write of its own for its line end.
 const LARGE_WORD: usize = 256 * 1024;
 
 /// Whether a request may wait for others to go out with it.
@@ -183,7 +183,7 @@ impl Outbox {
     }
 }
 
-// A request counts as having waited for so many reads.
+// The reads that a request counts as having waited for.
 fn reads_waited(urgency: Urgency) -> u32 {
     match urgency {
         Urgency::CanWait => 0,

@@ -21,7 +21,7 @@ impl Piece {
         self.spelled.len() + self.word().len()
     }
 
-    /// What is left of both where so many bytes were written.
+    /// What is left of both where `written` bytes were written.
     pub fn rest(&self, written: usize) -> (&[u8], &[u8])
         requires { written ≤ length (bytes_in self.now) }
         ensures { result.0.now ++ result.1.now ≡ drop written (bytes_in self.now) }

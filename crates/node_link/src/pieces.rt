@@ -12,9 +12,9 @@ use std::alloc::Global;
 use std::collections::VecDeque;
 use std::mem;
 
-/// A piece of so many bytes takes no more requests, in bytes.
+/// Bytes from which on a piece takes no more requests.
 const PIECE: usize = 64 * 1024;
-/// A new piece has room for so many bytes, and an empty one with room for more gives it back, in bytes.
+/// Bytes that a new piece has room for. An empty one with room for more gives it back.
 const PIECE_ROOM: usize = 80 * 1024;
 
 /// Bytes that wait to be written, and behind them those of a request that is being spelled. A request is cut only behind a
@@ -130,7 +130,7 @@ impl Pieces {
         self.finished = 0;
     }
 
-    /// Whether the stream left some of what it was offered last, or would be offered so many bytes or the rest of a request.
+    /// Whether the stream left some of what it was offered last, or would be offered `count` bytes or the rest of a request.
     pub fn is_due(&self, count: usize) -> bool
         requires sound { IsSound self.now }
         requires no_draft { (held_in self.now).draft ≡ [] }
@@ -214,7 +214,7 @@ impl Pieces {
     }
 }
 
-// Takes back so many pieces at the back, but for what is spelled in the first of them.
+// Takes back `count` pieces at the back, but for what is spelled in the first of them.
 fn take_back(full: &mut VecDeque<Piece>, count: usize, last: &mut Vec<u8>)
     requires { count ≤ length full.old.items }
     ensures full { full.new.items ≡ take (length full.old.items - count) full.old.items }

@@ -22,7 +22,7 @@ use std::marker::Model;
 pub enum Awaited {
     /// One reply.
     Reply,
-    /// The replies to a block of so many commands.
+    /// The replies to a block of this number of commands.
     Block(u8),
 }
 
@@ -151,7 +151,7 @@ impl Replies {
         }
     }
 
-    // Takes what the replies to a block of so many commands tell the first, once all have come.
+    // Takes what the replies to a block of `count` commands tell the first, once all have come.
     fn take_block(&mut self, inbox: &mut Inbox, count: u8) -> Result<Option<Value>, PortFault>
         requires told { self.old.told ≡ [] }
         requires first { first_block self.old.awaited ≡ Some count }
@@ -192,7 +192,7 @@ fn first_block(awaited: &VecDeque<Awaited>) -> Option<u8>
     }
 }
 
-// Reads values until so many are held, as far as they have come. True where they are.
+// Reads values until `wanted` are held, as far as they have come. True where they are.
 fn gather(inbox: &mut Inbox, held: &mut Vec<Value>, wanted: usize) -> Result<bool, PortFault>
     requires { length held.old.items ≤ wanted }
     ensures gathered { GatherOutcome wanted (input_of inbox.old) held.old.items result (input_of inbox.new) held.new.items }

@@ -11,7 +11,7 @@ abbrev pub lanes_of : {H M : Type 0} → CarrierEnds H M → List (LaneEnds H)
 lanes_of ends = ends.lanes.items
 
 module _ {H J : Type 0} where
-  -- the two ends of the lanes of this one of so many workers, in which nothing was posted, beside a view that knows of nothing
+  -- the two ends of the lanes of one of the workers, in which nothing was posted, beside a view that knows of nothing
   -- published
   abbrev pub AreLanesOf : ℕ → ℕ → WorkerEnds H J → LaneEnds H → Type 0
   AreLanesOf workers k w lane =

@@ -61,7 +61,7 @@ module _ {T : Type 0} where
   Takes old new (Some x) = SameConsumer old.consumer new.consumer × (taken new ≡ taken old ++ numbered (length (taken old)) x ∷ [])
       × IsPrefix (held old) (numbered (length (taken old)) x ∷ held new)
 
-  -- with the note of all that was posted: what was taken and what is held are all of it, and so many items are left
+  -- with the note of all that was posted: what was taken and what is held are all of it, and `left` items are left
   abbrev pub Settles : Inlet T → Inlet T → Note T → ℕ → Type 0
   Settles old new note left = SameConsumer old.consumer new.consumer × (taken new ≡ taken old)
       × (taken new ++ held new ≡ all_posted note) × (left ≡ length (held new))

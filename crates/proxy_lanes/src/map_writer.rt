@@ -70,7 +70,7 @@ impl<J: Naming, R: Wait + Drop> MapWriter<J, Tables<J, R>> {
     ghost use Rattle.proxy_lanes.specs.Publishing.{IsPublished};
     ghost use Rattle.slot_map.specs.declared.ops.MapOp.TheVariants.{SetSlot};
 
-    /// A map in which no slot has a node, with room for so many views.
+    /// A map in which no slot has a node, with room for `views` views.
     pub(crate) fn new(
         alloc: Global,
         rt: R,

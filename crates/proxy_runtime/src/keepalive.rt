@@ -6,11 +6,11 @@ use libc::net::{
 use mio::net::TcpStream;
 use std::os::fd::AsRawFd;
 
-/// After so many seconds in which nothing came, the system asks whether the other end is there.
+/// Seconds in which nothing came, after which the system asks whether the other end is there.
 const IDLE_SECONDS: i32 = 60;
-/// So many seconds after a question without an answer it asks again.
+/// Seconds after a question without an answer, until it asks again.
 const INTERVAL_SECONDS: i32 = 10;
-/// After so many questions without an answer the connection fails.
+/// Questions without an answer, after which the connection fails.
 const QUESTIONS: i32 = 3;
 
 /// Has the system ask the other end. Where it refuses a time it keeps its own.

@@ -76,7 +76,7 @@ impl PolledSocket {
         self.registration.micros()
     }
 
-    /// Counts so many more of this figure.
+    /// Adds to this figure.
     pub fn count(&self, figure: Figure, more: u64) {
         self.registration.count(figure, more);
     }

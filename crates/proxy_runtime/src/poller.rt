@@ -53,7 +53,7 @@ impl Poller {
         self.sleep_for(ready, SLEEP_MILLIS)
     }
 
-    /// The same, for so many milliseconds where these are fewer.
+    /// The same, for at most `millis` milliseconds.
     pub fn sleep_for(&mut self, ready: &ReadySet, millis: u64) -> bool {
         self.poll_for(ready, Duration::from_millis(millis.min(SLEEP_MILLIS)))
     }

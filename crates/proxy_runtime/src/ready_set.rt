@@ -260,14 +260,14 @@ impl Registration {
         }
     }
 
-    /// The socket gave so many bytes.
+    /// The socket gave `count` bytes.
     pub(crate) fn note_read(&self, count: usize) {
         self.ready.traffic.store(true, Ordering::Relaxed);
         self.ready.note_reader(self.token().0 as u64);
         self.count(Figure::BytesIn, count as u64);
     }
 
-    /// The socket took so many bytes.
+    /// The socket took `count` bytes.
     pub(crate) fn note_written(&self, count: usize) {
         self.ready.traffic.store(true, Ordering::Relaxed);
         self.count(Figure::BytesOut, count as u64);
@@ -278,7 +278,7 @@ impl Registration {
         self.ready.micros()
     }
 
-    /// Counts so many more of this figure.
+    /// Adds to this figure.
     pub fn count(&self, figure: Figure, more: u64) {
         self.ready.report.count(figure, more);
     }

@@ -53,7 +53,7 @@ behind_keeps most old before (Err refused) new after does = calls_keep.drain mos
 pub tail_waits : (empty : Bool) (front tail : List ℕ) → (IsTrue empty ↔ (tail ≡ [])) → empty ≡ false → front ++ tail ≢ []
 tail_waits empty front tail both is = some_left front tail (λ none. false≢true (sym is ∙ both.1 none))
 
--- so many bytes leave the front of two lists
+-- `count` bytes leave the front of two lists
 drop_both : (count first : ℕ) (xs ys : List ℕ) (few : Bool) → nat_le count (length xs) ≡ few → first ≡ min count (length xs)
     → drop first xs ++ drop (count - first) ys ≡ drop count (xs ++ ys)
 drop_both count first xs ys true test is =

@@ -171,7 +171,7 @@ module _ {C : Type 0} (gives_none takes_none : C → Type 0) where
 
 -- ---- each has its place in the round
 
--- the place of the turn that comes after so many others
+-- the place of the turn that comes after `step` others
 abbrev pub IsPlace : ℕ → ℕ → ℕ → ℕ → Type 0
 IsPlace first count step place = (place < count) × (first + step < count → place ≡ first + step) × (count < first → place ≡ step) × (first ≤ count → count ≤ first + step → place + count ≡ first + step)
 

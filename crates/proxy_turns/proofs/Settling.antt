@@ -428,7 +428,7 @@ not_awaiting stage (inl wants) is = subst WantsPost is wants
 not_awaiting stage (inr (end, over)) is = cc
 
 module _ (due : DueCommands) (outlet : Outlet RunModel) (ended : due.ended.items ≡ []) (posted : (due.due.items ≡ []) ⊎ HasNoPlace outlet) (number part : ℕ) where
-  -- the rest of a command at this stage, after so many refusals
+  -- the rest of a command at this stage, after this number of refusals
   abbrev RestsAt : Stage → ℕ → Type 0
   RestsAt stage followed = WantsPost stage × (IsSomeAnd (pause_at stage followed) (λ pause. 0 < pause) ⊎ HasNoPlace outlet)
 

@@ -16,7 +16,7 @@ abbrev pub AreToCome : Option ℕ → Type 0
 AreToCome None = ⊤
 AreToCome (Some n) = 0 < n
 
--- A client of this one of so many workers is put under its number, or it is let go where it may not come: its port is closed, and
+-- A client of this one of the workers is put under its number, or it is let go where it may not come: its port is closed, and
 -- kept where ports are.
 abbrev pub PutsNew : {C : Type 0} → Moves C → ℕ → ℕ → FinMap nat_cmp (ClientModel C) → List C → Option ℕ → Option ℕ → ℕ → ClientModel C → FinMap nat_cmp (ClientModel C) → List C → Option ℕ → Type 0
 PutsNew {C} moves workers worker old ports newest left number client new ports' newest' =

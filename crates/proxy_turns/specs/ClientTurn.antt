@@ -49,7 +49,7 @@ pub data ClientEvent : Type 0 where
   Parted : ClientEvent
   Dropped : List Ticket → ClientEvent
 
--- A turn drains replies of so many bytes, and the last of them to its end.
+-- Bytes of the replies that a turn drains, the last of them to its end.
 abbrev pub most_drained : ℕ
 most_drained = 64 * 1024
 
@@ -184,7 +184,7 @@ module _ {C : Type 0} where
         × IsTogether run × (count_in run ≤ most_together)
         × Posts old.outlet new.outlet run (Ok tt)
         × (new ≡ record { client = record old.client { commands = with_run rest first later }; outlet = new.outlet; view = new.view })
-    -- the session of a client that is there drains replies that are next in order, until they have so many bytes
+    -- the session of a client that is there drains replies that are next in order, until they have `most_drained` bytes
     ClientDoes old (Drained n) new =
         (old.client.gone ≡ false)
         × DrainOutcome most_drained old.client.session old.client.unpushed (Ok n) new.client.session new.client.unpushed

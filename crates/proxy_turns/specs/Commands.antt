@@ -42,7 +42,7 @@ commanded fresh entries = record { fresh = fresh; posted = from_entries entries 
 abbrev pub with_fresh : CommandsModel → Ticket → PartModel → CommandsModel
 with_fresh old ticket part = record old { fresh = old.fresh ++ new_command ticket part ∷ [] }
 
--- so many commands go out together at most
+-- commands that go out together at most
 abbrev pub most_together : ℕ
 most_together = 64
 

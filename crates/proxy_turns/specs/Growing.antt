@@ -1,7 +1,7 @@
 -- A list to which the same is added, once or more.
 use Rattle.std.specs.Prelude.{◌≡◌, ◌++◌, ◌∷◌, [], ℕ, zero, suc, List}
 
--- the list, with so many of these behind it
+-- the list, with a number of these behind it
 abbrev pub grown : {X : Type 0} → ℕ → X → List X → List X
 grown zero x xs = xs
 grown (suc n) x xs = grown n x xs ++ x ∷ []

@@ -20,7 +20,7 @@ use Rattle.proxy_turns.specs.declared.owing.Effect.TheVariants.{Skips, Asks, End
 abbrev pub numbering : ℕ → Effect
 numbering numbered = if nat_le numbered (2 ^ 48) then Asks numbered else Ends
 
--- a request by its plan, where so many parts were numbered before it
+-- a request by its plan, where `numbered` parts were numbered before it
 abbrev pub effect_by : ℕ → Result Planned PlanFault → Effect
 effect_by numbered (Err fault) = Asks numbered
 effect_by numbered (Ok (planned.Local value)) = Asks numbered
@@ -45,12 +45,12 @@ pub data Owes : ℕ → List ℕ → ℕ → Type 0 where
   asked : (numbered later n m : ℕ) (bytes after : List ℕ) (value : Data) → front full bytes ≡ Whole value after
       → effect_of numbered (asked_of value) ≡ Asks later → n ≡ suc m → Owes later after m → Owes numbered bytes n
 
--- the bytes begin with so many values, one after another, and then come others
+-- the bytes begin with this number of values, one after another, and then come others
 abbrev pub Reads : ℕ → List ℕ → List ℕ → Type 0
 Reads zero bytes rest = rest ≡ bytes
 Reads (suc n) bytes rest = (value : Data) × (after : List ℕ) × (front full bytes ≡ Whole value after) × Reads n after rest
 
--- so many whole replies stand in the bytes
+-- `n` whole replies stand in the bytes
 abbrev pub Holds : ℕ → List ℕ → Type 0
 Holds n bytes = (rest : List ℕ) × Reads n bytes rest
 
@@ -75,12 +75,12 @@ NextOutcome numbered old (Ok (Some Skips)) new = Took numbered old Skips new
 NextOutcome numbered old (Ok (Some (Asks later))) new = Took numbered old (Asks later) new × (later ≤ 2 ^ 48)
 NextOutcome numbered old (Err refused) new = Unit {0}
 
--- what is left where so many values were read off
+-- what is left where a number of values were read off
 abbrev pub RestIs : Option WireFault → List ℕ → List ℕ → Type 0
 RestIs None unread rest = rest ≡ unread
 RestIs (Some fault) unread rest = front full rest ≡ Faulty fault
 
--- so many values of these bytes were read
+-- `count` values of these bytes were read
 pub record IsCounted (bytes : List ℕ) (input : ReaderModel) (count : ℕ) : Type 0 where
   pub rest : List ℕ
   pub read : Reads count bytes rest

@@ -13,7 +13,7 @@ doubling_pause refusals = unwrap_or (slice_get (0 ∷ 0 ∷ 1 ∷ 2 ∷ 4 ∷ 8 
 abbrev pub pause_after : ℕ → Bool → ℕ
 pause_after refusals is_redirected = if is_redirected && nat_le refusals 3 then 0 else doubling_pause refusals
 
--- the pause before its next post of a command at this stage, after so many refusals: one that names a node was a redirect
+-- the pause before its next post of a command at this stage, after `refusals` refusals: one that names a node was a redirect
 abbrev pub pause_at : Stage → ℕ → Option ℕ
 pause_at (Wants (Some node)) refusals = Some (pause_after refusals true)
 pause_at (Wants None) refusals = Some (pause_after refusals false)

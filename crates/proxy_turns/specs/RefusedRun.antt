@@ -8,7 +8,7 @@ use Rattle.key_split.specs.declared.travel.Ticket.{Ticket}
 abbrev pub tickets_in : RunModel → List Ticket
 tickets_in run = map (λ (batch : Batch). batch.ticket) (batches_in run)
 
--- those that are still to be told, where so many were
+-- those that are still to be told, where `told` were
 abbrev pub tickets_left : Option RunModel → ℕ → List Ticket
 tickets_left None told = []
 tickets_left (Some run) told = drop told (tickets_in run)

@@ -17,7 +17,7 @@ use Rattle.proxy_turns.specs.declared.backend.RunStep.{RunStep}
 use Rattle.proxy_turns.specs.declared.backend.RunStep.TheVariants.{Sent, TooLong, NoLink}
 use Rattle.proxy_turns.specs.Backend.{fresh_link, is_open, GoesOut}
 
--- the dial failed, or the table of so many nodes has no such node
+-- the dial failed, or the table, which has `nodes` nodes, has no such node
 abbrev pub IsUnreached : ℕ → ℕ → ℕ → ℕ → Type 0
 IsUnreached node nodes before now = (before < now) ⊎ ((nodes ≤ node) × (now ≡ before))
 

@@ -123,11 +123,11 @@ IsAbove (Some newest) number = newest < number
 abbrev pub IsNew : {C : Type 0} → FinMap nat_cmp (ClientModel C) → Option ℕ → ℕ → Type 0
 IsNew clients newest number = IsAbove newest number × (get clients number ≡ None)
 
--- clients are dealt to so many workers by their numbers
+-- clients are dealt to the workers by their numbers
 abbrev pub IsDealtTo : ℕ → ℕ → ℕ → Type 0
 IsDealtTo workers worker number = (0 < workers) × (number % workers ≡ worker)
 
--- the client of this number is dealt to this one of so many workers, and none before had its number
+-- the client of this number is dealt to this one of the workers, and none before had its number
 abbrev pub MayCome : {C : Type 0} → ℕ → ℕ → FinMap nat_cmp (ClientModel C) → Option ℕ → ℕ → Type 0
 MayCome workers worker clients newest number = IsDealtTo workers worker number × IsNew clients newest number
 

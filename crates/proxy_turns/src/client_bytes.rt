@@ -22,7 +22,7 @@ pub(crate) fn piece_after(piece: usize, count: usize) -> usize {
     piece.saturating_mul(2).min(LARGEST_PIECE)
 }
 
-/// Asks for so many bytes or more. The buffer changes hands with them.
+/// Asks for `least` bytes or more. The buffer changes hands with them.
 pub(crate) fn pull_into<C: ClientPort>(
     port: &mut C,
     unfed: &mut Vec<u8>,

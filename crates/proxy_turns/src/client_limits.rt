@@ -1,14 +1,14 @@
 //! How much is done or kept for one client.
 
-/// While so many bytes were pulled since all was answered, no more are pulled.
+/// Bytes pulled since all was answered, from which on no more are pulled.
 pub(crate) const MAX_ASKED: usize = 256 * 1024;
-/// While so many bytes wait to be pushed, no more are drained.
+/// Bytes that wait to be pushed, from which on no more are drained.
 pub(crate) const MAX_UNPUSHED: usize = 64 * 1024;
-/// So many bytes, and the last of them to the end of its reply, are drained in one turn.
+/// Bytes that are drained in one turn, the last of them to the end of its reply.
 pub(crate) const MAX_DRAINED: usize = 64 * 1024;
-/// While replies of so many bytes may be under way or wait, no part is begun but of the oldest request.
+/// Bytes of replies that may be under way or wait, from which on no part is begun but of the oldest request.
 pub(crate) const MAX_REPLIES: usize = 256 * 1024;
-/// While so many bytes are held for all clients of a worker, each has its oldest request under way, and few parts behind it.
+/// Bytes held for all clients of a worker, from which on each has its oldest request under way, and few parts behind it.
 pub(crate) const MAX_TOGETHER: usize = 32 * 1024 * 1024;
 /// A buffer that is larger is given back where it is empty.
 pub(crate) const KEPT: usize = 256 * 1024;
@@ -18,7 +18,7 @@ pub(crate) const MAX_READS: usize = 1024;
 pub(crate) const MAX_SENT: usize = 64;
 /// So many commands go out together at most.
 pub(crate) const MAX_RUN: usize = 64;
-/// Once the words of those that go out together have so many bytes, no more go with them.
+/// Bytes of the words of those that go out together, from which on no more go with them.
 pub(crate) const MAX_RUN_WORDS: usize = 64 * 1024;
 /// A list of commands with room for more is given back where it is empty.
 pub(crate) const KEPT_COMMANDS: usize = 4;

@@ -4,7 +4,7 @@ ghost use Rattle.std.specs.Prelude.{ℕ, Bool, Option, ⊤};
 
 /// Asked before each turn of a worker and once after the last, and told of turns that moved nothing.
 pub trait Gate {
-    /// It answered so to the worker of this number, of whose parts so many had ended.
+    /// It answered so to the worker of the first number, of whose parts the second had ended.
     ghost says: { Self → ℕ → ℕ → Bool → Type 0 } = { λ _ _ _ _. ⊤ };
 
     /// It was told that a turn moved nothing.

@@ -6,7 +6,7 @@ use crate::client_limits::MAX_REPLIES;
 use key_split::Ended;
 use resp_wire::Value;
 
-/// A reply counts as so many bytes at least.
+/// Bytes that a reply counts as at least.
 const SMALLEST: usize = 1024;
 /// What a reply counts as before one has come.
 const UNKNOWN: usize = 16 * 1024;

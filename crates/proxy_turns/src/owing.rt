@@ -21,7 +21,7 @@ const MAX_PARTS: u64 = 1 << 48;
 pub enum Effect {
     /// It asks for nothing.
     Skips,
-    /// It is owed a reply; so many parts are numbered then.
+    /// It is owed a reply; this number of parts are numbered then.
     Asks(u64),
     /// It is owed the last reply: QUIT, or a fault.
     Ends,

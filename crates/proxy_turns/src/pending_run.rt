@@ -20,7 +20,7 @@ pub struct PendingRun {
     pub(crate) refused: RefusedRun,
 }
 
-/// Places for the pending runs of so many workers.
+/// Places for the pending runs of `workers` workers.
 pub(crate) fn add_places(pending_runs: &mut Vec<PendingRun>, workers: usize) -> Result<(), NoMemory>
     ensures added { Grows no_pending_run pending_runs.old.items pending_runs.new.items }
     ensures enough { OnOk result (workers ≤ length pending_runs.new.items) }

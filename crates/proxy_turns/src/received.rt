@@ -56,7 +56,7 @@ impl Received {
         }
     }
 
-    /// Whether so many whole replies came.
+    /// Whether `owed` whole replies came.
     pub(crate) fn holds(&mut self, owed: u64) -> Result<bool, NoMemory>
         ensures kept { self.new ≡ self.old }
         ensures holds { IfOk result (λ all. IsTrue all ↔ Holds owed self.old) }

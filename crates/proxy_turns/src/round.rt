@@ -13,7 +13,7 @@ impl Round {
         Round { first: 0 }
     }
 
-    /// Which of so many has its turn after so many others.
+    /// Which of `count` has its turn after `step` others.
     pub(crate) fn place(self, step: usize, count: usize) -> usize
         requires { step < count }
         ensures there { result < count }

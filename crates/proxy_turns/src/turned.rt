@@ -45,7 +45,7 @@ pub(crate) enum NextStep {
     Rest,
     /// It has ended.
     End,
-    /// It is to be posted again after so many milliseconds.
+    /// It is to be posted again after this number of milliseconds.
     Post(u64),
 }
 

@@ -64,7 +64,7 @@ impl Unpushed {
         self.len() == 0
     }
 
-    /// Puts behind them what the session has to drain, until it is so many bytes. None where a tail is left, which stands last.
+    /// Puts behind them what the session has to drain, until it is `most` bytes. None where a tail is left, which stands last.
     pub(crate) fn drain(
         &mut self,
         session: &mut Session,

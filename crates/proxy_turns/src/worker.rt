@@ -20,7 +20,7 @@ use proxy_lanes::{Naming, WorkerEnds};
 use resp_wire::NoMemory;
 use std::alloc::Global;
 
-/// A worker over its ends of the lanes, which is to take so many new clients.
+/// A worker over its ends of the lanes, which is to take a number of new clients.
 pub struct Worker<'g, C: ClientPort + Drop, J: Naming, G: Gate> {
     gate: &'g G,
     state: WorkerState<C, J>,
@@ -40,7 +40,7 @@ impl<'g, C: ClientPort + Drop, J: Naming, G: Gate> Drop for Worker<'g, C, J, G> 
 }
 
 impl<'g, C: ClientPort + Drop, J: Naming, G: Gate> Worker<'g, C, J, G> {
-    /// A worker with no client yet. It is to take so many new clients, or clients without end; then it keeps no port of a
+    /// A worker with no client yet. It is to take `clients` new clients, or clients without end; then it keeps no port of a
     /// client that it has let go.
     pub fn new(
         alloc: Global,

@@ -19,7 +19,7 @@ IsNoEnd [] = ⊥
 IsNoEnd (b ∷ []) = b ≢ cr
 IsNoEnd (b ∷ c ∷ more) = b ≡ cr → c ≢ lf
 
--- The first fault of the bytes from where a value begins, where so many arrays may still stand one inside another:
+-- The first fault of the bytes from where a value begins, where a number of arrays may still stand one inside another:
 -- all before it is well spelled.
 pub data FirstFault (l : LimitsModel) : ℕ → List ℕ → WireFault → Type 0 where
   -- no value begins with this byte

@@ -10,7 +10,7 @@ use Rattle.resp_wire.specs.declared.fault.WireFault.{WireFault}
 use Rattle.resp_wire.specs.declared.fault.WireFault.TheVariants.{NoMemory}
 use Rattle.resp_wire.specs.declared.place.Place.{Place}
 
--- so many bytes behind the first are there, and neither CR nor LF
+-- `count` bytes behind the first are there, and neither CR nor LF
 pub record IsPlainTo (bytes : List ℕ) (count : ℕ) : Type 0 where
   pub within : count ≤ length (drop 1 bytes)
   pub plain : IsTrue (is_one_line (take count (drop 1 bytes)))

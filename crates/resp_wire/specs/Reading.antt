@@ -26,14 +26,14 @@ end_at [] = partial
 end_at (b ∷ []) = if b == cr then partial else faulty BadEnd
 end_at (b ∷ c ∷ more) = if b == cr && c == lf then whole tt more else faulty BadEnd
 
--- the text of a line, of which so many bytes more may come
+-- the text of a line, of which at most `left` bytes more may come
 unfoldable pub text_at : List ℕ → ℕ → Reading (List ℕ)
 text_at [] left = partial
 text_at (b ∷ bs) left =
     if b == cr || b == lf then then_read (end_at (b ∷ bs)) (λ _ rest. whole [] rest)
     else (if left == 0 then faulty TooLong else then_read (text_at bs (left - 1)) (λ text rest. whole (b ∷ text) rest))
 
--- so many bytes, CR and LF
+-- `n` bytes, CR and LF
 unfoldable pub body_at : ℕ → List ℕ → Reading (List ℕ)
 body_at n bytes = then_read (end_at (drop n bytes)) (λ _ rest. whole (take n bytes) rest)
 
@@ -51,14 +51,14 @@ by_length text null counted = if is_none text then null else option_map_or count
 unfoldable pub integer_at : List ℕ → List ℕ → Reading Data
 integer_at text rest = option_map_or (λ z. whole (integer z) rest) (integer_in text) (faulty BadNumber)
 
--- a bulk string of so many bytes
+-- a bulk string of `n` bytes
 abbrev pub counted_bulk : LimitsModel → List ℕ → ℕ → Reading Data
 counted_bulk l rest n = if nat_lt l.bulk n then faulty TooLong else then_read (body_at n rest) (λ body after. whole (bulk body) after)
 
 unfoldable pub bulk_at : LimitsModel → List ℕ → List ℕ → Reading Data
 bulk_at l text rest = by_length text (whole null_bulk rest) (counted_bulk l rest)
 
--- an array of so many items
+-- an array of `n` items
 abbrev pub counted_array : (ℕ → List ℕ → Reading Items) → List ℕ → ℕ → Reading Data
 counted_array items rest n = then_read (items n rest) (λ vs after. whole (array vs) after)
 
@@ -77,16 +77,16 @@ unfoldable pub value_with : LimitsModel → (ℕ → List ℕ → Reading Items)
 value_with l items [] = partial
 value_with l items (b ∷ bytes) = if is_kind b then then_read (text_at bytes l.line) (after_line l items b) else faulty BadType
 
--- so many values, one after another
+-- this number of values, one after another
 unfoldable pub items_at : (List ℕ → Reading Data) → ℕ → List ℕ → Reading Items
 items_at read zero bytes = whole no_items bytes
 items_at read (suc n) bytes = then_read (read bytes) (λ v rest. then_read (items_at read n rest) (λ vs after. whole (item v vs) after))
 
--- the items of an array where so many arrays may still stand one inside another
+-- the `n` items of an array where a number of arrays may still stand one inside another
 abbrev pub items_in : LimitsModel → ℕ → ℕ → List ℕ → Reading Items
 items_in l zero n rest = faulty TooDeep
 items_in l (suc inner) n rest = if nat_lt l.items n then faulty TooMany else items_at (value_with l (items_in l inner)) n rest
 
--- a value where so many arrays may still stand one inside another
+-- a value where `room` arrays may still stand one inside another
 abbrev pub value_at : LimitsModel → ℕ → List ℕ → Reading Data
 value_at l room bytes = value_with l (items_in l room) bytes

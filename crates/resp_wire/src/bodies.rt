@@ -14,7 +14,7 @@ pub(crate) const LEAST_SHARED_BYTES: usize = 16_384;
 /// How the bodies of a value are made.
 #[derive(Drop)]
 pub(crate) enum Bodies<'a> {
-    /// Each is copied that has at most so many bytes. A longer one is refused, as where memory runs out.
+    /// Each is copied that has at most this number of bytes. A longer one is refused, as where memory runs out.
     Copied(usize),
     /// A large one is a part of these bytes, which end with those that the value is read from.
     Shared(&'a Part),

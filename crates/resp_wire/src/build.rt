@@ -30,7 +30,7 @@ pub(crate) struct Building<'a> {
     pub(crate) bodies: Bodies<'a>,
 }
 
-/// The value at the front, and what follows it, where so many arrays may still stand one inside another.
+/// The value at the front, and what follows it, where `room` arrays may still stand one inside another.
 #[cycle(build)]
 pub(crate) fn build<'a>(
     how: &Building<'_>,
@@ -87,7 +87,7 @@ fn build_after<'a>(
     }
 }
 
-/// A bulk string of so many bytes.
+/// A bulk string of `len` bytes.
 fn build_bulk<'a>(
     how: &Building<'_>,
     len: usize,
@@ -109,7 +109,7 @@ fn build_bulk<'a>(
     }
 }
 
-/// An array of so many items.
+/// An array of `count` items.
 #[cycle(build)]
 fn build_array<'a>(
     how: &Building<'_>,

@@ -179,7 +179,7 @@ fn give_back_room(bytes: &mut Vec<u8>)
     }
 }
 
-/// How much room to expect after so many bytes came: an eighth more, since the next may be a little longer. What was
+/// How much room to expect after `len` bytes came: an eighth more, since the next may be a little longer. What was
 /// expected before fades by a quarter.
 fn expected_after(expected: usize, len: usize) -> usize {
     let came = len.min(MOST_EXPECTED_BYTES);

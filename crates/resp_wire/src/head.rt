@@ -69,7 +69,7 @@ pub(crate) fn body_at(bytes: &[u8], len: usize) -> Result<Option<(&[u8], &[u8])>
     }
 }
 
-/// What the value at the front begins with, where so many arrays may still stand one inside another.
+/// What the value at the front begins with, where `room` arrays may still stand one inside another.
 pub(crate) fn head_at<'a>(
     limits: &Limits,
     room: usize,

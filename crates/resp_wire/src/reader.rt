@@ -145,7 +145,7 @@ impl Reader {
         }
     }
 
-    /// Takes the value at the front off, where it is whole. A body is copied that has at most so many bytes.
+    /// Takes the value at the front off, where it is whole. A body is copied that has at most `most_copied` bytes.
     fn take(&mut self, most_copied: usize) -> Result<Option<Value>, WireFault>
         ensures { TakesOff self.old result self.new }
     {

@@ -60,7 +60,7 @@ fn skipped_array(limits: &Limits, len: usize, rest: &[u8]) -> Option<Skipped>
     Some(Skipped::Other)
 }
 
-/// Whether so many values are bulk strings alone, where they are whole.
+/// Whether the first `len` values are bulk strings alone, where they are whole.
 fn are_bulks(limits: &Limits, len: usize, bytes: &[u8]) -> bool
     ensures { (room : ℕ) → AreBulks (items_at (value_at limits.now room) len bytes.now) result }
 {

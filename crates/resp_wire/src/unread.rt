@@ -91,7 +91,7 @@ impl Unread {
         }
     }
 
-    /// Shares the buffer for the value at the front, which has so many bytes, where these are many and half of the buffer.
+    /// Shares the buffer for the value at the front, which has `count` bytes, where these are many and half of the buffer.
     /// A part of them then keeps at most twice as much memory.
     pub(crate) fn share(&mut self, count: usize)
         ensures { self.new ≡ self.old }
@@ -109,7 +109,7 @@ impl Unread {
         LEAST_SHARED_BYTES.max(self.queue.capacity() / 2)
     }
 
-    /// How the bodies of the value at the front are made: copied, if they have at most so many bytes, where the buffer is
+    /// How the bodies of the value at the front are made: copied, if they have at most `most_copied` bytes, where the buffer is
     /// not shared.
     pub(crate) fn bodies(&self, most_copied: usize) -> Bodies<'_>
         ensures { AreEndOf self.now result }

@@ -30,7 +30,7 @@ pub fn write_value(out: &mut Vec<u8>, value: &Value) -> Result<(), NoMemory>
     }
 }
 
-/// Appends what stands before the bytes of a bulk string that has so many. An `Err` leaves what was there.
+/// Appends what stands before the `len` bytes of a bulk string. An `Err` leaves what was there.
 pub fn write_bulk_head(out: &mut Vec<u8>, len: usize) -> Result<(), NoMemory>
     ensures ok { OnOk result (out.new.items ≡ out.old.items ++ spec.line dollar (decimal len) []) }
     ensures err { OnErr result (out.new.items ≡ out.old.items) }

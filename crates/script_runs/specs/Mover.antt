@@ -26,7 +26,7 @@ abbrev pub skips : Bool → ℕ
 skips true = 0
 skips false = 1
 
--- all steps came to their ends in order, and so many were skipped
+-- all steps came to their ends in order, and `skipped` of them were skipped
 abbrev pub AllEnd : List MoveStep → ℕ → Type 0
 AllEnd [] skipped = skipped ≡ 0
 AllEnd (step ∷ steps) skipped = (made : Bool) × (later : ℕ) × Ends step made × AllEnd steps later × (skipped ≡ skips made + later)

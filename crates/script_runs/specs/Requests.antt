@@ -49,7 +49,7 @@ first_of number (Whole value rest) = first_as number (asked_of value) rest
 first_of number Partial = Ends false
 first_of number (Faulty fault) = Ends true
 
--- what stands first in the bytes, behind requests of so many parts
+-- what stands first in the bytes, behind requests of `number` parts
 unfoldable pub first_in : ℕ → List ℕ → First
 first_in number bytes = first_of number (front full bytes)
 
@@ -61,7 +61,7 @@ pub record Requested : Type 0 where
 abbrev pub before : Request → Requested → Requested
 before words later = record { requests = words ∷ later.requests; faulted = later.faulted }
 
--- Bytes that stand behind requests of so many parts ask for these requests: all up to one that ends the session, or to a
+-- Bytes that stand behind requests of a given number of parts ask for these requests: all up to one that ends the session, or to a
 -- fault.
 pub data AsksFor : ℕ → List ℕ → Requested → Type 0 where
   ended : (number : ℕ) (bytes : List ℕ) (faulted : Bool) → first_in number bytes ≡ Ends faulted → AsksFor number bytes (record { requests = []; faulted = faulted })

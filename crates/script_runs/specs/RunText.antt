@@ -55,7 +55,7 @@ WritesRead workers (Whole input) status text = Writes workers input.items status
 WritesRead workers TooLong status text = (status ≡ 1) × (text ≡ too_long_text)
 WritesRead workers Failed status text = (status ≡ 1) × (text ≡ read_failed_text)
 
--- the same for an input of which so many bytes are read at most, in as many reads: it was read to its end, or is too long, or a read failed
+-- the same for an input of which at most `limit` bytes are read, in as many reads: it was read to its end, or is too long, or a read failed
 abbrev pub WritesFor : {R : Type 0} → ℕ → ℕ → List ℕ → ℕ → WatchedReaderModel R → ℕ → List ℕ → Type 0
 WritesFor limit workers input before now status text =
     ((length input ≤ limit) × (now.last ≡ End) × Writes workers input status text)

@@ -16,7 +16,7 @@ use Rattle.script_runs.specs.declared.wanted.Wanted.TheVariants.{Nothing, Skip, 
 abbrev pub IsOpen : ReaderModel → Type 0
 IsOpen input = (input.bounds ≡ full) × (input.fault ≡ None)
 
--- what stands first, behind requests of so many parts, wants this, and these bytes stand behind it
+-- what stands first, behind requests of `number` parts, wants this, and these bytes stand behind it
 abbrev pub Means : ℕ → First → Wanted → List ℕ → Type 0
 Means number first (Nothing faulted) rest = first ≡ Ends faulted
 Means number first Skip rest = first ≡ Skips rest

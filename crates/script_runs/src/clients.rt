@@ -102,7 +102,7 @@ pub(crate) fn gather(
     Ok((replies, ends))
 }
 
-/// No bytes for so many clients.
+/// No bytes for each of `count` clients.
 fn unanswered(alloc: Global, count: usize) -> Result<Vec<Bytes>, NoMemory>
     ensures { IfOk result (λ made. made.items ≡ replicate count []) }
 {

@@ -171,7 +171,7 @@ fn say(output: &mut Vec<u8>, is_whole: bool, value: &Value) -> Result<(), NoMemo
     }
 }
 
-/// The ends of so many parts, from this number on, where all of them have ended.
+/// The ends of `count` parts, from this number on, where all of them have ended.
 fn ends_of(
     alloc: Global,
     ends: &EndTable,

@@ -29,7 +29,7 @@ pub(crate) enum Wanted {
     Close,
 }
 
-/// Takes what is wanted next off the reader, behind requests of so many parts.
+/// Takes what is wanted next off the reader; the requests before it have `number` parts.
 pub(crate) fn next_wanted(
     alloc: Global,
     reader: &mut Reader,

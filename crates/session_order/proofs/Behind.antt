@@ -28,7 +28,7 @@ use Rattle.session_order.proofs.Blocking.{set_back}
 use Rattle.session_order.proofs.Fewer.{first_done}
 use Rattle.session_order.proofs.Keeping.{Grows, added_grows, same_part}
 
--- ---- place by place, where so many parts leave at the front
+-- ---- place by place, where parts leave at the front
 
 module _ (old new : SessionModel) (count : ℕ) (first : new.first ≡ old.first + count) (worker : new.worker ≡ old.worker) (client : new.client ≡ old.client) where
   parts_by : ((i slot : ℕ) → slice_get old.stages i ≡ Some (Out slot) → (count ≤ i) × (slice_get new.stages (i - count) ≡ Some (Out slot)))

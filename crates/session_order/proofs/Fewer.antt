@@ -1,4 +1,4 @@
--- The first so many of the requests that have their reply.
+-- The first few of the requests that have their reply.
 use Rattle.std.proofs.Common.{◌≡◌, ◌≤◌, ◌<◌, ◌+◌, ◌-◌, ◌++◌, ◌∷◌, [], List, ℕ, length, drop, take, refl, ap, sym, subst, ◌∙◌, arith, zero, suc, Option, Some, None, cond, true, false, Bool, append_assoc, length-append, length-drop, nat_lt}
 use Rattle.std.specs.Prelude.{nat_le, slice_get, slice_index_or}
 use Rattle.std.specs.List.{list_all, flat_map}
@@ -292,7 +292,7 @@ none_left i [] stages ends all = ap (λ (rs : List PendingReply). (replied rs st
 none_left zero (first ∷ rs) stages ends all = absurd (omega (arith, all))
 none_left (suc i) (first ∷ rs) stages ends all = none_left i rs stages ends (omega (arith, all))
 
--- what was written so far, of the requests of which so many more have their reply
+-- what was written so far, and how many more requests have their reply
 pub written_so_far : (most i count left : ℕ) (requests : List PendingReply) (stages : List PartStage) (ends : List Ended) (before out : List ℕ)
     → i + left ≡ (replied requests stages ends).0
     → out ≡ before ++ bytes_of (replies (take i requests) stages ends [])

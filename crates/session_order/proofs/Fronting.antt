@@ -101,7 +101,7 @@ untrue : (b : Bool) → (b ≡ true → ⊥) → b ≡ false
 untrue true denied = absurd (denied refl)
 untrue false denied = refl
 
--- these many behind the first ones, which are done, are done too exactly where so many more are counted
+-- these many behind the first ones, which are done, are done too exactly where that number more is counted
 pub front_all : (stages : List PartStage) (from count : ℕ) → list_all is_done (take from stages) ≡ true → from + count ≤ length stages
     → nat_le count (done_at_front stages - from) ≡ list_all is_done (take count (drop from stages))
 front_all stages from count done fits =

@@ -166,7 +166,7 @@ any_weaker p q [] less none = refl
 any_weaker p q (h ∷ xs) less none =
     any_none (q h) (list_any q xs) (less h (any_here (p h) (list_any p xs) none)) (any_weaker p q xs less (any_rest (p h) (list_any p xs) none))
 
--- none before an item, not the item, none of so many behind it
+-- none before an item, not the item, none of a number of items behind it
 pub any_around : {A : Type 0} (p : A → Bool) (xs : List A) (i k n : ℕ) (x : A) → n ≡ suc i + k → slice_get xs i ≡ Some x → list_any p (take i xs) ≡ false → p x ≡ false
     → list_any p (take k (drop (suc i) xs)) ≡ false → list_any p (take n xs) ≡ false
 any_around p [] i k n x sum at fore not aft = cc

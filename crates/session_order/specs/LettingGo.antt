@@ -47,7 +47,7 @@ pub record ForgetsAt (old : Tables) (i : ℕ) (was_out : Bool) (new : Tables) : 
 abbrev pub queue_of : SessionModel → QueueModel
 queue_of held = record { first = held.first; stages = held.stages }
 
--- one request for so many parts
+-- one request for this number of parts
 abbrev pub one_for : ℕ → List PendingReply
 one_for zero = []
 one_for (suc n) = Parts AllOk (suc n) ∷ []

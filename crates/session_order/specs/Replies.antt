@@ -1,5 +1,5 @@
 -- A session's output: the replies in the order of the requests, up to the first that has a part which has not ended.
--- A drain writes replies that are next in order, until they have so many bytes, or none for want of memory.
+-- A drain writes replies that are next in order, until they have as many bytes as were asked for, or none for want of memory.
 use Rattle.std.specs.Prelude.{◌≡◌, ◌<◌, ◌≤◌, ◌+◌, suc, List, [], ◌∷◌, ◌++◌, ℕ, Bool, true, false, Option, Some, None, Result, Ok, Err, if◌then◌else◌, take, drop, length, flat_map, nat_le}
 use Rattle.std.specs.List.{list_all}
 use Rattle.resp_wire.specs.declared.value.Value.{Value}
@@ -111,7 +111,7 @@ abbrev pub bytes_behind : Option (List ℕ) → List ℕ
 bytes_behind (Some tail) = tail
 bytes_behind None = []
 
--- a tail has so many bytes, where there may be one
+-- a tail has at least this number of bytes, where there may be one
 abbrev pub MayBeTail : Option ℕ → Option (List ℕ) → Type 0
 MayBeTail least None = Unit {0}
 MayBeTail None (Some tail) = ⊥
@@ -143,26 +143,26 @@ tail_in (Whole n) = None
 tail_in (Head n tail) = Some tail
 tail_in Nothing = None
 
--- the replies to the first so many requests; where these are all, the last lines follow
+-- the replies to the first `count` requests; where these are all, the last lines follow
 abbrev pub first_replies : ℕ → List PendingReply → List PartStage → List Ended → List Value → List Value
 first_replies count requests stages ends last = replies (take count requests) stages ends (if nat_le (length requests) count then last else [])
 
--- Replies that are next in order, one after another until their bytes are at least so many, or no more are next: those of the
--- first so many requests are spelled by the bytes.
+-- Replies that are next in order, one after another until they have `most` bytes or more, or no more are next: those of the
+-- first `count` requests are spelled by the bytes.
 pub record AreWritten (most : ℕ) (requests : List PendingReply) (stages : List PartStage) (ends : List Ended) (last : List Value) (count : ℕ) (bytes : List ℕ) : Type 0 where
   pub in_order : count ≤ (replied requests stages ends).0
   pub spelled : bytes ≡ bytes_of (first_replies count requests stages ends last)
   pub no_more : (fewer : ℕ) → fewer < count → length (bytes_of (first_replies fewer requests stages ends last)) < most
   pub all : length bytes < most → count ≡ (replied requests stages ends).0
 
--- these bytes were drained: some of the output, or all of it where they are fewer than so many
+-- these bytes were drained: some of the output, or all of it where they are fewer than `most`
 pub record Drains (most : ℕ) (old : SessionModel) (bytes : List ℕ) (new : SessionModel) : Type 0 where
   pub count : ℕ
   pub written : AreWritten most old.requests old.stages old.ends (last_line old.closing) count bytes
   pub left : new ≡ without old (count, parts_of (take count old.requests))
   pub all : length bytes < most → (bytes ≡ output old) × (new ≡ drained old)
 
--- what draining does: replies that are next in order are drained until their bytes are at least so many, or nothing is done
+-- what draining does: replies that are next in order are drained until they have `most` bytes or more, or nothing is done
 abbrev pub DrainOutcome : ℕ → SessionModel → List ℕ → Result ℕ NoMemory → SessionModel → List ℕ → Type 0
 DrainOutcome most old before (Ok n) new after = (bytes : List ℕ) × (after ≡ before ++ bytes) × (n ≡ length bytes) × Drains most old bytes new
 DrainOutcome most old before (Err refused) new after = (after ≡ before) × (new ≡ old)

@@ -121,7 +121,7 @@ pub record Unlinks (old : Tables) (i slot : ℕ) (next : Option ℕ) (new : Tabl
 abbrev pub SameParts : Tables → Tables → Type 0
 SameParts old new = (new.first ≡ old.first) × (new.stages.items ≡ old.stages.items)
 
--- so many parts can be added without more memory
+-- `count` parts can be added without more memory
 pub record HasRoom (t : Tables) (count : ℕ) : Type 0 where
   pub stages : deque_len t.stages + count ≤ deque_capacity t.stages
   pub later : deque_len t.later + count ≤ deque_capacity t.later

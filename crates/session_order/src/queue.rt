@@ -275,7 +275,7 @@ fn count_done(stages: &VecDeque<PartStage>, known: usize) -> usize
     stages.len()
 }
 
-// Makes room for so many more parts.
+// Makes room for `count` more parts.
 fn make_room(tables: &mut Tables, count: usize) -> Result<(), NoMemory>
     requires { AreSound tables.old }
     ensures sound { AreSound tables.new }

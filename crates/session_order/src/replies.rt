@@ -40,15 +40,15 @@ pub struct WrittenReplies {
 /// What was written of one request's reply.
 #[derive(Drop)]
 pub enum WrittenReply {
-    /// All, and it has so many parts.
+    /// All, and it has this number of parts.
     Whole(usize),
-    /// All but its tail, and it has so many parts.
+    /// All but its tail, and it has this number of parts.
     Head(usize, Bytes),
     /// Nothing: a part has not ended.
     Nothing,
 }
 
-/// Writes replies that are next in order until these are so many bytes, and behind the last of all the error line, where it is
+/// Writes replies that are next in order until these are `most` bytes, and behind the last of all the error line, where it is
 /// owed. A large body that would be the end of them is not copied: it is their tail.
 pub fn write_output(
     alloc: Global,
@@ -92,7 +92,7 @@ fn least_tail(line_owed: bool, most: usize) -> Option<usize>
     Some(most.max(LEAST_TAIL))
 }
 
-// Writes replies that are next in order until these are so many bytes. What ends them may be a tail of so many bytes.
+// Writes replies that are next in order until these are `most` bytes. What ends them may be a tail of `least` bytes or more.
 fn write_replies(
     alloc: Global,
     requests: &VecDeque<PendingReply>,
@@ -133,7 +133,7 @@ fn write_replies(
     Ok(copied(requests.len(), parts))
 }
 
-// All bytes of the replies to so many requests, with so many parts, are in the output.
+// All bytes of the replies to this number of requests, with this number of parts, are in the output.
 fn copied(requests: usize, parts: usize) -> WrittenReplies
     ensures requests { result.requests ≡ requests }
     ensures parts { result.parts ≡ parts }
@@ -184,8 +184,8 @@ fn write_reply(
 }
 
 #[tactic(auto, unfolding(crate::specs::Replies::joined, crate::specs::Replies::spelling))]
-// Writes the reply that the ends of a request's parts make, and gives back its tail, if it is large. The ends begin behind so many
-// others. The value that the one part of a request was answered with is written as it stands.
+// Writes the reply that the ends of a request's parts make, and gives back its tail, if it is large. The
+// `count` ends begin at place `from`. The value that the one part of a request was answered with is written as it stands.
 fn write_joined(
     alloc: Global,
     how: &Joining,
@@ -245,8 +245,8 @@ fn large_body(value: &Value, least: Option<usize>) -> Option<(usize, Bytes)>
 }
 
 #[tactic(auto, unfolding(crate::specs::Replies::joined))]
-// The reply that the ends of a request's parts make. These begin behind so many others. Where they do not stand side by
-// side the ends are moved.
+// The reply that the ends of a request's parts make. The `count` ends begin at place `from`. Where they
+// do not stand side by side they are moved.
 fn join_ends(
     alloc: Global,
     how: &Joining,
@@ -268,7 +268,7 @@ fn join_ends(
     }
 }
 
-// The ends of so many parts behind so many others, if they stand side by side.
+// The ends of `count` parts, the first of them at place `from`, if they stand side by side.
 fn side_by_side(ends: &VecDeque<Ended>, from: usize, count: usize) -> Option<&[Ended]>
     requires { from + count ≤ length ends.now.items }
     ensures { IfSome result (λ own. own.now ≡ take count (drop from ends.now.items)) }

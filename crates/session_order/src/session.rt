@@ -251,7 +251,7 @@ impl Session {
         self.ends[i] = end;
     }
 
-    /// Appends replies that are next in order until these are so many bytes, and answers how many. Where they are fewer,
+    /// Appends replies that are next in order until these are `most` bytes, and answers how many. Where they are fewer,
     /// none is left. A large body that ends them is not copied: it is the tail, which stands behind the output.
     pub fn drain(&mut self, out: &mut Vec<u8>, most: usize) -> Result<Drained, NoMemory>
         ensures does { DrainOutcome most self.old out.old.items (count_of result) self.new (out.new.items ++ tail_of result) }
@@ -418,7 +418,7 @@ fn queue_parts(
     queue.add(parts)
 }
 
-// Puts places for so many ends behind the others.
+// Puts places for `count` ends behind the others.
 fn push_lost(ends: &mut VecDeque<Ended>, count: usize)
     requires { deque_len ends.old + count ≤ deque_capacity ends.old }
     ensures { ends.new.items ≡ ends.old.items ++ replicate count Ended.Lost }
@@ -428,7 +428,7 @@ fn push_lost(ends: &mut VecDeque<Ended>, count: usize)
     }
 }
 
-// In place of the requests there is one for so many parts, or none.
+// In place of the requests there is one for `parts` parts, or none.
 fn keep_one(requests: &mut VecDeque<PendingReply>, parts: usize)
     requires { 0 < parts → requests.old.items ≢ [] }
     ensures { requests.new.items ≡ one_for parts }
@@ -440,7 +440,7 @@ fn keep_one(requests: &mut VecDeque<PendingReply>, parts: usize)
     requests.shrink_to_fit();
 }
 
-// In place of the ends there are places for so many, no more than there were.
+// In place of the ends there are `count` places, no more than there were.
 fn keep_lost(ends: &mut VecDeque<Ended>, count: usize)
     requires { count ≤ length ends.old.items }
     ensures { ends.new.items ≡ replicate count Ended.Lost }

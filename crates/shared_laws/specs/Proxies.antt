@@ -42,7 +42,7 @@ abbrev pub is_of : ℕ → Option ℕ → Bool
 is_of p None = false
 is_of p (Some q) = q == p
 
--- an entry as others see it, of whom so many are workers: its ticket is none of theirs
+-- an entry as others see it, who have `workers` workers: its ticket is none of theirs
 abbrev pub as_foreign : ℕ → EntryModel → EntryModel
 as_foreign workers e = record e { ticket = record (e.ticket) { worker = e.ticket.client % workers + 1 + e.ticket.worker } }
 

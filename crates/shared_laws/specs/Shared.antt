@@ -24,7 +24,7 @@ pub data Step : Type 0 where
   Theirs : (node : ℕ) (asking : Bool) (entries : List EntryModel) → Step
   Passes : Step
 
--- A ticket is of the worker that its client has, of so many. A ticket of ours is that; any other is of others, as one of a worker that
+-- Each client has one worker. A ticket of ours names it; any other is of others, as one of a worker that
 -- we do not have.
 abbrev pub IsOwn : ℕ → Ticket → Type 0
 IsOwn workers ticket = ticket.worker ≡ ticket.client % workers

@@ -12,7 +12,7 @@ use std::io;
 use std::net::SocketAddr;
 use std::time::Clock;
 
-/// After so many milliseconds accepting is tried again, where a connection may wait for a descriptor or for room.
+/// Milliseconds after which accepting is tried again, where a connection may wait for a descriptor or for room.
 const RETRY_MILLIS: u64 = 20;
 
 /// A client that was accepted, with its number and its worker.

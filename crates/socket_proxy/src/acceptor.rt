@@ -42,7 +42,7 @@ impl Drop for Acceptor {
 }
 
 impl Acceptor {
-    /// The acceptor for so many clients, or for clients without end, of which so many as there is room for are there at once,
+    /// The acceptor for a number of clients, or for clients without end, of which as many as there is room for are there at once,
     /// watched by the poll of this registry.
     pub(crate) fn new(
         mut listener: TcpListener,
@@ -68,7 +68,7 @@ impl Acceptor {
         self.left != Some(0) && self.registration.may_read()
     }
 
-    /// The next connection and its address, where one waits and there is room beside so many clients. Where there is none, or
+    /// The next connection and its address, where one waits and there is room beside the clients. Where there is none, or
     /// the system gives no descriptor for it, that is reported.
     pub(crate) fn accept(&mut self, clients: u64) -> Option<(TcpStream, SocketAddr)> {
         if self.lacks_room(clients) {
@@ -94,7 +94,7 @@ impl Acceptor {
         None
     }
 
-    /// Whether there is no room beside so many clients. It is reported once.
+    /// Whether there is no room beside the clients. It is reported once.
     fn lacks_room(&mut self, clients: u64) -> bool {
         let is_full = self.room.is_full(clients);
         if is_full && !self.is_full {
@@ -104,7 +104,7 @@ impl Acceptor {
         is_full
     }
 
-    /// One client more than so many has this connection.
+    /// The client behind these has this connection.
     fn note_descriptor(&mut self, stream: &TcpStream, clients: u64) {
         let descriptor = u64::try_from(stream.as_raw_fd()).unwrap_or(0);
         self.room.note_client(descriptor, clients.saturating_add(1));

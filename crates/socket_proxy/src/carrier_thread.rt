@@ -21,9 +21,9 @@ use std::time::Clock;
 
 /// So many turns go by at most between two polls.
 const TURNS_PER_POLL: u32 = 16;
-/// After so many turns in a row that moved nothing, all that was to be written went out.
+/// Turns in a row that moved nothing, after which all that was to be written went out.
 const QUIET_TURNS: u32 = FLUSH_AFTER_READS + 2;
-/// So many clients are accepted at most between two polls.
+/// Clients that are accepted at most between two polls.
 const ACCEPT_BATCH: u32 = 16;
 
 /// The carrier's ends of the lanes.

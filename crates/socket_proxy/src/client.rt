@@ -92,7 +92,7 @@ impl SocketClient {
         }
     }
 
-    /// Closes the connection of a client whose unfinished request has so many bytes.
+    /// Closes the connection of a client whose unfinished request has `bytes` bytes.
     fn refuse(&mut self, bytes: u64)
         ensures { self.new.socket ≡ None }
     {

@@ -16,7 +16,7 @@ pub(crate) struct ClientRoom {
 }
 
 impl ClientRoom {
-    /// The room where so many descriptors may be open, or any number of them.
+    /// The room where this number of descriptors may be open, or any number of them.
     pub(crate) fn new(descriptors: Option<u64>) -> ClientRoom {
         let limit = descriptors.unwrap_or(u64::MAX);
         ClientRoom {
@@ -27,12 +27,12 @@ impl ClientRoom {
         }
     }
 
-    /// Whether there is none for another client beside so many.
+    /// Whether there is none for another client beside these.
     pub(crate) fn is_full(&self, clients: u64) -> bool {
         self.most.is_some_and(|most| clients >= most)
     }
 
-    /// The newest of so many clients has this descriptor.
+    /// The newest of the clients has this descriptor.
     pub(crate) fn note_client(&mut self, descriptor: u64, clients: u64) {
         self.most = descriptor
             .checked_sub(self.last)
@@ -40,7 +40,7 @@ impl ClientRoom {
     }
 }
 
-/// How many of so many descriptors are kept for connections to nodes.
+/// How many of `limit` descriptors are kept for connections to nodes.
 fn kept_for_nodes(limit: u64) -> u64
     ensures enough { result ≤ KEPT_FOR_NODES }
     ensures a_quarter { 4 * result ≤ limit }

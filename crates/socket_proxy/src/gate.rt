@@ -9,7 +9,7 @@ use std::time::Clock;
 
 /// So many turns that move something go by between two polls.
 const TURNS_PER_POLL: u32 = 4;
-/// Where so many parts ended the carrier is woken too: its way down may have been full.
+/// Parts that ended, at which the carrier is woken too: its way down may have been full.
 const ENDS: u64 = 256;
 
 /// How many batches a worker has posted, and how many of its parts have ended.

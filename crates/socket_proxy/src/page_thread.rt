@@ -34,7 +34,7 @@ pub(crate) struct PageSetup<'a> {
     descriptors: Option<u64>,
 }
 
-/// What it is given, where a page is wanted, in a process that may have so many descriptors.
+/// What it is given, where a page is wanted, in a process that may have `descriptors` descriptors.
 pub(crate) fn page_setups<'a, R: Net>(
     rt: &R,
     alloc: Global,

@@ -18,8 +18,8 @@ const DESCRIPTORS_LOOKED_AT: usize = 64;
 /// Descriptors from this number on are not looked for.
 const MOST_DESCRIPTORS: u64 = 1_048_576;
 
-/// What there is now: so many clients, and what the system tells, in its status file of this process and of so many descriptors
-/// that may be open.
+/// What there is now: the clients, and what the system tells in its status file of this process and of the descriptors that
+/// may be open.
 pub(crate) fn process_figures(
     status: &mut Option<File>,
     clients: u64,
@@ -71,7 +71,7 @@ fn number_in(line: &[u8]) -> u64 {
     number
 }
 
-/// How many of so many descriptors are open.
+/// How many descriptors are open.
 fn open_of(allowed: Option<u64>) -> Option<u64> {
     let end = allowed?.min(MOST_DESCRIPTORS);
     let mut open: u64 = 0;

@@ -20,7 +20,7 @@ pub(crate) struct ThreadSetups {
     pub(crate) poller: Poller,
 }
 
-/// Handles and pollers for so many workers, and for the carrier.
+/// Handles and pollers for the workers, and for the carrier.
 pub(crate) fn setup_threads<R: Net>(
     rt: &R,
     alloc: Global,

@@ -14,9 +14,9 @@ use std::net::SocketAddr;
 use std::sync::Arc;
 use std::sync::atomic::{AtomicU64, Ordering};
 
-/// A client counts as alone once so many reads in a row gave bytes of it.
+/// Reads in a row that gave bytes of one client, after which it counts as alone.
 const LONE_READS: u64 = 16;
-/// A client counts as being served for so many milliseconds after it sent something.
+/// Milliseconds after a client sent something, in which it counts as being served.
 const SERVED_MILLIS: u64 = 2;
 
 /// What the others see of a thread: the ready set of its sockets, its parker, and the unfinished requests of its clients.

@@ -129,7 +129,7 @@ impl Unfinished {
     }
 }
 
-/// Whether of so many bytes too many are held beside the largest request.
+/// Whether too many bytes are held beside the largest request.
 fn is_too_much(together: u64, largest: u64) -> bool
     ensures { IsTrue result ↔ (MAX_UNFINISHED + largest < together) }
 {

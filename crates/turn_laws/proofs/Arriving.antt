@@ -46,7 +46,7 @@ use Rattle.turn_laws.proofs.Leading.{Leads, Sits, along, stays, then-leads, sits
 use Rattle.turn_laws.proofs.Pushed.{one-arrived}
 use Rattle.turn_laws.proofs.Pushing.{pushed, next_of}
 
--- ---- so many parts
+-- ---- a number of parts
 
 -- the session with these parts more
 abbrev pushes : List PartModel → SessionModel → SessionModel

@@ -25,7 +25,7 @@ none-there o x p q = cc
 some-requests : (q : LinkRequest) (qs : List LinkRequest) → q ∷ qs ≡ [] → ⊥
 some-requests q qs e = absurd (omega (arith, ap length e))
 
--- every closed link to the node among the first so many holds nothing
+-- every closed link to the node among the first `n` holds nothing
 abbrev pub AreEmpty : ℕ → ℕ → List Link → Type 0
 AreEmpty node n links = (i : ℕ) (l : Link) → i < n → slice_get links i ≡ Some l → l.is_open ≡ false → l.node ≡ node → l.requests ≡ []
 

@@ -38,7 +38,7 @@ use Rattle.proxy_lanes.specs.Lane.{posted, taken}
 use Rattle.turn_laws.proofs.AtWorkers.{Alike}
 use Rattle.turn_laws.proofs.Popped.{one-answered}
 
--- the session without so many parts
+-- the session without its first parts
 abbrev pub pops : ℕ → SessionModel → SessionModel
 pops zero held = held
 pops (suc m) held = pops m (popped held)

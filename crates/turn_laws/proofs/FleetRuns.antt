@@ -34,7 +34,7 @@ abbrev pub all_of : List (List Execution) → List Execution
 all_of [] = []
 all_of (done ∷ later) = done ++ all_of later
 
--- how a proxy with so many workers logs them
+-- how a proxy with `workers` workers logs them
 abbrev pub seen_of : ℕ → List (List Execution) → List Mark
 seen_of workers [] = []
 seen_of workers (done ∷ later) = log_of (map (foreign workers) done) ++ seen_of workers later

@@ -50,7 +50,7 @@ nothing-left : {T : Type 0} (xs : List T) → drop (length xs) xs ≡ []
 nothing-left [] = refl
 nothing-left (x ∷ xs) = nothing-left xs
 
--- so many runs, numbered on
+-- a number of runs, numbered on
 abbrev runs : ℕ → ℕ → List (Numbered RunModel)
 runs k zero = []
 runs k (suc n) = numbered k (plain 0 0 set) ∷ runs (suc k) n

@@ -90,7 +90,7 @@ in-right (y ∷ xs) ys i x at = let r = in-right xs ys i x at in (suc r.0, r.1)
 shown-more : (log more : List Mark) (k number part : ℕ) → IsShown log k number part → IsShown (log ++ more) k number part
 shown-more log more k number part s = (s.0, s.1, s.2, in-left log more s.0 (Answered s.1 s.2) s.3, s.4, s.5, s.6)
 
--- the first so many parts that leave are shown
+-- the first `m` parts that leave are shown
 marks-have : (told : List (Ticket × Ended)) (held : SessionModel) (n m : ℕ) (stages : List PartStage) (ends : List Ended) → Tables told n stages ends → m ≤ length stages → (part : ℕ) → n ≤ part → part < n + m
     → (i : ℕ) × (end : Ended) × (slice_get (answers held n (take m ends)) i ≡ Some (Answered (ticket_at held part) end))
 marks-have told held n zero stages ends tables few part low less = absurd (omega (arith, low, less))

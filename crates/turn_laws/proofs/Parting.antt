@@ -29,7 +29,7 @@ use Rattle.turn_laws.proofs.Standing.{order-on}
 use Rattle.turn_laws.proofs.Told.{fitting}
 use Rattle.turn_laws.proofs.Walks.{walked-stands}
 
--- each of so many is that one
+-- each of `n` copies is that one
 each-same : {X : Type 0} (x : X) (n i : ℕ) → i < n → slice_get (replicate n x) i ≡ Some x
 each-same x zero i lt = absurd (omega (arith, lt))
 each-same x (suc n) zero lt = refl

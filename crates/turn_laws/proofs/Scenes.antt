@@ -88,7 +88,7 @@ steady-there (x ∷ os) (y ∷ ns) all zero o n e f =
     (subst (λ (b : Option (Backend Wire)). (works x.link ≡ false) ⊎ (works (unwrap_or b y).link ≡ true)) f all.0)
 steady-there (x ∷ os) (y ∷ ns) all (suc k) o n e f = steady-there os ns all.1 k o n e f
 
--- the first so many of them are a front
+-- the first of them are a front
 front-of : {X : Type 0} (xs all : List X) → take (length xs) all ≡ xs → IsPrefix xs all
 front-of xs all first = (drop (length xs) all, ap (λ ys. ys ++ drop (length xs) all) (sym first) ∙ take-append-drop (length xs) all)
 

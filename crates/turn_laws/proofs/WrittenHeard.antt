@@ -34,7 +34,7 @@ use Rattle.turn_laws.proofs.RepliesHeard.{reply-heard}
 
 -- ---- what a node says names one of its cluster
 
--- a redirection of a slot to one of so many nodes, or that the node cannot serve now
+-- a redirection of a slot to one of `count` nodes, or that the node cannot serve now
 IsRefusal : ℕ → Told → Type 0
 IsRefusal count (Moved slot node) = (slot < 16384) × (node < count)
 IsRefusal count (Ask slot node) = (slot < 16384) × (node < count)
@@ -49,7 +49,7 @@ Refuses : ℕ → Deed → Type 0
 Refuses count Executes = Unit {0}
 Refuses count (Says told) = IsRefusal count told
 
--- a role that sends elsewhere sends to one of so many nodes
+-- a role that sends elsewhere sends to one of `count` nodes
 SendsAmong : ℕ → Role → Type 0
 SendsAmong count Owner = Unit {0}
 SendsAmong count (Migrating node) = node < count

@@ -20,7 +20,7 @@ use Rattle.turn_laws.specs.Writing.{StandsAtItsNodes}
 use Rattle.turn_laws.specs.LogHeadline.{IsHeld, history}
 use Rattle.turn_laws.specs.SharedLog.{SharedLogHeadline}
 
--- an execution as another proxy sees it, of whom so many are workers: its ticket is none of theirs
+-- an execution as another proxy sees it, which has `workers` workers: its ticket is none of theirs
 abbrev pub foreign : ℕ → Execution → Execution
 foreign workers e = record e { ticket = record (e.ticket) { worker = e.ticket.client % workers + 1 + e.ticket.worker } }
 

@@ -1,5 +1,5 @@
 -- The headline of the log (LogHeadline.antt), where others act: of the proxy's own commands, in one legal history of everybody's.
--- A ticket is ours where it is of the worker that its client has, of so many.
+-- Each client has one of our workers. A ticket is ours where it names the one of its client.
 -- Where all that was executed is ours, it is the headline of a log in which nobody else acts.
 use Rattle.std.specs.Prelude.{ℕ, List, length}
 use Rattle.std.specs.List.{FoldsTo}

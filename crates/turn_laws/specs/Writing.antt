@@ -42,7 +42,7 @@ pub record AreEndpointsOf (k : ClusterModel) (table : List Endpoint) : Type 0 wh
   pub apart : AreApart table
   pub named : All CanBeNamed table
 
--- whoever owns the slot, gets it, gives it, or is sent to for it, is one of so many nodes
+-- whoever owns the slot, gets it, gives it, or is sent to for it, is one of `count` nodes
 pub record StandsAmong (count : ℕ) (s : SlotStandingModel) : Type 0 where
   pub target : s.target < count
   pub source : s.source < count

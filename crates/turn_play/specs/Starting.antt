@@ -22,7 +22,7 @@ use Rattle.turn_laws.specs.Writing.{CanBeNamed, StandsAtItsNodes}
 use Rattle.turn_play.specs.May.{HearsItsNodes}
 use Rattle.turn_play.specs.Playing.{PlayModel, Shows}
 
--- The two ends of the lanes up and down of this one of so many workers, in which nothing was posted. Clients may have been handed over.
+-- The two ends of the lanes up and down of this one of `workers` workers, in which nothing was posted. Clients may have been handed over.
 abbrev pub AreOpenAt : {H J : Type 0} → ℕ → ℕ → WorkerEnds H J → LaneEnds H → Type 0
 AreOpenAt workers k ends lane = (ends.worker ≡ k) × (ends.workers ≡ workers) × IsNewLane ends.outlet lane.up × IsSomeAnd lane.down (λ outlet. IsNewLane outlet ends.inlet)
 
@@ -33,7 +33,7 @@ AreOpenFrom workers k [] (lane ∷ lanes) = ⊥
 AreOpenFrom workers k (ends ∷ more) [] = ⊥
 AreOpenFrom workers k (ends ∷ more) (lane ∷ lanes) = AreOpenAt workers k ends lane × AreOpenFrom workers (k + 1) more lanes
 
--- workers over these ends, with no client yet, which are to take so many
+-- workers over these ends, with no client yet, which are to take `left` clients
 abbrev pub workers_on : {C J : Type 0} → Option ℕ → List (WorkerEnds (Newcomer C J) J) → List (WorkerModel C J)
 workers_on left [] = []
 workers_on left (ends ∷ more) = new_worker ends left ∷ workers_on left more

@@ -42,7 +42,7 @@ pub struct Play<'g, C: ClientPort + Drop, J: Naming, R: Wait + Drop, G: Gate> {
 }
 
 impl<'g, C: ClientPort + Drop, J: Naming, R: Wait + Drop, G: Gate> Play<'g, C, J, R, G> {
-    /// A play in which nothing was done: a worker over each of these ends, which is to take so many clients, the carrier over
+    /// A play in which nothing was done: a worker over each of these ends, which is to take `clients` clients, the carrier over
     /// the other ends, with the seeds for its table. The nodes of its cluster listen where `nodes` says. Clients are handed over
     /// before, through the carrier's ends, or by `hand`. The seeds are the first of `nodes`, which has the others in the order in which the
     /// carrier learns them: where that is not known, let all be seeds.

@@ -15,7 +15,7 @@ use std::collections::VecDeque;
 use std::marker::Model;
 use turn_laws::WiredPort;
 
-/// A run has so many commands at most.
+/// Commands of a run at most.
 const LONGEST_RUN: usize = 64;
 
 /// The carrier's end of a connection. From its break on each call fails.

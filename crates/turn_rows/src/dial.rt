@@ -17,7 +17,7 @@ struct PortLimits {
     behind: u16,
 }
 
-/// Opens connections that stand so many calls as the nodes say, or none where they do not listen.
+/// Opens connections that stand for the number of calls that the nodes say, or none where they do not listen.
 #[derive(Drop)]
 pub struct MemoryDial {
     alloc: Global,

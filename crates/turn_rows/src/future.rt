@@ -17,15 +17,15 @@ use std::sync::Wait;
 
 /// What runs a worker to its end.
 pub trait RunsWorker {
-    /// A worker that passes this gate, until it has served so many clients. Answers how it ended.
+    /// A worker that passes this gate, until it has served `clients` clients. Answers how it ended.
     fn run<R, C>(&mut self, rt: &R, gate: &TurningGate<'_, C>, clients: u32, line: &mut Line)
     where
         R: Wait + RandomSource + AllocGlobal,
         C: Turned;
 }
 
-/// `run CLIENTS TURNS`: a worker over the lane, the carrier being turned before each of its turns, until it has served so
-/// many clients or had so many turns. `run CLIENTS TURNS CLIENT AFTER BYTES`: that client is given the bytes behind so many
+/// `run CLIENTS TURNS`: a worker over the lane, the carrier being turned before each of its turns, until it has served
+/// CLIENTS clients or had TURNS turns. `run CLIENTS TURNS CLIENT AFTER BYTES`: that client is given the bytes after AFTER
 /// turns. Answers how the worker ended, and how many clients it gave back.
 pub fn call<R, L, C>(rt: &R, lane: &mut L, carrier: &RefCell<C>, clients: &Clients, line: &mut Line)
 where

@@ -37,7 +37,7 @@ impl MemoryPort {
         }
     }
 
-    /// Makes room for so many values.
+    /// Makes room for `count` values.
     fn make_room(&mut self, count: usize) -> Result<(), NoMemory> {
         if is_done(self.values.reserve(count)) {
             Ok(())

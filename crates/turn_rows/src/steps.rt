@@ -30,7 +30,7 @@ impl Object for Nodes {
     }
 }
 
-/// New connections stand so many calls.
+/// New connections stand for this number of calls.
 fn fail_behind(nodes: &mut Nodes, line: &mut Line) {
     if let Some(calls) = line.read() {
         nodes.calls = calls;

@@ -5,7 +5,7 @@ use layer_rows::{CallFault, Line};
 use resp_wire::NoMemory;
 use std::time::{Clock, Instant};
 
-/// Answers how many nanoseconds a turn took of so many, or `moved` where one of them moved something.
+/// Answers how many nanoseconds a turn took, the mean of the number asked for, or `moved` where one of them moved something.
 pub fn call<R: Clock, W: Turned, C: Turned>(rt: &R, turned: &mut Turns<W, C>, line: &mut Line) {
     match line.call() {
         "worker" => match turned.workers.get_mut(0) {

@@ -117,7 +117,7 @@ fn look_of(words: Words) -> Look
     Look::Found(First::Asks(words))
 }
 
-/// Reads a piece of at most so many bytes, and answers how many came: none at the end.
+/// Reads a piece of at most `left` bytes, and answers how many came: none at the end.
 fn read_more<R: Read>(
     reader: &mut WatchedReader<R>,
     wire: &mut Reader,

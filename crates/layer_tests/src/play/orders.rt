@@ -68,7 +68,7 @@ fn step_of(name: &str, line: &mut Line) -> Option<Move> {
     }
 }
 
-/// A turn of each worker, one of the carrier, and a request served by each node, so many times.
+/// A turn of each worker, one of the carrier, and a request served by each node, as often as the line says.
 fn add_rounds(orders: &mut Vec<Order>, line: &mut Line) -> Result<(), CallFault> {
     let Some(count) = line.read::<u16>() else {
         return Err(CallFault::MissingWord);

@@ -13,7 +13,7 @@ use resp_wire::NoMemory;
 use std::alloc::Global;
 use std::sync::Wait;
 
-/// The ends of so many workers, in order, and the carrier's. All places of the lanes and of the map are made here.
+/// The ends of `workers` workers, in order, and the carrier's. All places of the lanes and of the map are made here.
 /// NoMemory also where a ring or a place of the map was not made for another cause. It may wait, as `publish` may: it publishes
 /// two lists of nothing.
 pub fn lanes<H: Drop, J: Naming, R: Wait + Drop>(
@@ -33,7 +33,7 @@ pub fn lanes<H: Drop, J: Naming, R: Wait + Drop>(
     Ok((ends, CarrierEnds { lanes, map }))
 }
 
-/// The ends of so many workers, in order, and the carrier's ends of their lanes.
+/// The ends of the workers, in order, and the carrier's ends of their lanes.
 fn all_lanes<H: Drop, J: Naming, R: Wait + Drop>(
     alloc: Global,
     map: &Publisher<J, R>,

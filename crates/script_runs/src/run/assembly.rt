@@ -89,7 +89,7 @@ where
     run_tasks_beside(rt, alloc, tasks, carrier, cluster, moves, workers, gate)
 }
 
-/// Runs the tasks of so many workers and of the mover beside the carrier.
+/// Runs the tasks of the workers and of the mover beside the carrier.
 fn run_tasks_beside<J, T, C, R, G>(
     rt: &R,
     alloc: Global,

@@ -7,7 +7,7 @@ ghost use Rattle.script_runs.specs.FusedDial.{IsNewUnder};
 use node_link::{Dial, DialFault, Fuse};
 use slot_map::NodeId;
 
-/// Opens connections that each pass so many calls on, and then fail.
+/// Opens connections that each pass a given number of calls on, and then fail.
 #[derive(Drop)]
 pub(crate) struct FusedDial<D> {
     dial: D,

@@ -41,7 +41,7 @@ where
     finish(alloc, cluster, scripts, workers, ran)
 }
 
-/// Does what `run_local` does over connections that fail: each passes so many calls on, and fails from then on.
+/// Does what `run_local` does over connections that fail: each passes `calls` calls on, and fails from then on.
 pub fn run_faulty<C, R, G>(
     rt: &R,
     alloc: Global,

@@ -45,7 +45,7 @@ pub(crate) type ScriptWorker<J> = WorkerSetup<
     MapView<J>,
 >;
 
-/// The worker with these ends, for so many clients.
+/// The worker with these ends, for this number of clients.
 pub(crate) fn script_worker<J: Naming>(
     ends: WorkerEnds<Newcomer<Script, J>, J>,
     clients: u32,
