@@ -2,3 +2,4 @@ pub mod Beginnings
 pub mod Changing
 pub mod Counting
 pub mod OneMore
+mod Refusal
