@@ -2,4 +2,3 @@ pub mod Beginnings
 pub mod Changing
 pub mod Counting
 pub mod OneMore
-mod Refusal

@@ -5,5 +5,3 @@ pub mod History
 pub mod Opened
 pub mod Published
 pub mod Publishing
-mod Sealed
-pub mod Refusing

@@ -40,7 +40,6 @@ impl<J: Naming> MapView<J> {
     ghost use Rattle.std.specs.Prelude.{◌≡◌, ◌≢◌, ◌⊎◌, IfOk, MatchBool, OnOk, OnErr, length};
     ghost use mathlib.Core.List.{IsPrefix};
     ghost use Rattle.slot_map.specs.Map.{node_after};
-    ghost use Rattle.proxy_lanes.specs.Refusing.{IsRefused};
 
     pub(crate) fn new(table: ReadHandle<Table<J>>, known: Front<J>) -> MapView<J>
         ensures { result ≡ known }
@@ -49,12 +48,10 @@ impl<J: Naming> MapView<J> {
     }
 
     /// The node of a slot after some published operations, which begin with all that the view knew.
-    #[tactic(auto, using(crate::proofs::Refusal::was_refused))]
     pub fn node_of(&mut self, slot: Slot) -> Result<Option<NodeId>, NotEntered>
         ensures node { IfOk result (λ node. node ≡ node_after self.new slot) }
         ensures later { OnOk result (IsPrefix self.old self.new) }
         ensures err { OnErr result (self.new ≡ self.old) }
-        ensures refused { OnErr result (IsRefused self.old slot) }
     {
         let MapView { table, known } = self;
         let Some(guard) = table.enter() else {

@@ -22,7 +22,6 @@ use Rattle.session_order.specs.SessionModel.{SessionModel}
 use Rattle.session_order.specs.Steps.{FollowerOutcome, IsHandedOut, ReadyOutcome}
 use Rattle.proxy_lanes.specs.declared.map_view.NotEntered.{NotEntered}
 use Rattle.proxy_lanes.specs.declared.ring.Outlet.{Outlet}
-use Rattle.proxy_lanes.specs.Refusing.{IsRefused}
 use Rattle.proxy_lanes.specs.Lane.{Posts}
 
 -- The commands of the parts that were handed out and have not ended: those that were not posted yet, in the order of their parts, which
@@ -127,11 +126,10 @@ abbrev pub Drops : CommandsModel → Bool → CommandsModel → Type 0
 Drops old true new = (old.fresh ≢ []) × (new ≡ record old { fresh = [] })
 Drops old false new = (old.fresh ≡ []) × (new ≡ old)
 
--- A look at the map, for the node of a slot: the view begins with what it knew, and its answer is that of what it knows now; or
--- the map refused it.
+-- A look at the map, for the node of a slot: the view begins with what it knew, and its answer is that of what it knows now.
 abbrev pub Looks : List MapOp → ℕ → Result (Option ℕ) NotEntered → List MapOp → Type 0
 Looks old slot (Ok node) new = IsPrefix old new × (node ≡ node_after new slot)
-Looks old slot (Err refused) new = IsRefused old slot × (new ≡ old)
+Looks old slot (Err refused) new = new ≡ old
 
 -- the node that a look at the map gives, or the seed, node 0
 abbrev pub node_looked_up : Result (Option ℕ) NotEntered → ℕ
