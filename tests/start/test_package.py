@@ -86,7 +86,7 @@ class Manual(Package):
             if line.startswith("## "):
                 self.assertTrue(f".SH {line[3:].upper()}\n" in text, line)
             elif line.startswith("| ") and not line.startswith("|-"):
-                self.assertTrue(line.split("|")[-2].strip().replace("`", "") in text + "Meaning Counts Look at", line)
+                self.assertTrue(line.split("|")[-2].strip().replace("`", "") in text + "Meaning Counts Look at Figure of the log, or what it is", line)
 
     @unittest.skipUnless(shutil.which("groff"), "this machine has no groff")
     def test_troff(self):
