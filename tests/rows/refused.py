@@ -49,7 +49,7 @@ QUIET = {
     "map": "node range slot",
     "nodes": "fail leave longest own served",
     "plan": "name",
-    "port": "new written",
+    "port": "new writes written",
     "reader": "new",
     "report": "new",
     "session": "awaits finished follow new ready",
