@@ -5,7 +5,7 @@ import unittest
 from program import SWEEPS
 
 # Seconds that they may take together; those of tests/rows may take the rest of five minutes.
-MOST = 100
+MOST = 70
 
 
 class Sweeps(unittest.TestCase):
