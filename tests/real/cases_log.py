@@ -6,7 +6,7 @@ from contextlib import ExitStack
 
 from client import request
 from cases_faults import kill_connections
-from cluster import Proxy, free_ports, keys_of_slots, slot_of, wait_until
+from cluster import OwnProxy, Proxy, free_ports, keys_of_slots, slot_of, wait_until
 from harness import case, check, check_same, check_time
 from writers import GAVE_UP
 
@@ -15,11 +15,11 @@ from writers import GAVE_UP
 ASKING, FAILING, FIRST, SECONDS = 50, 200, 10, 8
 
 
-class Logged:
+class Logged(OwnProxy):
     """A proxy of its own, and the lines that it wrote."""
 
     def __init__(self, world, seed_port, name, variables=None, workers=2):
-        self.proxy = Proxy(world.room, world.program, seed_port, workers=workers, name=name, variables=variables)
+        super().__init__(Proxy(world.room, world.program, seed_port, workers=workers, name=name, variables=variables))
         self.path = f"{world.room.folder}/{self.proxy.name}.log"
 
     def lines(self, event=""):
@@ -29,13 +29,6 @@ class Logged:
     def wait_for(self, event, *words):
         """Waits for a line of this event with these words. A word that ends with a space is a whole one."""
         wait_until(lambda: any(all(word in f"{line} " for word in words) for line in self.lines(event)), f"{event} {words} in {self.lines()[-3:]}")
-
-    def __enter__(self):
-        return self
-
-    def __exit__(self, *_):
-        self.proxy.process.kill()
-        self.proxy.process.wait()
 
 
 @case

@@ -7,18 +7,18 @@ import subprocess
 import time
 
 from client import request
-from cluster import Proxy, free_ports, wait_until
+from cluster import OwnProxy, Proxy, free_ports, wait_until
 from harness import Together, case, check_same, check_time
 
-# So many clients send so many requests each, while curl asks for the page so often.
+# Clients, the requests that each sends, and how often curl asks for the page meanwhile.
 CLIENTS, REQUESTS, ASKED = 50, 400, 1000
 
 
-class Page:
+class Page(OwnProxy):
     """A proxy of its own, with a page."""
 
     def __init__(self, world, seed_port, name):
-        self.proxy = Proxy(world.room, world.program, seed_port, name=name, paged=True)
+        super().__init__(Proxy(world.room, world.program, seed_port, name=name, paged=True))
 
     def get(self, path, method="GET"):
         """Status and body."""
@@ -37,13 +37,6 @@ class Page:
     def total(self, name):
         """A figure of all threads."""
         return sum(value for sample, value in self.figures().items() if sample.split("{")[0] == name)
-
-    def __enter__(self):
-        return self
-
-    def __exit__(self, *_):
-        self.proxy.process.kill()
-        self.proxy.process.wait()
 
 
 @case

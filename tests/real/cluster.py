@@ -337,3 +337,17 @@ class Nodes:
         self.process = room.start([program, "nodes", "--ports", ",".join(map(str, self.ports))], "nodes.log")
         for port in self.ports:
             wait_until(lambda: does_listen(port), f"a node to listen on {port}")
+
+
+class OwnProxy:
+    """What a case has of a proxy of its own, which is killed at the end of its `with`."""
+
+    def __init__(self, proxy):
+        self.proxy = proxy
+
+    def __enter__(self):
+        return self
+
+    def __exit__(self, *_):
+        self.proxy.process.kill()
+        self.proxy.process.wait()
