@@ -2,7 +2,7 @@
 
 ghost use Rattle.std.specs.Prelude.{◌≡◌};
 ghost use Rattle.node_link.specs.Dialling.{OpenOutcome};
-ghost use Rattle.local_cluster.specs.Dialled.{DialledLocally, IsNewAt};
+ghost use Rattle.local_cluster.specs.Dialled.{DialledLocally, Dials};
 
 use crate::cluster::LocalCluster;
 use crate::port::LocalPort;
@@ -40,7 +40,7 @@ impl<'c, R: Wait + Copy + Drop> Dial for LocalDial<'c, R> {
 
     ghost failures = { λ dial. dial.failures };
 
-    ghost opens = { IsNewAt };
+    ghost opens = { Dials };
 
     /// No node is lost.
     fn seeks(&mut self) -> bool {
@@ -50,7 +50,7 @@ impl<'c, R: Wait + Copy + Drop> Dial for LocalDial<'c, R> {
     /// A connection to the node that is listed there. Where there is no such node, the dial failed; at the last count of failures
     /// memory is said to be wanting instead.
     fn open(&mut self, _: NodeId, host: &[u8], port: u16) -> Result<LocalPort<'c, R>, DialFault>
-        ensures open { OpenOutcome IsNewAt (record { host = host.now; port = port }) self.old.failures result self.new.failures }
+        ensures open { OpenOutcome Dials (record { host = host.now; port = port }) self.old.failures result self.new.failures }
         ensures port { DialledLocally self.old.cluster.now (record { host = host.now; port = port }) result }
     {
         if let Some(node) = self.cluster.node_at(host, port) {

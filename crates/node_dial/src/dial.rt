@@ -2,7 +2,7 @@
 
 ghost use Rattle.std.specs.Prelude.{◌≡◌, ◌<◌, ◌+◌, ◌-◌, ◌^◌, IfOk};
 ghost use Rattle.node_dial.specs.LostNodes.{IsCalm};
-ghost use Rattle.node_dial.specs.NewPort.{IsUnused};
+ghost use Rattle.node_dial.specs.NewPort.{Dials, IsUnused};
 
 use crate::cluster_notes::{ClusterNotes, SharedNotes, share};
 use crate::connector::Connector;
@@ -94,7 +94,7 @@ impl<'b, R: Clock + Net<Listener = TcpListener, Stream = TcpStream>> Dial for So
     ghost failures = { λ dial. dial.failures };
 
     // Nothing went over the socket. To which machine it leads no contract says.
-    ghost opens = { λ _ port. IsUnused port };
+    ghost opens = { Dials };
 
     // No node was lost when it was last looked, or the pause between two requests had not passed.
     ghost is_calm = { λ dial. IsCalm dial.look };

@@ -1,6 +1,6 @@
 //! How a connection to a node is opened.
 
-ghost use Rattle.std.specs.Prelude.{◌≡◌, ℕ, false, ⊤};
+ghost use Rattle.std.specs.Prelude.{◌≡◌, ℕ, Option, false, ⊤};
 ghost use Rattle.slot_map.specs.Table.{Endpoint};
 ghost use Rattle.node_link.specs.Dialling.{OpenOutcome};
 
@@ -28,8 +28,9 @@ pub trait Dial {
     /// How often a dial failed.
     ghost failures: { Self → ℕ };
 
-    /// The port is a new connection to the node that listens at this endpoint: nothing went over it.
-    ghost opens: { Endpoint → Self.Port → Type 0 };
+    /// One dial at this endpoint gave this port, a new connection over which nothing went, or none; so many had failed before, and
+    /// so many have now. What it says of them is each dial's own: who calls `open` has it of that call, and of no other.
+    ghost opens: { Endpoint → Option Self.Port → ℕ → ℕ → Type 0 };
 
     /// It said that no node is to be asked for CLUSTER SLOTS now.
     ghost is_calm: { Self → Type 0 } = { λ _. ⊤ };

@@ -53,7 +53,7 @@ all_wider few may wider (event ∷ events) all =
     let both = and_both (few event) (list_all few events) all in
     and_true (may event) (list_all may events) (wider event both.0) (all_wider few may wider events both.1)
 
-module _ {H P : Type 0} (failures : P → ℕ) (is_garbled : P → Type 0) (exchange : P → List Request → List Value → P → Type 0) (gives_none : P → Type 0) (opens : Endpoint → P → Type 0) (longest : P → ℕ) (may : CarrierEvent → Bool) where
+module _ {H P : Type 0} (failures : P → ℕ) (is_garbled : P → Type 0) (exchange : P → List Request → List Value → P → Type 0) (gives_none : P → Type 0) (opens : Endpoint → Option P → ℕ → ℕ → Type 0) (longest : P → ℕ) (may : CarrierEvent → Bool) where
   pub goes_by : (old : CarrierModel H P) (event : CarrierEvent) (new : CarrierModel H P) → may event ≡ true → CarrierDoes failures is_garbled exchange gives_none opens longest old event new
       → CarrierGoesBy failures is_garbled exchange gives_none opens longest may old (is_carrier_move event) new
   goes_by old event new kind does = (event ∷ [], (new, does, refl), true_or (is_carrier_move event), and_true (may event) true kind refl)
@@ -245,10 +245,10 @@ module _ {H P : Type 0} (failures : P → ℕ) (is_garbled : P → Type 0) (exch
   pub opened : may Opened ≡ true → (old : CarrierModel H P) (n node : ℕ) (backend backend' : Backend P) (failures' : ℕ)
       → slice_get old.backends n ≡ Some backend → n ≡ node → DialOutcome opens node old.nodes backend old.failures (Ok dialled.Opened) backend' failures'
       → CarrierGoesBy failures is_garbled exchange gives_none opens longest may old true (record old { backends = slice_set old.backends n backend'; failures = failures' })
-  opened k0 old n node backend backend' failures' at is (there, port, none, listed, is_new, new, same) =
+  opened k0 old n node backend backend' failures' at is (there, port, none, listed, is_new, new) =
       let Q : ℕ → Type 0 = λ m. slice_get old.backends m ≡ Some backend → CarrierGoesBy failures is_garbled exchange gives_none opens longest may old true (record old { backends = slice_set old.backends m backend'; failures = failures' }) in
       subst Q (sym is) (λ here. goes_by old Opened (record old { backends = slice_set old.backends node backend'; failures = failures' }) k0
-      (node, backend, there, port, here, none, listed, is_new, λ i. record old { backends = slice_set old.backends node (new i); failures = same i })) at
+      (node, backend, there, port, here, none, listed, is_new, λ i. record old { backends = slice_set old.backends node (new i); failures = failures' })) at
 
   -- a dial for which there was no memory
   pub undialled : (rests : CarrierModel H P → Type 0) (old : CarrierModel H P) (n : ℕ) (backend backend' : Backend P) (failures' : ℕ) (e : NoMemory) (result : Result Bool NoMemory)
@@ -276,7 +276,7 @@ module _ {H P : Type 0} (failures : P → ℕ) (is_garbled : P → Type 0) (exch
           let named : node ≡ run.first.node = cc in
           let back : slice_set old.backends n backend' ≡ old.backends = ap (λ x. slice_set old.backends n x) same ∙ set-itself old.backends n backend there in
           let Q : ℕ → Type 0 = λ m. slice_get old.backends m ≡ Some backend in
-          let R : ℕ → Type 0 = λ m. IsUnreached m (length old.nodes) old.failures failures' in
+          let R : ℕ → Type 0 = λ m. IsUnreached opens m old.nodes old.failures failures' in
           goes_by old Refused (record old { pending_runs = slice_set old.pending_runs k pending_run'; backends = slice_set old.backends n backend'; failures = failures' }) k0 (
             k,
             pending_run,
@@ -305,7 +305,7 @@ module _ {H P : Type 0} (failures : P → ℕ) (is_garbled : P → Type 0) (exch
       → CarrierGoesBy failures is_garbled exchange gives_none opens longest may old true (record old { seed_to_dial = false; backends = slice_set old.backends n backend'; failures = failures' })
   missed k0 old n node backend backend' failures' seed_to_dial at is (none, same, unreached) =
       let back : slice_set old.backends n backend' ≡ old.backends = ap (λ x. slice_set old.backends n x) same ∙ set-itself old.backends n backend at in
-      let R : ℕ → Type 0 = λ m. IsUnreached m (length old.nodes) old.failures failures' in
+      let R : ℕ → Type 0 = λ m. IsUnreached opens m old.nodes old.failures failures' in
       goes_by old Missed (record old { seed_to_dial = false; backends = slice_set old.backends n backend'; failures = failures' }) k0
       (seed_to_dial, subst R is unreached, λ i. record old { seed_to_dial = false; backends = back i; failures = failures' })
 

@@ -181,7 +181,7 @@ waited_link : {P : Type 0} (failures : P → ℕ) (is_garbled : P → Type 0) (e
 waited_link failures is_garbled exchange link link' nodes nodes' (none, table, (inl came)) = ap (λ (l : LinkModel _). l.failure) came.1
 waited_link failures is_garbled exchange link link' nodes nodes' (none, table, (inr (value, comes, owed, is))) = ap (λ (l : LinkModel _). l.failure) is
 
-module _ {H P : Type 0} (failures : P → ℕ) (is_garbled : P → Type 0) (exchange : P → List Request → List Value → P → Type 0) (gives_none : P → Type 0) (opens : Endpoint → P → Type 0) (longest : P → ℕ) where
+module _ {H P : Type 0} (failures : P → ℕ) (is_garbled : P → Type 0) (exchange : P → List Request → List Value → P → Type 0) (gives_none : P → Type 0) (opens : Endpoint → Option P → ℕ → ℕ → Type 0) (longest : P → ℕ) where
   waited : (old new : CarrierModel H P) → CarrierDoes failures is_garbled exchange gives_none opens longest old (AtBackend step.Waited) new → Quiet old new
   waited old new (k, backend, backend', at, (link, link', (there, receives), none, context), is) =
       let now : backend' ≡ record backend { link = Some link' } = ap (λ (c : BackendContext P). c.backend) context in
@@ -292,7 +292,7 @@ no_worker may none Sent kind = refl
 no_worker may none Gave kind = refl
 no_worker may none GaveUnsent kind = refl
 
-module _ {H P : Type 0} (failures : P → ℕ) (is_garbled : P → Type 0) (exchange : P → List Request → List Value → P → Type 0) (gives_none : P → Type 0) (opens : Endpoint → P → Type 0) (longest : P → ℕ) where
+module _ {H P : Type 0} (failures : P → ℕ) (is_garbled : P → Type 0) (exchange : P → List Request → List Value → P → Type 0) (gives_none : P → Type 0) (opens : Endpoint → Option P → ℕ → ℕ → Type 0) (longest : P → ℕ) where
   -- a call that moved nothing was quiet
   pub quiet_by : (may : CarrierEvent → Bool) → may WorkerAdded ≡ false → (old : CarrierModel H P) (moved : Bool) (new : CarrierModel H P)
       → moved ≡ false → CarrierGoesBy failures is_garbled exchange gives_none opens longest may old moved new → Quiet old new

@@ -39,7 +39,7 @@ abbrev pub KeepsReceived : {H P : Type 0} → (LinkModel P → Type 0) → Carri
 KeepsReceived gave_none old new =
     (k : ℕ) → ForSome (slice_get old.backends k) (HasReceived gave_none old.nodes) → ForSome (slice_get new.backends k) (HasReceived gave_none new.nodes)
 
-module _ {H P : Type 0} (failures : P → ℕ) (is_garbled : P → Type 0) (exchange : P → List Request → List Value → P → Type 0) (gives_none : P → Type 0) (opens : Endpoint → P → Type 0) (longest : P → ℕ) where
+module _ {H P : Type 0} (failures : P → ℕ) (is_garbled : P → Type 0) (exchange : P → List Request → List Value → P → Type 0) (gives_none : P → Type 0) (opens : Endpoint → Option P → ℕ → ℕ → Type 0) (longest : P → ℕ) where
   waited : (old new : CarrierModel H P) → CarrierDoes failures is_garbled exchange gives_none opens longest old (AtBackend step.Waited) new → KeepsReceived (GaveNone failures is_garbled exchange gives_none) old new
   waited old new (k, backend, backend', at, (link, link', (there, receives), none, context), is) =
       let gave = GaveNone failures is_garbled exchange gives_none in

@@ -316,7 +316,7 @@ module _ {H P : Type 0} where
         backends = λ node. backend_rests_on gave_none s3 s4 q3 keeps node (backends node);
       }
 
-module _ {H P : Type 0} (failures : P → ℕ) (is_garbled : P → Type 0) (exchange : P → List Request → List Value → P → Type 0) (gives_none : P → Type 0) (opens : Endpoint → P → Type 0) (longest : P → ℕ) where
+module _ {H P : Type 0} (failures : P → ℕ) (is_garbled : P → Type 0) (exchange : P → List Request → List Value → P → Type 0) (gives_none : P → Type 0) (opens : Endpoint → Option P → ℕ → ℕ → Type 0) (longest : P → ℕ) where
   pub rests_after : (old : CarrierModel H P) (result : Result Bool NoMemory) (new : CarrierModel H P) → TakesTurn failures is_garbled exchange gives_none opens longest old result new → RestsAfter (GaveNone failures is_garbled exchange gives_none) result new
   rests_after old (Ok moved) new (goes, rests) = rests
   rests_after old (Err e) new gives = tt

@@ -95,16 +95,16 @@ true_last : (b : Bool) → (b || true) ≡ false → ⊥
 true_last true e = absurd (cc)
 true_last false e = absurd (cc)
 
-module _ {H P : Type 0} (failures : P → ℕ) (is_garbled : P → Type 0) (exchange : P → List Request → List Value → P → Type 0) (gives_none : P → Type 0) (opens : Endpoint → P → Type 0) (longest : P → ℕ) where
+module _ {H P : Type 0} (failures : P → ℕ) (is_garbled : P → Type 0) (exchange : P → List Request → List Value → P → Type 0) (gives_none : P → Type 0) (opens : Endpoint → Option P → ℕ → ℕ → Type 0) (longest : P → ℕ) where
   -- the dial gave a link
   pub reached : (old : CarrierModel H P) (n node : ℕ) (backend backend' : Backend P) (failures' : ℕ)
       → list_any has_open_link old.backends ≡ false → slice_get old.backends n ≡ Some backend → n ≡ node → DialOutcome opens node old.nodes backend old.failures (Ok dialled.Opened) backend' failures'
       → CarrierGoesBy failures is_garbled exchange gives_none opens longest seeks_by_dial old true (record old { backends = slice_set old.backends n (record backend' { to_ask = true }); failures = failures' })
-  reached old n node backend backend' failures' closed at is (there, port, none, listed, is_new, new, same) =
+  reached old n node backend backend' failures' closed at is (there, port, none, listed, is_new, new) =
       let Q : ℕ → Type 0 = λ m. slice_get old.backends m ≡ Some backend
       → CarrierGoesBy failures is_garbled exchange gives_none opens longest seeks_by_dial old true (record old { backends = slice_set old.backends m (record backend' { to_ask = true }); failures = failures' }) in
       subst Q (sym is) (λ here. goes_by failures is_garbled exchange gives_none opens longest seeks_by_dial old Reached (record old { backends = slice_set old.backends node (record backend' { to_ask = true }); failures = failures' }) refl
-      (node, backend, there, port, here, none, closed, listed, is_new, λ i. record old { backends = slice_set old.backends node (record (new i) { to_ask = true }); failures = same i })) at
+      (node, backend, there, port, here, none, closed, listed, is_new, λ i. record old { backends = slice_set old.backends node (record (new i) { to_ask = true }); failures = failures' })) at
 
   -- the dial failed
   pub unfound : (old : CarrierModel H P) (n node : ℕ) (backend backend' : Backend P) (failures' : ℕ)

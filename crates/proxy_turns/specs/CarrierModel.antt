@@ -1,7 +1,7 @@
 -- What the carrier does between the workers' lanes and the nodes: a list of events.
 -- A turn is a list of events, and moved exactly where one of them is a move; one that moved nothing leaves the carrier at
 -- rest.
-use Rattle.std.specs.Prelude.{◌||◌, ◌≡◌, ◌++◌, ◌∷◌, [], ◌⊎◌, ◌≤◌, ℕ, List, Bool, true, false, Some, None, Result, Ok, Err, length, slice_get, slice_set}
+use Rattle.std.specs.Prelude.{◌||◌, ◌≡◌, ◌++◌, ◌∷◌, [], ◌⊎◌, ◌≤◌, ℕ, List, Bool, true, false, Option, Some, None, Result, Ok, Err, length, slice_get, slice_set}
 use Rattle.std.specs.List.{FoldsTo, list_all, list_any}
 use Rattle.std.specs.Option.{ForSome}
 use Rattle.resp_wire.specs.declared.fault.NoMemory.{NoMemory}
@@ -248,7 +248,7 @@ ChangesBackend {H} {P} old new R = (k : ℕ) × (backend : Backend P) × (backen
     × R (context_of old backend) (context_of new backend')
     × (new ≡ record old { backends = slice_set old.backends k backend'; nodes = new.nodes; published = new.published })
 
-module _ {H P : Type 0} (failures : P → ℕ) (is_garbled : P → Type 0) (exchange : P → List Request → List Value → P → Type 0) (gives_none : P → Type 0) (opens : Endpoint → P → Type 0) (longest : P → ℕ) where
+module _ {H P : Type 0} (failures : P → ℕ) (is_garbled : P → Type 0) (exchange : P → List Request → List Value → P → Type 0) (gives_none : P → Type 0) (opens : Endpoint → Option P → ℕ → ℕ → Type 0) (longest : P → ℕ) where
   abbrev pub CarrierDoes : CarrierModel H P → CarrierEvent → CarrierModel H P → Type 0
   CarrierDoes old (AtBackend step) new =
       ChangesBackend old new (λ context context'. BackendDoes failures is_garbled exchange gives_none (list_any is_unanswered old.backends) context step context')
@@ -265,17 +265,17 @@ module _ {H P : Type 0} (failures : P → ℕ) (is_garbled : P → Type 0) (exch
   CarrierDoes old Took new = (k : ℕ) × (pending_run : PendingRun) × (pending_run' : PendingRun) × (slice_get old.pending_runs k ≡ Some pending_run)
       × TakeOutcome k pending_run old.lanes true pending_run' new.lanes
       × (new ≡ record old { lanes = new.lanes; pending_runs = slice_set old.pending_runs k pending_run' })
-  -- only where there is no link, and at the endpoint that the table has for the node
+  -- only where there is no link, by one dial at the endpoint that the table has for the node
   CarrierDoes old Opened new = (k : ℕ) × (backend : Backend P) × (at : Endpoint) × (port : P) × (slice_get old.backends k ≡ Some backend) × (backend.link ≡ None)
-      × (slice_get old.nodes k ≡ Some at) × opens at port
-      × (new ≡ record old { backends = slice_set old.backends k (record backend { link = Some (fresh_link port k); asked = false }) })
+      × (slice_get old.nodes k ≡ Some at) × opens at (Some port) old.failures new.failures
+      × (new ≡ record old { backends = slice_set old.backends k (record backend { link = Some (fresh_link port k); asked = false }); failures = new.failures })
   -- no link changed: nothing of the run was sent, and each of its tickets is to be told
   CarrierDoes old Refused new = (k : ℕ) × (pending_run : PendingRun) × (run : RunModel) × (backend : Backend P)
       × (slice_get old.pending_runs k ≡ Some pending_run) × (pending_run.run ≡ Some run) × (pending_run.refused ≡ [])
       × (slice_get old.backends run.first.node ≡ Some backend)
-      × IsRefused longest run backend.link (length old.nodes) old.failures new.failures
+      × IsRefused opens longest run backend.link old.nodes old.failures new.failures
       × (new ≡ record old { pending_runs = slice_set old.pending_runs k (record { run = None; refused = tickets_in run }); failures = new.failures })
-  CarrierDoes old Missed new = (old.seed_to_dial ≡ true) × IsUnreached 0 (length old.nodes) old.failures new.failures
+  CarrierDoes old Missed new = (old.seed_to_dial ≡ true) × IsUnreached opens 0 old.nodes old.failures new.failures
       × (new ≡ record old { seed_to_dial = false; failures = new.failures })
   CarrierDoes old SeedReached new = (backend : Backend P) × (old.seed_to_dial ≡ true) × (slice_get old.backends 0 ≡ Some backend)
       × (new ≡ record old { seed_to_dial = false; backends = slice_set old.backends 0 (record backend { to_ask = true }) })
@@ -283,13 +283,13 @@ module _ {H P : Type 0} (failures : P → ℕ) (is_garbled : P → Type 0) (exch
   CarrierDoes old Sought new = (k : ℕ) × (backend : Backend P) × (slice_get old.backends k ≡ Some backend)
       × (has_open_link backend ≡ true) × (list_any is_unanswered old.backends ≡ false)
       × (new ≡ record old { backends = slice_set old.backends k (record backend { to_ask = true }) })
-  -- only where no link is open, none to this node is left, and at the endpoint that the table has for it
+  -- only where no link is open, none to this node is left, and by one dial at the endpoint that the table has for it
   CarrierDoes old Reached new = (k : ℕ) × (backend : Backend P) × (at : Endpoint) × (port : P) × (slice_get old.backends k ≡ Some backend) × (backend.link ≡ None)
-      × (list_any has_open_link old.backends ≡ false) × (slice_get old.nodes k ≡ Some at) × opens at port
-      × (new ≡ record old { backends = slice_set old.backends k (record backend { link = Some (fresh_link port k); to_ask = true; asked = false }) })
+      × (list_any has_open_link old.backends ≡ false) × (slice_get old.nodes k ≡ Some at) × opens at (Some port) old.failures new.failures
+      × (new ≡ record old { backends = slice_set old.backends k (record backend { link = Some (fresh_link port k); to_ask = true; asked = false }); failures = new.failures })
   -- only where no link is open
   CarrierDoes old NotFound new = (k : ℕ) × (list_any has_open_link old.backends ≡ false) × (new ≡ record old { failures = new.failures })
-      × (IsUnreached k (length old.nodes) old.failures new.failures ⊎ (HasFailedLink old.backends k × (new.failures ≡ old.failures)))
+      × (IsUnreached opens k old.nodes old.failures new.failures ⊎ (HasFailedLink old.backends k × (new.failures ≡ old.failures)))
   CarrierDoes old Sent new = (k : ℕ) × (pending_run : PendingRun) × (run : RunModel) × (backend : Backend P) × (backend' : Backend P)
       × (slice_get old.pending_runs k ≡ Some pending_run) × (pending_run.run ≡ Some run) × (slice_get old.backends run.first.node ≡ Some backend)
       × SendOutcome failures is_garbled exchange longest backend run (Ok run_step.Sent) backend'

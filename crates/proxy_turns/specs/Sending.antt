@@ -17,16 +17,17 @@ use Rattle.proxy_turns.specs.declared.backend.RunStep.{RunStep}
 use Rattle.proxy_turns.specs.declared.backend.RunStep.TheVariants.{Sent, TooLong, NoLink}
 use Rattle.proxy_turns.specs.Backend.{fresh_link, is_open, GoesOut}
 
--- the dial failed, or the table, which has `nodes` nodes, has no such node
-abbrev pub IsUnreached : ℕ → ℕ → ℕ → ℕ → Type 0
-IsUnreached node nodes before now = (before < now) ⊎ ((nodes ≤ node) × (now ≡ before))
+-- one dial, at the endpoint that the table has for the node, failed; or the table has no such node, and nothing was dialled
+abbrev pub IsUnreached : {P : Type 0} → (Endpoint → Option P → ℕ → ℕ → Type 0) → ℕ → List Endpoint → ℕ → ℕ → Type 0
+IsUnreached opens node nodes before now =
+    ((at : Endpoint) × (slice_get nodes node ≡ Some at) × opens at None before now × (before < now)) ⊎ ((length nodes ≤ node) × (now ≡ before))
 
--- a node is dialled only where there is no link to it, and at the endpoint that the table has for it
-abbrev pub DialOutcome : {P : Type 0} → (Endpoint → P → Type 0) → ℕ → List Endpoint → Backend P → ℕ → Result Dialled NoMemory → Backend P → ℕ → Type 0
+-- a node is dialled only where there is no link to it, once, and at the endpoint that the table has for it
+abbrev pub DialOutcome : {P : Type 0} → (Endpoint → Option P → ℕ → ℕ → Type 0) → ℕ → List Endpoint → Backend P → ℕ → Result Dialled NoMemory → Backend P → ℕ → Type 0
 DialOutcome opens node nodes old before (Ok Present) new now = IsSome old.link × (new ≡ old) × (now ≡ before)
-DialOutcome {P} opens node nodes old before (Ok Opened) new now = (at : Endpoint) × (port : P) × (old.link ≡ None) × (slice_get nodes node ≡ Some at) × opens at port
-    × (new ≡ record old { link = Some (fresh_link port node); asked = false }) × (now ≡ before)
-DialOutcome opens node nodes old before (Ok Unreached) new now = (old.link ≡ None) × (new ≡ old) × IsUnreached node (length nodes) before now
+DialOutcome {P} opens node nodes old before (Ok Opened) new now = (at : Endpoint) × (port : P) × (old.link ≡ None) × (slice_get nodes node ≡ Some at) × opens at (Some port) before now
+    × (new ≡ record old { link = Some (fresh_link port node); asked = false })
+DialOutcome opens node nodes old before (Ok Unreached) new now = (old.link ≡ None) × (new ≡ old) × IsUnreached opens node nodes before now
 DialOutcome opens node nodes old before (Err _) new now = (new ≡ old) × (now ≡ before)
 
 -- a run of several is longer than the port of this open link takes
@@ -34,9 +35,9 @@ abbrev pub IsTooLong : {P : Type 0} → (P → ℕ) → RunModel → Option (Lin
 IsTooLong longest run link = IsSomeAnd link (λ link. (link.failure ≡ None) × (longest link.port < count_in run) × (1 < count_in run))
 
 -- Nothing of a run can be sent: there is no link to its node, and none was opened to it; or the run is too long for its link.
-abbrev pub IsRefused : {P : Type 0} → (P → ℕ) → RunModel → Option (LinkModel P) → ℕ → ℕ → ℕ → Type 0
-IsRefused longest run link nodes before now =
-    ((link ≡ None) × IsUnreached run.first.node nodes before now) ⊎ (IsTooLong longest run link × (now ≡ before))
+abbrev pub IsRefused : {P : Type 0} → (Endpoint → Option P → ℕ → ℕ → Type 0) → (P → ℕ) → RunModel → Option (LinkModel P) → List Endpoint → ℕ → ℕ → Type 0
+IsRefused opens longest run link nodes before now =
+    ((link ≡ None) × IsUnreached opens run.first.node nodes before now) ⊎ (IsTooLong longest run link × (now ≡ before))
 
 module _ {P : Type 0} (failures : P → ℕ) (is_garbled : P → Type 0) (exchange : P → List Request → List Value → P → Type 0) (longest : P → ℕ) where
   -- the run goes out as one item, where a link is open whose port takes one as long

@@ -1,8 +1,9 @@
 -- Connections that fail after a number of calls.
-use Rattle.std.specs.Prelude.{◌≡◌}
+use Rattle.std.specs.Prelude.{◌≡◌, ℕ, Option, Some, None}
 use Rattle.slot_map.specs.Table.{Endpoint}
 use Rattle.node_link.specs.FuseModel.{FuseModel}
 
--- a new connection, none of whose calls has failed
-abbrev pub IsNewUnder : {P : Type 0} → (Endpoint → P → Type 0) → Endpoint → FuseModel P → Type 0
-IsNewUnder opens at fused = opens at fused.port × (fused.blown ≡ 0)
+-- a new connection, none of whose calls has failed, where the dial below gives one
+abbrev pub DialsUnder : {P : Type 0} → (Endpoint → Option P → ℕ → ℕ → Type 0) → Endpoint → Option (FuseModel P) → ℕ → ℕ → Type 0
+DialsUnder opens at (Some fused) before now = opens at (Some fused.port) before now × (fused.blown ≡ 0)
+DialsUnder opens at None before now = opens at None before now

@@ -148,7 +148,7 @@ module _ {P : Type 0} (failures : P → ℕ) (is_garbled : P → Type 0) (exchan
 
 -- ---- the events of the carrier
 
-module _ {H P : Type 0} (failures : P → ℕ) (is_garbled : P → Type 0) (exchange : P → List Request → List Value → P → Type 0) (gives_none : P → Type 0) (opens : Endpoint → P → Type 0) (longest : P → ℕ) where
+module _ {H P : Type 0} (failures : P → ℕ) (is_garbled : P → Type 0) (exchange : P → List Request → List Value → P → Type 0) (gives_none : P → Type 0) (opens : Endpoint → Option P → ℕ → ℕ → Type 0) (longest : P → ℕ) where
   starved : (old new : CarrierModel H P) → ChangesBackend old new (Starves failures is_garbled exchange) → AreListed old → AreListed new
   starved old new d h = ⊎_elim
       (λ (x : context_of new d.2 ≡ context_of old d.1).

@@ -77,7 +77,7 @@ module _ {C J : Type 0} (port : C) where
   pub fails : FoldsTo SystemStep r0 script.unreached r1
   fails = (
     scene (opening.w0 port) (c new_lane [] [] 1 []) [] 0 j0 [],
-    at-carrier new_lane (refl, inl (omega arith), refl) tt refl ([], refl) refl,
+    at-carrier new_lane (refl, inl (_, refl, tt, omega arith), refl) tt refl ([], refl) refl,
     (
       scene (opening.w0 port) (c new_lane (pending None ∷ []) [] 1 []) [] 0 j0 [],
       at-carrier new_lane refl tt refl ([], refl) refl,
@@ -89,7 +89,7 @@ module _ {C J : Type 0} (port : C) where
           at-carrier new_lane refl (refl, (refl, tt)) refl ([], refl) refl,
           (
             r1,
-            at-carrier new_lane (0, refl, refl, inl (inl (omega arith))) (refl, (refl, tt)) refl ([], refl) refl,
+            at-carrier new_lane (0, refl, refl, inl (inl (_, refl, tt, omega arith))) (refl, (refl, tt)) refl ([], refl) refl,
             (
               r1,
               at-carrier new_lane (inl (0, new_backend, new_backend, refl, inl refl, refl)) (refl, (refl, tt)) refl ([], refl) refl,
@@ -158,7 +158,7 @@ module _ {C J : Type 0} (port : C) where
             refl,
             refl,
             refl,
-            inl (refl, inl (omega arith)),
+            inl (refl, inl (_, refl, tt, omega arith)),
             refl,
           ) (refl, (refl, tt)) refl ([], refl) refl,
           (

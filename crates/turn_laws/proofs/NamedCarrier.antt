@@ -212,7 +212,7 @@ module _ {C J : Type 0} (n : ℕ) (workers : List (WorkerModel C J)) where
       → BackendsPend backends → BackendsPend (slice_set backends k backend')
   link-pends backends k backend backend' at told changes h = set-pends backends k backend' (pends-still n backend backend' told changes (h k backend at)) h
 
-module _ {C J : Type 0} (failures : Wire → ℕ) (is_garbled : Wire → Type 0) (exchange : Wire → List Request → List Value → Wire → Type 0) (gives_none : Wire → Type 0) (opens : Endpoint → Wire → Type 0) (longest : Wire → ℕ)
+module _ {C J : Type 0} (failures : Wire → ℕ) (is_garbled : Wire → Type 0) (exchange : Wire → List Request → List Value → Wire → Type 0) (gives_none : Wire → Type 0) (opens : Endpoint → Option Wire → ℕ → ℕ → Type 0) (longest : Wire → ℕ)
     (n : ℕ) (workers : List (WorkerModel C J)) (old new : CarrierModel (Newcomer C J) Wire) (few : length new.nodes ≤ n)
     (steps : (k : ℕ) (model : WorkerModel C J) (lane : LaneEnds (Newcomer C J)) → slice_get workers k ≡ Some model → slice_get old.lanes k ≡ Some lane → DownInStep lane model)
     (h : CarrierNames n workers old) where

@@ -1,6 +1,6 @@
 -- A backend over ports of any kind: what its steps do, they do over the wire for which its port stands.
-use Rattle.std.proofs.Common.{◌≡◌, ◌≤◌, ◌⊎◌, inl, inr, ⊎_elim, ℕ, Bool, true, false, List, Some, None, Result, Ok, Err, refl, sym, ap, ◌∙◌, subst, arith}
-use Rattle.std.specs.Prelude.{Option}
+use Rattle.std.proofs.Common.{◌≡◌, ◌<◌, ◌≤◌, ◌⊎◌, inl, inr, ⊎_elim, ℕ, Bool, true, false, List, Some, None, Result, Ok, Err, refl, sym, ap, ◌∙◌, subst, arith}
+use Rattle.std.specs.Prelude.{Option, length, slice_get}
 use Rattle.resp_wire.specs.declared.value.Value.{Value}
 use Rattle.resp_wire.specs.declared.fault.NoMemory.{NoMemory}
 use Rattle.key_split.specs.Requests.{Request}
@@ -17,7 +17,7 @@ use Rattle.proxy_turns.specs.declared.backend_step.BackendStep.{BackendStep}
 use Rattle.proxy_turns.specs.declared.backend_step.BackendStep.TheVariants.{Idle, Waited, Broke, Fetched, Answered, GaveUp, Closed, Published, Asked, Spared, Read, Unread, Renewed}
 use Rattle.proxy_turns.specs.Backend.{BackendContext, BackendDoes, Fetches, GoesOut, IsUnreadable, Starves, has_failed, is_open}
 use Rattle.proxy_turns.specs.Sending.{IsRefused, IsTooLong, IsUnreached, SendOutcome}
-use Rattle.turn_laws.specs.Wire.{Wire, Exchanges}
+use Rattle.turn_laws.specs.Wire.{Wire, Dials, Exchanges}
 use Rattle.turn_laws.specs.PortsMay.{any_failures, any_garbled, any_none}
 use Rattle.turn_laws.specs.AnyPort.{StandsFor, IsWired, over_link, link_over, over_backend}
 use Rattle.turn_laws.proofs.OverLinks.{sends-over, goes-out, receives-over}
@@ -141,9 +141,17 @@ too-long : {P : Type 0} (longest : P → ℕ) (run : RunModel) (o : Option (Link
 too-long longest run None wire x = x
 too-long longest run (Some link) wire x = (x.0, omega arith, x.2)
 
-pub refused-over : {P : Type 0} (longest : P → ℕ) (run : RunModel) (o : Option (LinkModel P)) (wire : Wire) (nodes before now : ℕ) → IsRefused longest run o nodes before now
-    → IsRefused (λ (w : Wire). 0) run (link_over o wire) nodes before now
-refused-over longest run o wire nodes before now x = ⊎_elim
-    (λ (y : (o ≡ None) × IsUnreached run.first.node nodes before now). inl (ap (λ z. link_over z wire) y.0, y.1))
+-- a dial that failed says nothing of a wire
+pub unreached-over : {P : Type 0} (opens : Endpoint → Option P → ℕ → ℕ → Type 0) (nodes : List Endpoint) (opened node before now : ℕ) → IsUnreached opens node nodes before now
+    → IsUnreached (Dials nodes opened) node nodes before now
+unreached-over opens nodes opened node before now x = ⊎_elim
+    (λ (y : (at : Endpoint) × (slice_get nodes node ≡ Some at) × opens at None before now × (before < now)). inl (y.0, y.1, tt, y.3))
+    (λ (y : (length nodes ≤ node) × (now ≡ before)). inr y)
+    x
+
+pub refused-over : {P : Type 0} (opens : Endpoint → Option P → ℕ → ℕ → Type 0) (opened : ℕ) (longest : P → ℕ) (run : RunModel) (o : Option (LinkModel P)) (wire : Wire) (nodes : List Endpoint) (before now : ℕ)
+    → IsRefused opens longest run o nodes before now → IsRefused (Dials nodes opened) (λ (w : Wire). 0) run (link_over o wire) nodes before now
+refused-over opens opened longest run o wire nodes before now x = ⊎_elim
+    (λ (y : (o ≡ None) × IsUnreached opens run.first.node nodes before now). inl (ap (λ z. link_over z wire) y.0, unreached-over opens nodes opened run.first.node before now y.1))
     (λ (y : IsTooLong longest run o × (now ≡ before)). inr (too-long longest run o wire y.0, y.1))
     x

@@ -1,5 +1,5 @@
 -- The carrier over ports of any kind: each of its events is, over the wires of its ports, one that a step of the system may have.
-use Rattle.std.proofs.Common.{◌≡◌, inl, inr, ⊎_elim, ℕ, zero, suc, ◌||◌, ◌&&◌, Bool, true, false, List, [], ◌∷◌, ◌++◌, Some, None, refl, sym, ap, ◌∙◌, subst, length}
+use Rattle.std.proofs.Common.{◌≡◌, inl, inr, ⊎_elim, ℕ, zero, suc, ◌||◌, ◌&&◌, Bool, true, false, List, [], ◌∷◌, ◌++◌, Option, Some, None, refl, sym, ap, ◌∙◌, subst, length}
 use Rattle.std.specs.Prelude.{slice_get, slice_set}
 use Rattle.std.specs.List.{list_any}
 use Rattle.resp_wire.specs.declared.value.Value.{Value}
@@ -16,7 +16,7 @@ use Rattle.proxy_turns.specs.CarrierModel.{CarrierModel, CarrierEvent, AtBackend
 use Rattle.turn_laws.specs.Wire.{Wire, Exchanges, Dials, new_wire}
 use Rattle.turn_laws.specs.PortsMay.{any_failures, any_garbled, any_none}
 use Rattle.turn_laws.specs.AnyPort.{StandsFor, OpensWires, IsWired, AreWired, AnyPorts, link_over, over_backend, over_backends, over_wires}
-use Rattle.turn_laws.proofs.OverBackends.{over_context, open-over, failed-over, does-over, starves-over, sent-over, starved-over, refused-over}
+use Rattle.turn_laws.proofs.OverBackends.{over_context, open-over, failed-over, does-over, starves-over, sent-over, starved-over, refused-over, unreached-over}
 
 module _ {P : Type 0} (wired : P → Wire → Type 0) where
   -- the wire of a backend
@@ -76,7 +76,7 @@ give-over : {H P : Type 0} (backend backend' : Backend P) (wire : Wire) (lanes l
 give-over backend backend' wire lanes lanes' true x = (ap (λ (b : Backend _). b.link) x.4, (x.0, x.1, x.2, x.3, λ i. over_backend (x.4 i) wire))
 give-over backend backend' wire lanes lanes' false x = (ap (λ (b : Backend _). b.link) x.0, ((λ i. over_backend (x.0 i) wire), x.1))
 
-module _ {H P : Type 0} (wired : P → Wire → Type 0) (failures : P → ℕ) (is_garbled : P → Type 0) (exchange : P → List Request → List Value → P → Type 0) (gives_none : P → Type 0) (opens : Endpoint → P → Type 0) (longest : P → ℕ)
+module _ {H P : Type 0} (wired : P → Wire → Type 0) (failures : P → ℕ) (is_garbled : P → Type 0) (exchange : P → List Request → List Value → P → Type 0) (gives_none : P → Type 0) (opens : Endpoint → Option P → ℕ → ℕ → Type 0) (longest : P → ℕ)
     (stands : StandsFor wired exchange) where
   module _ (old new : CarrierModel H P) (wires : List Wire) (opened : ℕ) (on : AreWired wired old.backends wires) (dials : OpensWires wired old.nodes opened opens) where
     abbrev Done : CarrierEvent → Type 0
@@ -179,7 +179,7 @@ module _ {H P : Type 0} (wired : P → Wire → Type 0) (failures : P → ℕ) (
         let wire : Wire = new_wire opened x.0 in
         let backend' : Backend P = record x.1 { link = Some (fresh_link x.3 x.0); asked = false } in (
           slice_set wires x.0 wire,
-          changes x.0 backend' wire (ap (λ (c : CarrierModel H P). c.backends) x.8) (dials x.0 x.2 x.3 x.6 x.7),
+          changes x.0 backend' wire (ap (λ (c : CarrierModel H P). c.backends) x.8) (dials x.0 x.2 x.3 old.failures new.failures x.6 x.7),
           none,
           (
             x.0,
@@ -190,7 +190,7 @@ module _ {H P : Type 0} (wired : P → Wire → Type 0) (failures : P → ℕ) (
             ap (λ o. link_over o here.0) x.5,
             x.6,
             (x.0, x.6, refl),
-            (λ i. over_wires (x.8 i) (slice_set wires x.0 wire)) ∙ (λ i. record (over_wires old wires) { backends = set-at x.0 backend' wire i }),
+            (λ i. over_wires (x.8 i) (slice_set wires x.0 wire)) ∙ (λ i. record (over_wires old wires) { backends = set-at x.0 backend' wire i; failures = new.failures }),
           ),
         )
 
@@ -200,7 +200,7 @@ module _ {H P : Type 0} (wired : P → Wire → Type 0) (failures : P → ℕ) (
         let wire : Wire = new_wire opened x.0 in
         let backend' : Backend P = record x.1 { link = Some (fresh_link x.3 x.0); to_ask = true; asked = false } in (
           slice_set wires x.0 wire,
-          changes x.0 backend' wire (ap (λ (c : CarrierModel H P). c.backends) x.9) (dials x.0 x.2 x.3 x.7 x.8),
+          changes x.0 backend' wire (ap (λ (c : CarrierModel H P). c.backends) x.9) (dials x.0 x.2 x.3 old.failures new.failures x.7 x.8),
           none,
           (
             x.0,
@@ -212,7 +212,7 @@ module _ {H P : Type 0} (wired : P → Wire → Type 0) (failures : P → ℕ) (
             open-any wired old.backends wires on ∙ x.6,
             x.7,
             (x.0, x.7, refl),
-            (λ i. over_wires (x.9 i) (slice_set wires x.0 wire)) ∙ (λ i. record (over_wires old wires) { backends = set-at x.0 backend' wire i }),
+            (λ i. over_wires (x.9 i) (slice_set wires x.0 wire)) ∙ (λ i. record (over_wires old wires) { backends = set-at x.0 backend' wire i; failures = new.failures }),
           ),
         )
 
@@ -264,9 +264,9 @@ module _ {H P : Type 0} (wired : P → Wire → Type 0) (failures : P → ℕ) (
           wires,
           stays (ap (λ (c : CarrierModel H P). c.backends) x.9),
           none,
-          (x.0, x.1, x.2, over_backend x.3 here.0, x.4, x.5, x.6, here.3, refused-over longest x.2 (x.3).link here.0 (length old.nodes) old.failures new.failures x.8, λ i. over_wires (x.9 i) wires),
+          (x.0, x.1, x.2, over_backend x.3 here.0, x.4, x.5, x.6, here.3, refused-over opens opened longest x.2 (x.3).link here.0 old.nodes old.failures new.failures x.8, λ i. over_wires (x.9 i) wires),
         )
-    does-so Missed x = (wires, stays (ap (λ (c : CarrierModel H P). c.backends) x.2), none, (x.0, x.1, λ i. over_wires (x.2 i) wires))
+    does-so Missed x = (wires, stays (ap (λ (c : CarrierModel H P). c.backends) x.2), none, (x.0, unreached-over opens old.nodes opened 0 old.failures new.failures x.1, λ i. over_wires (x.2 i) wires))
     does-so SeedReached x =
         let here = wire-at wired old.backends wires on 0 x.0 x.2 in
         let backend' : Backend P = record x.0 { to_ask = true } in (
@@ -305,7 +305,7 @@ module _ {H P : Type 0} (wired : P → Wire → Type 0) (failures : P → ℕ) (
         open-any wired old.backends wires on ∙ x.1,
         (λ i. over_wires (x.2 i) wires),
         ⊎_elim
-            (λ (y : IsUnreached x.0 (length old.nodes) old.failures new.failures). inl y)
+            (λ (y : IsUnreached opens x.0 old.nodes old.failures new.failures). inl (unreached-over opens old.nodes opened x.0 old.failures new.failures y))
             (λ (y : HasFailedLink old.backends x.0 × (new.failures ≡ old.failures)).
             let here = wire-at wired old.backends wires on x.0 y.0.0 y.0.1 in inr ((over_backend y.0.0 here.0, here.3, failed-over (y.0.0).link here.0 ∙ y.0.2), y.1))
             x.3,
@@ -315,7 +315,7 @@ module _ {H P : Type 0} (wired : P → Wire → Type 0) (failures : P → ℕ) (
     does-so Gave x = gave x
     does-so GaveUnsent x = (wires, stays (ap (λ (c : CarrierModel H P). c.backends) x.5), none, (x.0, x.1, x.2, x.3, x.4, λ i. over_wires (x.5 i) wires))
 
-module _ {H P : Type 0} (wired : P → Wire → Type 0) (failures : P → ℕ) (is_garbled : P → Type 0) (exchange : P → List Request → List Value → P → Type 0) (gives_none : P → Type 0) (opens : Endpoint → P → Type 0) (longest : P → ℕ)
+module _ {H P : Type 0} (wired : P → Wire → Type 0) (failures : P → ℕ) (is_garbled : P → Type 0) (exchange : P → List Request → List Value → P → Type 0) (gives_none : P → Type 0) (opens : Endpoint → Option P → ℕ → ℕ → Type 0) (longest : P → ℕ)
     (stands : StandsFor wired exchange) where
   pub any-ports : AnyPorts wired H failures is_garbled exchange gives_none opens longest
   any-ports event old new wires opened on dials x = does-so wired failures is_garbled exchange gives_none opens longest stands old new wires opened on dials event x

@@ -71,8 +71,9 @@ module _ {P : Type 0} (wired : P → Wire → Type 0) where
       → (wire' : Wire) × Exchanges wire requests values wire' × wired new wire'
 
   -- a connection that is opened to a node's endpoint stands for a new wire to it
-  abbrev pub OpensWires : List Endpoint → ℕ → (Endpoint → P → Type 0) → Type 0
-  OpensWires nodes opened opens = (node : ℕ) (at : Endpoint) (port : P) → slice_get nodes node ≡ Some at → opens at port → wired port (new_wire opened node)
+  abbrev pub OpensWires : List Endpoint → ℕ → (Endpoint → Option P → ℕ → ℕ → Type 0) → Type 0
+  OpensWires nodes opened opens =
+      (node : ℕ) (at : Endpoint) (port : P) (before now : ℕ) → slice_get nodes node ≡ Some at → opens at (Some port) before now → wired port (new_wire opened node)
 
   abbrev pub IsWired : Option (LinkModel P) → Wire → Type 0
   IsWired None wire = Unit {0}
@@ -85,7 +86,7 @@ module _ {P : Type 0} (wired : P → Wire → Type 0) where
   AreWired (backend ∷ backends) [] = ⊥
   AreWired (backend ∷ backends) (wire ∷ wires) = IsWired backend.link wire × AreWired backends wires
 
-  module _ (H : Type 0) (failures : P → ℕ) (is_garbled : P → Type 0) (exchange : P → List Request → List Value → P → Type 0) (gives_none : P → Type 0) (opens : Endpoint → P → Type 0) (longest : P → ℕ) where
+  module _ (H : Type 0) (failures : P → ℕ) (is_garbled : P → Type 0) (exchange : P → List Request → List Value → P → Type 0) (gives_none : P → Type 0) (opens : Endpoint → Option P → ℕ → ℕ → Type 0) (longest : P → ℕ) where
     -- each event of the carrier's turn is, over the wires of its ports, one that a step of the system may have
     abbrev pub AnyPorts : Type 0
     AnyPorts = (event : CarrierEvent) (old new : CarrierModel H P) (wires : List Wire) (opened : ℕ) → AreWired old.backends wires → OpensWires old.nodes opened opens

@@ -1,6 +1,6 @@
 -- What may happen in a system: an event of a worker's turn, an event of the carrier's turn, a new client is handed to a worker, a node
 -- serves what is next of a connection, what a broken one still has is thrown away, a slot moves one step.
-use Rattle.std.specs.Prelude.{◌≡◌, ◌⊎◌, ◌+◌, ◌-◌, ℕ, suc, List, [], ◌∷◌, ◌++◌, Some, None, IsSome, length, take, drop, slice_get, slice_set, Result}
+use Rattle.std.specs.Prelude.{◌≡◌, ◌⊎◌, ◌+◌, ◌-◌, ℕ, suc, List, [], ◌∷◌, ◌++◌, Option, Some, None, IsSome, length, take, drop, slice_get, slice_set, Result}
 use Rattle.std.specs.FinMap.{get}
 use mathlib.Core.List.{IsPrefix}
 use Rattle.resp_wire.specs.declared.value.Value.{Value}
@@ -108,7 +108,7 @@ module _ {C J : Type 0} where
   -- ---- the carrier
 
   -- a dial gives the next connection
-  abbrev pub Opens : System C J → Endpoint → Wire → Type 0
+  abbrev pub Opens : System C J → Endpoint → Option Wire → ℕ → ℕ → Type 0
   Opens s = Dials s.carrier.nodes s.opened
 
   -- the link of this backend fails

@@ -3,7 +3,7 @@
 -- Commands that are written together are a run: the port puts them between MULTI and EXEC, and the node serves all of them at once.
 -- That is a premise on EXEC (Redis documentation, "Transactions"): a node that answers it with an error executed none of the
 -- commands, and one that answers with an array of as many replies executed all of them, in order, with nothing between them.
-use Rattle.std.specs.Prelude.{◌≡◌, ◌⊎◌, ℕ, List, [], ◌∷◌, ◌++◌, Bool, true, false, Some, map, slice_get}
+use Rattle.std.specs.Prelude.{◌≡◌, ◌⊎◌, ℕ, List, [], ◌∷◌, ◌++◌, Bool, true, false, Option, Some, None, map, slice_get}
 use Rattle.resp_wire.specs.declared.value.Value.{Value}
 use Rattle.key_split.specs.Requests.{Request, Asking, Command, Slots}
 use Rattle.key_split.specs.declared.travel.Ticket.{Ticket}
@@ -53,9 +53,10 @@ pub record Wire : Type 0 where
 abbrev pub new_wire : ℕ → ℕ → Wire
 new_wire id node = record { id = id; node = node; items = []; values = []; asking = false }
 
--- a dial gives the next connection, to the node that the table has at this endpoint
-abbrev pub Dials : List Endpoint → ℕ → Endpoint → Wire → Type 0
-Dials nodes opened at wire = (node : ℕ) × (slice_get nodes node ≡ Some at) × (wire ≡ new_wire opened node)
+-- a dial gives the next connection, to the node that the table has at this endpoint, or fails
+abbrev pub Dials : List Endpoint → ℕ → Endpoint → Option Wire → ℕ → ℕ → Type 0
+Dials nodes opened at (Some wire) before now = (node : ℕ) × (slice_get nodes node ≡ Some at) × (wire ≡ new_wire opened node)
+Dials nodes opened at None before now = Unit {0}
 
 -- the carrier writes these requests and reads these values
 abbrev pub Exchanges : Wire → List Request → List Value → Wire → Type 0

@@ -1,6 +1,6 @@
 -- Turns of the code are steps of a system.
 use Rattle.std.proofs.Common.{◌≡◌, ℕ, zero, suc, Bool, List, [], ◌∷◌, ◌++◌, Some, Ok, Err, refl, sym, ap, ◌∙◌, subst, cond}
-use Rattle.std.specs.Prelude.{Result, slice_get, slice_set}
+use Rattle.std.specs.Prelude.{Option, Result, slice_get, slice_set}
 use Rattle.std.specs.List.{FoldsTo}
 use Rattle.std.proofs.lemmas.List.Elements.{All-cons, All-nil}
 use Rattle.std.specs.Ordering.{nat_cmp}
@@ -75,7 +75,7 @@ module _ (C J : Type 0) (moves : Moves C) (any : AnyClientTurns C J moves) where
   pub workers-play : WorkersPlay C J moves
   workers-play s k old new result at d = by-result s k old new result at (any old new result d)
 
-module _ (C J : Type 0) {P : Type 0} (wired : P → Wire → Type 0) (failures : P → ℕ) (is_garbled : P → Type 0) (exchange : P → List Request → List Value → P → Type 0) (gives_none : P → Type 0) (opens : Endpoint → P → Type 0) (longest : P → ℕ)
+module _ (C J : Type 0) {P : Type 0} (wired : P → Wire → Type 0) (failures : P → ℕ) (is_garbled : P → Type 0) (exchange : P → List Request → List Value → P → Type 0) (gives_none : P → Type 0) (opens : Endpoint → Option P → ℕ → ℕ → Type 0) (longest : P → ℕ)
     (any : AnyPorts wired (Newcomer C J) failures is_garbled exchange gives_none opens longest) (dials : (nodes : List Endpoint) (opened : ℕ) → OpensWires wired nodes opened opens) where
   abbrev Model : Type 0
   Model = CarrierModel (Newcomer C J) P

@@ -1,5 +1,5 @@
 -- A port that is one end of a connection in memory: its requests wait for the node, and its values for the carrier.
-use Rattle.std.specs.Prelude.{◌≡◌, ◌^◌, ◌-◌, ℕ, List, [], ◌++◌, Bool, false, Result, Ok, Err, refl}
+use Rattle.std.specs.Prelude.{◌≡◌, ◌^◌, ◌-◌, ℕ, List, [], ◌++◌, Bool, false, Option, Some, None, Result, Ok, Err, refl}
 use Rattle.std.proofs.Common.{sym, ap, ◌∙◌}
 use Rattle.std.proofs.lemmas.List.{append-nil}
 use Rattle.resp_wire.specs.declared.value.Value.{Value}
@@ -25,9 +25,10 @@ abbrev pub PortExchanges : PortModel → List Request → List Value → PortMod
 PortExchanges old requests values new =
     (old.values ≡ values ++ new.values) × (new ≡ record old { items = old.items ++ items_of requests; values = new.values })
 
--- nothing went over it
-abbrev pub IsFresh : Endpoint → PortModel → Type 0
-IsFresh at port = (port.items ≡ []) × (port.values ≡ []) × (port.asking ≡ false)
+-- a dial gives a port over which nothing went
+abbrev pub IsFresh : Endpoint → Option PortModel → ℕ → ℕ → Type 0
+IsFresh at (Some port) before now = (port.items ≡ []) × (port.values ≡ []) × (port.asking ≡ false)
+IsFresh at None before now = ⊥
 
 -- A count that stands at the last value of 64 bits counts as risen: a port that is broken may fail at each call.
 abbrev pub no_count : PortModel → ℕ
@@ -65,4 +66,4 @@ port-still port = (refl, λ i. record port { items = sym (append-nil port.items)
 
 -- a port that is opened is the end of a new wire
 pub port-opens : (nodes : List Endpoint) (opened : ℕ) → OpensWires IsEnd nodes opened IsFresh
-port-opens nodes opened node at port there fresh = fresh
+port-opens nodes opened node at port before now there fresh = fresh

@@ -1,5 +1,5 @@
 -- What turns of the code are steps of a system: a worker's turn at its place, and a carrier's turn over ports that stand for wires.
-use Rattle.std.specs.Prelude.{◌≡◌, ℕ, Bool, List, All, Some, Result, slice_get, slice_set}
+use Rattle.std.specs.Prelude.{◌≡◌, ℕ, Bool, List, All, Option, Some, Result, slice_get, slice_set}
 use Rattle.resp_wire.specs.declared.fault.NoMemory.{NoMemory}
 use Rattle.resp_wire.specs.declared.value.Value.{Value}
 use Rattle.key_split.specs.Requests.{Request}
@@ -48,7 +48,7 @@ module _ (C J : Type 0) (moves : Moves C) where
   WorkersPlay = (s : System C J) (k : ℕ) (old new : WorkerModel C J) (result : Result Bool NoMemory) → slice_get s.workers k ≡ Some old → WorkerTurns moves old result new
       → PlaysWorker s k new
 
-module _ (C J : Type 0) {P : Type 0} (wired : P → Wire → Type 0) (failures : P → ℕ) (is_garbled : P → Type 0) (exchange : P → List Request → List Value → P → Type 0) (gives_none : P → Type 0) (opens : Endpoint → P → Type 0) (longest : P → ℕ) where
+module _ (C J : Type 0) {P : Type 0} (wired : P → Wire → Type 0) (failures : P → ℕ) (is_garbled : P → Type 0) (exchange : P → List Request → List Value → P → Type 0) (gives_none : P → Type 0) (opens : Endpoint → Option P → ℕ → ℕ → Type 0) (longest : P → ℕ) where
   -- a carrier's turn is steps of a system that shows it, where a port that is opened stands for a new wire
   abbrev pub CarriersPlay : Type 0
   CarriersPlay = ((nodes : List Endpoint) (opened : ℕ) → OpensWires wired nodes opened opens)

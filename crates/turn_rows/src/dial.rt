@@ -61,7 +61,7 @@ impl Dial for MemoryDial {
 
     ghost failures = { λ dial. dial.failures };
 
-    ghost opens = { λ _ _. ⊤ };
+    ghost opens = { λ _ _ _ _. ⊤ };
 
     fn seeks(&mut self) -> bool {
         false

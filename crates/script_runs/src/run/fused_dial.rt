@@ -2,7 +2,7 @@
 
 ghost use Rattle.std.specs.Prelude.{◌≡◌, IfOk};
 ghost use Rattle.node_link.specs.Dialling.{OpenOutcome};
-ghost use Rattle.script_runs.specs.FusedDial.{IsNewUnder};
+ghost use Rattle.script_runs.specs.FusedDial.{DialsUnder};
 
 use node_link::{Dial, DialFault, Fuse};
 use slot_map::NodeId;
@@ -28,7 +28,7 @@ impl<D: Dial> Dial for FusedDial<D> {
 
     ghost failures = { λ fused. D.failures fused.dial };
 
-    ghost opens = { IsNewUnder D.opens };
+    ghost opens = { DialsUnder D.opens };
 
     ghost is_calm = { λ fused. D.is_calm fused.dial };
 
@@ -41,7 +41,7 @@ impl<D: Dial> Dial for FusedDial<D> {
     }
 
     fn open(&mut self, node: NodeId, host: &[u8], port: u16) -> Result<Fuse<D::Port>, DialFault>
-        ensures open { OpenOutcome (IsNewUnder D.opens) (record { host = host.now; port = port }) (D.failures self.old.dial) result (D.failures self.new.dial) }
+        ensures open { OpenOutcome (DialsUnder D.opens) (record { host = host.now; port = port }) (D.failures self.old.dial) result (D.failures self.new.dial) }
         ensures calls { IfOk result (λ opened. opened.left ≡ self.old.calls) }
     {
         let opened = self.dial.open(node, host, port)?;

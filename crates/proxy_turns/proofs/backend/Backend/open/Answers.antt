@@ -11,13 +11,14 @@ returns-in-Ok g c = (
   c.in-Ok.port,
   none_where _ (sym c.is_some.ensures ∙ c.if-is_some.false),
   sym c.in-Some.ensures.value,
-  c.in-Ok.ensures.0,
+  c.in-Ok.ensures,
   (λ i. record c.args.self.now { link = (c.put.ensures ∙ ap Some c.new.ensures) i; asked = false }),
-  c.in-Ok.ensures.1,
 )
 
 pub returns-in-Err-NoMemory : goal.returns-in-Err-NoMemory
 returns-in-Err-NoMemory g c = (refl, rw c.in-Err-NoMemory.field-0-is at c.in-Err-NoMemory.ensures)
 
 pub returns-in-Err-Failed : goal.returns-in-Err-Failed
-returns-in-Err-Failed g c = (none_where _ (sym c.is_some.ensures ∙ c.if-is_some.false), refl, inl (rw c.in-Err-Failed.field-0-is at c.in-Err-Failed.ensures))
+returns-in-Err-Failed g c =
+    let failed = rw c.in-Err-Failed.field-0-is at c.in-Err-Failed.ensures in
+    (none_where _ (sym c.is_some.ensures ∙ c.if-is_some.false), refl, inl (record { host = c.in-Some.host.now; port = c.in-Some.port }, sym c.in-Some.ensures.value, failed.0, failed.1))
