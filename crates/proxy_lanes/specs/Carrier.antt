@@ -5,6 +5,7 @@ use Rattle.proxy_lanes.specs.declared.ends.lane_ends.LaneEnds.{LaneEnds}
 use Rattle.proxy_lanes.specs.declared.ends.CarrierEnds.{CarrierEnds}
 use Rattle.proxy_lanes.specs.declared.ends.WorkerEnds.{WorkerEnds}
 use Rattle.proxy_lanes.specs.Lane.{IsNewLane}
+use Rattle.proxy_lanes.specs.View.{new_view}
 
 -- the carrier's ends of each worker's lanes, in order
 abbrev pub lanes_of : {H M : Type 0} → CarrierEnds H M → List (LaneEnds H)
@@ -16,7 +17,7 @@ module _ {H J : Type 0} where
   abbrev pub AreLanesOf : ℕ → ℕ → WorkerEnds H J → LaneEnds H → Type 0
   AreLanesOf workers k w lane =
       (w.worker ≡ k) × (w.workers ≡ workers) × IsNewLane w.outlet lane.up × IsSomeAnd lane.down (λ outlet. IsNewLane outlet w.inlet)
-      × IsNewLane lane.door w.newcomers × (w.view ≡ [])
+      × IsNewLane lane.door w.newcomers × (w.view ≡ new_view [])
 
   -- those of worker k and on, in order
   abbrev pub AreLanesFrom : ℕ → ℕ → List (WorkerEnds H J) → List (LaneEnds H) → Type 0

@@ -68,6 +68,7 @@ impl<J: Naming, R: Wait + Drop> MapWriter<J, Tables<J, R>> {
     ghost use Rattle.std.specs.Prelude.{◌≡◌, ◌++◌, ◌<◌, ◌^◌, [], IfOk, OnOk, OnErr, IfSome};
     ghost use Rattle.proxy_lanes.specs.Opened.{book_of};
     ghost use Rattle.proxy_lanes.specs.Publishing.{IsPublished};
+    ghost use Rattle.proxy_lanes.specs.View.{new_view};
     ghost use Rattle.slot_map.specs.declared.ops.MapOp.TheVariants.{SetSlot};
 
     /// A map in which no slot has a node, with room for `views` views.
@@ -129,7 +130,7 @@ impl<J: Naming, R: Wait + Drop> MapWriter<J, Tables<J, R>> {
 
     /// A view that knows what was published so far.
     pub(crate) fn view(&self) -> Result<MapView<J>, NoMemory>
-        ensures { IfOk result (λ view. view ≡ self.now) }
+        ensures { IfOk result (λ view. view ≡ new_view self.now) }
     {
         self.tables.view(self.front.again())
     }

@@ -54,6 +54,7 @@ impl<J: Naming, R: Wait + Drop> Drop for Tables<J, R> {
 
 impl<J: Naming, R: Wait + Drop> Tables<J, R> {
     ghost use Rattle.std.specs.Prelude.{◌≡◌, ◌<◌, ◌^◌, [], IfOk, OnOk, OnErr};
+    ghost use Rattle.proxy_lanes.specs.View.{new_view};
 
     pub(crate) fn new(
         alloc: Global,
@@ -85,7 +86,7 @@ impl<J: Naming, R: Wait + Drop> Tables<J, R> {
     }
 
     pub(crate) fn view(&self, known: Front<J>) -> Result<MapView<J>, NoMemory>
-        ensures { IfOk result (λ view. view ≡ known) }
+        ensures { IfOk result (λ view. view ≡ new_view known) }
     {
         Ok(MapView::new(self.handle.handle()?, known))
     }

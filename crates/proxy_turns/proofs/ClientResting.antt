@@ -20,7 +20,7 @@ use Rattle.session_order.specs.Steps.{FeedOutcome, FaultedBy, IsNotFaulted, MayR
 use Rattle.session_order.specs.Turn.{MayPost, NextPlace}
 use Rattle.proxy_lanes.specs.declared.ring.Outlet.{Outlet}
 use Rattle.proxy_lanes.specs.Lane.{Posts, free_places, posted}
-use Rattle.slot_map.specs.declared.ops.MapOp.{MapOp}
+use Rattle.proxy_lanes.specs.View.{ViewModel}
 use Rattle.proxy_turns.specs.Commands.{BeginOutcome, CommandsModel, Drops, PostsFreshResult}
 use Rattle.proxy_turns.specs.ClientModel.{ClientModel, read_answer}
 use Rattle.proxy_turns.specs.ClientTurn.{most_drained}
@@ -376,7 +376,7 @@ module _ {C : Type 0} (t : ClientModel C) where
   drop_none commands true drops not_so = absurd (false≢true (sym not_so))
   drop_none commands false (none, same) not_so = ((λ i. record t { commands = same i }), ap (λ (m : CommandsModel). m.fresh) same ∙ none)
 
-  pub posts_nothing : (commands : CommandsModel) (o o' : Outlet RunModel) (v v' : List MapOp) (result : Result Bool NoMemory) → t.gone ≡ false → PostsFreshResult t.commands o v result commands o' v'
+  pub posts_nothing : (commands : CommandsModel) (o o' : Outlet RunModel) (v v' : ViewModel) (result : Result Bool NoMemory) → t.gone ≡ false → PostsFreshResult t.commands o v result commands o' v'
       → IfStill result (t.commands.fresh ≢ [] → HasNoPlace o') → IfStill result (PostsNone t (record t { commands = commands }) o')
   posts_nothing commands o o' v v' (Ok true) here posts full = tt
   posts_nothing commands o o' v v' (Ok false) here (same, slot, tries) full = record {

@@ -7,7 +7,6 @@ use Rattle.std.proofs.lemmas.List.Elements.{All-nil}
 use Rattle.std.proofs.lemmas.Bool.{false≢true}
 use Rattle.std.proofs.Math.ListN.{take-append-drop}
 use Rattle.std.proofs.lemmas.List.Folds.{list_all-append, list_any-append}
-use Rattle.slot_map.specs.declared.ops.MapOp.{MapOp}
 use Rattle.resp_wire.specs.declared.fault.NoMemory.{NoMemory}
 use Rattle.key_split.specs.PartModel.{PartModel}
 use Rattle.key_split.specs.Runs.{RunModel, GoTogether, IsTogether, count_in}
@@ -22,6 +21,7 @@ use Rattle.session_order.specs.Steps.{IsOut, FeedOutcome, ReadOutcome}
 use Rattle.proxy_lanes.specs.declared.map_view.NotEntered.{NotEntered}
 use Rattle.proxy_lanes.specs.declared.ring.Outlet.{Outlet}
 use Rattle.proxy_lanes.specs.Lane.{Posts}
+use Rattle.proxy_lanes.specs.View.{ViewModel}
 use Rattle.proxy_turns.specs.Port.{Moves}
 use Rattle.proxy_turns.specs.Commands.{AreOneRun, BeginOutcome, CommandsModel, Drops, FollowOutcome, Looks, PostsAt, PostsAtResult, PostsFresh, PostsFreshResult, Tries, awaiting, most_together, run_of, with_command}
 use Rattle.proxy_turns.specs.ClientModel.{ClientModel, IsSoundClient, Takings, read_answer}
@@ -45,7 +45,7 @@ pub not_some : {A : Type 0} (o : Option A) → is_some o ≡ false → o ≡ Non
 not_some None e = refl
 not_some (Some x) e = absurd (false≢true (sym e))
 
-abbrev pub at : {C : Type 0} → ClientModel C → Outlet RunModel → List MapOp → ClientContext C
+abbrev pub at : {C : Type 0} → ClientModel C → Outlet RunModel → ViewModel → ClientContext C
 at client outlet view = record { client = client; outlet = outlet; view = view }
 
 all_wider : (few may : ClientEvent → Bool) → ((event : ClientEvent) → few event ≡ true → may event ≡ true) → (events : List ClientEvent) → list_all few events ≡ true → list_all may events ≡ true
@@ -93,7 +93,7 @@ module _ {C : Type 0} (moves : Moves C) (may : ClientEvent → Bool) where
   moved_by old false new is goes = absurd (false≢true is)
 
   -- the same where a value changed that is not seen
-  pub goes_seen : (old : ClientContext C) (moved : Bool) (t t' : ClientModel C) (o : Outlet RunModel) (v : List MapOp) → t' ≡ t → ClientGoesBy moves may old moved (at t o v) → ClientGoesBy moves may old moved (at t' o v)
+  pub goes_seen : (old : ClientContext C) (moved : Bool) (t t' : ClientModel C) (o : Outlet RunModel) (v : ViewModel) → t' ≡ t → ClientGoesBy moves may old moved (at t o v) → ClientGoesBy moves may old moved (at t' o v)
   goes_seen old moved t t' o v same goes = let P : ClientModel C → Type 0 = λ x. ClientGoesBy moves may old moved (at x o v) in subst P (sym same) goes
 
   -- whatever a call answered, it did some events
@@ -101,7 +101,7 @@ module _ {C : Type 0} (moves : Moves C) (may : ClientEvent → Bool) where
   goes_anyhow old (Ok moved) new goes = (moved, goes)
   goes_anyhow old (Err e) new goes = goes
 
-  module _ (t : ClientModel C) (o : Outlet RunModel) (v : List MapOp) where
+  module _ (t : ClientModel C) (o : Outlet RunModel) (v : ViewModel) where
     pub tried : may Tried ≡ true → (port : C) → moves.between t.port [] [] [] port → ClientGoesBy moves may (at t o v) false (at (record t { port = port }) o v)
     tried kind port m = by (at t o v) Tried _ false refl kind (m, refl)
 
@@ -196,8 +196,8 @@ module _ {C : Type 0} (moves : Moves C) (may : ClientEvent → Bool) where
         subst (ClientGoesBy moves may (at t o v) false) (with_unfed port unfed none still) (subst P (sym same) (stays (at t o v)))
     takes_nothing kind e port unfed none (inr m, still) = takes_none kind port unfed none (m, still)
 
-    looked : ((slot : ℕ) → may (Looked slot) ≡ true) → (slot : ℕ) (view : List MapOp) → (view ≡ v) ⊎ ((answer : Result (Option ℕ) NotEntered) × Looks v slot answer view) → ClientGoesBy moves may (at t o v) false (at t o view)
-    looked kind slot view (inl same) = let P : List MapOp → Type 0 = λ x. ClientGoesBy moves may (at t o v) false (at t o x) in subst P (sym same) (stays (at t o v))
+    looked : ((slot : ℕ) → may (Looked slot) ≡ true) → (slot : ℕ) (view : ViewModel) → (view ≡ v) ⊎ ((answer : Result (Option ℕ) NotEntered) × Looks v slot answer view) → ClientGoesBy moves may (at t o v) false (at t o view)
+    looked kind slot view (inl same) = let P : ViewModel → Type 0 = λ x. ClientGoesBy moves may (at t o v) false (at t o x) in subst P (sym same) (stays (at t o v))
     looked kind slot view (inr (answer, looks)) = by (at t o v) (Looked slot) (at t o view) false refl (kind slot) ((answer, looks), refl)
 
     came_back : ((run : RunModel) → may (CameBack run) ≡ true) → (outlet : Outlet RunModel) → (outlet ≡ o) ⊎ ((run : RunModel) × Posts o outlet run (Err run)) → ClientGoesBy moves may (at t o v) false (at t outlet v)
@@ -205,7 +205,7 @@ module _ {C : Type 0} (moves : Moves C) (may : ClientEvent → Bool) where
     came_back kind outlet (inr (run, back)) = by (at t o v) (CameBack run) (at t outlet v) false refl (kind run) (back, refl)
 
   module _ (looks_too : (slot : ℕ) → may (Looked slot) ≡ true) (back_too : (run : RunModel) → may (CameBack run) ≡ true) (posted_too : (run : RunModel) → may (Posted run) ≡ true)
-      (t : ClientModel C) (o o' : Outlet RunModel) (v v' : List MapOp) (commands : CommandsModel) where
+      (t : ClientModel C) (o o' : Outlet RunModel) (v v' : ViewModel) (commands : CommandsModel) where
     -- none is
     posts_none : (slot : ℕ) → commands ≡ t.commands → Tries slot o v o' v' → ClientGoesBy moves may (at t o v) false (at (record t { commands = commands }) o' v')
     posts_none slot same (looks, backs) =

@@ -7,13 +7,13 @@ use Rattle.std.specs.FinMap.{FinMap, get, insert, remove, get-insert, same_map, 
 use Rattle.std.specs.Map.{lookup}
 use Rattle.std.proofs.lemmas.List.Folds.{list_all-append, list_any-append}
 use Rattle.resp_wire.specs.LimitsModel.{full}
-use Rattle.slot_map.specs.declared.ops.MapOp.{MapOp}
 use Rattle.resp_wire.specs.declared.fault.NoMemory.{NoMemory}
 use Rattle.key_split.specs.declared.travel.Ticket.{Ticket}
 use Rattle.key_split.specs.declared.travel.Told.{Told}
 use Rattle.key_split.specs.declared.travel.Ended.{Ended}
 use Rattle.proxy_lanes.specs.declared.ring.Inlet.{Inlet}
 use Rattle.proxy_lanes.specs.Lane.{Takes}
+use Rattle.proxy_lanes.specs.View.{ViewModel}
 use Rattle.proxy_turns.specs.declared.newcomer.Newcomer.{Newcomer}
 use Rattle.proxy_turns.specs.declared.turned.Turned.{Turned}
 use Rattle.proxy_turns.specs.declared.turned.Finish.{Finish}
@@ -218,7 +218,7 @@ module _ {C J : Type 0} (moves : Moves C) (may : WorkerEvent → Bool) where
       by_all base (Left number) (record base { clients = clients'; ports = ports' }) true refl (kind number) (last, port, leaves, closed, λ i. record base { clients = clients'; ports = is i })
 
   -- the next new client comes, or is turned away; the clients and the ports may have moved to other places before
-  pub came : ((number : ℕ) → may (Came number) ≡ true) → ((number : ℕ) → may (TurnedAway number) ≡ true) → (base : WorkerModel C J) (newcomers' : Inlet (Newcomer C J)) (newest' left' : Option ℕ) (view' : List MapOp) (clients' : FinMap nat_cmp (ClientModel C)) (ports' : List C)
+  pub came : ((number : ℕ) → may (Came number) ≡ true) → ((number : ℕ) → may (TurnedAway number) ≡ true) → (base : WorkerModel C J) (newcomers' : Inlet (Newcomer C J)) (newest' left' : Option ℕ) (view' : ViewModel) (clients' : FinMap nat_cmp (ClientModel C)) (ports' : List C)
       (newcomer : Newcomer C J) (client : ClientModel C) → Takes base.newcomers newcomers' (Some newcomer) → OneCame base.left left' → Learns base.view newcomer.front view'
       → client ≡ new_client base.worker newcomer.number full newcomer.port → PutsNew moves base.workers base.worker base.clients base.ports base.newest base.left newcomer.number client clients' ports' newest'
       → WorkerGoesBy moves may base true (record base { clients = clients'; newest = newest'; newcomers = newcomers'; left = left'; view = view'; ports = ports' })
@@ -238,7 +238,7 @@ module _ {C J : Type 0} (moves : Moves C) (may : WorkerEvent → Bool) where
         λ i. record base { clients = same i; newest = last i; newcomers = newcomers'; left = left'; view = view'; ports = away i },
       )
 
-  pub came_from : ((number : ℕ) → may (Came number) ≡ true) → ((number : ℕ) → may (TurnedAway number) ≡ true) → (base : WorkerModel C J) (middle : FinMap nat_cmp (ClientModel C)) (kept : List C) (newcomers' : Inlet (Newcomer C J)) (newest' left' : Option ℕ) (view' : List MapOp)
+  pub came_from : ((number : ℕ) → may (Came number) ≡ true) → ((number : ℕ) → may (TurnedAway number) ≡ true) → (base : WorkerModel C J) (middle : FinMap nat_cmp (ClientModel C)) (kept : List C) (newcomers' : Inlet (Newcomer C J)) (newest' left' : Option ℕ) (view' : ViewModel)
       (clients' : FinMap nat_cmp (ClientModel C)) (ports' : List C) (newcomer : Newcomer C J) (client : ClientModel C) → middle ≡ base.clients → kept ≡ base.ports
       → Takes base.newcomers newcomers' (Some newcomer) → OneCame base.left left' → Learns base.view newcomer.front view'
       → client ≡ new_client base.worker newcomer.number full newcomer.port → PutsNew moves base.workers base.worker middle kept base.newest base.left newcomer.number client clients' ports' newest'

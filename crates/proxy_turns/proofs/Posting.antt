@@ -6,7 +6,6 @@ use Rattle.std.proofs.lemmas.List.Elements.{All-cons, All-nil, All-tail, All-wea
 use Rattle.std.specs.FinMap.{get, insert}
 use Rattle.std.specs.Map.{lookup}
 use Rattle.slot_hash.specs.Slot.{slot_of}
-use Rattle.slot_map.specs.declared.ops.MapOp.{MapOp}
 use Rattle.resp_wire.specs.declared.fault.NoMemory.{NoMemory}
 use Rattle.key_split.specs.Runs.{RunModel}
 use Rattle.key_split.specs.declared.travel.Ticket.{Ticket}
@@ -18,6 +17,7 @@ use Rattle.command_future.specs.CommandModel.{CommandModel, IsFresh, MayPostTo, 
 use Rattle.proxy_lanes.specs.declared.map_view.NotEntered.{NotEntered}
 use Rattle.proxy_lanes.specs.declared.ring.Outlet.{Outlet}
 use Rattle.proxy_lanes.specs.Lane.{Posts}
+use Rattle.proxy_lanes.specs.View.{ViewModel}
 use Rattle.proxy_turns.specs.Commands.{AreOneRun, AwaitsIn, CommandsModel, GoesTo, GoesWith, Hears, HearsOne, Looks, PostOutcome, PostsAtResult, PostsFresh, WantsPostAt, awaiting, commanded, in_table, run_of, with_posted}
 use Rattle.proxy_turns.specs.ClientRest.{IfStill}
 use Rattle.proxy_turns.specs.Pause.{pause_at}
@@ -31,7 +31,7 @@ some_same {A} x y e = ap (got x) e
     got d (Some z) = z
 
 -- where a command goes, the map was looked at or not
-pub went : (stage : Stage) (slot : ℕ) (view : List MapOp) (node : ℕ) (view' : List MapOp) → GoesTo stage slot view node view'
+pub went : (stage : Stage) (slot : ℕ) (view : ViewModel) (node : ℕ) (view' : ViewModel) → GoesTo stage slot view node view'
     → (view' ≡ view) ⊎ ((answer : Result (Option ℕ) NotEntered) × Looks view slot answer view')
 went (Wants (Some named)) slot view node view' goes = inl goes.1
 went (Wants None) slot view node view' goes = inr (goes.0, goes.1)
@@ -40,23 +40,23 @@ went Awaits slot view node view' goes = absurd goes
 went (Over end) slot view node view' goes = absurd goes
 
 -- the run was made and could not be posted, or could not be made
-pub came_back : (c : CommandModel) (outlet outlet' : Outlet RunModel) (view view' : List MapOp) (node : ℕ) (run : RunModel)
+pub came_back : (c : CommandModel) (outlet outlet' : Outlet RunModel) (view view' : ViewModel) (node : ℕ) (run : RunModel)
     → GoesTo c.stage (slot_of c.part.key) view node view' → Posts outlet outlet' run (Err run) → PostOutcome c outlet view false c outlet' view'
 came_back c outlet outlet' view view' node run goes back = (refl, (went c.stage (slot_of c.part.key) view node view' goes, inr (run, back)))
 
-pub not_made : (c : CommandModel) (outlet : Outlet RunModel) (view view' : List MapOp) (node : ℕ)
+pub not_made : (c : CommandModel) (outlet : Outlet RunModel) (view view' : ViewModel) (node : ℕ)
     → GoesTo c.stage (slot_of c.part.key) view node view' → PostOutcome c outlet view false c outlet view'
 not_made c outlet view view' node goes = (refl, (went c.stage (slot_of c.part.key) view node view' goes, inl refl))
 
 -- where the first goes, the run goes
-run_goes : (first : CommandModel) (later : List CommandModel) (view view' : List MapOp) (node : ℕ) (run : RunModel) → GoesTo first.stage (slot_of first.part.key) view node view' → run ≡ run_of first later node
+run_goes : (first : CommandModel) (later : List CommandModel) (view view' : ViewModel) (node : ℕ) (run : RunModel) → GoesTo first.stage (slot_of first.part.key) view node view' → run ≡ run_of first later node
     → GoesTo first.stage (slot_of first.part.key) view run.first.node view' × (run ≡ run_of first later run.first.node)
 run_goes first later view view' node run goes is =
     let same : run.first.node ≡ node = ap (λ (r : RunModel). r.first.node) is in
     let P : ℕ → Type 0 = λ n. GoesTo first.stage (slot_of first.part.key) view n view' × (run ≡ run_of first later n) in
     subst P (sym same) (goes, is)
 
-pub was_posted : (c c' : CommandModel) (outlet outlet' : Outlet RunModel) (view view' : List MapOp) (node : ℕ) (run : RunModel)
+pub was_posted : (c c' : CommandModel) (outlet outlet' : Outlet RunModel) (view view' : ViewModel) (node : ℕ) (run : RunModel)
     → GoesTo c.stage (slot_of c.part.key) view node view' → run ≡ run_of c [] node → Posts outlet outlet' run (Ok tt) → c' ≡ awaiting c → PostOutcome c outlet view true c' outlet' view'
 was_posted c c' outlet outlet' view view' node run goes is posts new =
     let both = run_goes c [] view view' node run goes is in (run, both.0, both.1, posts, new)
@@ -68,7 +68,7 @@ module _ (fresh : List CommandModel) (old new : List (ℕ × CommandModel)) (num
       let same : in_table new ≡ in_table old = put ∙ ap (insert (in_table old) number) is ∙ put_again (in_table old) number c at in
       λ i. record { fresh = fresh; posted = same i }
 
-  pub posts_at : (outlet outlet' : Outlet RunModel) (view view' : List MapOp) (result : Result Bool NoMemory)
+  pub posts_at : (outlet outlet' : Outlet RunModel) (view view' : ViewModel) (result : Result Bool NoMemory)
       → IfOk result (λ moved. PostOutcome c outlet view moved c' outlet' view') → OnErr result (PostOutcome c outlet view false c' outlet' view')
       → PostsAtResult (commanded fresh old) number outlet view result (commanded fresh new) outlet' view'
   posts_at outlet outlet' view view' (Ok true) ok err =
@@ -99,7 +99,7 @@ pub same_commands : (fresh : List CommandModel) (old new : List (ℕ × CommandM
 same_commands fresh old new t = λ i. record { fresh = fresh; posted = t i }
 
 module _ (fresh : List CommandModel) (first : CommandModel) (later : List CommandModel) (those : fresh ≡ first ∷ later) (old reserved : List (ℕ × CommandModel)) (same : in_table reserved ≡ in_table old)
-    (outlet outlet' : Outlet RunModel) (view view' : List MapOp) (node : ℕ) (goes : GoesTo first.stage (slot_of first.part.key) view node view') where
+    (outlet outlet' : Outlet RunModel) (view view' : ViewModel) (node : ℕ) (goes : GoesTo first.stage (slot_of first.part.key) view node view') where
   -- all were posted
   pub posts_all : (run : RunModel) → run ≡ run_of first later node → Posts outlet outlet' run (Ok tt) → (left : List CommandModel) → left ≡ [] → (new : List (ℕ × CommandModel))
       → in_table new ≡ with_posted (in_table reserved) fresh → PostsFresh (commanded fresh old) outlet view true (commanded left new) outlet' view'

@@ -8,10 +8,10 @@ use Rattle.std.proofs.lemmas.Bool.{false≢true}
 use Rattle.std.proofs.lemmas.Bool.Decides.{nat_tests}
 use Rattle.indexmap.specs.IndexMap.{set_value_at}
 use Rattle.resp_wire.specs.declared.fault.NoMemory.{NoMemory}
-use Rattle.slot_map.specs.declared.ops.MapOp.{MapOp}
 use Rattle.key_split.specs.Runs.{RunModel}
 use Rattle.command_future.specs.CommandModel.{CommandModel}
 use Rattle.proxy_lanes.specs.declared.ring.Outlet.{Outlet}
+use Rattle.proxy_lanes.specs.View.{ViewModel}
 use Rattle.proxy_turns.specs.Port.{Moves}
 use Rattle.proxy_turns.specs.ClientModel.{ClientModel, IsDone}
 use Rattle.proxy_turns.specs.ClientTurn.{ClientContext, ClientDoes, ClientEvent, TurnOutcome, is_client_move}
@@ -154,7 +154,7 @@ module _ {C : Type 0} (gives_none takes_none : C → Type 0) where
       })
 
   -- what a client's turn makes of the table
-  pub turned_at : (moves : Moves C) (entries : List (ℕ × ClientModel C)) (place k : ℕ) (client client' : ClientModel C) (o o' : Outlet RunModel) (v v' : List MapOp) (result : Result Turned NoMemory)
+  pub turned_at : (moves : Moves C) (entries : List (ℕ × ClientModel C)) (place k : ℕ) (client client' : ClientModel C) (o o' : Outlet RunModel) (v v' : ViewModel) (result : Result Turned NoMemory)
       → slice_get entries place ≡ Some (k, client) → clients_in (set_value_at entries place client') ≡ insert (clients_in entries) k client'
       → TurnOutcome moves (record { client = client; outlet = o; view = v }) result (record { client = client'; outlet = o'; view = v' })
       → IfTurnedStill result (IsClientAtRest gives_none takes_none client' o')

@@ -9,7 +9,6 @@ use Rattle.std.specs.FinMap.{FinMap, empty, get, get-empty, get-insert, get-remo
 use Rattle.std.specs.BinaryHeap.{heap_items}
 use Rattle.std.proofs.lemmas.Bool.{false≢true}
 use Rattle.resp_wire.specs.declared.fault.NoMemory.{NoMemory}
-use Rattle.slot_map.specs.declared.ops.MapOp.{MapOp}
 use Rattle.key_split.specs.Runs.{RunModel}
 use Rattle.key_split.specs.declared.travel.Ticket.{Ticket}
 use Rattle.key_split.specs.declared.travel.Told.{Told}
@@ -25,6 +24,7 @@ use Rattle.session_order.specs.Behind.{IsOpenFor, IsOutFor, NextInTurn}
 use Rattle.session_order.proofs.Behind.{drain_parts, ended_out, feed_parts, follower_parts, hangs_parts, read_parts, ready_parts}
 use Rattle.session_order.proofs.Lists.{any_at}
 use Rattle.proxy_lanes.specs.declared.ring.Outlet.{Outlet}
+use Rattle.proxy_lanes.specs.View.{ViewModel}
 use Rattle.proxy_turns.specs.declared.due_commands.DueCommands.{DueCommands}
 use Rattle.proxy_turns.specs.declared.turned.Finish.{Finish}
 use Rattle.proxy_turns.specs.declared.turned.Finish.TheVariants as finish
@@ -72,7 +72,7 @@ module _ {X : Type 0} where
 
 -- ---- what a step leaves of its command
 
-pub posted_by : {C : Type 0} (old : CommandsModel) (client : ClientModel C) (number : ℕ) (o o' : Outlet RunModel) (v v' : List MapOp) (b : Bool) → b ≡ true → PostsAtResult old number o v (Ok b) client.commands o' v'
+pub posted_by : {C : Type 0} (old : CommandsModel) (client : ClientModel C) (number : ℕ) (o o' : Outlet RunModel) (v v' : ViewModel) (b : Bool) → b ≡ true → PostsAtResult old number o v (Ok b) client.commands o' v'
     → (c : CommandModel) → IsToSettle client number c → WantsPost c.stage → ⊥
 posted_by old client number o o' v v' true is (c, c', there, (run, goes, made, posts, awaits), put) d (at, not, turn) wants =
     let same : c' ≡ d = some_same c' d (sym (get_put old.posted number c') ∙ ap (λ (m : CommandsModel). get m.posted number) (sym put) ∙ at) in

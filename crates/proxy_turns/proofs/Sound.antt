@@ -11,7 +11,6 @@ use Rattle.std.specs.Cmp.{nat_cmp_total, unsigned_ties, eq_by_cmp_equiv}
 use Rattle.std.specs.FinMap.{FinMap, empty, get, insert, remove, get-insert, get-remove, get-empty}
 use Rattle.slot_hash.specs.Slot.{slot_of}
 use Rattle.resp_wire.specs.declared.fault.NoMemory.{NoMemory}
-use Rattle.slot_map.specs.declared.ops.MapOp.{MapOp}
 use Rattle.key_split.specs.PartModel.{PartModel}
 use Rattle.key_split.specs.Runs.{RunModel, GoTogether, IsTogether, count_in}
 use Rattle.key_split.specs.declared.travel.Ticket.{Ticket}
@@ -28,6 +27,7 @@ use Rattle.session_order.proofs.Lists.{any_all, any_at, get_drop, get_set_same, 
 use Rattle.session_order.proofs.Behind.{follower_parts, ready_parts}
 use Rattle.session_order.proofs.Keeping.{follower_keeps, follower_out, out_in_order, ready_keeps, ready_out, waits_eases}
 use Rattle.proxy_lanes.specs.declared.ring.Outlet.{Outlet}
+use Rattle.proxy_lanes.specs.View.{ViewModel}
 use Rattle.proxy_turns.specs.Commands.{AreOneRun, BeginOutcome, CommandsModel, Drops, FollowOutcome, GoesWith, HasEnd, Hears, LastIsOut, PostsAt, PostsAtResult, PostsFresh, PostsFreshResult, awaiting, most_together, run_of, with_command, with_fresh, with_posted, with_run}
 use Rattle.proxy_turns.specs.ClientModel.{GoBehind, IsSoundClient}
 use Rattle.proxy_turns.proofs.Tables.{none_some}
@@ -348,23 +348,23 @@ sound_run session commands first later those sound =
       apart = All-nil (λ c. get (with_posted commands.posted (first ∷ later)) c.ticket.part ≡ None);
     }
 
-sound_fresh : (session : SessionModel) (commands commands' : CommandsModel) (o o' : Outlet RunModel) (v v' : List MapOp) (moved : Bool)
+sound_fresh : (session : SessionModel) (commands commands' : CommandsModel) (o o' : Outlet RunModel) (v v' : ViewModel) (moved : Bool)
     → PostsFresh commands o v moved commands' o' v' → IsSoundClient session commands → IsSoundClient session commands'
 sound_fresh session commands commands' o o' v v' true (first, later, run, those, goes, is, posts, new) sound = subst (IsSoundClient session) (sym new) (sound_run session commands first later those sound)
 sound_fresh session commands commands' o o' v v' false (same, slot, tries) sound = subst (IsSoundClient session) (sym same) sound
 
-pub sound_fresh_result : (session : SessionModel) (commands commands' : CommandsModel) (o o' : Outlet RunModel) (v v' : List MapOp) (result : Result Bool NoMemory)
+pub sound_fresh_result : (session : SessionModel) (commands commands' : CommandsModel) (o o' : Outlet RunModel) (v v' : ViewModel) (result : Result Bool NoMemory)
     → PostsFreshResult commands o v result commands' o' v' → IsSoundClient session commands → IsSoundClient session commands'
 sound_fresh_result session commands commands' o o' v v' (Ok moved) done sound = sound_fresh session commands commands' o o' v v' moved done sound
 sound_fresh_result session commands commands' o o' v v' (Err e) done sound = sound_fresh session commands commands' o o' v v' false done sound
 
-sound_again : (session : SessionModel) (commands commands' : CommandsModel) (number : ℕ) (o o' : Outlet RunModel) (v v' : List MapOp) (moved : Bool)
+sound_again : (session : SessionModel) (commands commands' : CommandsModel) (number : ℕ) (o o' : Outlet RunModel) (v v' : ViewModel) (moved : Bool)
     → PostsAt commands number o v moved commands' o' v' → IsSoundClient session commands → IsSoundClient session commands'
 sound_again session commands commands' number o o' v v' true (c, c', there, (run, goes, made, post, waits), new) sound =
     subst (IsSoundClient session) (sym new) (sound_put session commands number c c' there (ap (λ (x : CommandModel). x.ticket) waits) sound)
 sound_again session commands commands' number o o' v v' false (same, slot, tries) sound = subst (IsSoundClient session) (sym same) sound
 
-pub sound_again_result : (session : SessionModel) (commands commands' : CommandsModel) (number : ℕ) (o o' : Outlet RunModel) (v v' : List MapOp) (result : Result Bool NoMemory)
+pub sound_again_result : (session : SessionModel) (commands commands' : CommandsModel) (number : ℕ) (o o' : Outlet RunModel) (v v' : ViewModel) (result : Result Bool NoMemory)
     → PostsAtResult commands number o v result commands' o' v' → IsSoundClient session commands → IsSoundClient session commands'
 sound_again_result session commands commands' number o o' v v' (Ok moved) done sound = sound_again session commands commands' number o o' v v' moved done sound
 sound_again_result session commands commands' number o o' v v' (Err e) done sound = sound_again session commands commands' number o o' v v' false done sound

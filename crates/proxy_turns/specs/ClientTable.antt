@@ -4,11 +4,11 @@ use Rattle.std.specs.Prelude.{◌≡◌, ◌≢◌, ◌⊎◌, ℕ, List, true, 
 use Rattle.std.specs.Option.{ForSome}
 use Rattle.std.specs.Ordering.{nat_cmp}
 use Rattle.std.specs.FinMap.{FinMap, empty, get, insert, remove}
-use Rattle.slot_map.specs.declared.ops.MapOp.{MapOp}
 use Rattle.resp_wire.specs.declared.fault.NoMemory.{NoMemory}
 use Rattle.key_split.specs.declared.travel.Ticket.{Ticket}
 use Rattle.key_split.specs.Runs.{RunModel}
 use Rattle.proxy_lanes.specs.declared.ring.Outlet.{Outlet}
+use Rattle.proxy_lanes.specs.View.{ViewModel}
 use Rattle.proxy_turns.specs.ClientModel.{ClientModel, IsDone}
 use Rattle.proxy_turns.specs.Port.{Moves}
 use Rattle.proxy_turns.specs.ClientTurn.{ClientContext, FinishOutcome}
@@ -22,7 +22,7 @@ use Rattle.proxy_turns.specs.WorkerModel.{Leaves, clients_in}
 pub record ClientsContext (C : Type 0) : Type 0 where
   pub clients : FinMap nat_cmp (ClientModel C)
   pub outlet : Outlet RunModel
-  pub view : List MapOp
+  pub view : ViewModel
 
 -- One client's step, with the lane and the view. Where none has the number nothing happens, and the answer is this.
 abbrev pub AtClient : {C : Type 0} → ClientsContext C → ℕ → (ClientContext C → ClientContext C → Type 0) → Type 0 → ClientsContext C → Type 0

@@ -5,7 +5,6 @@ use Rattle.std.specs.Prelude.{◌*◌, ◌||◌, ◌≡◌, ◌≢◌, ◌≤◌
 use Rattle.std.specs.List.{FoldsTo, list_all, list_any}
 use Rattle.std.specs.FinMap.{get, remove}
 use Rattle.slot_hash.specs.Slot.{slot_of}
-use Rattle.slot_map.specs.declared.ops.MapOp.{MapOp}
 use Rattle.resp_wire.specs.declared.fault.NoMemory.{NoMemory}
 use Rattle.key_split.specs.PartModel.{PartModel}
 use Rattle.key_split.specs.Runs.{RunModel, IsTogether, count_in}
@@ -20,6 +19,7 @@ use Rattle.session_order.specs.Behind.{NextInTurn}
 use Rattle.proxy_lanes.specs.declared.map_view.NotEntered.{NotEntered}
 use Rattle.proxy_lanes.specs.declared.ring.Outlet.{Outlet}
 use Rattle.proxy_lanes.specs.Lane.{Posts}
+use Rattle.proxy_lanes.specs.View.{ViewModel}
 use Rattle.proxy_turns.specs.Port.{Moves}
 use Rattle.proxy_turns.specs.Commands.{CommandsModel, TakesRun, most_together, run_of, with_fresh, with_run, HasEndAt, HasEnd, Looks, GoesTo}
 use Rattle.proxy_turns.specs.declared.turned.Turned.{Turned}
@@ -32,7 +32,7 @@ use Rattle.proxy_turns.specs.ClientModel.{ClientModel, GoBehind, IsDone}
 pub record ClientContext (C : Type 0) : Type 0 where
   pub client : ClientModel C
   pub outlet : Outlet RunModel
-  pub view : List MapOp
+  pub view : ViewModel
 
 pub data ClientEvent : Type 0 where
   Pulled : List ℕ → ClientEvent
@@ -232,7 +232,7 @@ module _ {C : Type 0} where
     ClientTurnsBy may old (Err refused) new = (moved : Bool) × ClientGoesBy may old moved new
 
     abbrev pub ClientTurnsAloneBy : (ClientEvent → Bool) → ClientModel C → Result Bool NoMemory → ClientModel C → Type 0
-    ClientTurnsAloneBy may old result new = (outlet : Outlet RunModel) (view : List MapOp)
+    ClientTurnsAloneBy may old result new = (outlet : Outlet RunModel) (view : ViewModel)
         → ClientTurnsBy may (record { client = old; outlet = outlet; view = view }) result (record { client = new; outlet = outlet; view = view })
 
     -- bytes are pulled

@@ -7,7 +7,6 @@ use Rattle.std.specs.Ordering.{nat_cmp}
 use Rattle.std.specs.FinMap.{FinMap, get, insert, from_entries}
 use mathlib.Core.List.{IsPrefix}
 use Rattle.slot_hash.specs.Slot.{slot_of}
-use Rattle.slot_map.specs.declared.ops.MapOp.{MapOp}
 use Rattle.slot_map.specs.Map.{node_after}
 use Rattle.resp_wire.specs.declared.fault.NoMemory.{NoMemory}
 use Rattle.key_split.specs.PartModel.{PartModel}
@@ -23,6 +22,7 @@ use Rattle.session_order.specs.Steps.{FollowerOutcome, IsHandedOut, ReadyOutcome
 use Rattle.proxy_lanes.specs.declared.map_view.NotEntered.{NotEntered}
 use Rattle.proxy_lanes.specs.declared.ring.Outlet.{Outlet}
 use Rattle.proxy_lanes.specs.Lane.{Posts}
+use Rattle.proxy_lanes.specs.View.{ViewModel, refused_once}
 
 -- The commands of the parts that were handed out and have not ended: those that were not posted yet, in the order of their parts, which
 -- go out together, and those that were, by the numbers of their parts.
@@ -126,10 +126,11 @@ abbrev pub Drops : CommandsModel → Bool → CommandsModel → Type 0
 Drops old true new = (old.fresh ≢ []) × (new ≡ record old { fresh = [] })
 Drops old false new = (old.fresh ≡ []) × (new ≡ old)
 
--- A look at the map, for the node of a slot: the view begins with what it knew, and its answer is that of what it knows now.
-abbrev pub Looks : List MapOp → ℕ → Result (Option ℕ) NotEntered → List MapOp → Type 0
-Looks old slot (Ok node) new = IsPrefix old new × (node ≡ node_after new slot)
-Looks old slot (Err refused) new = new ≡ old
+-- A look at the map, for the node of a slot: the view begins with what it knew, and its answer is that of what it knows now; or the
+-- map was not entered, which the view counts.
+abbrev pub Looks : ViewModel → ℕ → Result (Option ℕ) NotEntered → ViewModel → Type 0
+Looks old slot (Ok node) new = IsPrefix old.known new.known × (node ≡ node_after new.known slot)
+Looks old slot (Err refused) new = new ≡ refused_once old
 
 -- the node that a look at the map gives, or the seed, node 0
 abbrev pub node_looked_up : Result (Option ℕ) NotEntered → ℕ
@@ -138,7 +139,7 @@ node_looked_up (Ok None) = 0
 node_looked_up (Err refused) = 0
 
 -- A command at this stage, for this slot, is posted at this node: the named one, or that of the map.
-abbrev pub GoesTo : Stage → ℕ → List MapOp → ℕ → List MapOp → Type 0
+abbrev pub GoesTo : Stage → ℕ → ViewModel → ℕ → ViewModel → Type 0
 GoesTo (Wants (Some named)) slot view node view' = (node ≡ named) × (view' ≡ view)
 GoesTo (Wants None) slot view node view' = (answer : Result (Option ℕ) NotEntered) × Looks view slot answer view' × (node ≡ node_looked_up answer)
 GoesTo (WantsAsking named) slot view node view' = (node ≡ named) × (view' ≡ view)
@@ -151,38 +152,38 @@ PostsRun old run true new = Posts old new run (Ok tt)
 PostsRun old run false new = Posts old new run (Err run)
 
 -- nothing was posted: the map may have been looked at, and a run may have come back
-abbrev pub Tries : ℕ → Outlet RunModel → List MapOp → Outlet RunModel → List MapOp → Type 0
+abbrev pub Tries : ℕ → Outlet RunModel → ViewModel → Outlet RunModel → ViewModel → Type 0
 Tries slot outlet view outlet' view' =
     ((view' ≡ view) ⊎ ((answer : Result (Option ℕ) NotEntered) × Looks view slot answer view'))
     × ((outlet' ≡ outlet) ⊎ ((run : RunModel) × Posts outlet outlet' run (Err run)))
 
 -- An attempt to post one command alone: it is posted as it wants, or nothing is posted.
-abbrev pub PostOutcome : CommandModel → Outlet RunModel → List MapOp → Bool → CommandModel → Outlet RunModel → List MapOp → Type 0
+abbrev pub PostOutcome : CommandModel → Outlet RunModel → ViewModel → Bool → CommandModel → Outlet RunModel → ViewModel → Type 0
 PostOutcome old outlet view true new outlet' view' =
     (run : RunModel) × GoesTo old.stage (slot_of old.part.key) view run.first.node view' × (run ≡ run_of old [] run.first.node)
     × Posts outlet outlet' run (Ok tt) × (new ≡ awaiting old)
 PostOutcome old outlet view false new outlet' view' = (new ≡ old) × Tries (slot_of old.part.key) outlet view outlet' view'
 
 -- The same for all that were not posted yet: they go where the first of them goes.
-abbrev pub PostsFresh : CommandsModel → Outlet RunModel → List MapOp → Bool → CommandsModel → Outlet RunModel → List MapOp → Type 0
+abbrev pub PostsFresh : CommandsModel → Outlet RunModel → ViewModel → Bool → CommandsModel → Outlet RunModel → ViewModel → Type 0
 PostsFresh old outlet view true new outlet' view' =
     (first : CommandModel) × (later : List CommandModel) × (run : RunModel) × (old.fresh ≡ first ∷ later)
     × GoesTo first.stage (slot_of first.part.key) view run.first.node view' × (run ≡ run_of first later run.first.node)
     × Posts outlet outlet' run (Ok tt) × (new ≡ with_run (record old { fresh = [] }) first later)
 PostsFresh old outlet view false new outlet' view' = (new ≡ old) × (slot : ℕ) × Tries slot outlet view outlet' view'
 
-abbrev pub PostsFreshResult : CommandsModel → Outlet RunModel → List MapOp → Result Bool NoMemory → CommandsModel → Outlet RunModel → List MapOp → Type 0
+abbrev pub PostsFreshResult : CommandsModel → Outlet RunModel → ViewModel → Result Bool NoMemory → CommandsModel → Outlet RunModel → ViewModel → Type 0
 PostsFreshResult old outlet view (Ok moved) new outlet' view' = PostsFresh old outlet view moved new outlet' view'
 PostsFreshResult old outlet view (Err refused) new outlet' view' = PostsFresh old outlet view false new outlet' view'
 
 -- The same for a posted command, by the number of its part.
-abbrev pub PostsAt : CommandsModel → ℕ → Outlet RunModel → List MapOp → Bool → CommandsModel → Outlet RunModel → List MapOp → Type 0
+abbrev pub PostsAt : CommandsModel → ℕ → Outlet RunModel → ViewModel → Bool → CommandsModel → Outlet RunModel → ViewModel → Type 0
 PostsAt old number outlet view true new outlet' view' =
     (c : CommandModel) × (c' : CommandModel) × (get old.posted number ≡ Some c) × PostOutcome c outlet view true c' outlet' view'
     × (new ≡ with_command old number c')
 PostsAt old number outlet view false new outlet' view' = (new ≡ old) × (slot : ℕ) × Tries slot outlet view outlet' view'
 
-abbrev pub PostsAtResult : CommandsModel → ℕ → Outlet RunModel → List MapOp → Result Bool NoMemory → CommandsModel → Outlet RunModel → List MapOp → Type 0
+abbrev pub PostsAtResult : CommandsModel → ℕ → Outlet RunModel → ViewModel → Result Bool NoMemory → CommandsModel → Outlet RunModel → ViewModel → Type 0
 PostsAtResult old number outlet view (Ok moved) new outlet' view' = PostsAt old number outlet view moved new outlet' view'
 PostsAtResult old number outlet view (Err refused) new outlet' view' = PostsAt old number outlet view false new outlet' view'
 

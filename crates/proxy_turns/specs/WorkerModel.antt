@@ -16,6 +16,7 @@ use Rattle.key_split.specs.declared.travel.Ended.{Ended}
 use Rattle.proxy_lanes.specs.declared.ring.Outlet.{Outlet}
 use Rattle.proxy_lanes.specs.declared.ring.Inlet.{Inlet}
 use Rattle.proxy_lanes.specs.Lane.{Takes}
+use Rattle.proxy_lanes.specs.View.{ViewModel}
 use Rattle.proxy_turns.specs.declared.newcomer.Newcomer.{Newcomer}
 use Rattle.proxy_turns.specs.Port.{Moves}
 use Rattle.proxy_turns.specs.Commands.{AwaitsIn, Hears}
@@ -33,7 +34,7 @@ pub record WorkerModel (C J : Type 0) : Type 0 where
   pub newcomers : Inlet (Newcomer C J)
   pub left : Option ℕ
   pub outlet : Outlet RunModel
-  pub view : List MapOp
+  pub view : ViewModel
   pub inlet : Inlet (Ticket × Told)
   pub answered : ℕ
   pub ports : List C
@@ -137,9 +138,9 @@ OneCame None new = new ≡ None
 OneCame (Some n) new = (0 < n) × (new ≡ Some (n - 1))
 
 -- the view learns what a new client brings of what was published
-abbrev pub Learns : List MapOp → Option (List MapOp) → List MapOp → Type 0
+abbrev pub Learns : ViewModel → Option (List MapOp) → ViewModel → Type 0
 Learns old None new = new ≡ old
-Learns old (Some front) new = IsPrefix old new × IsPrefix front new × ((new ≡ old) ⊎ (new ≡ front))
+Learns old (Some front) new = IsPrefix old.known new.known × IsPrefix front new.known × ((new ≡ old) ⊎ (new ≡ record old { known = front }))
 
 -- The ports with one more, of a client that was let go. A worker that is to take clients without end keeps none.
 abbrev pub with_port : {C : Type 0} → Option ℕ → List C → C → List C

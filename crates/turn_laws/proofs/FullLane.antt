@@ -11,6 +11,7 @@ use Rattle.proxy_lanes.specs.declared.ends.lane_ends.LaneEnds.{LaneEnds}
 use Rattle.proxy_lanes.specs.declared.ring.Outlet.{Outlet}
 use Rattle.proxy_lanes.specs.declared.ring.Numbered.{Numbered}
 use Rattle.proxy_lanes.specs.Lane.{numbered, Posts}
+use Rattle.proxy_lanes.specs.View.{new_view}
 use Rattle.proxy_turns.specs.declared.newcomer.Newcomer.{Newcomer}
 use Rattle.proxy_turns.specs.WorkerModel.{WorkerModel}
 use Rattle.turn_laws.specs.System.{System, IsInStep, between}
@@ -69,7 +70,7 @@ module _ {C J : Type 0} (port : C) (xs : List (Numbered RunModel)) (many : 1024 
     newcomers = inlet_with [];
     left = None;
     outlet = full-outlet xs many;
-    view = [];
+    view = new_view [];
     inlet = inlet_with [];
     answered = 0;
     ports = [];

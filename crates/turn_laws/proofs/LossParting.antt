@@ -15,6 +15,7 @@ use Rattle.node_link.specs.declared.link.LinkFault.TheVariants as fault
 use Rattle.proxy_lanes.specs.Lane.{numbered}
 use Rattle.proxy_lanes.specs.declared.ring.Numbered.{Numbered}
 use Rattle.proxy_lanes.specs.declared.ends.lane_ends.LaneEnds.{LaneEnds}
+use Rattle.proxy_lanes.specs.View.{new_view}
 use Rattle.proxy_turns.specs.declared.newcomer.Newcomer.{Newcomer}
 use Rattle.proxy_turns.specs.declared.backend.Backend.{Backend}
 use Rattle.proxy_turns.specs.Backend.{new_backend}
@@ -239,7 +240,7 @@ module _ {C J : Type 0} (port : C) where
 
   -- its view shows the change of the map
   abbrev r8 : System C J
-  r8 = where-handed doors3 (record (with-doors (insert (u16 port) 0 (e13 port)) doors3) { view = op })
+  r8 = where-handed doors3 (record (with-doors (insert (u16 port) 0 (e13 port)) doors3) { view = new_view op })
 
   parts : FoldsTo SystemStep r7 script.parting r8
   parts = (

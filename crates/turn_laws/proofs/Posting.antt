@@ -3,7 +3,6 @@ use Rattle.std.proofs.Common.{◌≡◌, ◌≢◌, ◌⊎◌, inl, inr, ⊎_eli
 use Rattle.std.specs.Prelude.{slice_get, slice_set, All, take}
 use Rattle.std.specs.FinMap.{get, insert}
 use Rattle.std.proofs.lemmas.Bool.Decides.{eqb_tells}
-use Rattle.slot_map.specs.declared.ops.MapOp.{MapOp}
 use Rattle.key_split.specs.Same.{same_ticket, same_ticket-Decides}
 use Rattle.key_split.specs.declared.travel.Ticket.{Ticket}
 use Rattle.key_split.specs.declared.travel.Told.{Told}
@@ -14,6 +13,7 @@ use Rattle.command_future.specs.declared.stage.Stage.TheVariants.{Wants, WantsAs
 use Rattle.session_order.specs.Steps.{IsHandedOut}
 use Rattle.session_order.specs.declared.queue.PartStage.{PartStage}
 use Rattle.session_order.specs.declared.queue.PartStage.TheVariants.{Waiting, Out, Done}
+use Rattle.proxy_lanes.specs.View.{ViewModel}
 use Rattle.proxy_turns.specs.Commands.{CommandsModel, GoesTo}
 use Rattle.proxy_turns.specs.ClientModel.{ClientModel}
 use Rattle.world_laws.specs.State.{awaiting, slot_for}
@@ -28,7 +28,7 @@ use Rattle.turn_laws.proofs.Standing.{GoesOn, still-stands, order-set}
 use Rattle.turn_laws.proofs.Telling.{count-set}
 
 -- a command that goes to a node may be posted to it
-pub may-post : (s : Stage) (slot node : ℕ) (view view' : List MapOp) → GoesTo s slot view node view' → MayPostTo s node
+pub may-post : (s : Stage) (slot node : ℕ) (view view' : ViewModel) → GoesTo s slot view node view' → MayPostTo s node
 may-post (Wants None) slot node view view' h = tt
 may-post (Wants (Some named)) slot node view view' h = h.0
 may-post (WantsAsking named) slot node view view' h = h.0

@@ -16,6 +16,7 @@ use Rattle.command_future.specs.CommandModel.{CommandModel, IsFresh}
 use Rattle.command_future.specs.declared.stage.Stage.{Stage}
 use Rattle.command_future.specs.declared.stage.Stage.TheVariants.{Wants, WantsAsking, Awaits, Over}
 use Rattle.proxy_lanes.specs.declared.map_view.NotEntered.{NotEntered}
+use Rattle.proxy_lanes.specs.View.{ViewModel}
 use Rattle.proxy_turns.specs.Port.{Moves}
 use Rattle.proxy_turns.specs.Commands.{CommandsModel, TakesRun, GoesTo, Looks, node_looked_up}
 use Rattle.proxy_turns.specs.ClientModel.{ClientModel}
@@ -53,12 +54,12 @@ node-of n (Some op) node h e = let same : node_in op ≡ node = cc in omega (ari
 looked-up : (n : ℕ) (view : List MapOp) (slot node : ℕ) → All (SetsOneOf n) view → Some node ≡ node_after view slot → node < n
 looked-up n view slot node h e = node-of n (find (covers slot) (reverse view)) node (λ op f. find-has (SetsOneOf n) (covers slot) (reverse view) op (all-reverse (SetsOneOf n) view h) f) (sym e)
 
-looks-to : (n : ℕ) (answer : Result (Option ℕ) NotEntered) (old new : List MapOp) (slot node : ℕ) → 0 < n → All (SetsOneOf n) new → Looks old slot answer new → node ≡ node_looked_up answer → node < n
-looks-to n (Ok (Some m)) old new slot node seed h l e = omega (arith, e, looked-up n new slot m h l.1)
+looks-to : (n : ℕ) (answer : Result (Option ℕ) NotEntered) (old new : ViewModel) (slot node : ℕ) → 0 < n → All (SetsOneOf n) new.known → Looks old slot answer new → node ≡ node_looked_up answer → node < n
+looks-to n (Ok (Some m)) old new slot node seed h l e = omega (arith, e, looked-up n new.known slot m h l.1)
 looks-to n (Ok None) old new slot node seed h l e = omega (arith, e, seed)
 looks-to n (Err refused) old new slot node seed h l e = omega (arith, e, seed)
 
-goes-there : (n : ℕ) (stage : Stage) (slot : ℕ) (old new : List MapOp) (node : ℕ) → 0 < n → All (SetsOneOf n) new → WantsOneOf n stage → GoesTo stage slot old node new → node < n
+goes-there : (n : ℕ) (stage : Stage) (slot : ℕ) (old new : ViewModel) (node : ℕ) → 0 < n → All (SetsOneOf n) new.known → WantsOneOf n stage → GoesTo stage slot old node new → node < n
 goes-there n (Wants (Some named)) slot old new node seed h w g = omega (arith, w, g.0)
 goes-there n (Wants None) slot old new node seed h w g = looks-to n g.0 old new slot node seed h g.1 g.2
 goes-there n (WantsAsking named) slot old new node seed h w g = omega (arith, w, g.0)
@@ -77,9 +78,9 @@ first-wants n old rest first later h t = ⊎_elim
     t
 
 -- a run that a worker posts goes to a node of the cluster
-pub posts-there : {C J : Type 0} (moves : Moves C) (n number : ℕ) (run : RunModel) (old new : WorkerModel C J) (published : List MapOp) → 0 < n → All (SetsOneOf n) published → IsPrefix new.view published
+pub posts-there : {C J : Type 0} (moves : Moves C) (n number : ℕ) (run : RunModel) (old new : WorkerModel C J) (published : List MapOp) → 0 < n → All (SetsOneOf n) published → IsPrefix new.view.known published
     → ClientsWant n old.clients → WorkerDoes moves old (Did number (Posted run)) new → run.first.node < n
 posts-there moves n number run old new published seed all front h d =
     let p = d.3 in
-    goes-there n (p.0).stage (slot_of (p.0).part.key) old.view new.view run.first.node seed (front-sets n new.view published front all)
+    goes-there n (p.0).stage (slot_of (p.0).part.key) old.view new.view run.first.node seed (front-sets n new.view.known published front all)
     (first-wants n (d.0).commands p.2 p.0 p.1 (h number d.0 d.2) p.3) p.7

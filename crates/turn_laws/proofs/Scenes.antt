@@ -16,6 +16,7 @@ use Rattle.node_link.specs.LinkModel.{LinkModel}
 use Rattle.proxy_lanes.specs.declared.ends.lane_ends.LaneEnds.{LaneEnds}
 use Rattle.proxy_lanes.specs.declared.ring.Outlet.{Outlet}
 use Rattle.proxy_lanes.specs.Ends.{HandsOver}
+use Rattle.proxy_lanes.specs.View.{new_view}
 use Rattle.proxy_turns.specs.declared.newcomer.Newcomer.{Newcomer}
 use Rattle.proxy_turns.specs.declared.backend.Backend.{Backend}
 use Rattle.proxy_turns.specs.ClientModel.{ClientModel}
@@ -112,7 +113,7 @@ module _ {C J : Type 0} where
 
   module _ {old : WorkerModel C J} {carrier : CarrierModel (Newcomer C J) Wire} {closed : List Wire} {opened : ℕ} {cluster : ClusterModel} {log : List Mark} where
     pub at-worker : {new : WorkerModel C J} {event : WorkerEvent} (lane : LaneEnds (Newcomer C J)) (marks : List Mark)
-        → slice_get carrier.lanes 0 ≡ Some lane → WorkerDoes any_moves old event new → IsSeen old event new marks → DownInStep lane new → take (length new.view) carrier.published ≡ new.view
+        → slice_get carrier.lanes 0 ≡ Some lane → WorkerDoes any_moves old event new → IsSeen old event new marks → DownInStep lane new → take (length new.view.known) carrier.published ≡ new.view.known
         → WorkerStep (scene old carrier closed opened cluster log) 0 event (scene new carrier closed opened cluster (log ++ marks))
     at-worker {new} lane marks at does seen down front = record {
       old = old;
@@ -125,15 +126,15 @@ module _ {C J : Type 0} where
       seen = seen;
       leaves = refl;
       in_step = down;
-      shown = front-of new.view carrier.published front;
+      shown = front-of new.view.known carrier.published front;
     }
 
     -- what happens to one client
     pub at-client : {event : ClientEvent} (lane : LaneEnds (Newcomer C J)) (number : ℕ) (client client' : ClientModel C) (outlet : Outlet RunModel) (view : List MapOp)
         → slice_get carrier.lanes 0 ≡ Some lane → get old.clients number ≡ Some client
-        → ClientDoes any_moves (record { client = client; outlet = old.outlet; view = old.view }) event (record { client = client'; outlet = outlet; view = view })
+        → ClientDoes any_moves (record { client = client; outlet = old.outlet; view = old.view }) event (record { client = client'; outlet = outlet; view = new_view view })
         → get (insert old.clients number client') number ≡ Some client' → DownInStep lane old → take (length view) carrier.published ≡ view
-        → WorkerStep (scene old carrier closed opened cluster log) 0 (Did number event) (scene (record old { clients = insert old.clients number client'; outlet = outlet; view = view }) carrier closed opened cluster (log ++ seen_at event client.session client'.session))
+        → WorkerStep (scene old carrier closed opened cluster log) 0 (Did number event) (scene (record old { clients = insert old.clients number client'; outlet = outlet; view = new_view view }) carrier closed opened cluster (log ++ seen_at event client.session client'.session))
     at-client {event} lane number client client' outlet view at is does put-in down front =
         at-worker lane (seen_at event client.session client'.session) at (client, client', is, does, refl) (client, client', is, put-in, refl) down front
 

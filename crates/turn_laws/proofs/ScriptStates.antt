@@ -23,6 +23,7 @@ use Rattle.node_link.specs.declared.link.Due.{Due}
 use Rattle.proxy_lanes.specs.declared.ends.lane_ends.LaneEnds.{LaneEnds}
 use Rattle.proxy_lanes.specs.declared.ring.Numbered.{Numbered}
 use Rattle.proxy_lanes.specs.Lane.{numbered}
+use Rattle.proxy_lanes.specs.View.{new_view}
 use Rattle.proxy_turns.specs.declared.newcomer.Newcomer.{Newcomer}
 use Rattle.proxy_turns.specs.declared.backend.Backend.{Backend}
 use Rattle.proxy_turns.specs.declared.backend.PendingTold.{PendingTold}
@@ -164,7 +165,7 @@ module _ {C J : Type 0} where
     newcomers = inlet_with doors;
     left = None;
     outlet = outlet_with ups;
-    view = [];
+    view = new_view [];
     inlet = inlet_with downs;
     answered = answered;
     ports = [];

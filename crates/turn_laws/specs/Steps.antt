@@ -103,7 +103,7 @@ module _ {C J : Type 0} where
     pub in_step : DownInStep lane new
     -- A premise: what the worker's view shows of the slot map is a front of what the carrier published. They are on two threads, and
     -- a rule of the map speaks of one end.
-    pub shown : IsPrefix new.view s.carrier.published
+    pub shown : IsPrefix new.view.known s.carrier.published
 
   -- ---- the carrier
 

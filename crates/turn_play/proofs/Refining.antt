@@ -75,7 +75,7 @@ module _ {C J : Type 0} where
         seen = x.seen;
         leaves = x.leaves;
         in_step = order.downs k x.new lane.0 there (ap (λ (c : CarrierModel (Newcomer C J) Wire). slice_get c.lanes k) carrier ∙ lane.1);
-        shown = subst (λ (c : CarrierModel (Newcomer C J) Wire). IsPrefix x.new.view c.published) carrier (order.views k x.new there);
+        shown = subst (λ (c : CarrierModel (Newcomer C J) Wire). IsPrefix x.new.view.known c.published) carrier (order.views k x.new there);
       }
 
   -- of a system that stands for a world, the connection at a backend leads to its node

@@ -106,7 +106,7 @@ module _ {C J : Type 0} where
     pub ups : UpsInStep s
     pub downs : (k : ℕ) (model : WorkerModel C J) (lane : LaneEnds (Newcomer C J)) → slice_get s.workers k ≡ Some model → slice_get s.carrier.lanes k ≡ Some lane
         → DownInStep lane model
-    pub views : (k : ℕ) (model : WorkerModel C J) → slice_get s.workers k ≡ Some model → IsPrefix model.view s.carrier.published
+    pub views : (k : ℕ) (model : WorkerModel C J) → slice_get s.workers k ≡ Some model → IsPrefix model.view.known s.carrier.published
     pub table : IsPrefix s.carrier.nodes s.nodes
 
   -- a slot is imported only where no command for it is under way that an ASK sent to the node

@@ -3,6 +3,7 @@
 ghost use Rattle.std.specs.Prelude.{◌≡◌, ◌<◌, ◌≤◌, [], length, IfOk};
 ghost use Rattle.proxy_lanes.specs.Carrier.{lanes_of, AreLanes, AreLanesOf};
 ghost use Rattle.proxy_lanes.specs.Opened.{book_of};
+ghost use Rattle.proxy_lanes.specs.View.{new_view};
 
 use super::{CarrierEnds, LaneEnds, WorkerEnds};
 use crate::history::{Naming, Opened};
@@ -60,7 +61,7 @@ fn lanes_of_worker<H: Drop, J: Naming>(
     workers: u16,
     view: MapView<J>,
 ) -> Result<(WorkerEnds<H, J>, LaneEnds<H>), NoMemory>
-    requires view { view ≡ [] }
+    requires view { view ≡ new_view [] }
     ensures lanes { IfOk result (λ made. AreLanesOf workers worker made.0 made.1) }
 {
     let (outlet, up) = lane(alloc)?;
