@@ -27,7 +27,7 @@ use Rattle.proxy_turns.specs.CarrierModel.{CarrierModel, CarrierEvent, CarrierDo
 use Rattle.proxy_turns.specs.CarrierModel.CarrierEvent.{AtBackend, Starved, WorkerAdded, BackendAdded, Looked, Took, Opened, Refused, Missed, SeedReached, Sent, Gave, GaveUnsent}
 
 -- events were made until memory ran out
-abbrev pub Stops : {H P : Type 0} → (P → ℕ) → (P → Type 0) → (P → List Request → List Value → P → Type 0) → (P → Type 0) → (Endpoint → P → Type 0) → (P → ℕ) → (CarrierEvent → Bool) → CarrierModel H P → CarrierModel H P → Type 0
+abbrev pub Stops : {H P : Type 0} → (P → ℕ) → (P → Type 0) → (P → List Request → List Value → P → Type 0) → (P → Type 0) → (Endpoint → Option P → ℕ → ℕ → Type 0) → (P → ℕ) → (CarrierEvent → Bool) → CarrierModel H P → CarrierModel H P → Type 0
 Stops failures is_garbled exchange gives_none opens longest may old new = (moved : Bool) × CarrierGoesBy failures is_garbled exchange gives_none opens longest may old moved new
 
 pub at-place : {X : Type 0} (xs : List X) (i : ℕ) (x : X) → i < length xs → x ≡ slice_index_or xs i x → slice_get xs i ≡ Some x
