@@ -44,7 +44,7 @@ pub record OpensAt {C J : Type 0} (s s' : System C J) : Type 0 where
   pub here : slice_get s.carrier.backends k ≡ Some backend
   pub none : backend.link ≡ None
   pub node : slice_get s.carrier.nodes k ≡ Some endpoint
-  pub leads : Opens s endpoint port
+  pub leads : Opens s endpoint (Some port) s.carrier.failures s'.carrier.failures
   pub backends : s'.carrier.backends ≡ slice_set s.carrier.backends k backend'
   pub linked : backend'.link ≡ Some (fresh_link port k)
   pub owes : backend'.pending_told ≡ backend.pending_told
