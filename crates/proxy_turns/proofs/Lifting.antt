@@ -16,14 +16,13 @@ use Rattle.proxy_lanes.specs.Lane.{Takes}
 use Rattle.proxy_lanes.specs.View.{ViewModel}
 use Rattle.proxy_turns.specs.declared.newcomer.Newcomer.{Newcomer}
 use Rattle.proxy_turns.specs.declared.turned.Turned.{Turned}
-use Rattle.proxy_turns.specs.declared.turned.Finish.{Finish}
 use Rattle.proxy_turns.specs.declared.turned.Finish.TheVariants as finish
 use Rattle.proxy_turns.specs.declared.turned.Settled.{Settled}
 use Rattle.proxy_turns.specs.declared.turned.Settled.TheVariants as settled
 use Rattle.proxy_turns.specs.Port.{Moves}
 use Rattle.proxy_turns.specs.Commands.{AwaitsIn, Hears}
 use Rattle.proxy_turns.specs.ClientModel.{ClientModel, IsDone, new_client}
-use Rattle.proxy_turns.specs.ClientTurn.{ClientContext, ClientEvent, ClientDoes, ClientGoes, FinishOutcome, SettleOutcome, TurnOutcome, is_client_move, is_settled}
+use Rattle.proxy_turns.specs.ClientTurn.{ClientContext, ClientEvent, ClientDoes, ClientGoes, SettleOutcome, TurnOutcome, is_client_move, is_settled}
 use Rattle.proxy_turns.specs.ClientTable.{AtClient, AtPlace, ClientFinishes, ClientsContext}
 use Rattle.proxy_turns.specs.WorkerModel.{WorkerModel, GivesBack, WorkerGoes, WorkerGoesBy, WorkerEvent, WorkerDoes, Learns, Leaves, OneCame, Tells, WorkerTurns, WorkerTurnsBy, clients_in, is_worker_move, one_more, with_port}
 use Rattle.proxy_turns.specs.WorkerModel.WorkerEvent.{Came, Did, Finished, FoundNobody, FoundNone, Left, Took, TurnedAway}

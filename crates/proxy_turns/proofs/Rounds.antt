@@ -1,6 +1,6 @@
 -- Each client of a worker has its turn.
 use Rattle.std.proofs.Common.{◌≡◌, ◌∙◌, ◌≢◌, ◌<◌, ◌≤◌, ◌+◌, ◌-◌, ◌∷◌, [], ℕ, zero, suc, nat_eq, Bool, true, false, cond, List, Option, Some, None, Result, Ok, Err, inl, inr, refl, sym, ap, subst, arith, length, eqb→eq}
-use Rattle.std.specs.Prelude.{◌⊎◌, IfOk, IfSome, T, slice_get}
+use Rattle.std.specs.Prelude.{◌⊎◌, IfOk, T, slice_get}
 use Rattle.std.specs.Map.{lookup}
 use Rattle.std.specs.List.{FoldsTo, list_all, list_any}
 use Rattle.std.specs.FinMap.{get, insert}
@@ -9,7 +9,6 @@ use Rattle.std.proofs.lemmas.Bool.Decides.{nat_tests}
 use Rattle.indexmap.specs.IndexMap.{set_value_at}
 use Rattle.resp_wire.specs.declared.fault.NoMemory.{NoMemory}
 use Rattle.key_split.specs.Runs.{RunModel}
-use Rattle.command_future.specs.CommandModel.{CommandModel}
 use Rattle.proxy_lanes.specs.declared.ring.Outlet.{Outlet}
 use Rattle.proxy_lanes.specs.View.{ViewModel}
 use Rattle.proxy_turns.specs.Port.{Moves}

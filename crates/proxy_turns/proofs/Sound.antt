@@ -18,11 +18,10 @@ use Rattle.key_split.specs.declared.travel.Told.{Told}
 use Rattle.key_split.specs.declared.travel.Ended.{Ended}
 use Rattle.command_future.specs.CommandModel.{CommandModel, IsFresh, asks_at, batch_of, fresh, progress_told}
 use Rattle.session_order.specs.SessionModel.{SessionModel}
-use Rattle.session_order.specs.declared.queue.PartStage.{PartStage}
 use Rattle.session_order.specs.declared.queue.PartStage.TheVariants.{Waiting, Out}
 use Rattle.session_order.specs.Turn.{blocks, waits_for}
 use Rattle.session_order.specs.Steps.{IsOut, IsOutInOrder, IsHandedOut, KeepsOrder, ReadyOutcome, FollowerOutcome}
-use Rattle.session_order.specs.Behind.{IsAmong, IsOfSession, IsOpenFor, IsOutBehind, IsOutFor, KeepsParts}
+use Rattle.session_order.specs.Behind.{IsAmong, IsOfSession, IsOutBehind, KeepsParts}
 use Rattle.session_order.proofs.Lists.{any_all, any_at, get_drop, get_set_same, one_of}
 use Rattle.session_order.proofs.Behind.{follower_parts, ready_parts}
 use Rattle.session_order.proofs.Keeping.{follower_keeps, follower_out, out_in_order, ready_keeps, ready_out, waits_eases}

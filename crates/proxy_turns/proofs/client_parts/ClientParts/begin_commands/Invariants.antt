@@ -1,5 +1,4 @@
 use Rattle.std.proofs.Common.{◌≡◌, true}
-use Rattle.std.specs.Prelude.{List}
 use Rattle.key_split.specs.Runs.{RunModel}
 use Rattle.proxy_lanes.specs.declared.ring.Outlet.{Outlet}
 use Rattle.proxy_lanes.specs.View.{ViewModel}

@@ -1,7 +1,7 @@
 use Rattle.proxy_lanes.specs.declared.ring.Outlet.{Outlet}
 use Rattle.proxy_lanes.specs.View.{ViewModel}
 use Rattle.key_split.specs.Runs.{RunModel}
-use Rattle.std.proofs.Common.{List, true}
+use Rattle.std.proofs.Common.{true}
 use Rattle.proxy_turns.specs.ClientTurn.{ClientGoesBy, is_read}
 use Rattle.proxy_turns.proofs.client_parts.ClientParts.read_all.Given as goal
 
