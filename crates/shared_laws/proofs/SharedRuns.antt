@@ -1,10 +1,8 @@
 -- What every step keeps, ours and theirs; and it says the headline.
-use Rattle.std.proofs.Common.{◌≡◌, ◌⊎◌, ⊎_elim, ℕ, suc, ◌+◌, ◌%◌, ◌<◌, Bool, true, false, List, [], ◌∷◌, ◌++◌, length, refl, sym, ap, ◌∙◌, subst, arith}
-use Rattle.key_split.specs.declared.travel.Ticket.{Ticket}
+use Rattle.std.proofs.Common.{◌≡◌, ℕ, suc, ◌+◌, ◌%◌, Bool, true, false, List, [], ◌∷◌, ◌++◌, length, refl, sym, ap, ◌∙◌, subst, arith}
 use Rattle.node_model.specs.History.{EntryModel, left_by}
 use Rattle.node_model.specs.Nodes.{ClusterModel, store_at, with_store}
 use Rattle.world_laws.specs.State.{WorldModel, start_from}
-use Rattle.world_laws.specs.declared.state.Arrival.{Arrival}
 use Rattle.world_laws.specs.World.{WorldDoes, IsNode}
 use Rattle.node_model.specs.Store.{StoreModel}
 use Rattle.world_laws.specs.Headline.{At, IsIn, IsSound, store_of}

@@ -1,5 +1,5 @@
 -- What every event keeps holds after every run; and it says the headline.
-use Rattle.std.proofs.Common.{◌≡◌, ℕ, ◌+◌, true, List, [], ◌∷◌, ◌++◌, refl, sym, ◌∙◌, subst, arith}
+use Rattle.std.proofs.Common.{◌≡◌, ℕ, ◌+◌, true, List, [], ◌∷◌, ◌++◌, refl, sym, subst, arith}
 use Rattle.world_laws.specs.State.{WorldModel, start_from}
 use Rattle.node_model.specs.History.{EntryModel}
 use Rattle.node_model.specs.Nodes.{ClusterModel}

@@ -1,12 +1,12 @@
 -- A sound cluster: each key has one home, and the store is what the homes hold.
-use Rattle.std.proofs.Common.{◌≡◌, ◌≢◌, ⊎_elim, ℕ, ◌==◌, true, false, List, Option, Some, None, refl, sym, ◌∙◌}
+use Rattle.std.proofs.Common.{◌≡◌, ◌≢◌, ℕ, List, Option, Some, None, refl, sym, ◌∙◌}
 use Rattle.std.specs.FinMap.{empty, get, get-empty}
 use Rattle.std.specs.Ordering.{nat_cmp}
 use Rattle.std.specs.Cmp.Lexicographic.{slice_cmp}
 use Rattle.slot_hash.specs.Slot.{slot_of}
 use Rattle.node_model.specs.Store.{StoreModel}
 use Rattle.node_model.specs.Nodes.{ClusterModel, standing_at, at}
-use Rattle.world_laws.specs.Headline.{IsNew, IsSound, NewIsSound}
+use Rattle.world_laws.specs.Headline.{IsSound, NewIsSound}
 use Rattle.world_laws.specs.Homes.{IsHome, home_in}
 
 module _ (initial : StoreModel) (k : ClusterModel) (s : IsSound initial k) (key : List ℕ) where
