@@ -246,7 +246,7 @@ module _ (Ours : Ticket → Type 0) (log : List Mark) (w : WorldModel) (h : LogS
     refused = none-refused;
   }
 
-  left : store_of w ≡ left_by w.initial (history log)
+  pub left : store_of w ≡ left_by w.initial (history log)
   left = ap (λ xs. left_in_world w.initial xs) (sym h.executed) ∙ left-of h.clock 0 log w.initial
 
   pub log-held : IsHeld w.initial log w.cluster

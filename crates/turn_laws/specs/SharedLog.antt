@@ -4,12 +4,13 @@
 use Rattle.std.specs.Prelude.{ℕ, List, length}
 use Rattle.std.specs.List.{FoldsTo}
 use Rattle.node_model.specs.Store.{StoreModel}
+use Rattle.world_laws.specs.Headline.{IsSound}
 use Rattle.shared_laws.specs.Shared.{IsOwn}
 use Rattle.turn_laws.specs.Wire.{Execution}
 use Rattle.turn_laws.specs.System.{System, Mark}
 use Rattle.turn_laws.specs.Refines.{IsStart}
 use Rattle.turn_laws.specs.Sharing.{SharedEvent, SharedSystemStep}
-use Rattle.turn_laws.specs.LogHeadline.{IsExecutedAt, IsHeld, LogHeadline, LogHeadlineOf}
+use Rattle.turn_laws.specs.LogHeadline.{IsExecutedAt, IsHeld, LogHeadline, LogHeadlineOf, history, left_by}
 
 abbrev pub SharedLogHeadline : StoreModel → ℕ → List Mark → Type 0
 SharedLogHeadline initial workers log = LogHeadlineOf initial (IsOwn workers) log
@@ -28,3 +29,8 @@ module _ (C J : Type 0) where
   -- and its nodes hold the store that the log leaves
   abbrev pub SharedLogsAreHeld : Type 0
   SharedLogsAreHeld = (s s' : System C J) (events : List SharedEvent) → IsStart s → FoldsTo SharedSystemStep s events s' → IsHeld s'.initial s'.log s'.cluster
+
+  -- What they leave is sound, and holds the store that the log leaves: another proxy can begin there.
+  abbrev pub SharedEndsAreSound : Type 0
+  SharedEndsAreSound = (s s' : System C J) (events : List SharedEvent) → IsStart s → FoldsTo SharedSystemStep s events s'
+      → IsSound (left_by s'.initial (history s'.log)) s'.cluster
