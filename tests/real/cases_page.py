@@ -2,12 +2,15 @@
 
 import contextlib
 import http.client
+import json
 import shutil
 import subprocess
 import time
+import urllib.parse
+import urllib.request
 
 from client import request
-from cluster import OwnProxy, Proxy, free_ports, wait_until
+from cluster import OwnProxy, Proxy, end, free_ports, wait_until
 from harness import Together, case, check_same, check_time
 
 # Clients, the requests that each sends, and how often curl asks for the page meanwhile.
@@ -85,6 +88,54 @@ def tools_read_the_page(world):
             words = ["curl", "-s", "-o", "/dev/null", "-w", "%{http_code}", f"http://127.0.0.1:{page.proxy.admin}/{path}"]
             check_same(subprocess.run(words, capture_output=True, check=True, timeout=60).stdout.decode(), wanted, path)
     return None
+
+
+class Prometheus:
+    """A Prometheus server of its own, with the configuration that docs/OPERATING.md gives, but for a scrape each second."""
+
+    def __init__(self, room, admin):
+        name, (self.port,) = room.name("prometheus"), free_ports(1)
+        path = f"{room.folder}/{name}.yml"
+        with open(path, "w", encoding="ascii") as configuration:
+            configuration.write(f"""scrape_configs:
+  - job_name: cluster_proxy
+    scrape_interval: 1s
+    static_configs:
+      - targets: ["127.0.0.1:{admin}"]
+""")
+        words = ["prometheus", f"--config.file={path}", f"--storage.tsdb.path={room.folder}/{name}.data"]
+        self.process = room.start([*words, f"--web.listen-address=127.0.0.1:{self.port}"], f"{name}.log")
+
+    def __enter__(self):
+        return self
+
+    def __exit__(self, *_):
+        end(self.process)
+
+    def value(self, query):
+        """The one value of a query, or None while there is none."""
+        try:
+            with urllib.request.urlopen(f"http://127.0.0.1:{self.port}/api/v1/query?{urllib.parse.urlencode({'query': query})}", timeout=20) as answer:
+                found = json.load(answer)["data"]["result"]
+        except OSError:
+            return None
+        return float(found[0]["value"][1]) if found else None
+
+
+@case
+def prometheus_finds_the_figures(world):
+    """A Prometheus server scrapes the page, takes the proxy for up, and has the figures that clients counted."""
+    if not shutil.which("prometheus"):
+        return "without prometheus"
+    with Page(world, world.cluster.nodes[0].port, "watched") as page, page.proxy.client() as client:
+        client.send(b"".join(request("SET", f"k{number}", "1") for number in range(500)))
+        client.replies(500)
+        with Prometheus(world.room, page.proxy.admin) as prometheus:
+            wait_until(lambda: prometheus.value('up{job="cluster_proxy"}') == 1, "Prometheus to find the proxy up")
+            wanted = page.total("cluster_proxy_requests_total")
+            wait_until(lambda: prometheus.value("sum(cluster_proxy_requests_total)") == wanted, f"Prometheus to count {wanted:.0f} requests")
+            check_same(prometheus.value("sum(cluster_proxy_node_up)"), 3, "nodes that are up")
+            check_same(prometheus.value("cluster_proxy_clients"), 1, "clients")
 
 
 @case

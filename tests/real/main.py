@@ -20,6 +20,7 @@ import cases_moves
 import cases_faults
 import cases_orders
 import cases_others
+import cases_starts
 import cases_scripted
 import cases_blocks
 import cases_idle

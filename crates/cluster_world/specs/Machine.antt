@@ -1,6 +1,7 @@
 -- What the world's code keeps, as the machine's state, and what its events answer.
 -- The model of `World` is `state_of` of its machine. Only private functions cite the rest.
 use Rattle.std.specs.Prelude.{◌≡◌, ◌∷◌, ℕ, List, Some, Result, Ok, Err, slice_get}
+use Rattle.std.specs.FinMap.{empty}
 use Rattle.key_split.specs.declared.travel.Ticket.{Ticket}
 use Rattle.node_model.specs.declared.role.Verdict.{Verdict}
 use Rattle.world_laws.specs.Allowed.{Fits, HaveSlot}
@@ -23,6 +24,7 @@ state_of c = record {
   workers = c.workers;
   run_limit = run_limit;
   cluster = c.cluster;
+  initial = empty;
   commands = c.commands;
   ups = c.ups.items;
   links = c.links.links;

@@ -31,7 +31,7 @@ impl Drop for World {
 }
 
 impl Model for World {
-    ghost use Rattle.node_model.specs.Nodes.{nodes_code};
+    ghost use Rattle.node_model.specs.Nodes.{nodes_code, store_code};
     ghost use Rattle.resp_wire.specs.Stored.{coded_data};
     ghost use Rattle.resp_wire.specs.contracts.value.Value as value;
     ghost use Rattle.std.specs.Coded.{codes};
@@ -41,7 +41,7 @@ impl Model for World {
 
     ghost Value = { WorldModel };
 
-    ghost coded = { Prim.hlevel (codes, value.the_row.coded, coded_data, nodes_code) };
+    ghost coded = { Prim.hlevel (codes, value.the_row.coded, coded_data, nodes_code, store_code) };
 
     ghost view = { λ w. state_of w.machine };
 

@@ -18,7 +18,7 @@ use Rattle.node_model.specs.declared.standing.Phase.{Phase}
 use Rattle.node_model.specs.declared.standing.Phase.TheVariants.{Settled, Imported, Migrated, Owned, Released, Forgotten}
 use Rattle.node_model.specs.declared.role.Role.TheVariants.{Owner, Away}
 use Rattle.node_model.specs.declared.role.Verdict.TheVariants.{Plain}
-use Rattle.world_laws.specs.State.{WorldModel, slot_for, start}
+use Rattle.world_laws.specs.State.{WorldModel, slot_for, start_from}
 use Rattle.world_laws.specs.Headline.{At}
 use Rattle.world_laws.specs.Homes.{home, home_in, is_bad}
 use Rattle.world_laws.proofs.Allowed.{take-allowed, serve-allowed}
@@ -156,7 +156,7 @@ true_asks k node asking part apart h a to =
     (ask.0, λ e. ap (λ n. is_some (at k n key)) (sym e) ∙ ap is_some (all-among (λ q. at k source q ≡ None) (keys_of part) key ask.1 (among-at (keys_of part) j key p)))) (standing_at k (slot_for part)).phase refl)
 
 reached-stands : (w : WorldModel) → IsSharedReached w → Standing w
-reached-stands w r = steady-stands r.0 w (run-steady r.0 r.3 (start r.0 r.1 r.2) w (start-steady r.0 r.1 r.2 r.4) r.5)
+reached-stands w r = steady-stands r.0 w (run-steady r.0 r.4 (start_from r.0 r.1 r.2 r.3) w (start-steady r.0 r.1 r.2 r.3 r.5) r.6)
 
 pub take_stays : TakeStaysAllowed
 take_stays w lane i ticket told reached lt first = take-allowed w lane i ticket told (reached-stands w reached) lt first
@@ -248,10 +248,10 @@ keys_go w node key value reached lt held = (
     far x = absurd (omega (arith, x))
 
     steady : Steady reached.0 w
-    steady = run-steady reached.0 reached.3 (start reached.0 reached.1 reached.2) w (start-steady reached.0 reached.1 reached.2 reached.4) reached.5
+    steady = run-steady reached.0 reached.4 (start_from reached.0 reached.1 reached.2 reached.3) w (start-steady reached.0 reached.1 reached.2 reached.3 reached.5) reached.6
 
     kept : Kept w
-    kept = (run-steady reached.0 reached.3 (start reached.0 reached.1 reached.2) w (start-steady reached.0 reached.1 reached.2 reached.4) reached.5).kept
+    kept = (run-steady reached.0 reached.4 (start_from reached.0 reached.1 reached.2 reached.3) w (start-steady reached.0 reached.1 reached.2 reached.3 reached.5) reached.6).kept
 
     is-home : node ≡ home_in (standing_at w.cluster (slot_of key)) (λ m. at w.cluster m key)
     is-home = at_home w kept key node value held

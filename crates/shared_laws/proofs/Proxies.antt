@@ -16,7 +16,7 @@ use Rattle.world_laws.specs.declared.event.Event.TheVariants as ev
 use Rattle.world_laws.proofs.Lives.{does-moment, no-more}
 use Rattle.world_laws.proofs.Nodes.{ExecutedAll, SaidAll, runs}
 use Rattle.world_laws.proofs.Serves.{entries-says}
-use Rattle.world_laws.proofs.Sizes.{does-sizes}
+use Rattle.world_laws.proofs.Sizes.{does-initial, does-sizes}
 use Rattle.shared_laws.specs.Proxies.{Act, ActDoes, EachIsShared, EveryProxy, Proxies, ProxiesRun, as_foreign, is_of, proxies_start, seen_by, view, world_of}
 use Rattle.shared_laws.specs.Shared.{SharedRun, SharedStep, Step}
 use Rattle.shared_laws.proofs.Executed.{executed-others}
@@ -60,6 +60,9 @@ module _ (n : ℕ) (s s' : Proxies) (p : ℕ) (st : Steady n (view s p)) (q : �
   moment : s'.moment ≡ s.moment + 1
   moment = does-moment event (record (view s p) { moment = s.moment + 1 }) (view s' p) d
 
+  initial : s'.initial ≡ s.initial
+  initial = does-initial event (record (view s p) { moment = s.moment + 1 }) (view s' p) d
+
   -- the entries are what p's history gains
   own-history : (view s' p).history ≡ (view s p).history ++ es
   own-history =
@@ -70,16 +73,16 @@ module _ (n : ℕ) (s s' : Proxies) (p : ℕ) (st : Steady n (view s p)) (q : �
   they-are : (fs : List EntryModel) → (view s' p).history ≡ (view s p).history ++ fs → es ≡ fs
   they-are fs e = cancel (view s p).history es fs (sym own-history ∙ e)
 
-  after : (k : ClusterModel) → s'.cluster ≡ k → view s' q ≡ world_of (s.proxy q) k ((view s q).history ++ map (as_foreign nq) es) (s.moment + 1)
+  after : (k : ClusterModel) → s'.cluster ≡ k → view s' q ≡ world_of (s.proxy q) k s.initial ((view s q).history ++ map (as_foreign nq) es) (s.moment + 1)
   after k e =
-      (λ i. world_of (same i) (e i) (map (seen_by q (same i).workers) (writes i)) (moment i))
-      ∙ ap (λ hs. world_of (s.proxy q) k hs (s.moment + 1)) (map-joins (seen_by q nq) s.history (map (λ e. (Some p, e)) es) ∙ ap (λ zs. map (seen_by q nq) s.history ++ zs) (seen-other q nq (Some p) es (eqb-apart p q (λ x. ne (sym x)))))
+      (λ i. world_of (same i) (e i) (initial i) (map (seen_by q (same i).workers) (writes i)) (moment i))
+      ∙ ap (λ hs. world_of (s.proxy q) k s.initial hs (s.moment + 1)) (map-joins (seen_by q nq) s.history (map (λ e. (Some p, e)) es) ∙ ap (λ zs. map (seen_by q nq) s.history ++ zs) (seen-other q nq (Some p) es (eqb-apart p q (λ x. ne (sym x)))))
 
-  still : (k : ClusterModel) → s'.cluster ≡ k → (view s' p).history ≡ (view s p).history → view s' q ≡ world_of (s.proxy q) k (view s q).history (s.moment + 1)
+  still : (k : ClusterModel) → s'.cluster ≡ k → (view s' p).history ≡ (view s p).history → view s' q ≡ world_of (s.proxy q) k s.initial (view s q).history (s.moment + 1)
   still k e h =
       after k e
-      ∙ ap (λ zs. world_of (s.proxy q) k ((view s q).history ++ map (as_foreign nq) zs) (s.moment + 1)) (they-are [] (h ∙ sym (no-more (view s p).history)))
-      ∙ ap (λ hs. world_of (s.proxy q) k hs (s.moment + 1)) (no-more (view s q).history)
+      ∙ ap (λ zs. world_of (s.proxy q) k s.initial ((view s q).history ++ map (as_foreign nq) zs) (s.moment + 1)) (they-are [] (h ∙ sym (no-more (view s p).history)))
+      ∙ ap (λ hs. world_of (s.proxy q) k s.initial hs (s.moment + 1)) (no-more (view s q).history)
 
   passes : s'.cluster ≡ s.cluster → (view s' p).history ≡ (view s p).history → Sees
   passes k h = (Step.Passes, (lt, still s.cluster k h))
@@ -98,7 +101,7 @@ module _ (n : ℕ) (s s' : Proxies) (p : ℕ) (st : Steady n (view s p)) (q : �
       path : view s' q ≡ record (view s q) { moment = s.moment + 1; cluster = s'.cluster; history = (view s q).history ++ fs }
       path =
           after s'.cluster refl
-          ∙ ap (λ zs. world_of (s.proxy q) s'.cluster ((view s q).history ++ map (as_foreign (s.proxy q).workers) zs) (s.moment + 1)) (they-are (entries_of (s.moment + 1) y.1) (ap (λ (z : WorldModel). z.history) y.7))
+          ∙ ap (λ zs. world_of (s.proxy q) s'.cluster s.initial ((view s q).history ++ map (as_foreign (s.proxy q).workers) zs) (s.moment + 1)) (they-are (entries_of (s.moment + 1) y.1) (ap (λ (z : WorldModel). z.history) y.7))
 
   served : (link : ℕ) (l : Link) (v : Verdict) (at_l : slice_get (view s p).links link ≡ Some l) → ServesAsking w1 link l v (view s' p) ⊎ ServesRun w1 link l v (view s' p) → Sees
   served link l v at_l (inl y) = passes (ap (λ (z : WorldModel). z.cluster) y.3) (ap (λ (z : WorldModel). z.history) y.3)
@@ -149,9 +152,9 @@ each n (a ∷ as') s s' inv r q =
     ((st q).0 ∷ rest.0, (view r.0 q, (st q).1, rest.1))
 
 pub each_is_shared : EachIsShared
-each_is_shared workers run_limit k acts s new r p = each workers acts (proxies_start workers run_limit k) s (λ q. start-steady (workers q) (run_limit q) k new) r p
+each_is_shared workers run_limit initial k acts s sound r p = each workers acts (proxies_start workers run_limit initial k) s (λ q. start-steady (workers q) (run_limit q) initial k sound) r p
 
 pub every_proxy : EveryProxy
-every_proxy workers run_limit k acts s new r p =
-    let x = each_is_shared workers run_limit k acts s new r p in
-    every_shared_schedule (workers p) (run_limit p) k x.0 (view s p) new x.1
+every_proxy workers run_limit initial k acts s sound r p =
+    let x = each_is_shared workers run_limit initial k acts s sound r p in
+    every_shared_schedule (workers p) (run_limit p) initial k x.0 (view s p) sound x.1

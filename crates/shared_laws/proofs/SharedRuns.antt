@@ -1,12 +1,11 @@
 -- What every step keeps, ours and theirs; and it says the headline.
-use Rattle.std.proofs.Common.{◌≡◌, ◌⊎◌, ⊎_elim, ℕ, suc, ◌+◌, ◌%◌, ◌<◌, Bool, true, false, List, [], ◌∷◌, ◌++◌, length, refl, sym, ap, ◌∙◌, subst, arith}
-use Rattle.key_split.specs.declared.travel.Ticket.{Ticket}
+use Rattle.std.proofs.Common.{◌≡◌, ℕ, suc, ◌+◌, ◌%◌, Bool, true, false, List, [], ◌∷◌, ◌++◌, length, refl, sym, ap, ◌∙◌, subst, arith}
 use Rattle.node_model.specs.History.{EntryModel, left_by}
 use Rattle.node_model.specs.Nodes.{ClusterModel, store_at, with_store}
-use Rattle.world_laws.specs.State.{WorldModel, start}
-use Rattle.world_laws.specs.declared.state.Arrival.{Arrival}
+use Rattle.world_laws.specs.State.{WorldModel, start_from}
 use Rattle.world_laws.specs.World.{WorldDoes, IsNode}
-use Rattle.world_laws.specs.Headline.{At, IsIn, IsNew}
+use Rattle.node_model.specs.Store.{StoreModel}
+use Rattle.world_laws.specs.Headline.{At, IsIn, IsSound, store_of}
 use Rattle.world_laws.specs.declared.event.Event.{Event}
 use Rattle.world_laws.proofs.Apart.{Short, does-short}
 use Rattle.world_laws.proofs.Flow.{all_at}
@@ -19,7 +18,8 @@ use Rattle.world_laws.proofs.Placed.{Placed, Standing, standing-of}
 use Rattle.world_laws.proofs.Recorded.{Recorded, waited}
 use Rattle.world_laws.proofs.Runs.{start-sound}
 use Rattle.world_laws.proofs.Passing.{keep, rank, keep-joins, keep-none, kept-at}
-use Rattle.world_laws.proofs.Headlines.{Tells, headline-of}
+use Rattle.world_laws.proofs.Headlines.{Tells, at_home, headline-of, union-of}
+use Rattle.shared_laws.specs.Others.{SharedEndsAreSound}
 use Rattle.world_laws.proofs.Sizes.{does-sizes}
 use Rattle.world_laws.proofs.There.{There, does-there}
 use Rattle.world_laws.proofs.Turns.{Turned, does-turned}
@@ -182,9 +182,9 @@ pub run-steady : (n : ℕ) (sts : List Step) (w w' : WorldModel) → Steady n w 
 run-steady n [] w w' s r = subst (Steady n) (sym r) s
 run-steady n (st ∷ sts) w w' s r = run-steady n sts r.0 w' (step-steady n st w r.0 s r.1) r.2
 
-pub start-steady : (workers run_limit : ℕ) (k : ClusterModel) → IsNew k → Steady workers (start workers run_limit k)
-start-steady workers run_limit k new =
-    let s = start-sound workers run_limit k new in
+pub start-steady : (workers run_limit : ℕ) (initial : StoreModel) (k : ClusterModel) → IsSound initial k → Steady workers (start_from workers run_limit initial k)
+start-steady workers run_limit initial k sound =
+    let s = start-sound workers run_limit initial k sound in
     record {
       size = refl;
       named = λ j d lt. absurd (omega arith);
@@ -216,7 +216,19 @@ shared-headline n w s = headline-of (is_ours n) (IsOurs w) tells w (record {
     }
 
 pub every_shared_schedule : EverySharedSchedule
-every_shared_schedule workers run_limit k steps w new r = shared-headline workers w (run-steady workers steps (start workers run_limit k) w (start-steady workers run_limit k new) r)
+every_shared_schedule workers run_limit initial k steps w sound r = shared-headline workers w (run-steady workers steps (start_from workers run_limit initial k) w (start-steady workers run_limit initial k sound) r)
+
+-- what a schedule leaves, a proxy can begin from
+pub steady-sound : (n : ℕ) (w : WorldModel) → Steady n w → IsSound (store_of w) w.cluster
+steady-sound n w s = record {
+  apart = (s.kept).apart;
+  targets = (s.there).targets;
+  placed = λ key value node is. at_home w s.kept key node value is;
+  union = union-of w s.kept;
+}
+
+pub shared-end-sound : SharedEndsAreSound
+shared-end-sound w r = steady-sound r.0 w (run-steady r.0 r.4 (start_from r.0 r.1 r.2 r.3) w (start-steady r.0 r.1 r.2 r.3 r.5) r.6)
 
 pub alone_is_shared : AloneIsShared
 alone_is_shared [] w w' r = r

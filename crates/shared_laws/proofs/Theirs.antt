@@ -2,7 +2,7 @@
 use Rattle.std.proofs.Common.{◌≡◌, ◌≢◌, ◌⊎◌, inl, inr, ⊎_elim, ℕ, suc, ◌==◌, Bool, true, false, List, [], ◌∷◌, ◌++◌, Option, refl, sym, ap, ◌∙◌, subst}
 use Rattle.std.specs.Prelude.{All, is_some}
 use Rattle.std.proofs.lemmas.Bool.Decides.{eqb_tells}
-use Rattle.std.specs.FinMap.{empty, get}
+use Rattle.std.specs.FinMap.{get}
 use Rattle.slot_hash.specs.Slot.{slot_of}
 use Rattle.key_split.specs.PartModel.{HasOneSlot, keys_of}
 use Rattle.node_model.specs.History.{EntryModel, IsLegal, left_by}
@@ -103,20 +103,20 @@ module _ (w : WorldModel) (s : Kept w) (node : ℕ) (asking : Bool) (es : List E
       = subst (λ (z : SlotStandingModel). node ≡ z.target → All (λ key. is_bad z.phase (is_some (at w.cluster z.source key)) ≡ false) (keys_of (m.1).part)) same ask to in
       all-among (λ key. is_bad sl.phase (is_some (at w.cluster sl.source key)) ≡ false) (keys_of (m.1).part) q true' m.3
 
-  was-home : (q : List ℕ) → Among q keys → IsHome sl (λ m. at w.cluster m q) (get (left_by empty w.history) q)
-  was-home q x = subst (λ z. IsHome (standing_at w.cluster z) (λ m. at w.cluster m q) (get (left_by empty w.history) q)) (slot-is q x) (s.data' q)
+  was-home : (q : List ℕ) → Among q keys → IsHome sl (λ m. at w.cluster m q) (get (left_by w.initial w.history) q)
+  was-home q x = subst (λ z. IsHome (standing_at w.cluster z) (λ m. at w.cluster m q) (get (left_by w.initial w.history) q)) (slot-is q x) (s.data' q)
 
   -- the node that executes is the home of each of the keys
   at_home : (q : List ℕ) → Among q keys → node ≡ home_in sl (λ m. at w.cluster m q)
-  at_home q x = executes-home sl (λ m. at w.cluster m q) (get (left_by empty w.history) q) (held_of (store_at w.cluster node) keys) (have_one_key (parts_in es)) slot
+  at_home q x = executes-home sl (λ m. at w.cluster m q) (get (left_by w.initial w.history) q) (held_of (store_at w.cluster node) keys) (have_one_key (parts_in es)) slot
       Plain node asking (all-held (store_at w.cluster node) keys q x) (was-home q x) (s.apart slot) (good q x) does
 
   -- so the store that the history leaves holds there what the node holds
-  agree : Agree keys (left_by empty w.history) st
+  agree : Agree keys (left_by w.initial w.history) st
   agree q x = (was-home q x).holds ∙ ap (λ m. at w.cluster m q) (sym (at_home q x))
 
-  longer : IsLegal (left_by empty w.history) es × Agree keys (left_by (left_by empty w.history) es) (left_by st es)
-  longer = alike-legal keys es (left_by empty w.history) st (λ q x. x) agree told
+  longer : IsLegal (left_by w.initial w.history) es × Agree keys (left_by (left_by w.initial w.history) es) (left_by st es)
+  longer = alike-legal keys es (left_by w.initial w.history) st (λ q x. x) agree told
 
   miss : (q : List ℕ) (m : ℕ) → m ≢ node → at k' m q ≡ at w.cluster m q
   miss q m ne = ap (λ z. get z q) (store-other w.cluster node (left_by st es) m ne)
@@ -143,21 +143,21 @@ module _ (w : WorldModel) (s : Kept w) (node : ℕ) (asking : Bool) (es : List E
           (subst (λ (z : SlotStandingModel). is_bad z.phase (is_some (at k' z.source q)) ≡ true) same b))
       key q x b (inr away) = subst (λ o. is_bad (slot_here w.cluster c.command.part).phase (is_some o) ≡ true) (other q away (slot_here w.cluster c.command.part).source) b
 
-  data-after : (q : List ℕ) → IsHome (standing_at k' (slot_of q)) (λ m. at k' m q) (get (left_by empty (w.history ++ es)) q)
-  data-after q = subst (λ z. IsHome (standing_at k' (slot_of q)) (λ m. at k' m q) (get z q)) (sym (left-joins empty w.history es)) (go (among q keys))
+  data-after : (q : List ℕ) → IsHome (standing_at k' (slot_of q)) (λ m. at k' m q) (get (left_by w.initial (w.history ++ es)) q)
+  data-after q = subst (λ z. IsHome (standing_at k' (slot_of q)) (λ m. at k' m q) (get z q)) (sym (left-joins w.initial w.history es)) (go (among q keys))
     where
-      go : Among q keys ⊎ (Among q keys → ⊥) → IsHome (standing_at k' (slot_of q)) (λ m. at k' m q) (get (left_by (left_by empty w.history) es) q)
+      go : Among q keys ⊎ (Among q keys → ⊥) → IsHome (standing_at k' (slot_of q)) (λ m. at k' m q) (get (left_by (left_by w.initial w.history) es) q)
       go (inl x) =
           subst (λ (z : ℕ × Option (List ℕ)). IsHome (standing_at w.cluster z.0) (λ m. at k' m q) z.1) (λ i. (sym (slot-is q x) i, sym (longer.1 q x) i))
-          (exec-home sl (λ m. at w.cluster m q) (λ m. at k' m q) (get (left_by empty w.history) q) (s.apart slot) (get (left_by st es) q) node (at_home q x) (hit q) (miss q) (was-home q x))
-      go (inr away) = subst (IsHome (standing_at w.cluster (slot_of q)) (λ m. at k' m q)) (sym (others-left es (left_by empty w.history) q away))
-          (home-same (standing_at w.cluster (slot_of q)) (λ m. at w.cluster m q) (λ m. at k' m q) (get (left_by empty w.history) q) (other q away) (s.data' q))
+          (exec-home sl (λ m. at w.cluster m q) (λ m. at k' m q) (get (left_by w.initial w.history) q) (s.apart slot) (get (left_by st es) q) node (at_home q x) (hit q) (miss q) (was-home q x))
+      go (inr away) = subst (IsHome (standing_at w.cluster (slot_of q)) (λ m. at k' m q)) (sym (others-left es (left_by w.initial w.history) q away))
+          (home-same (standing_at w.cluster (slot_of q)) (λ m. at w.cluster m q) (λ m. at k' m q) (get (left_by w.initial w.history) q) (other q away) (s.data' q))
 
   pub theirs-kept : Kept (record w { cluster = k'; history = w.history ++ es })
   theirs-kept = record {
     apart = s.apart;
     data' = data-after;
-    legal = legal-joins empty w.history es s.legal longer.0;
+    legal = legal-joins w.initial w.history es s.legal longer.0;
     asked = all_from (λ (c : Arrival). IsAsked (record w { cluster = k'; history = w.history ++ es }) c.command.ticket c.command.part) w.commands
         (λ j c at_c. let was : IsAsked w c.command.ticket c.command.part = all_at (λ (x : Arrival). IsAsked w x.command.ticket x.command.part) w.commands j c at_c s.asked in (was.0, λ bad. was.1 (back c was.0 bad)));
   }

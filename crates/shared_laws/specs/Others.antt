@@ -10,11 +10,11 @@ use Rattle.node_model.specs.Store.{StoreModel, put}
 use Rattle.node_model.specs.declared.role.Role.TheVariants.{Owner}
 use Rattle.node_model.specs.declared.role.Verdict.{Verdict}
 use Rattle.node_model.specs.declared.standing.Phase.TheVariants.{Settled}
-use Rattle.world_laws.specs.State.{WorldModel, Link, slot_for, start}
+use Rattle.world_laws.specs.State.{WorldModel, Link, slot_for, start_from}
 use Rattle.world_laws.specs.declared.state.LinkRequest.{LinkRequest}
 use Rattle.world_laws.specs.Allowed.{Fits}
 use Rattle.world_laws.specs.Bare.{AsksTruly}
-use Rattle.world_laws.specs.Headline.{IsNew}
+use Rattle.world_laws.specs.Headline.{IsSound, store_of}
 use Rattle.world_laws.specs.World.{IsFirst, IsNode, last_moment}
 use Rattle.world_laws.specs.declared.event.Event.TheVariants.{Serve, Take}
 use Rattle.shared_laws.specs.Shared.{AskIsTrue, SharedRun, SharedStep, Step}
@@ -35,8 +35,12 @@ AnyChange = (w : WorldModel) (node slot : ℕ) (first : List ℕ × Option (List
 
 -- a world that some schedule leaves in which others act
 abbrev pub IsSharedReached : WorldModel → Type 0
-IsSharedReached w = (workers : ℕ) × (run_limit : ℕ) × (cluster : ClusterModel) × (steps : List Step) × IsNew cluster
-    × SharedRun (start workers run_limit cluster) steps w
+IsSharedReached w = (workers : ℕ) × (run_limit : ℕ) × (initial : StoreModel) × (cluster : ClusterModel) × (steps : List Step) × IsSound initial cluster
+    × SharedRun (start_from workers run_limit initial cluster) steps w
+
+-- what such a schedule leaves is sound, and holds what the history leaves: a proxy that is started anew can begin there
+abbrev pub SharedEndsAreSound : Type 0
+SharedEndsAreSound = (w : WorldModel) → IsSharedReached w → IsSound (store_of w) w.cluster
 
 -- And each key can go from the node that holds it at any time, however its slot stands: it expires there, or is evicted.
 abbrev pub KeysGo : Type 0

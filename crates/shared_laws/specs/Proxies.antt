@@ -9,11 +9,12 @@ use Rattle.key_split.specs.declared.travel.Ticket.{Ticket}
 use Rattle.key_split.specs.declared.travel.Told.{Told}
 use Rattle.node_model.specs.History.{EntryModel}
 use Rattle.node_model.specs.Nodes.{ClusterModel}
-use Rattle.world_laws.specs.State.{WorldModel, Link, start}
+use Rattle.node_model.specs.Store.{StoreModel}
+use Rattle.world_laws.specs.State.{WorldModel, Link, start_from}
 use Rattle.world_laws.specs.declared.state.Arrival.{Arrival}
 use Rattle.world_laws.specs.declared.state.Posted.{Posted}
 use Rattle.world_laws.specs.World.{WorldStep, NoneAsks}
-use Rattle.world_laws.specs.Headline.{IsNew}
+use Rattle.world_laws.specs.Headline.{IsSound}
 use Rattle.world_laws.specs.declared.event.Event.{Event}
 use Rattle.world_laws.specs.declared.event.Event.TheVariants.{Import}
 use Rattle.world_laws.specs.declared.history.Answer.{Answer}
@@ -30,11 +31,12 @@ pub record Proxy : Type 0 where
   pub downs : List (Ticket × Told)
   pub answers : List Answer
 
--- the proxies, by their numbers, and what they share: the nodes, the history, which says whose each entry is (None: of a
--- client that is no proxy), and how many steps there were
+-- the proxies, by their numbers, and what they share: the nodes, what these held at the start, the history, which says whose each
+-- entry is (None: of a client that is no proxy), and how many steps there were
 pub record Proxies : Type 0 where
   pub proxy : ℕ → Proxy
   pub cluster : ClusterModel
+  pub initial : StoreModel
   pub history : List (Option ℕ × EntryModel)
   pub moment : ℕ
 
@@ -49,12 +51,13 @@ as_foreign workers e = record e { ticket = record (e.ticket) { worker = e.ticket
 abbrev pub seen_by : ℕ → ℕ → Option ℕ × EntryModel → EntryModel
 seen_by p workers x = if is_of p x.0 then x.1 else as_foreign workers x.1
 
-abbrev pub world_of : Proxy → ClusterModel → List EntryModel → ℕ → WorldModel
-world_of x cluster history moment =
+abbrev pub world_of : Proxy → ClusterModel → StoreModel → List EntryModel → ℕ → WorldModel
+world_of x cluster initial history moment =
     record {
       workers = x.workers;
       run_limit = x.run_limit;
       cluster = cluster;
+      initial = initial;
       commands = x.commands;
       ups = x.ups;
       links = x.links;
@@ -66,7 +69,7 @@ world_of x cluster history moment =
 
 -- the world of proxy p: its own, and the nodes, the history and the clock of all
 abbrev pub view : Proxies → ℕ → WorldModel
-view s p = world_of (s.proxy p) s.cluster (map (seen_by p (s.proxy p).workers) s.history) s.moment
+view s p = world_of (s.proxy p) s.cluster s.initial (map (seen_by p (s.proxy p).workers) s.history) s.moment
 
 -- an event of a proxy, among which are the steps of slots; or a run of a client that is no proxy
 pub data Act : Type 0 where
@@ -96,21 +99,22 @@ ProxiesRun s [] s' = s' ≡ s
 ProxiesRun s (a ∷ as') s' = (mid : Proxies) × ActDoes s a mid × ProxiesRun mid as' s'
 
 -- nothing has happened yet
-abbrev pub proxies_start : (ℕ → ℕ) → (ℕ → ℕ) → ClusterModel → Proxies
-proxies_start workers run_limit cluster = record {
+abbrev pub proxies_start : (ℕ → ℕ) → (ℕ → ℕ) → StoreModel → ClusterModel → Proxies
+proxies_start workers run_limit initial cluster = record {
   proxy = λ p. record { workers = workers p; run_limit = run_limit p; commands = []; ups = []; links = []; downs = []; answers = [] };
   cluster = cluster;
+  initial = initial;
   history = [];
   moment = 0;
 }
 
 -- what each proxy has gone through is a schedule of its own machine, in which the others act
 abbrev pub EachIsShared : Type 0
-EachIsShared = (workers run_limit : ℕ → ℕ) (cluster : ClusterModel) (acts : List Act) (s : Proxies) → IsNew cluster
-    → ProxiesRun (proxies_start workers run_limit cluster) acts s
-    → (p : ℕ) → (steps : List Step) × SharedRun (start (workers p) (run_limit p) cluster) steps (view s p)
+EachIsShared = (workers run_limit : ℕ → ℕ) (initial : StoreModel) (cluster : ClusterModel) (acts : List Act) (s : Proxies) → IsSound initial cluster
+    → ProxiesRun (proxies_start workers run_limit initial cluster) acts s
+    → (p : ℕ) → (steps : List Step) × SharedRun (start_from (workers p) (run_limit p) initial cluster) steps (view s p)
 
 -- so the headline holds of each proxy's commands
 abbrev pub EveryProxy : Type 0
-EveryProxy = (workers run_limit : ℕ → ℕ) (cluster : ClusterModel) (acts : List Act) (s : Proxies) → IsNew cluster
-    → ProxiesRun (proxies_start workers run_limit cluster) acts s → (p : ℕ) → SharedHeadline (view s p)
+EveryProxy = (workers run_limit : ℕ → ℕ) (initial : StoreModel) (cluster : ClusterModel) (acts : List Act) (s : Proxies) → IsSound initial cluster
+    → ProxiesRun (proxies_start workers run_limit initial cluster) acts s → (p : ℕ) → SharedHeadline (view s p)

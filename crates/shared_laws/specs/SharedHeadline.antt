@@ -4,17 +4,18 @@
 use Rattle.std.specs.Prelude.{ℕ, List}
 use Rattle.node_model.specs.History.{EntryModel}
 use Rattle.node_model.specs.Nodes.{ClusterModel}
-use Rattle.world_laws.specs.State.{WorldModel, start}
-use Rattle.world_laws.specs.Headline.{Headline, HeadlineOf, IsIn, IsNew}
+use Rattle.node_model.specs.Store.{StoreModel}
+use Rattle.world_laws.specs.State.{WorldModel, start_from}
+use Rattle.world_laws.specs.Headline.{Headline, HeadlineOf, IsIn, IsSound}
 use Rattle.shared_laws.specs.Shared.{Step, IsOurs, SharedRun}
 
 abbrev pub SharedHeadline : WorldModel → Type 0
 SharedHeadline w = HeadlineOf (IsOurs w) w
 
--- it holds after every schedule in which others act, from settled slots and no keys
+-- it holds after every schedule in which others act, from a sound cluster
 abbrev pub EverySharedSchedule : Type 0
-EverySharedSchedule = (workers run_limit : ℕ) (cluster : ClusterModel) (steps : List Step) (w : WorldModel) → IsNew cluster
-    → SharedRun (start workers run_limit cluster) steps w → SharedHeadline w
+EverySharedSchedule = (workers run_limit : ℕ) (initial : StoreModel) (cluster : ClusterModel) (steps : List Step) (w : WorldModel) → IsSound initial cluster
+    → SharedRun (start_from workers run_limit initial cluster) steps w → SharedHeadline w
 
 -- where each entry is ours it says what the headline says of the machine alone
 abbrev pub HeadlineFollows : Type 0

@@ -1,6 +1,6 @@
 //! Laws over every schedule in which others act. Each is the contract of a function that does nothing.
 
-ghost use Rattle.shared_laws.specs.Others.{AnyChange, KeysGo, ServeStaysAllowed, TakeStaysAllowed, TrueAsks};
+ghost use Rattle.shared_laws.specs.Others.{AnyChange, KeysGo, ServeStaysAllowed, SharedEndsAreSound, TakeStaysAllowed, TrueAsks};
 ghost use Rattle.shared_laws.specs.OthersAreRead.{OthersAreRead};
 ghost use Rattle.shared_laws.specs.Proxies.{EachIsShared, EveryProxy};
 ghost use Rattle.shared_laws.specs.Shared.{AloneIsShared};
@@ -16,6 +16,11 @@ pub fn every_shared_schedule()
 pub fn alone_is_shared()
     ensures schedule { AloneIsShared }
     ensures headline { HeadlineFollows }
+{}
+
+/// What any schedule leaves in which others act is sound again: a proxy that is started anew can begin there.
+pub fn ends_are_sound()
+    ensures { SharedEndsAreSound }
 {}
 
 /// Several proxies before one cluster: what one does is a step of others to each other one, so the headline holds of each

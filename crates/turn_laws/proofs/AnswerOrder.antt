@@ -4,7 +4,7 @@ use Rattle.std.specs.Prelude.{slice_set}
 use Rattle.std.proofs.lemmas.Bool.{false≢true}
 use Rattle.std.proofs.lemmas.Option.{slice_get_within}
 use Rattle.key_split.specs.declared.travel.Ticket.{Ticket}
-use Rattle.world_laws.specs.State.{WorldModel, awaiting, after_told, start}
+use Rattle.world_laws.specs.State.{WorldModel, awaiting, after_told, start_from}
 use Rattle.world_laws.specs.declared.state.Arrival.{Arrival}
 use Rattle.world_laws.specs.World.{WorldDoes, Way, GoOut, ServesAsking, ServesRun, FetchesWelcome, FetchesReply, arrival}
 use Rattle.world_laws.specs.declared.event.Event.{Event}
@@ -218,7 +218,7 @@ none = record {
 }
 
 in-turn : (w : WorldModel) → IsSharedWalked w → AreInTurn w
-in-turn w h = walk h.0 h.3 (start h.0 h.1 h.2) w (start-steady h.0 h.1 h.2 h.4) none h.5
+in-turn w h = walk h.0 h.4 (start_from h.0 h.1 h.2 h.3) w (start-steady h.0 h.1 h.2 h.3 h.5) none h.6
 
 order : (i j : ℕ) → (i < j) ⊎ ((i ≡ j) ⊎ (j < i))
 order i j = grind arith

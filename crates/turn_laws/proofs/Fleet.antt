@@ -185,8 +185,8 @@ module _ (C J : Type 0) (plain : PlansArePlain) where
       let whole = fleet events f f' ((λ q. let b = start-shadow C J (f q) (start.starts q) in record { world = b.0; walked = alone-walked b.0 b.1; shadow = b.2; names = b.3 }), start.shared) r in
       let h = whole.0 p in
       let g = every_shared_walk h.world h.walked in (
-        subst (λ n. SharedLogHeadline n (f' p).log) (sym (h.shadow).workers) (log-headline (IsOurs h.world) (f' p).log h.world (h.shadow).log h.walked g),
-        subst (IsHeld (f' p).log) (h.shadow).cluster (log-held (IsOurs h.world) (f' p).log h.world (h.shadow).log h.walked g),
+        subst (λ (x : StoreModel × ℕ). SharedLogHeadline x.0 x.1 (f' p).log) (λ i. ((h.shadow).initial i, sym (h.shadow).workers i)) (log-headline (IsOurs h.world) (f' p).log h.world (h.shadow).log h.walked g),
+        subst (λ (x : StoreModel × ClusterModel). IsHeld x.0 (f' p).log x.1) (λ i. ((h.shadow).initial i, (h.shadow).cluster i)) (log-held (IsOurs h.world) (f' p).log h.world (h.shadow).log h.walked g),
       )
 
 module _ (C J : Type 0) where

@@ -186,6 +186,7 @@ module _ {C J : Type 0} where
       let eq : s' ≡ record s { carrier = s'.carrier; closed = s'.closed; opened = opened_by event s.opened } = step.leaves in
       let workers : s'.workers ≡ s.workers = ap (λ (x : System C J). x.workers) eq in
       let cluster : s'.cluster ≡ s.cluster = ap (λ (x : System C J). x.cluster) eq in
+      let initial : s'.initial ≡ s.initial = ap (λ (x : System C J). x.initial) eq in
       let log : s'.log ≡ s.log = ap (λ (x : System C J). x.log) eq in
       let nodes : s'.nodes ≡ s.nodes = ap (λ (x : System C J). x.nodes) eq in
       let at : (k : ℕ) (model : WorkerModel C J) → slice_get s'.workers k ≡ Some model → slice_get s.workers k ≡ Some model = λ k model e. sym (ap (λ xs. slice_get xs k) workers) ∙ e in
@@ -194,6 +195,7 @@ module _ {C J : Type 0} where
         workers = ap length workers ∙ h.workers;
         limit = h.limit;
         cluster = h.cluster ∙ sym cluster;
+        initial = h.initial ∙ sym initial;
         apart = subst AreApart (sym nodes) h.apart;
         room = subst (λ (ns : List Endpoint). length ns ≤ most_nodes) (sym nodes) h.room;
         table = subst (IsPrefix s'.carrier.nodes) (sym nodes) step.table;

@@ -21,6 +21,7 @@ use Rattle.turn_laws.specs.Scripts as script
 use Rattle.turn_laws.specs.Scripts.{set, plain, Happens}
 use Rattle.turn_laws.proofs.Rings.{memory, outlet_with, inlet_with, takes}
 use Rattle.turn_laws.proofs.Scenes.{scene, put, at-worker, at-client, down-in}
+use Rattle.world_laws.proofs.Sound.{new-sound}
 use Rattle.turn_laws.proofs.ScriptFacts.{k0, new}
 use Rattle.turn_laws.proofs.ScriptStates.{newcomer, carrier}
 use Rattle.turn_laws.proofs.ScriptOpening.{only-one, apart, seed-first}
@@ -110,7 +111,7 @@ module _ {C J : Type 0} (port : C) (xs : List (Numbered RunModel)) (many : 1024 
     published = refl;
     closed = refl;
     log = refl;
-    new = new;
+    sound = new-sound k0 new;
   }
 
   pub happens : Happens C J script.full []

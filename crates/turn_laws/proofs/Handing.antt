@@ -75,6 +75,7 @@ module _ {C J : Type 0} where
       workers = h.workers;
       limit = h.limit;
       cluster = h.cluster;
+      initial = h.initial;
       apart = h.apart;
       room = h.room;
       table = h.table;

@@ -1,6 +1,6 @@
 -- The headline of a log, by that of a world of which it tells.
 use Rattle.std.proofs.Common.{◌≡◌, ◌≢◌, ◌⊎◌, ⊎_elim, ℕ, ◌+◌, ◌<◌, List, Some, refl, sym, ap, ◌∙◌, subst, arith, length}
-use Rattle.std.specs.FinMap.{empty, get}
+use Rattle.std.specs.FinMap.{get}
 use Rattle.std.proofs.lemmas.Option.{slice_get_within}
 use Rattle.resp_wire.specs.Seen.{data_of}
 use Rattle.resp_wire.specs.declared.value.Value.{Value}
@@ -229,9 +229,9 @@ module _ (Ours : Ticket → Type 0) (log : List Mark) (w : WorldModel) (h : LogS
       let r = g.together x.0 y.0 (entry_at (h.clock i) e) (entry_at (h.clock i) f) x.1 y.1 refl in
       (r.0, r.1)
 
-  pub log-headline : LogHeadlineOf Ours log
+  pub log-headline : LogHeadlineOf w.initial Ours log
   log-headline = record {
-    legal = legal-of h.clock 0 log empty (subst (λ xs. IsLegalInWorld empty xs) (sym h.executed) g.legal);
+    legal = legal-of h.clock 0 log w.initial (subst (λ xs. IsLegalInWorld w.initial xs) (sym h.executed) g.legal);
     together = run-together;
     own_ticket = own-ticket;
     told = told-end;
@@ -246,10 +246,10 @@ module _ (Ours : Ticket → Type 0) (log : List Mark) (w : WorldModel) (h : LogS
     refused = none-refused;
   }
 
-  left : store_of w ≡ left_by empty (history log)
-  left = ap (λ xs. left_in_world empty xs) (sym h.executed) ∙ left-of h.clock 0 log empty
+  pub left : store_of w ≡ left_by w.initial (history log)
+  left = ap (λ xs. left_in_world w.initial xs) (sym h.executed) ∙ left-of h.clock 0 log w.initial
 
-  pub log-held : IsHeld log w.cluster
+  pub log-held : IsHeld w.initial log w.cluster
   log-held = record {
     one_node = g.one_node;
     union = λ key value.
@@ -259,7 +259,7 @@ module _ (Ours : Ticket → Type 0) (log : List Mark) (w : WorldModel) (h : LogS
 
 -- where all that was executed is ours
 pub log-headline-follows : LogHeadlineFollows
-log-headline-follows workers log ours g = record {
+log-headline-follows initial workers log ours g = record {
   legal = g.legal;
   answered = g.answered;
   lost = g.lost;
@@ -279,7 +279,7 @@ log-headline-follows workers log ours g = record {
 
 -- where every ticket is ours
 pub none-twice : NoneIsExecutedTwice
-none-twice log g ticket = g.once ticket tt
+none-twice initial log g ticket = g.once ticket tt
 
 pub each-arrived : EachExecutionArrived
-each-arrived log g i e it = g.arrived i e it tt
+each-arrived initial log g i e it = g.arrived i e it tt

@@ -4,7 +4,7 @@ use Rattle.std.specs.Prelude.{slice_get, slice_set, map, count_by}
 use Rattle.std.proofs.lemmas.Option.{slice_get_within}
 use Rattle.std.proofs.lemmas.List.Sums.{sum_by-cons}
 use Rattle.key_split.specs.declared.travel.Ticket.{Ticket}
-use Rattle.world_laws.specs.State.{WorldModel, Link, start, awaiting, after_told}
+use Rattle.world_laws.specs.State.{WorldModel, Link, start_from, awaiting, after_told}
 use Rattle.world_laws.specs.World.{WorldDoes, Way, GoOut, ServesAsking, ServesRun, FetchesWelcome, FetchesReply, next_ticket}
 use Rattle.world_laws.specs.Places.{total, tally, in_lane, in_link}
 use Rattle.world_laws.specs.declared.state.Arrival.{Arrival}
@@ -150,5 +150,5 @@ rising-walk n (Step.Passes ∷ ss) w w' s r x = rising-walk n ss x.0 w' (does-st
 
 pub walked-rising : (w : WorldModel) → IsSharedWalked w → Rising w.commands
 walked-rising w h i j c d p q lt same =
-    rising-walk h.0 h.3 (start h.0 h.1 h.2) w (start-steady h.0 h.1 h.2 h.4) (λ i j t u p. absurd (nothing-there i t p)) h.5 i j c.command.ticket d.command.ticket
+    rising-walk h.0 h.4 (start_from h.0 h.1 h.2 h.3) w (start-steady h.0 h.1 h.2 h.3 h.5) (λ i j t u p. absurd (nothing-there i t p)) h.6 i j c.command.ticket d.command.ticket
     (map-at (λ (c : Arrival). c.command.ticket) w.commands i c p) (map-at (λ (c : Arrival). c.command.ticket) w.commands j d q) lt same

@@ -4,7 +4,7 @@ use Rattle.std.specs.Prelude.{slice_get, slice_set, take, drop, length, Option, 
 use Rattle.std.specs.List.{FoldsTo}
 use mathlib.Core.List.{IsPrefix}
 use Rattle.std.proofs.lemmas.List.{take-append-drop}
-use Rattle.std.specs.FinMap.{FinMap, get, insert, get-insert}
+use Rattle.std.specs.FinMap.{FinMap, empty, get, insert, get-insert}
 use Rattle.std.specs.Ordering.{nat_cmp, eq_by_cmp}
 use Rattle.std.specs.Cmp.{nat_cmp_total}
 use Rattle.key_split.specs.Runs.{RunModel}
@@ -95,7 +95,7 @@ front-of xs all first = (drop (length xs) all, ap (λ ys. ys ++ drop (length xs)
 
 module _ {C J : Type 0} where
   abbrev pub scene : WorkerModel C J → CarrierModel (Newcomer C J) Wire → List Wire → ℕ → ClusterModel → List Mark → System C J
-  scene worker carrier closed opened cluster log = record { workers = worker ∷ []; carrier = carrier; closed = closed; opened = opened; cluster = cluster; nodes = table; log = log }
+  scene worker carrier closed opened cluster log = record { workers = worker ∷ []; carrier = carrier; closed = closed; opened = opened; cluster = cluster; initial = empty; nodes = table; log = log }
 
   -- ---- lanes in order
 

@@ -32,6 +32,7 @@ use Rattle.turn_laws.specs.Scripts as script
 use Rattle.turn_laws.proofs.Elements.{nothing-there}
 use Rattle.turn_laws.proofs.Rings.{takes-none}
 use Rattle.turn_laws.proofs.Scenes.{scene, at-worker, at-carrier, down-in}
+use Rattle.world_laws.proofs.Sound.{new-sound}
 use Rattle.turn_laws.proofs.ScriptFacts.{table, seed_alone, new, k0, k1, k2, k3, k4, k5}
 use Rattle.turn_laws.proofs.ScriptStates.{new_lane, carrier, worker, wire, link}
 
@@ -139,7 +140,7 @@ module _ {C J : Type 0} (port : C) where
     published = refl;
     closed = refl;
     log = refl;
-    new = is-new;
+    sound = new-sound k is-new;
   }
 
   pub starts : IsStart s0

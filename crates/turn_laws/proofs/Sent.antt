@@ -126,6 +126,7 @@ module _ {C J : Type 0} (s s' : System C J) (w : WorldModel) (h : IsShadow s w) 
   goes1 = record {
     workers = refl;
     cluster = refl;
+    initial = refl;
     log = refl;
     nodes = refl;
     table = h.table;
@@ -137,6 +138,7 @@ module _ {C J : Type 0} (s s' : System C J) (w : WorldModel) (h : IsShadow s w) 
   goes2 = record {
     workers = ap (λ (x : System C J). x.workers) on.leaves;
     cluster = ap (λ (x : System C J). x.cluster) on.leaves;
+    initial = ap (λ (x : System C J). x.initial) on.leaves;
     log = ap (λ (x : System C J). x.log) on.leaves;
     nodes = ap (λ (x : System C J). x.nodes) on.leaves;
     table = on.table;

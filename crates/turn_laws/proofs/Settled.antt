@@ -49,6 +49,7 @@ log-on log w w' same history answers later h = record {
 pub record Goes {C J : Type 0} (s s' : System C J) : Type 0 where
   pub workers : s'.workers ≡ s.workers
   pub cluster : s'.cluster ≡ s.cluster
+  pub initial : s'.initial ≡ s.initial
   pub log : s'.log ≡ s.log
   pub nodes : s'.nodes ≡ s.nodes
   pub table : IsPrefix s'.carrier.nodes s.nodes
@@ -59,6 +60,7 @@ pub goes-of : {C J : Type 0} (event : CarrierEvent) (s s' : System C J) → Carr
 goes-of {C} {J} event s s' step = record {
   workers = ap (λ (x : System C J). x.workers) step.leaves;
   cluster = ap (λ (x : System C J). x.cluster) step.leaves;
+  initial = ap (λ (x : System C J). x.initial) step.leaves;
   log = ap (λ (x : System C J). x.log) step.leaves;
   nodes = ap (λ (x : System C J). x.nodes) step.leaves;
   table = step.table;
@@ -89,6 +91,7 @@ module _ {C J : Type 0} where
         workers = ap length workers ∙ h.workers;
         limit = h.limit;
         cluster = h.cluster ∙ sym cluster;
+        initial = h.initial ∙ sym step.initial;
         apart = subst AreApart (sym step.nodes) h.apart;
         room = subst (λ (ns : List Endpoint). length ns ≤ most_nodes) (sym step.nodes) h.room;
         table = subst (IsPrefix s'.carrier.nodes) (sym step.nodes) step.table;

@@ -3,7 +3,7 @@ use Rattle.std.proofs.Common.{ℕ, ◌+◌, Bool, List, [], ◌∷◌, ◌++◌,
 use Rattle.std.specs.List.{FoldsTo}
 use Rattle.key_split.specs.Laws.{PlansArePlain}
 use Rattle.node_model.specs.Nodes.{ClusterModel}
-use Rattle.world_laws.specs.State.{WorldModel, start}
+use Rattle.world_laws.specs.State.{WorldModel, start_from}
 use Rattle.world_laws.proofs.Nodes.{size-with_store}
 use Rattle.shared_laws.specs.Shared.{OthersExecute, SharedDoes, Step}
 use Rattle.turn_laws.specs.Wire.{Execution}
@@ -33,6 +33,7 @@ module _ {C J : Type 0} where
       workers = h.workers;
       limit = h.limit;
       cluster = refl;
+      initial = h.initial;
       apart = h.apart;
       room = h.room;
       table = h.table;
@@ -79,7 +80,7 @@ module _ (C J : Type 0) (plain : PlansArePlain) where
       let one = others-step node asking done s f.0 w h f.1 in
       let step : Step = Step.Theirs node asking (entries_at (w.moment + 1) done) in
       all events f.0 s' one.0 one.2 (others-names node asking done s f.0 names f.1)
-      (r.0, r.1, r.2, r.3 ++ step ∷ [], r.4, shared-join r.3 (step ∷ []) (start r.0 r.1 r.2) w one.0 r.5 (one.0, one.1, refl)) f.2
+      (r.0, r.1, r.2, r.3, r.4 ++ step ∷ [], r.5, shared-join r.4 (step ∷ []) (start_from r.0 r.1 r.2 r.3) w one.0 r.6 (one.0, one.1, refl)) f.2
 
   pub shared-refines : SharedRefines C J
   shared-refines s s' events h f =

@@ -9,7 +9,7 @@ use Rattle.proxy_turns.specs.declared.pending_run.PendingRun.{PendingRun}
 use Rattle.proxy_turns.specs.ClientModel.{ClientModel}
 use Rattle.proxy_turns.specs.Commands.{most_together}
 use Rattle.proxy_turns.specs.WorkerModel.{WorkerModel}
-use Rattle.world_laws.specs.State.{WorldModel, start}
+use Rattle.world_laws.specs.State.{WorldModel, start_from}
 use Rattle.world_laws.specs.Places.{total, is}
 use Rattle.world_laws.proofs.Tally.{total-append, total-one}
 use Rattle.turn_laws.specs.Walks.{IsWalked}
@@ -43,7 +43,7 @@ module _ {C J : Type 0} where
 
   module _ (s : System C J) (h : IsStart s) where
     abbrev pub first : WorldModel
-    first = start (length s.workers) most_together s.cluster
+    first = start_from (length s.workers) most_together s.initial s.cluster
 
     no-downs : (f : Pair → ℕ) → total f (downs_of s) ≡ 0
     no-downs f = omega (
@@ -83,6 +83,7 @@ module _ {C J : Type 0} where
       workers = refl;
       limit = omega arith;
       cluster = refl;
+      initial = refl;
       apart = h.apart;
       room = h.room;
       table = h.table;
@@ -124,7 +125,7 @@ module _ {C J : Type 0} where
     }
 
     pub alone : IsWalked first
-    alone = (length s.workers, most_together, s.cluster, [], h.new, refl)
+    alone = (length s.workers, most_together, s.initial, s.cluster, [], h.sound, refl)
 
 module _ (C J : Type 0) where
   pub start-shadow : (s : System C J) → IsStart s → (w : WorldModel) × IsWalked w × IsShadow s w × NamesNodes s

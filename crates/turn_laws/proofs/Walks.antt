@@ -1,6 +1,6 @@
 -- What every step keeps holds after every walk.
 use Rattle.std.proofs.Common.{ℕ, List, [], ◌∷◌, ◌++◌, map, sym, subst}
-use Rattle.world_laws.specs.State.{WorldModel, start}
+use Rattle.world_laws.specs.State.{WorldModel, start_from}
 use Rattle.world_laws.specs.declared.event.Event.{Event}
 use Rattle.world_laws.proofs.Placed.{Standing}
 use Rattle.world_laws.proofs.Runs.{Sound, does-sound, start-sound, headline}
@@ -13,7 +13,7 @@ walk-sound [] w w' s r = subst Sound (sym r) s
 walk-sound (e ∷ es) w w' s r = walk-sound es r.0 w' (does-sound e w r.0 s r.1) r.2
 
 pub walked-steady : (w : WorldModel) (h : IsSharedWalked w) → Steady h.0 w
-walked-steady w h = go h.0 h.3 (start h.0 h.1 h.2) w (start-steady h.0 h.1 h.2 h.4) h.5
+walked-steady w h = go h.0 h.4 (start_from h.0 h.1 h.2 h.3) w (start-steady h.0 h.1 h.2 h.3 h.5) h.6
   where
     go : (n : ℕ) (ss : List Step) (w w' : WorldModel) → Steady n w → SharedWalk w ss w' → Steady n w'
     go n [] w w' s r = subst (Steady n) (sym r) s
@@ -23,7 +23,7 @@ pub walked-stands : (w : WorldModel) → IsSharedWalked w → Standing w
 walked-stands w h = steady-stands h.0 w (walked-steady w h)
 
 pub every_walk : EveryWalk
-every_walk w h = headline w (walk-sound h.3 (start h.0 h.1 h.2) w (start-sound h.0 h.1 h.2 h.4) h.5)
+every_walk w h = headline w (walk-sound h.4 (start_from h.0 h.1 h.2 h.3) w (start-sound h.0 h.1 h.2 h.3 h.5) h.6)
 
 pub every_shared_walk : EverySharedWalk
 every_shared_walk w h = shared-headline h.0 w (walked-steady w h)
@@ -44,11 +44,11 @@ walk-shared (e ∷ es) w w' r = (r.0, r.1, walk-shared es r.0 w' r.2)
 
 -- events lead on
 pub walked-on : (w v : WorldModel) (es : List Event) → IsSharedWalked w → Walk w es v → IsSharedWalked v
-walked-on w v es h r = (h.0, h.1, h.2, h.3 ++ map Step.Ours es, h.4, shared-join h.3 (map Step.Ours es) (start h.0 h.1 h.2) w v h.5 (walk-shared es w v r))
+walked-on w v es h r = (h.0, h.1, h.2, h.3, h.4 ++ map Step.Ours es, h.5, shared-join h.4 (map Step.Ours es) (start_from h.0 h.1 h.2 h.3) w v h.6 (walk-shared es w v r))
 
 -- and so they do where nobody else acts
 pub alone-on : (w v : WorldModel) (es : List Event) → IsWalked w → Walk w es v → IsWalked v
-alone-on w v es h r = (h.0, h.1, h.2, h.3 ++ es, h.4, walks_join h.3 es (start h.0 h.1 h.2) w v h.5 r)
+alone-on w v es h r = (h.0, h.1, h.2, h.3, h.4 ++ es, h.5, walks_join h.4 es (start_from h.0 h.1 h.2 h.3) w v h.6 r)
 
 pub alone-walked : (w : WorldModel) → IsWalked w → IsSharedWalked w
-alone-walked w h = (h.0, h.1, h.2, map Step.Ours h.3, h.4, walk-shared h.3 (start h.0 h.1 h.2) w h.5)
+alone-walked w h = (h.0, h.1, h.2, h.3, map Step.Ours h.4, h.5, walk-shared h.4 (start_from h.0 h.1 h.2 h.3) w h.6)

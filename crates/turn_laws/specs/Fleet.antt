@@ -55,7 +55,7 @@ module _ (C J : Type 0) where
   -- the headline holds of each proxy's commands, and the nodes hold the store that its log leaves
   abbrev pub EveryFleet : Type 0
   EveryFleet = (f f' : Fleet) (events : List FleetEvent) → IsFleetStart f → FleetRun f events f'
-      → (p : ℕ) → SharedLogHeadline (length (f' p).workers) (f' p).log × IsHeld (f' p).log (f' p).cluster
+      → (p : ℕ) → SharedLogHeadline (f' p).initial (length (f' p).workers) (f' p).log × IsHeld (f' p).initial (f' p).log (f' p).cluster
 
   -- What a proxy of a fleet did is steps of its own and of others. So it stands for a world of the machine beside others; its nodes' endpoints
   -- are what they were, and no slot stands at a node that is not of the cluster, if none did.

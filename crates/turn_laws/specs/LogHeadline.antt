@@ -4,7 +4,7 @@
 -- executed at once is one mark, in its order.
 use Rattle.std.specs.Prelude.{◌≡◌, ◌≢◌, ◌↔◌, ℕ, ◌<◌, List, [], ◌∷◌, Some, slice_get}
 use Rattle.std.specs.List.{FoldsTo, flat_map}
-use Rattle.std.specs.FinMap.{empty, get}
+use Rattle.std.specs.FinMap.{get}
 use Rattle.resp_wire.specs.Seen.{data_of}
 use Rattle.resp_wire.specs.declared.value.Value.{Value}
 use Rattle.slot_hash.specs.Slot.{slot_of}
@@ -55,11 +55,11 @@ HasOne log ticket = (k l : ℕ) (e f : Execution) → At (history log) k e → A
 abbrev pub SameTurn : Execution → Execution → Type 0
 SameTurn e f = (e.ticket.client ≡ f.ticket.client) × (slot_of e.part.key ≡ slot_of f.part.key)
 
--- `Ours` says of a ticket whether a command of ours has it. What was executed with another is somebody else's: of this it is said that it is
+-- `initial` is what the nodes held together at the start. `Ours` says of a ticket whether a command of ours has it. What was executed with another is somebody else's: of this it is said that it is
 -- legal, and that only what goes together was executed at once.
-pub record LogHeadlineOf (Ours : Ticket → Type 0) (log : List Mark) : Type 0 where
-  -- what was executed, of everybody's, in order, is one legal history of one store, which is empty at first
-  pub legal : IsLegal empty (history log)
+pub record LogHeadlineOf (initial : StoreModel) (Ours : Ticket → Type 0) (log : List Mark) : Type 0 where
+  -- what was executed, of everybody's, in order, is one legal history of one store, which holds that at first
+  pub legal : IsLegal initial (history log)
   -- a command that was answered with a value was executed, with that value, between its arrival and its answer
   pub answered : (n : ℕ) (ticket : Ticket) (value : Value) → At log n (Answered ticket (ended.Answered value))
       → (a : ℕ) × (i : ℕ) × (e : Execution) × At log a (Arrived ticket e.part) × IsExecutedAt log i e
@@ -92,8 +92,8 @@ pub record LogHeadlineOf (Ours : Ticket → Type 0) (log : List Mark) : Type 0 w
       → (n : ℕ) (end' : Ended) → At log n (Answered ticket' end') → (m : ℕ) × (end : Ended) × At log m (Answered ticket end) × (m < n)
 
 -- where nobody else acts every ticket is ours
-abbrev pub LogHeadline : List Mark → Type 0
-LogHeadline log = LogHeadlineOf AnyTicket log
+abbrev pub LogHeadline : StoreModel → List Mark → Type 0
+LogHeadline initial log = LogHeadlineOf initial AnyTicket log
 
 -- the store that these leave
 abbrev pub left_by : StoreModel → List Execution → StoreModel
@@ -101,23 +101,23 @@ left_by store [] = store
 left_by store (e ∷ es) = left_by (store_after store e.part) es
 
 -- these nodes hold the store that the log leaves, each key at one node
-pub record IsHeld (log : List Mark) (cluster : ClusterModel) : Type 0 where
+pub record IsHeld (initial : StoreModel) (log : List Mark) (cluster : ClusterModel) : Type 0 where
   pub one_node : (key : List ℕ) (n m : ℕ) (a b : List ℕ) → at cluster n key ≡ Some a → at cluster m key ≡ Some b → n ≡ m
-  pub union : (key value : List ℕ) → (get (left_by empty (history log)) key ≡ Some value) ↔ ((n : ℕ) × (at cluster n key ≡ Some value))
+  pub union : (key value : List ℕ) → (get (left_by initial (history log)) key ≡ Some value) ↔ ((n : ℕ) × (at cluster n key ≡ Some value))
 
 module _ (C J : Type 0) where
   -- whatever a system does from its start, the headline holds of its log,
   abbrev pub HeadlineOfLogs : Type 0
-  HeadlineOfLogs = (s s' : System C J) (events : List SystemEvent) → IsStart s → FoldsTo SystemStep s events s' → LogHeadline s'.log
+  HeadlineOfLogs = (s s' : System C J) (events : List SystemEvent) → IsStart s → FoldsTo SystemStep s events s' → LogHeadline s'.initial s'.log
 
   -- and its nodes hold the store that the log leaves
   abbrev pub LogsAreHeld : Type 0
-  LogsAreHeld = (s s' : System C J) (events : List SystemEvent) → IsStart s → FoldsTo SystemStep s events s' → IsHeld s'.log s'.cluster
+  LogsAreHeld = (s s' : System C J) (events : List SystemEvent) → IsStart s → FoldsTo SystemStep s events s' → IsHeld s'.initial s'.log s'.cluster
 
 -- Where nobody else acts, there is no more to its two fields that ask whether what was executed is ours: they hold of all.
 abbrev pub NoneIsExecutedTwice : Type 0
-NoneIsExecutedTwice = (log : List Mark) → LogHeadline log → (ticket : Ticket) → HasOne log ticket
+NoneIsExecutedTwice = (initial : StoreModel) (log : List Mark) → LogHeadline initial log → (ticket : Ticket) → HasOne log ticket
 
 abbrev pub EachExecutionArrived : Type 0
-EachExecutionArrived = (log : List Mark) → LogHeadline log → (i : ℕ) (e : Execution) → IsExecutedAt log i e
+EachExecutionArrived = (initial : StoreModel) (log : List Mark) → LogHeadline initial log → (i : ℕ) (e : Execution) → IsExecutedAt log i e
     → (a : ℕ) × At log a (Arrived e.ticket e.part) × (a < i)

@@ -11,8 +11,8 @@ use Rattle.turn_laws.specs.SharedLog.{SharedLogHeadline}
 
 -- what events reached tells it, moment by moment,
 abbrev pub LogsTellHeadlines : Type 0
-LogsTellHeadlines = (log : List Mark) (w : WorldModel) → LogShadow log w → IsSharedWalked w → Headline w → LogHeadline log
+LogsTellHeadlines = (log : List Mark) (w : WorldModel) → LogShadow log w → IsSharedWalked w → Headline w → LogHeadline w.initial log
 
 -- beside others too
 abbrev pub LogsTellOfOurs : Type 0
-LogsTellOfOurs = (log : List Mark) (w : WorldModel) → LogShadow log w → IsSharedWalked w → SharedHeadline w → SharedLogHeadline w.workers log
+LogsTellOfOurs = (log : List Mark) (w : WorldModel) → LogShadow log w → IsSharedWalked w → SharedHeadline w → SharedLogHeadline w.initial w.workers log

@@ -8,7 +8,7 @@ use Rattle.proxy_lanes.specs.declared.ends.lane_ends.LaneEnds.{LaneEnds}
 use Rattle.proxy_turns.specs.declared.newcomer.Newcomer.{Newcomer}
 use Rattle.proxy_turns.specs.WorkerModel.{WorkerModel, WorkerEvent}
 use Rattle.world_laws.specs.State.{WorldModel}
-use Rattle.world_laws.specs.Headline.{Headline, IsNew}
+use Rattle.world_laws.specs.Headline.{Headline, IsSound}
 use Rattle.world_laws.specs.declared.event.Event.{Event}
 use Rattle.turn_laws.specs.Walks.{Walk, IsSharedWalked, IsWalked}
 use Rattle.turn_laws.specs.System.{System, between, IsInStep, seat_of}
@@ -19,7 +19,7 @@ use Rattle.turn_laws.specs.Underway.{down_in, DownInStep}
 use Rattle.proxy_turns.specs.CarrierModel.{CarrierEvent}
 use Rattle.turn_laws.specs.Steps.{SystemEvent, AtWorker, AtCarrier, Handed, AtNode, AtBroken, Thrown, Moved, SystemStep}
 
--- nothing has happened: no clients, empty lanes, no backends, settled slots and no keys
+-- nothing has happened: no clients, empty lanes, no backends, before a sound cluster
 pub record IsStart {C J : Type 0} (s : System C J) : Type 0 where
   pub idle : (k : ℕ) (model : WorkerModel C J) → slice_get s.workers k ≡ Some model → (seat_of model ≡ (k, length s.workers)) × (model.clients ≡ empty)
   pub ups : (k : ℕ) (model : WorkerModel C J) (lane : LaneEnds (Newcomer C J)) → slice_get s.workers k ≡ Some model → slice_get s.carrier.lanes k ≡ Some lane
@@ -41,7 +41,8 @@ pub record IsStart {C J : Type 0} (s : System C J) : Type 0 where
   pub published : s.carrier.published ≡ []
   pub closed : s.closed ≡ []
   pub log : s.log ≡ []
-  pub new : IsNew s.cluster
+  -- the nodes may hold keys, and slots may be on their way
+  pub sound : IsSound s.initial s.cluster
 
 module _ (C J : Type 0) where
   -- one step of the system is some events of the machine

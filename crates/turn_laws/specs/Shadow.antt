@@ -326,6 +326,7 @@ pub record IsShadow {C J : Type 0} (s : System C J) (w : WorldModel) : Type 0 wh
   -- the machine's runs may be as long as those that workers post
   pub limit : most_together ≤ w.run_limit
   pub cluster : w.cluster ≡ s.cluster
+  pub initial : w.initial ≡ s.initial
   pub apart : AreApart s.nodes
   -- The carrier's table has room for each node of the cluster, or a redirect would be unclear to it and clear to the machine. It lists
   -- the first of them, and the node of each link.

@@ -6,6 +6,7 @@ use Rattle.key_split.specs.PartModel.{PartModel}
 use Rattle.key_split.specs.declared.travel.Ticket.{Ticket}
 use Rattle.key_split.specs.declared.travel.Ended.{Ended}
 use Rattle.node_model.specs.Nodes.{ClusterModel}
+use Rattle.node_model.specs.Store.{StoreModel}
 use Rattle.proxy_lanes.specs.declared.ring.Outlet.{Outlet}
 use Rattle.proxy_lanes.specs.declared.ring.Inlet.{Inlet}
 use Rattle.proxy_lanes.specs.declared.ring.Numbered.{Numbered}
@@ -30,6 +31,8 @@ pub record System (C J : Type 0) : Type 0 where
   -- how many connections were opened
   pub opened : ℕ
   pub cluster : ClusterModel
+  -- what the nodes held together at the start
+  pub initial : StoreModel
   -- The endpoint of each node of the cluster. They have the order in which the carrier's table learns them; the others stand behind.
   pub nodes : List Endpoint
   pub log : List Mark

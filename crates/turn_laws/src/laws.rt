@@ -10,7 +10,7 @@ ghost use Rattle.turn_laws.specs.Scripts.{GivesBack, LosesCommands, MisreadsLine
 ghost use Rattle.turn_laws.specs.Refines.{CarrierRefines, HandedRefine, MovesRefine, NamesStay, NodesRefine, Refines, StartsRefine, ThrownRefine, WorkersRefine};
 ghost use Rattle.turn_laws.specs.LogHeadline.{HeadlineOfLogs, LogsAreHeld};
 ghost use Rattle.turn_laws.specs.SharedScripts.{OthersActBetween, ProxiesMeet};
-ghost use Rattle.turn_laws.specs.SharedLog.{HeadlineOfSharedLogs, SharedLogsAreHeld};
+ghost use Rattle.turn_laws.specs.SharedLog.{HeadlineOfSharedLogs, SharedEndsAreSound, SharedLogsAreHeld};
 ghost use Rattle.turn_laws.specs.Sharing.{SharedRefines};
 ghost use Rattle.turn_laws.specs.Fleet.{EveryFleet, FleetFollows, FleetsStand};
 ghost use Rattle.turn_laws.specs.Unclear.{HeardAlike, UnclearIsRefusal};
@@ -108,11 +108,12 @@ pub fn headline_of_logs<C: Drop, J: Naming>()
 }
 
 /// The same where other clients of the cluster act between its steps: other proxies, scripts, keys that expire. The headline holds
-/// of the system's own commands, in one legal history of everybody's.
+/// of the system's own commands, in one legal history of everybody's; and what is left is sound, so another proxy can begin there.
 pub fn headline_beside_others<C: Drop, J: Naming>()
     ensures refines { SharedRefines C J }
     ensures headline { HeadlineOfSharedLogs C J }
     ensures held { SharedLogsAreHeld C J }
+    ensures ends { SharedEndsAreSound C J }
 {
     parts_of_plans_are_plain();
 }

@@ -1,6 +1,7 @@
 -- A play over new lanes begins at a start.
 use Rattle.std.proofs.Common.{◌≡◌, ℕ, zero, suc, ◌+◌, List, [], ◌∷◌, ◌++◌, Some, None, refl, sym, ap, ◌∙◌, subst, arith, length, Ok, Err}
 use Rattle.std.specs.Prelude.{IfOk, Option, Result, IsSome, IsSomeAnd, map, drop, slice_get, slice_set}
+use Rattle.node_model.specs.Store.{StoreModel}
 use Rattle.key_split.specs.declared.travel.Ticket.{Ticket}
 use Rattle.key_split.specs.declared.travel.Told.{Told}
 use Rattle.proxy_lanes.specs.declared.ring.Outlet.{Outlet}
@@ -96,7 +97,7 @@ module _ {C J : Type 0} (left : Option ℕ) (ends : List (WorkerEnds (Newcomer C
 
 module _ (C J : Type 0) where
   pub plays-start : PlaysStart C J
-  plays-start left ends lanes published table cluster nodes begins = let are = begins.are_open in (
+  plays-start initial left ends lanes published table cluster nodes begins = let are = begins.are_open in (
     record { workers = refl; carrier = ([], tt, refl); cluster = refl; nodes = refl },
     record {
       idle = λ k model at.
@@ -126,7 +127,7 @@ module _ (C J : Type 0) where
       published = begins.none_published;
       closed = refl;
       log = refl;
-      new = begins.is_new;
+      sound = begins.sound;
     },
     record { named = begins.listed.named; stands = begins.stands },
   )
@@ -166,6 +167,6 @@ module _ (H J : Type 0) where
       subst (λ lanes. AreOpenFrom workers k ends lanes) (sym x.3) (handed-at workers k ends old worker x.0 x.1 are x.2 x.4.0)
 
 -- a play that is this one shows the start that this one shows
-pub started : {A E C J : Type 0} (result : Result A E) (model : A → PlayModel C J) (first : PlayModel C J) → ShowsStart first → IfOk result (λ play. model play ≡ first) → IfOk result (λ play. ShowsStart (model play))
-started (Ok play) model first shows is = subst ShowsStart (sym is) shows
-started (Err fault) model first shows is = is
+pub started : {A E C J : Type 0} (initial : StoreModel) (result : Result A E) (model : A → PlayModel C J) (first : PlayModel C J) → ShowsStart initial first → IfOk result (λ play. model play ≡ first) → IfOk result (λ play. ShowsStart initial (model play))
+started initial (Ok play) model first shows is = subst (ShowsStart initial) (sym is) shows
+started initial (Err fault) model first shows is = is

@@ -76,7 +76,7 @@ module _ {C J : Type 0} where
   -- everybody's, and its nodes hold the store that the log leaves; and the machine beside others may do what they did.
   abbrev pub HoldsBeside : System C J → List (StepBeside C J) → System C J → Type 0
   HoldsBeside start steps s' =
-      FoldsTo SharedSystemStep start (shared_events_of steps) s' × SharedLogHeadline (length s'.workers) s'.log × IsHeld s'.log s'.cluster
+      FoldsTo SharedSystemStep start (shared_events_of steps) s' × SharedLogHeadline s'.initial (length s'.workers) s'.log × IsHeld s'.initial s'.log s'.cluster
       × ((w : WorldModel) × IsSharedWalked w × IsShadow s' w × SharedHeadline w)
 
 module _ (C J : Type 0) where

@@ -105,7 +105,7 @@ module _ {C J : Type 0} where
 module _ (C J : Type 0) where
   -- where a system was reached and nobody else acted, the headline holds of the whole log
   abbrev pub ReachedAlone : Type 0
-  ReachedAlone = (start s : System C J) (steps : List (StepBeside C J)) → IsReached start steps s → All (λ (step : StepBeside C J). IsOwn step.event) steps → LogHeadline s.log × IsHeld s.log s.cluster
+  ReachedAlone = (start s : System C J) (steps : List (StepBeside C J)) → IsReached start steps s → All (λ (step : StepBeside C J). IsOwn step.event) steps → LogHeadline s.initial s.log × IsHeld s.initial s.log s.cluster
 
 module _ (C J : Type 0) (moves : Moves C) (gives_none takes_none : C → Type 0) where
   -- whatever orders were obeyed, the play goes on so

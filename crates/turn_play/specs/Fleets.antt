@@ -40,7 +40,7 @@ module _ {C J : Type 0} where
 
   -- the headline holds of each proxy's commands, and its nodes hold the store that its log leaves
   abbrev pub HoldsOfAll : Fleet C J → Type 0
-  HoldsOfAll f = (q : ℕ) → SharedLogHeadline (length (f q).workers) (f q).log × IsHeld (f q).log (f q).cluster
+  HoldsOfAll f = (q : ℕ) → SharedLogHeadline (f q).initial (length (f q).workers) (f q).log × IsHeld (f q).initial (f q).log (f q).cluster
 
   -- From this fleet, which was reached, steps of proxy p lead to one that shows the plays after a call of play p, and the headline holds of it.
   abbrev pub FleetGoes : (ℕ → PlayModel C J) → ℕ → PlayModel C J → Fleet C J → List FleetEvent → Type 0

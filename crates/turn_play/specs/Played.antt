@@ -39,7 +39,7 @@ module _ {C J : Type 0} where
   -- machine may do what they did.
   abbrev pub Holds : System C J → List (Step C J) → System C J → Type 0
   Holds start steps s' =
-      FoldsTo SystemStep start (events_of steps) s' × LogHeadline s'.log × IsHeld s'.log s'.cluster
+      FoldsTo SystemStep start (events_of steps) s' × LogHeadline s'.initial s'.log × IsHeld s'.initial s'.log s'.cluster
       × ((w : WorldModel) × IsWalked w × IsShadow s' w × Headline w)
 
 module _ (C J : Type 0) where

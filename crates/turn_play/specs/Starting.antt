@@ -1,9 +1,10 @@
--- Where a play begins: over lanes in which nothing was posted, with no connection, and nodes that hold no key.
+-- Where a play begins: over lanes in which nothing was posted, with no connection, before a sound cluster.
 use Rattle.std.specs.Prelude.{◌≡◌, ◌<◌, ◌≤◌, ◌+◌, ℕ, List, All, [], ◌∷◌, Option, IsSomeAnd, Result, length}
 use mathlib.Core.List.{IsPrefix}
 use Rattle.slot_map.specs.Table.{Endpoint}
 use Rattle.slot_map.specs.declared.ops.MapOp.{MapOp}
 use Rattle.node_model.specs.Nodes.{ClusterModel}
+use Rattle.node_model.specs.Store.{StoreModel}
 use Rattle.proxy_lanes.specs.declared.ends.lane_ends.LaneEnds.{LaneEnds}
 use Rattle.proxy_lanes.specs.declared.ends.WorkerEnds.{WorkerEnds}
 use Rattle.proxy_lanes.specs.Lane.{IsNewLane}
@@ -13,7 +14,7 @@ use Rattle.proxy_turns.specs.declared.newcomer.Newcomer.{Newcomer}
 use Rattle.proxy_turns.specs.WorkerModel.{WorkerModel}
 use Rattle.proxy_turns.specs.Worker.{new_worker}
 use Rattle.proxy_turns.specs.CarrierModel.{new_carrier}
-use Rattle.world_laws.specs.Headline.{IsNew}
+use Rattle.world_laws.specs.Headline.{IsSound}
 use Rattle.turn_laws.specs.System.{System}
 use Rattle.turn_laws.specs.Endpoints.{AreApart, most_nodes}
 use Rattle.turn_laws.specs.AnyPort.{over_wires}
@@ -38,9 +39,9 @@ abbrev pub workers_on : {C J : Type 0} → Option ℕ → List (WorkerEnds (Newc
 workers_on left [] = []
 workers_on left (ends ∷ more) = new_worker ends left ∷ workers_on left more
 
--- the system of a play that has done nothing
-abbrev pub start_of : {C J : Type 0} → PlayModel C J → System C J
-start_of play = record { workers = play.workers; carrier = over_wires play.carrier []; closed = []; opened = 0; cluster = play.cluster; nodes = play.nodes; log = [] }
+-- the system of a play that has done nothing, before nodes that hold this store
+abbrev pub start_of : {C J : Type 0} → StoreModel → PlayModel C J → System C J
+start_of initial play = record { workers = play.workers; carrier = over_wires play.carrier []; closed = []; opened = 0; cluster = play.cluster; initial = initial; nodes = play.nodes; log = [] }
 
 -- a play over these ends of lanes, whose carrier has this table, and has published these operations of the slot map
 abbrev pub new_play : {C J : Type 0} → Option ℕ → List (WorkerEnds (Newcomer C J) J) → List (LaneEnds (Newcomer C J)) → List MapOp → List Endpoint → ClusterModel → List Endpoint → PlayModel C J
@@ -55,24 +56,24 @@ pub record AreListedFrom (table : List Endpoint) (cluster : ClusterModel) (nodes
   pub front : IsPrefix table nodes
   pub seed : 0 < length table
 
--- Over such lanes, with nothing published and a new cluster. That its slots stand at its nodes is a clause of its own: that it is new says
--- that they are settled, and not where. Of a cluster that `Cluster::new` made both hold.
-pub record IsBeginning {H J : Type 0} (ends : List (WorkerEnds H J)) (lanes : List (LaneEnds H)) (published : List MapOp) (table : List Endpoint) (cluster : ClusterModel) (nodes : List Endpoint) : Type 0 where
+-- Over such lanes, with nothing published, before a sound cluster whose slots stand at its nodes. It may hold keys, and slots may be on
+-- their way. Of a cluster that `Cluster::new` made both hold, with nothing in it.
+pub record IsBeginning {H J : Type 0} (initial : StoreModel) (ends : List (WorkerEnds H J)) (lanes : List (LaneEnds H)) (published : List MapOp) (table : List Endpoint) (cluster : ClusterModel) (nodes : List Endpoint) : Type 0 where
   pub are_open : AreOpenFrom (length ends) 0 ends lanes
   pub none_published : published ≡ []
-  pub is_new : IsNew cluster
+  pub sound : IsSound initial cluster
   pub stands : StandsAtItsNodes cluster
   pub listed : AreListedFrom table cluster nodes
 
 -- a system shows this play, has done nothing, and hears its nodes
-abbrev pub ShowsStart : {C J : Type 0} → PlayModel C J → Type 0
-ShowsStart play = Shows play (start_of play) × IsStart (start_of play) × HearsItsNodes (start_of play)
+abbrev pub ShowsStart : {C J : Type 0} → StoreModel → PlayModel C J → Type 0
+ShowsStart initial play = Shows play (start_of initial play) × IsStart (start_of initial play) × HearsItsNodes (start_of initial play)
 
 module _ (C J : Type 0) where
   -- so a play shows a start
   abbrev pub PlaysStart : Type 0
-  PlaysStart = (left : Option ℕ) (ends : List (WorkerEnds (Newcomer C J) J)) (lanes : List (LaneEnds (Newcomer C J))) (published : List MapOp) (table : List Endpoint) (cluster : ClusterModel) (nodes : List Endpoint)
-      → IsBeginning ends lanes published table cluster nodes → ShowsStart (new_play left ends lanes published table cluster nodes)
+  PlaysStart = (initial : StoreModel) (left : Option ℕ) (ends : List (WorkerEnds (Newcomer C J) J)) (lanes : List (LaneEnds (Newcomer C J))) (published : List MapOp) (table : List Endpoint) (cluster : ClusterModel) (nodes : List Endpoint)
+      → IsBeginning initial ends lanes published table cluster nodes → ShowsStart initial (new_play left ends lanes published table cluster nodes)
 
 module _ (H J : Type 0) where
   -- lanes that were made are such

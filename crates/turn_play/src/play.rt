@@ -4,6 +4,7 @@ ghost use Rattle.std.specs.Prelude.{◌≡◌, All, IfOk, map};
 ghost use Rattle.proxy_lanes.specs.Carrier.{lanes_of};
 ghost use Rattle.proxy_turns.specs.Worker.{worker_model};
 ghost use Rattle.node_model.specs.Nodes.{ClusterModel};
+ghost use Rattle.node_model.specs.Store.{StoreModel};
 ghost use Rattle.turn_play.specs.Deeds.{PlaysOn};
 ghost use Rattle.turn_play.specs.Handing.{HandsClient, HandsOn};
 ghost use Rattle.turn_play.specs.Obeying.{IsOurs, Obeys, ObeysAll, OthersCome, TurnsCarrier, TurnsWorker};
@@ -56,7 +57,7 @@ impl<'g, C: ClientPort + Drop, J: Naming, R: Wait + Drop, G: Gate> Play<'g, C, J
         nodes: NodeTable,
     ) -> Result<Self, NoMemory>
         ensures model { (cluster : ClusterModel) → IfOk result (λ play. play_model play cluster ≡ new_play clients worker_ends.items (lanes_of carrier_ends) carrier_ends.map seeds cluster nodes) }
-        ensures starts { (cluster : ClusterModel) → IsBeginning worker_ends.items (lanes_of carrier_ends) carrier_ends.map seeds cluster nodes → IfOk result (λ play. ShowsStart (play_model play cluster)) }
+        ensures starts { (initial : StoreModel) (cluster : ClusterModel) → IsBeginning initial worker_ends.items (lanes_of carrier_ends) carrier_ends.map seeds cluster nodes → IfOk result (λ play. ShowsStart initial (play_model play cluster)) }
     {
         plays_start::<C, J>();
         Self::begin(

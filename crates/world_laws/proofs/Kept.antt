@@ -3,7 +3,7 @@ use Rattle.std.proofs.Common.{◌≡◌, ◌≢◌, ◌⊎◌, inl, inr, ⊎_eli
 use Rattle.std.specs.Prelude.{slice_get, slice_set, All, if◌then◌else◌}
 use Rattle.std.proofs.lemmas.List.Elements.{All-set, All-append}
 use Rattle.std.proofs.lemmas.Bool.Decides.{eqb_tells, nat_tests}
-use Rattle.std.specs.FinMap.{empty, get}
+use Rattle.std.specs.FinMap.{get}
 use Rattle.std.specs.Prelude.{is_some}
 use Rattle.slot_hash.specs.Slot.{slot_of}
 use Rattle.key_split.specs.PartModel.{PartModel, HasOneSlot, keys_of}
@@ -22,6 +22,7 @@ use Rattle.world_laws.specs.declared.state.LinkReply.TheVariants.{Welcome, To}
 use Rattle.world_laws.specs.Places.{Item, total, in_requests, in_backs, in_lane, in_link, tally, is, asks, asks_in_stage, asks_in_told}
 use Rattle.world_laws.specs.Places.Item.{Stands, Lies, Sent, Comes}
 use Rattle.node_model.specs.History.{EntryModel, IsLegal, left_by}
+use Rattle.node_model.specs.Store.{StoreModel}
 use Rattle.node_model.specs.Standings.{SlotStandingModel}
 use Rattle.node_model.specs.Nodes.{ClusterModel, standing_at, at}
 use Rattle.node_model.specs.declared.standing.Phase.TheVariants.{Settled}
@@ -49,8 +50,8 @@ IsAsked w ticket part = HasOneSlot part × (BadAsk w.cluster part → tally (ask
 
 pub record Kept (w : WorldModel) : Type 0 where
   pub apart : (slot : ℕ) → (standing_at w.cluster slot).phase ≢ Settled → (standing_at w.cluster slot).source ≢ (standing_at w.cluster slot).target
-  pub data' : (key : List ℕ) → IsHome (standing_at w.cluster (slot_of key)) (λ m. at w.cluster m key) (get (left_by empty w.history) key)
-  pub legal : IsLegal empty w.history
+  pub data' : (key : List ℕ) → IsHome (standing_at w.cluster (slot_of key)) (λ m. at w.cluster m key) (get (left_by w.initial w.history) key)
+  pub legal : IsLegal w.initial w.history
   pub asked : All (λ c. IsAsked w c.command.ticket c.command.part) w.commands
 
 -- ASKs that are fewer after an event that leaves the nodes
@@ -65,11 +66,11 @@ falls w w' same le t part h = (
 )
 
 -- an event that leaves nodes, history and, but for one, commands
-quiet : (w w' : WorldModel) (k : w'.cluster ≡ w.cluster) (h : w'.history ≡ w.history) → Kept w → All (λ c. IsAsked w' c.command.ticket c.command.part) w'.commands → Kept w'
-quiet w w' k h s asked = record {
+quiet : (w w' : WorldModel) (k : w'.cluster ≡ w.cluster) (b : w'.initial ≡ w.initial) (h : w'.history ≡ w.history) → Kept w → All (λ c. IsAsked w' c.command.ticket c.command.part) w'.commands → Kept w'
+quiet w w' k b h s asked = record {
   apart = subst (λ c. (slot : ℕ) → (standing_at c slot).phase ≢ Settled → (standing_at c slot).source ≢ (standing_at c slot).target) (sym k) s.apart;
-  data' = subst (λ (x : ClusterModel × List EntryModel). (key : List ℕ) → IsHome (standing_at x.0 (slot_of key)) (λ m. at x.0 m key) (get (left_by empty x.1) key)) (λ i. (sym k i, sym h i)) s.data';
-  legal = subst (IsLegal empty) (sym h) s.legal;
+  data' = subst (λ (x : ClusterModel × StoreModel × List EntryModel). (key : List ℕ) → IsHome (standing_at x.0 (slot_of key)) (λ m. at x.0 m key) (get (left_by x.1 x.2) key)) (λ i. (sym k i, sym b i, sym h i)) s.data';
+  legal = subst (λ (x : StoreModel × List EntryModel). IsLegal x.0 x.1) (λ i. (sym b i, sym h i)) s.legal;
   asked = asked;
 }
 
@@ -130,7 +131,7 @@ module _ (w w' : WorldModel) (s : Kept w) where
   post-kept tickets node d =
       let k : w'.cluster ≡ w.cluster = ap (λ (v : WorldModel). v.cluster) d.5 in
       let all' : All (λ x. IsAsked w' x.command.ticket x.command.part) w.commands = all_map (λ x. IsAsked w x.command.ticket x.command.part) (λ x. IsAsked w' x.command.ticket x.command.part) w.commands (λ x. falls w w' k fewer x.command.ticket x.command.part) s.asked in
-      quiet w w' k (ap (λ (v : WorldModel). v.history) d.5) s
+      quiet w w' k (ap (λ (v : WorldModel). v.initial) d.5) (ap (λ (v : WorldModel). v.history) d.5) s
       (subst (All (λ x. IsAsked w' x.command.ticket x.command.part)) (sym (ap (λ (v : WorldModel). v.commands) d.5))
       (gone-out (λ t p. IsAsked w' t p) d.0 node [] tickets w.commands d.1 d.4 all'))
     where
@@ -149,7 +150,7 @@ module _ (w w' : WorldModel) (s : Kept w) where
       let k : w'.cluster ≡ w.cluster = ap (λ (v : WorldModel). v.cluster) d.7 in
       let all' : All (λ x. IsAsked w' x.command.ticket x.command.part) w.commands = all_map (λ x. IsAsked w x.command.ticket x.command.part) (λ x. IsAsked w' x.command.ticket x.command.part) w.commands (λ x. falls w w' k fewer x.command.ticket x.command.part) s.asked in
       let mine : IsAsked w' c.command.ticket c.command.part = all_at (λ x. IsAsked w' x.command.ticket x.command.part) w.commands d.1 c d.5.1 all' in
-      quiet w w' k (ap (λ (v : WorldModel). v.history) d.7) s
+      quiet w w' k (ap (λ (v : WorldModel). v.initial) d.7) (ap (λ (v : WorldModel). v.history) d.7) s
       (subst (All (λ x. IsAsked w' x.command.ticket x.command.part)) (sym (ap (λ (v : WorldModel). v.commands) d.7))
       (All-set (λ x. IsAsked w' x.command.ticket x.command.part) w.commands d.1 c'
       (subst (λ (x : Ticket × PartModel). IsAsked w' x.0 x.1) (λ i. (sym (ticket-after_told c d.3) i, sym (part-after_told c d.3) i)) mine) all'))
@@ -163,7 +164,7 @@ module _ (w w' : WorldModel) (s : Kept w) where
       let c' : Arrival = record (d.1) { answered = true } in
       let k : w'.cluster ≡ w.cluster = ap (λ (v : WorldModel). v.cluster) d.8 in
       let all' : All (λ x. IsAsked w' x.command.ticket x.command.part) w.commands = all_map (λ x. IsAsked w x.command.ticket x.command.part) (λ x. IsAsked w' x.command.ticket x.command.part) w.commands (λ x. falls w w' k fewer x.command.ticket x.command.part) s.asked in
-      quiet w w' k (ap (λ (v : WorldModel). v.history) d.8) s
+      quiet w w' k (ap (λ (v : WorldModel). v.initial) d.8) (ap (λ (v : WorldModel). v.history) d.8) s
       (subst (All (λ x. IsAsked w' x.command.ticket x.command.part)) (sym (ap (λ (v : WorldModel). v.commands) d.8))
       (All-set (λ x. IsAsked w' x.command.ticket x.command.part) w.commands d.0 c' (all_at (λ x. IsAsked w' x.command.ticket x.command.part) w.commands d.0 c d.3 all') all'))
     where
@@ -171,32 +172,32 @@ module _ (w w' : WorldModel) (s : Kept w) where
       fewer n t = omega (arith, answer-flow (asks n t) w w' client d)
 
   -- commands stay
-  still : (k : w'.cluster ≡ w.cluster) → w'.history ≡ w.history → w'.commands ≡ w.commands → ((n : ℕ) (t : Ticket) → tally (asks n t) w' ≤ tally (asks n t) w) → Kept w'
-  still k h cs le =
-      quiet w w' k h s (subst (All (λ x. IsAsked w' x.command.ticket x.command.part)) (sym cs)
+  still : (k : w'.cluster ≡ w.cluster) → w'.initial ≡ w.initial → w'.history ≡ w.history → w'.commands ≡ w.commands → ((n : ℕ) (t : Ticket) → tally (asks n t) w' ≤ tally (asks n t) w) → Kept w'
+  still k b h cs le =
+      quiet w w' k b h s (subst (All (λ x. IsAsked w' x.command.ticket x.command.part)) (sym cs)
       (all_map (λ x. IsAsked w x.command.ticket x.command.part) (λ x. IsAsked w' x.command.ticket x.command.part) w.commands (λ x. falls w w' k le x.command.ticket x.command.part) s.asked))
 
   pub carry-kept : (lane link : ℕ) → All IsTidy w.links → WorldDoes w (Carry lane link) w' → Kept w'
-  carry-kept lane link tidy d = still (ap (λ (v : WorldModel). v.cluster) d.5) (ap (λ (v : WorldModel). v.history) d.5) (ap (λ (v : WorldModel). v.commands) d.5)
+  carry-kept lane link tidy d = still (ap (λ (v : WorldModel). v.cluster) d.5) (ap (λ (v : WorldModel). v.initial) d.5) (ap (λ (v : WorldModel). v.history) d.5) (ap (λ (v : WorldModel). v.commands) d.5)
       (λ n t. omega (arith, carry-flow (asks n t) w w' lane link d tidy))
 
   pub refuse-kept : (lane : ℕ) → WorldDoes w (Refuse lane) w' → Kept w'
-  refuse-kept lane d = still (ap (λ (v : WorldModel). v.cluster) d.3) (ap (λ (v : WorldModel). v.history) d.3) (ap (λ (v : WorldModel). v.commands) d.3)
+  refuse-kept lane d = still (ap (λ (v : WorldModel). v.cluster) d.3) (ap (λ (v : WorldModel). v.initial) d.3) (ap (λ (v : WorldModel). v.history) d.3) (ap (λ (v : WorldModel). v.commands) d.3)
       (λ n t. omega (arith, refuse-flow (asks n t) w w' lane d, total-zero (d.1).tickets))
 
   pub fetch-kept : (link : ℕ) → WorldDoes w (Fetch link) w' → Kept w'
   fetch-kept link d = go d.3
     where
       go : FetchesWelcome w link d.0 w' ⊎ FetchesReply w link d.0 w' → Kept w'
-      go (inl x) = still (ap (λ (v : WorldModel). v.cluster) x.2) (ap (λ (v : WorldModel). v.history) x.2) (ap (λ (v : WorldModel). v.commands) x.2) (λ n t. omega (arith, fetch-flow (asks n t) w w' link d))
-      go (inr x) = still (ap (λ (v : WorldModel). v.cluster) x.4) (ap (λ (v : WorldModel). v.history) x.4) (ap (λ (v : WorldModel). v.commands) x.4) (λ n t. omega (arith, fetch-flow (asks n t) w w' link d))
+      go (inl x) = still (ap (λ (v : WorldModel). v.cluster) x.2) (ap (λ (v : WorldModel). v.initial) x.2) (ap (λ (v : WorldModel). v.history) x.2) (ap (λ (v : WorldModel). v.commands) x.2) (λ n t. omega (arith, fetch-flow (asks n t) w w' link d))
+      go (inr x) = still (ap (λ (v : WorldModel). v.cluster) x.4) (ap (λ (v : WorldModel). v.initial) x.4) (ap (λ (v : WorldModel). v.history) x.4) (ap (λ (v : WorldModel). v.commands) x.4) (λ n t. omega (arith, fetch-flow (asks n t) w w' link d))
 
   pub discard-kept : (link : ℕ) → WorldDoes w (Discard link) w' → Kept w'
-  discard-kept link d = still (ap (λ (v : WorldModel). v.cluster) d.4) (ap (λ (v : WorldModel). v.history) d.4) (ap (λ (v : WorldModel). v.commands) d.4)
+  discard-kept link d = still (ap (λ (v : WorldModel). v.cluster) d.4) (ap (λ (v : WorldModel). v.initial) d.4) (ap (λ (v : WorldModel). v.history) d.4) (ap (λ (v : WorldModel). v.commands) d.4)
       (λ n t. omega (arith, discard-flow (asks n t) w w' link d))
 
   pub drop-kept : (link : ℕ) → WorldDoes w (Drop link) w' → Kept w'
-  drop-kept link d = still (ap (λ (v : WorldModel). v.cluster) d.3) (ap (λ (v : WorldModel). v.history) d.3) (ap (λ (v : WorldModel). v.commands) d.3)
+  drop-kept link d = still (ap (λ (v : WorldModel). v.cluster) d.3) (ap (λ (v : WorldModel). v.initial) d.3) (ap (λ (v : WorldModel). v.history) d.3) (ap (λ (v : WorldModel). v.commands) d.3)
       (λ n t. omega (
         arith,
         drop-flow (asks n t) w w' link d,
@@ -206,7 +207,7 @@ module _ (w w' : WorldModel) (s : Kept w) where
       ))
 
   pub asking-kept : (link : ℕ) (l : Link) (v : Verdict) → slice_get w.links link ≡ Some l → ServesAsking w link l v w' → Kept w'
-  asking-kept link l v at_l d = still (ap (λ (v : WorldModel). v.cluster) d.3) (ap (λ (v : WorldModel). v.history) d.3) (ap (λ (v : WorldModel). v.commands) d.3)
+  asking-kept link l v at_l d = still (ap (λ (v : WorldModel). v.cluster) d.3) (ap (λ (v : WorldModel). v.initial) d.3) (ap (λ (v : WorldModel). v.history) d.3) (ap (λ (v : WorldModel). v.commands) d.3)
       (λ n t. omega (arith, welcome-flow (asks n t) w w' link l v at_l d))
 
 -- Tickets.
@@ -350,7 +351,7 @@ arrive-kept w w' h s client part d =
     let c : Arrival = arrival w client part in
     let k : w'.cluster ≡ w.cluster = ap (λ (v : WorldModel). v.cluster) d.1 in
     let all' : All (λ x. IsAsked w' x.command.ticket x.command.part) w.commands = all_map (λ x. IsAsked w x.command.ticket x.command.part) (λ x. IsAsked w' x.command.ticket x.command.part) w.commands (λ x. falls w w' k fewer x.command.ticket x.command.part) s.asked in
-    quiet w w' k (ap (λ (v : WorldModel). v.history) d.1) s
+    quiet w w' k (ap (λ (v : WorldModel). v.initial) d.1) (ap (λ (v : WorldModel). v.history) d.1) s
     (subst (All (λ x. IsAsked w' x.command.ticket x.command.part)) (sym (ap (λ (v : WorldModel). v.commands) d.1))
     (All-append (λ x. IsAsked w' x.command.ticket x.command.part) w.commands (c ∷ []) all' (one (λ x. IsAsked w' x.command.ticket x.command.part) c
     (d.0, λ bad. omega (arith, fewer (slot_here w'.cluster c.command.part).target c.command.ticket, free-asks w h (slot_here w'.cluster c.command.part).target c.command.ticket (new-free w h client))))))

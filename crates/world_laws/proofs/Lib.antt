@@ -7,6 +7,7 @@ pub mod Stores
 pub mod Nodes
 pub mod There
 pub mod Homes
+pub mod Sound
 pub mod Phases
 pub mod Histories
 pub mod Kept

@@ -1,7 +1,7 @@
 -- Moves keep the data and the commands that ASK sent; and so every event, and every run.
 use Rattle.std.proofs.Common.{arith, List, ◌≡◌, ◌≢◌, ◌⊎◌, inl, inr, ⊎_elim, ℕ, true, false, Some, None, refl, sym, ap, ◌∙◌, subst}
 use Rattle.std.specs.Prelude.{slice_get, unwrap_or, Option}
-use Rattle.std.specs.FinMap.{empty, get}
+use Rattle.std.specs.FinMap.{get}
 use Rattle.std.specs.Str.{bytes_eq}
 use Rattle.std.specs.Prelude.{is_some}
 use Rattle.slot_hash.specs.Slot.{slot_of}
@@ -37,12 +37,12 @@ use Rattle.world_laws.proofs.Nodes.{pick-slot, with_key-hit, with_key-node, with
 -- a slot's state changes
 module _ (w w' : WorldModel) (s : Kept w) (slot : ℕ) (s' : SlotStandingModel) (is : w' ≡ record w { cluster = with_standing w.cluster slot s' })
     (apart : s'.phase ≢ Settled → s'.source ≢ s'.target)
-    (homes : (key : List ℕ) → slot ≡ slot_of key → IsHome s' (λ m. at w.cluster m key) (get (left_by empty w.history) key))
+    (homes : (key : List ℕ) → slot ≡ slot_of key → IsHome s' (λ m. at w.cluster m key) (get (left_by w.initial w.history) key))
     (asked : (j : ℕ) (c : Arrival) → slice_get w.commands j ≡ Some c → slot ≡ slot_for c.command.part → (key : List ℕ) → Among key (keys_of c.command.part) → is_bad s'.phase (is_some (at w.cluster s'.source key)) ≡ true → tally (asks s'.target c.command.ticket) w ≡ 0) where
   slot-kept : Kept w'
   slot-kept = subst Kept (sym is) (record {
     apart = λ q. pick-slot (λ (x : SlotStandingModel). x.phase ≢ Settled → x.source ≢ x.target) w.cluster slot s' q (λ _. apart) (s.apart q);
-    data' = λ key. pick-slot (λ (x : SlotStandingModel). IsHome x (λ m. at w.cluster m key) (get (left_by empty w.history) key)) w.cluster slot s' (slot_of key) (homes key) (s.data' key);
+    data' = λ key. pick-slot (λ (x : SlotStandingModel). IsHome x (λ m. at w.cluster m key) (get (left_by w.initial w.history) key)) w.cluster slot s' (slot_of key) (homes key) (s.data' key);
     legal = s.legal;
     asked = all_from (λ c. IsAsked (record w { cluster = with_standing w.cluster slot s' }) c.command.ticket c.command.part) w.commands (λ j c at_c. (
       (all_at (λ x. IsAsked w x.command.ticket x.command.part) w.commands j c at_c s.asked).0,
@@ -53,21 +53,21 @@ module _ (w w' : WorldModel) (s : Kept w) (slot : ℕ) (s' : SlotStandingModel) 
 
 module _ (w w' : WorldModel) (t : There w) (s : Kept w) where
   -- what the slot of a key says of it
-  at-slot : (slot : ℕ) (key : List ℕ) → slot ≡ slot_of key → IsHome (standing_at w.cluster slot) (λ m. at w.cluster m key) (get (left_by empty w.history) key)
-  at-slot slot key e = subst (λ q. IsHome (standing_at w.cluster q) (λ m. at w.cluster m key) (get (left_by empty w.history) key)) (sym e) (s.data' key)
+  at-slot : (slot : ℕ) (key : List ℕ) → slot ≡ slot_of key → IsHome (standing_at w.cluster slot) (λ m. at w.cluster m key) (get (left_by w.initial w.history) key)
+  at-slot slot key e = subst (λ q. IsHome (standing_at w.cluster q) (λ m. at w.cluster m key) (get (left_by w.initial w.history) key)) (sym e) (s.data' key)
 
   import-kept : (slot target : ℕ) → WorldDoes w (Import slot target) w' → Kept w'
   import-kept slot target d =
       slot-kept w w' s slot (imported (standing_at w.cluster slot) target) d.2
       (λ _. d.1.2)
-      (λ key e. import-home (standing_at w.cluster slot) target (λ m. at w.cluster m key) (get (left_by empty w.history) key) d.1.0 (at-slot slot key e))
+      (λ key e. import-home (standing_at w.cluster slot) target (λ m. at w.cluster m key) (get (left_by w.initial w.history) key) d.1.0 (at-slot slot key e))
       (λ j c at_c e key k b. all_at (λ (x : Arrival). slot_for x.command.part ≡ slot → tally (asks target x.command.ticket) w ≡ 0) w.commands j c at_c d.0 (sym e))
 
   migrate-kept : (slot : ℕ) → WorldDoes w (Migrate slot) w' → Kept w'
   migrate-kept slot d =
       slot-kept w w' s slot (in_phase (standing_at w.cluster slot) Migrated) d.1
       (λ _. apart)
-      (λ key e. migrate-home (standing_at w.cluster slot) (λ m. at w.cluster m key) (get (left_by empty w.history) key) d.0 apart (at-slot slot key e))
+      (λ key e. migrate-home (standing_at w.cluster slot) (λ m. at w.cluster m key) (get (left_by w.initial w.history) key) d.0 apart (at-slot slot key e))
       (λ j c at_c e key k b. none j c at_c e)
     where
       apart : (standing_at w.cluster slot).source ≢ (standing_at w.cluster slot).target
@@ -87,7 +87,7 @@ module _ (w w' : WorldModel) (t : There w) (s : Kept w) where
       let e : after_own p ≡ Some q = some-is (after_own p) p d.0.0 in
       slot-kept w w' s slot (in_phase (standing_at w.cluster slot) q) d.1
       (λ _. s.apart slot (own-moving p q e))
-      (λ key x. own-home (standing_at w.cluster slot) q (λ m. at w.cluster m key) (get (left_by empty w.history) key) e (d.0.1 key (sym x)) (at-slot slot key x))
+      (λ key x. own-home (standing_at w.cluster slot) q (λ m. at w.cluster m key) (get (left_by w.initial w.history) key) e (d.0.1 key (sym x)) (at-slot slot key x))
       (λ j c at_c x key k b. let no : is_bad q (is_some (at w.cluster (standing_at w.cluster slot).source key)) ≡ false = own-good p q _ e in absurd (cc))
 
   release-kept : (slot : ℕ) → WorldDoes w (Release slot) w' → Kept w'
@@ -97,21 +97,21 @@ module _ (w w' : WorldModel) (t : There w) (s : Kept w) where
       let e : after_release p ≡ Some q = some-is (after_release p) p d.0.0 in
       slot-kept w w' s slot (released (standing_at w.cluster slot) q) d.1
       (λ _. s.apart slot (release-moving p q e))
-      (λ key x. release-home (standing_at w.cluster slot) q _ (λ m. at w.cluster m key) (get (left_by empty w.history) key) e (d.0.1 key (sym x)) (at-slot slot key x))
+      (λ key x. release-home (standing_at w.cluster slot) q _ (λ m. at w.cluster m key) (get (left_by w.initial w.history) key) e (d.0.1 key (sym x)) (at-slot slot key x))
       (λ j c at_c x key k b. let no : is_bad q (is_some (at w.cluster (standing_at w.cluster slot).source key)) ≡ false = release-good p q _ e in absurd (cc))
 
   forget-kept : (slot : ℕ) → WorldDoes w (Forget slot) w' → Kept w'
   forget-kept slot d =
       slot-kept w w' s slot (in_phase (standing_at w.cluster slot) Forgotten) d.1
       (λ _. s.apart slot (subst (λ p. p ≢ Settled) (sym d.0.0) (λ x. absurd (cc))))
-      (λ key x. forget-home (standing_at w.cluster slot) (λ m. at w.cluster m key) (get (left_by empty w.history) key) d.0.0 (d.0.1 key (sym x)) (at-slot slot key x))
+      (λ key x. forget-home (standing_at w.cluster slot) (λ m. at w.cluster m key) (get (left_by w.initial w.history) key) d.0.0 (d.0.1 key (sym x)) (at-slot slot key x))
       (λ j c at_c x key k b. absurd (cc))
 
   stay-kept : (slot : ℕ) → WorldDoes w (Stay slot) w' → Kept w'
   stay-kept slot d =
       slot-kept w w' s slot (stayed (standing_at w.cluster slot)) d.1
       (λ x. absurd (x refl))
-      (λ key x. stay-home (standing_at w.cluster slot) _ (λ m. at w.cluster m key) (get (left_by empty w.history) key) d.0 (at-slot slot key x))
+      (λ key x. stay-home (standing_at w.cluster slot) _ (λ m. at w.cluster m key) (get (left_by w.initial w.history) key) d.0 (at-slot slot key x))
       (λ j c at_c x key k b. absurd (cc))
 
   movekey-kept : (slot : ℕ) (key : List ℕ) → WorldDoes w (MoveKey slot key) w' → Kept w'
@@ -158,14 +158,14 @@ module _ (w w' : WorldModel) (t : There w) (s : Kept w) where
       others : (n : ℕ) (q : List ℕ) → key ≢ q → at k' n q ≡ at w.cluster n q
       others n q ne = with_key-key k1 sl.source key None n q ne ∙ with_key-key w.cluster sl.target key held n q ne
 
-      data-after : (q : List ℕ) → IsHome (standing_at w.cluster (slot_of q)) (λ n. at k' n q) (get (left_by empty w.history) q)
+      data-after : (q : List ℕ) → IsHome (standing_at w.cluster (slot_of q)) (λ n. at k' n q) (get (left_by w.initial w.history) q)
       data-after q = ⊎_elim
           (λ (x : (bytes_eq key q ≡ true) × (key ≡ q)).
-          subst (λ z. IsHome (standing_at w.cluster (slot_of z)) (λ n. at k' n z) (get (left_by empty w.history) z)) x.1
-          (subst (λ z. IsHome z (λ n. at k' n key) (get (left_by empty w.history) key)) (sym here)
-          (movekey-home (standing_at w.cluster slot) (λ n. at w.cluster n key) (λ n. at k' n key) (get (left_by empty w.history) key) (λ _. apart) value.0 d.0.0 value.1 gone come rest
-          (subst (λ z. IsHome z (λ n. at w.cluster n key) (get (left_by empty w.history) key)) here (s.data' key)))))
-          (λ (x : (bytes_eq key q ≡ false) × (key ≢ q)). home-same (standing_at w.cluster (slot_of q)) (λ n. at w.cluster n q) (λ n. at k' n q) (get (left_by empty w.history) q) (λ n. others n q x.1) (s.data' q))
+          subst (λ z. IsHome (standing_at w.cluster (slot_of z)) (λ n. at k' n z) (get (left_by w.initial w.history) z)) x.1
+          (subst (λ z. IsHome z (λ n. at k' n key) (get (left_by w.initial w.history) key)) (sym here)
+          (movekey-home (standing_at w.cluster slot) (λ n. at w.cluster n key) (λ n. at k' n key) (get (left_by w.initial w.history) key) (λ _. apart) value.0 d.0.0 value.1 gone come rest
+          (subst (λ z. IsHome z (λ n. at w.cluster n key) (get (left_by w.initial w.history) key)) here (s.data' key)))))
+          (λ (x : (bytes_eq key q ≡ false) × (key ≢ q)). home-same (standing_at w.cluster (slot_of q)) (λ n. at w.cluster n q) (λ n. at k' n q) (get (left_by w.initial w.history) q) (λ n. others n q x.1) (s.data' q))
           (key_tells key q)
 
       -- the key that moved can't make an ASK bad

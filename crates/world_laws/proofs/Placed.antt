@@ -7,7 +7,8 @@ use Rattle.resp_wire.specs.Data.{Data}
 use Rattle.key_split.specs.PartModel.{PartModel}
 use Rattle.key_split.specs.declared.travel.Ticket.{Ticket}
 use Rattle.key_split.specs.declared.travel.Told.{Told}
-use Rattle.world_laws.specs.State.{WorldModel, Arrival, Posted, Link, LinkRequest, LinkReply, answered_of, sent_of, start}
+use Rattle.world_laws.specs.State.{WorldModel, Arrival, Posted, Link, LinkRequest, LinkReply, answered_of, sent_of, start_from}
+use Rattle.node_model.specs.Store.{StoreModel}
 use Rattle.world_laws.specs.declared.state.LinkRequest.TheVariants.{Asking, Runs}
 use Rattle.world_laws.specs.declared.state.LinkReply.TheVariants.{Welcome, To}
 use Rattle.world_laws.specs.Places.{Item, total, in_requests, in_backs, in_lane, in_link, tally, is}
@@ -197,8 +198,8 @@ arrive-keeps w w' h client part d =
     count : (client' : ℕ) → client ≡ client' → tally (owned (owned_by client')) w ≡ count_by (λ (c : Arrival). c.command.ticket.client == client) w.commands
     count client' e = subst (λ k. tally (owned (owned_by k)) w ≡ count_by (λ (c : Arrival). c.command.ticket.client == client) w.commands) e (tally-owned (owned_by client) w ∙ total-count (λ (c : Arrival). c.command.ticket.client == client) w.commands)
 
-pub start-placed : (workers run_limit : ℕ) (cluster : ClusterModel) → Placed (start workers run_limit cluster)
-start-placed workers run_limit cluster = record {
+pub start-placed : (workers run_limit : ℕ) (initial : StoreModel) (cluster : ClusterModel) → Placed (start_from workers run_limit initial cluster)
+start-placed workers run_limit initial cluster = record {
   single = λ client part. omega arith;
   below = λ client part le. refl;
   place = λ t. refl;

@@ -1,16 +1,12 @@
 -- What every event keeps holds after every run; and it says the headline.
-use Rattle.std.proofs.Common.{◌≡◌, ℕ, ◌+◌, true, List, [], ◌∷◌, ◌++◌, refl, sym, ◌∙◌, subst, arith}
-use Rattle.std.specs.FinMap.{get-empty}
-use Rattle.std.specs.Ordering.{nat_cmp}
-use Rattle.std.specs.Cmp.Lexicographic.{slice_cmp}
-use Rattle.slot_hash.specs.Slot.{slot_of}
-use Rattle.world_laws.specs.State.{WorldModel, start}
+use Rattle.std.proofs.Common.{◌≡◌, ℕ, ◌+◌, true, List, [], ◌∷◌, ◌++◌, refl, sym, subst, arith}
+use Rattle.world_laws.specs.State.{WorldModel, start_from}
 use Rattle.node_model.specs.History.{EntryModel}
-use Rattle.node_model.specs.Nodes.{ClusterModel, standing_at, at}
+use Rattle.node_model.specs.Nodes.{ClusterModel}
+use Rattle.node_model.specs.Store.{StoreModel}
 use Rattle.world_laws.specs.World.{WorldDoes, WorldStep, WorldRun}
 use Rattle.world_laws.specs.declared.event.Event.{Event}
-use Rattle.world_laws.specs.Homes.{home_in}
-use Rattle.world_laws.specs.Headline.{IsNew, IsReached, AnyTicket, Headline, EverySchedule}
+use Rattle.world_laws.specs.Headline.{IsSound, IsReached, AnyTicket, EndsAreSound, Headline, EverySchedule}
 use Rattle.world_laws.proofs.Placed.{Placed, standing-of, start-placed}
 use Rattle.world_laws.proofs.LinkEvents.{does-keeps}
 use Rattle.world_laws.proofs.Kept.{Kept}
@@ -20,7 +16,8 @@ use Rattle.world_laws.proofs.There.{There, does-there}
 use Rattle.world_laws.proofs.Turns.{Turned, does-turned}
 use Rattle.world_laws.proofs.Apart.{Short, does-short}
 use Rattle.world_laws.proofs.Passing.{keep, keep-all}
-use Rattle.world_laws.proofs.Headlines.{headline-of}
+use Rattle.world_laws.proofs.Headlines.{at_home, headline-of, union-of}
+use Rattle.world_laws.proofs.Sound.{sound-home}
 
 pub record Sound (w : WorldModel) : Type 0 where
   pub placed : Placed w
@@ -55,14 +52,14 @@ run-sound : (es : List Event) (w w' : WorldModel) → Sound w → WorldRun w es 
 run-sound [] w w' s r = subst Sound (sym r) s
 run-sound (e ∷ es) w w' s r = run-sound es r.0 w' (step-sound e w r.0 s r.1) r.2
 
-pub start-sound : (workers run_limit : ℕ) (k : ClusterModel) → IsNew k → Sound (start workers run_limit k)
-start-sound workers run_limit k new = record {
-  placed = start-placed workers run_limit k;
-  there = record { ups = λ j d lt. absurd (omega arith); links = λ j d lt. absurd (omega arith); targets = λ slot ne. absurd (ne (new.settled slot)) };
+pub start-sound : (workers run_limit : ℕ) (initial : StoreModel) (k : ClusterModel) → IsSound initial k → Sound (start_from workers run_limit initial k)
+start-sound workers run_limit initial k sound = record {
+  placed = start-placed workers run_limit initial k;
+  there = record { ups = λ j d lt. absurd (omega arith); links = λ j d lt. absurd (omega arith); targets = sound.targets };
   turned = record { ups = λ j d lt. absurd (omega arith); links = λ j d lt. absurd (omega arith) };
   kept = record {
-    apart = λ slot ne. absurd (ne (new.settled slot));
-    data' = λ key. record { others = λ m ne. new.no_keys m key; holds = get-empty (slice_cmp nat_cmp) key ∙ sym (new.no_keys (home_in (standing_at k (slot_of key)) (λ m. at k m key)) key) };
+    apart = sound.apart;
+    data' = sound-home initial k sound;
     legal = tt;
     asked = λ j d lt. absurd (omega arith);
   };
@@ -98,7 +95,7 @@ headline w s = headline-of (λ ticket. true) AnyTicket (record { yes = λ ticket
     all = keep-all (λ (e : EntryModel). true) w.history (λ k e p. refl)
 
 pub every_schedule : EverySchedule
-every_schedule workers run_limit k events w new r = headline w (run-sound events (start workers run_limit k) w (start-sound workers run_limit k new) r)
+every_schedule workers run_limit initial k events w sound r = headline w (run-sound events (start_from workers run_limit initial k) w (start-sound workers run_limit initial k sound) r)
 
 -- runs join
 run_joins : (es fs : List Event) (w mid w' : WorldModel) → WorldRun w es mid → WorldRun mid fs w' → WorldRun w (es ++ fs) w'
@@ -106,13 +103,24 @@ run_joins [] fs w mid w' r s = subst (λ x. WorldRun x fs w') r s
 run_joins (e ∷ es) fs w mid w' r s = (r.0, r.1, run_joins es fs r.0 mid w' r.2 s)
 
 pub runs_on : (w w' : WorldModel) (events : List Event) → IsReached w → WorldRun w events w' → IsReached w'
-runs_on w w' events h r = (h.0, h.1, h.2, h.3 ++ events, h.4, run_joins h.3 events (start h.0 h.1 h.2) w w' h.5 r)
+runs_on w w' events h r = (h.0, h.1, h.2, h.3, h.4 ++ events, h.5, run_joins h.4 events (start_from h.0 h.1 h.2 h.3) w w' h.6 r)
 
 pub goes_on : (w w' : WorldModel) (event : Event) → IsReached w → WorldStep w event w' → IsReached w'
 goes_on w w' event h s = runs_on w w' (event ∷ []) h (w', s, refl)
 
 pub reached-headline : (w : WorldModel) → IsReached w → Headline w
-reached-headline w h = every_schedule h.0 h.1 h.2 h.3 w h.4 h.5
+reached-headline w h = every_schedule h.0 h.1 h.2 h.3 h.4 w h.5 h.6
 
 pub reached-sound : (w : WorldModel) → IsReached w → Sound w
-reached-sound w h = run-sound h.3 (start h.0 h.1 h.2) w (start-sound h.0 h.1 h.2 h.4) h.5
+reached-sound w h = run-sound h.4 (start_from h.0 h.1 h.2 h.3) w (start-sound h.0 h.1 h.2 h.3 h.5) h.6
+
+-- what a schedule leaves, another proxy can begin from
+pub end-sound : EndsAreSound
+end-sound w h =
+    let s = reached-sound w h in
+    record {
+      apart = (s.kept).apart;
+      targets = (s.there).targets;
+      placed = λ key value node is. at_home w s.kept key node value is;
+      union = union-of w s.kept;
+    }

@@ -3,7 +3,7 @@ use Rattle.std.proofs.Common.{◌≡◌, ◌≢◌, ◌⊎◌, inl, inr, ⊎_eli
 use Rattle.std.specs.Prelude.{slice_get, All, if◌then◌else◌}
 use Rattle.std.proofs.lemmas.Option.{slice_get-get_or}
 use Rattle.std.proofs.lemmas.Bool.Decides.{eqb_tells}
-use Rattle.std.specs.FinMap.{empty, get}
+use Rattle.std.specs.FinMap.{get}
 use Rattle.std.specs.Prelude.{is_some}
 use Rattle.slot_hash.specs.Slot.{slot_of}
 use Rattle.key_split.specs.PartModel.{PartModel, HasOneSlot, keys_of}
@@ -75,29 +75,29 @@ none-added [] = refl
 none-added (x ∷ xs) = ap (λ ys. x ∷ ys) (none-added xs)
 
 -- a history with the entries of a run, which a store that agrees with it on the run's keys has executed
-pub record IsLonger (K : List (List ℕ)) (hs hs' : List EntryModel) (store : StoreModel) : Type 0 where
-  pub legal : IsLegal empty hs'
-  pub agree : Agree K (left_by empty hs') store
-  pub others : (q : List ℕ) → (Among q K → ⊥) → get (left_by empty hs') q ≡ get (left_by empty hs) q
+pub record IsLonger (first : StoreModel) (K : List (List ℕ)) (hs hs' : List EntryModel) (store : StoreModel) : Type 0 where
+  pub legal : IsLegal first hs'
+  pub agree : Agree K (left_by first hs') store
+  pub others : (q : List ℕ) → (Among q K → ⊥) → get (left_by first hs') q ≡ get (left_by first hs) q
 
-run-legal : (m : ℕ) (K : List (List ℕ)) (ps : List (Arrival × Told)) (hs : List EntryModel) (store : StoreModel) → ((q : List ℕ) → Among q (keys_in (parts_told ps)) → Among q K)
-    → Agree K (left_by empty hs) store → IsLegal empty hs → AreReplies store (parts_told ps) (tolds_of ps) → IsLonger K hs (hs ++ entries_of m ps) (store_after_all store (parts_told ps))
-run-legal m K [] hs store sub agree legal did = subst (λ z. IsLonger K hs z store) (sym (none-added hs)) (record { legal = legal; agree = agree; others = λ q x. refl })
-run-legal m K (p ∷ ps) hs store sub agree legal did =
+run-legal : (first : StoreModel) (m : ℕ) (K : List (List ℕ)) (ps : List (Arrival × Told)) (hs : List EntryModel) (store : StoreModel) → ((q : List ℕ) → Among q (keys_in (parts_told ps)) → Among q K)
+    → Agree K (left_by first hs) store → IsLegal first hs → AreReplies store (parts_told ps) (tolds_of ps) → IsLonger first K hs (hs ++ entries_of m ps) (store_after_all store (parts_told ps))
+run-legal first m K [] hs store sub agree legal did = subst (λ z. IsLonger first K hs z store) (sym (none-added hs)) (record { legal = legal; agree = agree; others = λ q x. refl })
+run-legal first m K (p ∷ ps) hs store sub agree legal did =
     let part : PartModel = p.0.command.part in
     let reply = reply-is p.1 (reply_to store p.0.command.part) did.0 in
     let e0 : EntryModel = record { ticket = p.0.command.ticket; part = p.0.command.part; reply = data_of reply.0; moment = m } in
     let now : entries_of m (p ∷ ps) ≡ e0 ∷ entries_of m ps = ap (λ z. entry_of m p.0 z ++ entries_of m ps) reply.1 in
     let mine : (q : List ℕ) → Among q (keys_of part) → Among q K = λ q y. sub q (among-left q (keys_of part) (keys_in (parts_told ps)) y) in
-    let alike : reply_to (left_by empty hs) part ≡ reply_to store part = (answer-alike (left_by empty hs) store part (λ q z. agree q (mine q z))).0 in
-    let rest : IsLonger K (hs ++ e0 ∷ []) ((hs ++ e0 ∷ []) ++ entries_of m ps) (store_after_all (store_after store part) (parts_told ps))
-    = run-legal m K ps (hs ++ e0 ∷ []) (store_after store part) (λ q y. sub q (among-right q (keys_of part) (keys_in (parts_told ps)) y))
-    (subst (λ z. Agree K z (store_after store part)) (sym (left_by-append empty hs e0)) (agree-after K (left_by empty hs) store part mine agree))
-    (legal-append empty hs e0 legal (reply.2 ∙ sym alike)) did.1 in
-    subst (λ z. IsLonger K hs z (store_after_all (store_after store p.0.command.part) (parts_told ps))) (joins hs e0 (entries_of m ps) ∙ ap (λ z. hs ++ z) (sym now)) (record {
+    let alike : reply_to (left_by first hs) part ≡ reply_to store part = (answer-alike (left_by first hs) store part (λ q z. agree q (mine q z))).0 in
+    let rest : IsLonger first K (hs ++ e0 ∷ []) ((hs ++ e0 ∷ []) ++ entries_of m ps) (store_after_all (store_after store part) (parts_told ps))
+    = run-legal first m K ps (hs ++ e0 ∷ []) (store_after store part) (λ q y. sub q (among-right q (keys_of part) (keys_in (parts_told ps)) y))
+    (subst (λ z. Agree K z (store_after store part)) (sym (left_by-append first hs e0)) (agree-after K (left_by first hs) store part mine agree))
+    (legal-append first hs e0 legal (reply.2 ∙ sym alike)) did.1 in
+    subst (λ z. IsLonger first K hs z (store_after_all (store_after store p.0.command.part) (parts_told ps))) (joins hs e0 (entries_of m ps) ∙ ap (λ z. hs ++ z) (sym now)) (record {
       legal = rest.legal;
       agree = rest.agree;
-      others = λ q x. rest.others q x ∙ ap (λ z. get z q) (left_by-append empty hs e0) ∙ after-other (left_by empty hs) part q (λ y. x (mine q y));
+      others = λ q x. rest.others q x ∙ ap (λ z. get z q) (left_by-append first hs e0) ∙ after-other (left_by first hs) part q (λ y. x (mine q y));
     })
 
 -- members of a run
@@ -267,10 +267,11 @@ module _ (w w' : WorldModel) (h : Standing w) (t : There w) (s : Kept w) (u : Tu
       let k : w'.cluster ≡ w.cluster = ap (λ (v : WorldModel). v.cluster) d.7 ∙ y.3 in
       let hs : w'.history ≡ w.history = ap (λ (v : WorldModel). v.history) d.7 ∙ ap (λ z. w.history ++ z) (entries-says w l d.1 v y.0 y.1 y.2) ∙ none-added w.history in
       let cs : w'.commands ≡ w.commands = ap (λ (v : WorldModel). v.commands) d.7 in
+      let b : w'.initial ≡ w.initial = ap (λ (v : WorldModel). v.initial) d.7 in
       record {
         apart = subst (λ c. (slot : ℕ) → (standing_at c slot).phase ≢ Settled → (standing_at c slot).source ≢ (standing_at c slot).target) (sym k) s.apart;
-        data' = subst (λ (x : ClusterModel × List EntryModel). (key : List ℕ) → IsHome (standing_at x.0 (slot_of key)) (λ m. at x.0 m key) (get (left_by empty x.1) key)) (λ i. (sym k i, sym hs i)) s.data';
-        legal = subst (IsLegal empty) (sym hs) s.legal;
+        data' = subst (λ (x : ClusterModel × StoreModel × List EntryModel). (key : List ℕ) → IsHome (standing_at x.0 (slot_of key)) (λ m. at x.0 m key) (get (left_by x.1 x.2) key)) (λ i. (sym k i, sym b i, sym hs i)) s.data';
+        legal = subst (λ (x : StoreModel × List EntryModel). IsLegal x.0 x.1) (λ i. (sym b i, sym hs i)) s.legal;
         asked = subst (All (λ (x : Arrival). IsAsked w' x.command.ticket x.command.part)) (sym cs) (all_from (λ (x : Arrival). IsAsked w' x.command.ticket x.command.part) w.commands (λ j c at_c. asked-after c j at_c (λ _. subst (λ x. BadAsk x c.command.part) k) (ap (λ x. (slot_here x c.command.part).target) k)));
       }
 
@@ -306,8 +307,8 @@ module _ (w w' : WorldModel) (h : Standing w) (t : There w) (s : Kept w) (u : Tu
   executes-kept : deed_for w.cluster l.node l.asking (parts_told d.1) v ≡ Executes → ExecutedAll w.cluster l.node (parts_told d.1) (tolds_of d.1) d.2 → Kept w'
   executes-kept e did = record {
     apart = subst (λ c. (slot : ℕ) → (standing_at c slot).phase ≢ Settled → (standing_at c slot).source ≢ (standing_at c slot).target) (sym is-k) s.apart;
-    data' = subst (λ (x : ClusterModel × List EntryModel). (key : List ℕ) → IsHome (standing_at x.0 (slot_of key)) (λ m. at x.0 m key) (get (left_by empty x.1) key)) (λ i. (sym is-k i, sym is-h i)) data-after;
-    legal = subst (IsLegal empty) (sym is-h) longer.legal;
+    data' = subst (λ (x : ClusterModel × StoreModel × List EntryModel). (key : List ℕ) → IsHome (standing_at x.0 (slot_of key)) (λ m. at x.0 m key) (get (left_by x.1 x.2) key)) (λ i. (sym is-k i, sym is-b i, sym is-h i)) data-after;
+    legal = subst (λ (x : StoreModel × List EntryModel). IsLegal x.0 x.1) (λ i. (sym is-b i, sym is-h i)) longer.legal;
     asked = subst (All (λ x. IsAsked w' x.command.ticket x.command.part)) (sym is-c) (all_from (λ x. IsAsked w' x.command.ticket x.command.part) w.commands (λ j c at_c. asked-after c j at_c (back c) (ap (λ x. (slot_here x c.command.part).target) is-k)));
   }
     where
@@ -326,6 +327,9 @@ module _ (w w' : WorldModel) (h : Standing w) (t : There w) (s : Kept w) (u : Tu
       is-k : w'.cluster ≡ k'
       is-k = ap (λ (v : WorldModel). v.cluster) d.7 ∙ did.1
 
+      is-b : w'.initial ≡ w.initial
+      is-b = ap (λ (v : WorldModel). v.initial) d.7
+
       is-h : w'.history ≡ hs'
       is-h = ap (λ (v : WorldModel). v.history) d.7
 
@@ -335,20 +339,20 @@ module _ (w w' : WorldModel) (h : Standing w) (t : There w) (s : Kept w) (u : Tu
       is-node : IsNode w.cluster l.node
       is-node = all_at (λ (x : Link). IsNode w.cluster x.node) w.links link l at_l t.links
 
-      was-home : (q : List ℕ) → Among q keys → IsHome sl (λ m. at w.cluster m q) (get (left_by empty w.history) q)
-      was-home q x = subst (λ z. IsHome (standing_at w.cluster z) (λ m. at w.cluster m q) (get (left_by empty w.history) q)) (slot-is q x) (s.data' q)
+      was-home : (q : List ℕ) → Among q keys → IsHome sl (λ m. at w.cluster m q) (get (left_by w.initial w.history) q)
+      was-home q x = subst (λ z. IsHome (standing_at w.cluster z) (λ m. at w.cluster m q) (get (left_by w.initial w.history) q)) (slot-is q x) (s.data' q)
 
       -- the node that executes is the home of each of the keys
       at_home : (q : List ℕ) → Among q keys → l.node ≡ home_in sl (λ m. at w.cluster m q)
-      at_home q x = executes-home sl (λ m. at w.cluster m q) (get (left_by empty w.history) q) (held_of (store_at w.cluster l.node) keys) (have_one_key (parts_told d.1)) slot
+      at_home q x = executes-home sl (λ m. at w.cluster m q) (get (left_by w.initial w.history) q) (held_of (store_at w.cluster l.node) keys) (have_one_key (parts_told d.1)) slot
           v l.node l.asking (all-held (store_at w.cluster l.node) keys q x) (was-home q x) (s.apart slot) (good did q x) e
 
       -- so the store that the history leaves holds there what the node holds
-      agree : Agree keys (left_by empty w.history) st
+      agree : Agree keys (left_by w.initial w.history) st
       agree q x = (was-home q x).holds ∙ ap (λ m. at w.cluster m q) (sym (at_home q x))
 
-      longer : IsLonger keys w.history hs' new
-      longer = run-legal w.moment keys d.1 w.history st (λ q x. x) agree s.legal did.0
+      longer : IsLonger w.initial keys w.history hs' new
+      longer = run-legal w.initial w.moment keys d.1 w.history st (λ q x. x) agree s.legal did.0
 
       miss : (q : List ℕ) (m : ℕ) → m ≢ l.node → at k' m q ≡ at w.cluster m q
       miss q m ne = ap (λ z. get z q) (store-other w.cluster l.node new m ne)
@@ -374,15 +378,15 @@ module _ (w w' : WorldModel) (h : Standing w) (t : There w) (s : Kept w) (u : Tu
               (subst (λ (z : SlotStandingModel). is_bad z.phase (is_some (at k' z.source q)) ≡ true) same b))
           key q x b (inr away) = subst (λ o. is_bad (slot_here w.cluster c.command.part).phase (is_some o) ≡ true) (other q away (slot_here w.cluster c.command.part).source) b
 
-      data-after : (q : List ℕ) → IsHome (standing_at k' (slot_of q)) (λ m. at k' m q) (get (left_by empty hs') q)
+      data-after : (q : List ℕ) → IsHome (standing_at k' (slot_of q)) (λ m. at k' m q) (get (left_by w.initial hs') q)
       data-after q = go (among q keys)
         where
-          go : Among q keys ⊎ (Among q keys → ⊥) → IsHome (standing_at k' (slot_of q)) (λ m. at k' m q) (get (left_by empty hs') q)
+          go : Among q keys ⊎ (Among q keys → ⊥) → IsHome (standing_at k' (slot_of q)) (λ m. at k' m q) (get (left_by w.initial hs') q)
           go (inl x) =
               subst (λ (z : ℕ × Option (List ℕ)). IsHome (standing_at w.cluster z.0) (λ m. at k' m q) z.1) (λ i. (sym (slot-is q x) i, sym (longer.agree q x) i))
-              (exec-home sl (λ m. at w.cluster m q) (λ m. at k' m q) (get (left_by empty w.history) q) (s.apart slot) (get new q) l.node (at_home q x) (hit q) (miss q) (was-home q x))
+              (exec-home sl (λ m. at w.cluster m q) (λ m. at k' m q) (get (left_by w.initial w.history) q) (s.apart slot) (get new q) l.node (at_home q x) (hit q) (miss q) (was-home q x))
           go (inr away) = subst (IsHome (standing_at w.cluster (slot_of q)) (λ m. at k' m q)) (sym (longer.others q away))
-              (home-same (standing_at w.cluster (slot_of q)) (λ m. at w.cluster m q) (λ m. at k' m q) (get (left_by empty w.history) q) (other q away) (s.data' q))
+              (home-same (standing_at w.cluster (slot_of q)) (λ m. at w.cluster m q) (λ m. at k' m q) (get (left_by w.initial w.history) q) (other q away) (s.data' q))
 
   pub run-kept : Kept w'
   run-kept = ⊎_elim

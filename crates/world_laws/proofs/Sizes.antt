@@ -1,4 +1,4 @@
--- No event changes how many workers and nodes there are.
+-- No event changes how many workers and nodes there are, nor what the nodes held at the start.
 use Rattle.std.proofs.Common.{◌≡◌, ◌⊎◌, inl, inr, length, refl, ap, ◌∙◌}
 use Rattle.node_model.specs.Runs.{deed_for}
 use Rattle.world_laws.specs.State.{WorldModel, parts_told, tolds_of}
@@ -42,3 +42,34 @@ does-sizes (Own slot) w w' d = same w w' _ d.1 refl refl
 does-sizes (Release slot) w w' d = same w w' _ d.1 refl refl
 does-sizes (Forget slot) w w' d = same w w' _ d.1 refl refl
 does-sizes (Stay slot) w w' d = same w w' _ d.1 refl refl
+
+-- no event changes what the nodes held at the start
+kept : (w w' v : WorldModel) → w' ≡ v → v.initial ≡ w.initial → w'.initial ≡ w.initial
+kept w w' v e is = ap (λ (x : WorldModel). x.initial) e ∙ is
+
+pub does-initial : (e : Event) (w w' : WorldModel) → WorldDoes w e w' → w'.initial ≡ w.initial
+does-initial (Arrive client part) w w' d = kept w w' _ d.1 refl
+does-initial (Post tickets node) w w' d = kept w w' _ d.5 refl
+does-initial (Carry lane link) w w' d = kept w w' _ d.5 refl
+does-initial (Refuse lane) w w' d = kept w w' _ d.3 refl
+does-initial (Serve link v) w w' d = go d.2
+  where
+    go : ServesAsking w link d.0 v w' ⊎ ServesRun w link d.0 v w' → w'.initial ≡ w.initial
+    go (inl x) = kept w w' _ x.3 refl
+    go (inr x) = kept w w' _ x.7 refl
+does-initial (Fetch link) w w' d = go d.3
+  where
+    go : FetchesWelcome w link d.0 w' ⊎ FetchesReply w link d.0 w' → w'.initial ≡ w.initial
+    go (inl x) = kept w w' _ x.2 refl
+    go (inr x) = kept w w' _ x.4 refl
+does-initial (Take lane) w w' d = kept w w' _ d.7 refl
+does-initial (Drop link) w w' d = kept w w' _ d.3 refl
+does-initial (Discard link) w w' d = kept w w' _ d.4 refl
+does-initial (ev.Answer client) w w' d = kept w w' _ d.8 refl
+does-initial (Import slot target) w w' d = kept w w' _ d.2 refl
+does-initial (Migrate slot) w w' d = kept w w' _ d.1 refl
+does-initial (MoveKey slot key) w w' d = kept w w' _ d.1 refl
+does-initial (Own slot) w w' d = kept w w' _ d.1 refl
+does-initial (Release slot) w w' d = kept w w' _ d.1 refl
+does-initial (Forget slot) w w' d = kept w w' _ d.1 refl
+does-initial (Stay slot) w w' d = kept w w' _ d.1 refl

@@ -6,8 +6,9 @@
 -- of its moments, and those of one run share theirs; a command is answered at most once.
 -- Nothing is said of progress: a schedule may leave any command unanswered.
 -- Where others act beside the proxy, it speaks of the proxy's commands, in one legal history of everybody's (shared_laws).
-use Rattle.std.specs.Prelude.{◌≡◌, ◌≢◌, ◌↔◌, ℕ, ◌<◌, ◌≤◌, List, Some, None, slice_get}
+use Rattle.std.specs.Prelude.{◌≡◌, ◌≢◌, ◌↔◌, ℕ, ◌<◌, ◌≤◌, List, Some, None, length, slice_get}
 use Rattle.std.specs.FinMap.{empty, get}
+use Rattle.slot_hash.specs.Slot.{slot_of}
 use Rattle.resp_wire.specs.Seen.{data_of}
 use Rattle.resp_wire.specs.declared.value.Value.{Value}
 use Rattle.key_split.specs.declared.travel.Ticket.{Ticket}
@@ -17,9 +18,10 @@ use Rattle.command_future.specs.declared.stage.Stage.TheVariants.{Over}
 use Rattle.node_model.specs.Store.{StoreModel}
 use Rattle.node_model.specs.History.{EntryModel, IsLegal, left_by}
 use Rattle.node_model.specs.Moves.{phase_at}
-use Rattle.node_model.specs.Nodes.{ClusterModel, at}
+use Rattle.node_model.specs.Nodes.{ClusterModel, at, standing_at}
 use Rattle.node_model.specs.declared.standing.Phase.TheVariants.{Settled}
-use Rattle.world_laws.specs.State.{WorldModel, Arrival, slot_for, start}
+use Rattle.world_laws.specs.Homes.{home_in}
+use Rattle.world_laws.specs.State.{WorldModel, Arrival, slot_for, start_from}
 use Rattle.world_laws.specs.World.{SameTurn, WorldRun}
 use Rattle.world_laws.specs.declared.event.Event.{Event}
 use Rattle.world_laws.specs.declared.history.Answer.{Answer}
@@ -32,9 +34,9 @@ At xs k x = slice_get xs k ≡ Some x
 abbrev pub IsIn : {X : Type 0} → List X → X → Type 0
 IsIn xs x = (k : ℕ) × At xs k x
 
--- the store that the history leaves, from the empty one
+-- the store that the history leaves, from the one that the nodes held at the start
 abbrev pub store_of : WorldModel → StoreModel
-store_of w = left_by empty w.history
+store_of w = left_by w.initial w.history
 
 -- at most one entry has the ticket
 abbrev pub HasOne : WorldModel → Ticket → Type 0
@@ -51,8 +53,8 @@ IsEntryOf w e c = IsIn w.history e × IsIn w.commands c × (e.ticket ≡ c.comma
 -- `Ours` says of a ticket whether a command of ours has it. An entry with another is somebody else's: of these it is said that they are
 -- legal, in the order of their moments, and what the nodes hold.
 pub record HeadlineOf (Ours : Ticket → Type 0) (w : WorldModel) : Type 0 where
-  -- the history, of everybody's commands, is one legal history of one store,
-  pub legal : IsLegal empty w.history
+  -- the history, of everybody's commands, is one legal history of one store, from what the nodes held at the start,
+  pub legal : IsLegal w.initial w.history
   -- in the order of its moments,
   pub timed : (k l : ℕ) (e f : EntryModel) → At w.history k e → At w.history l f → k < l → e.moment ≤ f.moment
   -- where only those of one run, one client's for one slot, share a moment, all of them ours or none,
@@ -92,20 +94,36 @@ AnyTicket ticket = Unit {0}
 abbrev pub Headline : WorldModel → Type 0
 Headline w = HeadlineOf AnyTicket w
 
+-- A proxy may begin before such a cluster, which holds this store: each slot stands as the steps of moves may leave it, each key is
+-- at no node but the one that may hold it then, so at no two, and the store is what the nodes hold together.
+pub record IsSound (initial : StoreModel) (k : ClusterModel) : Type 0 where
+  pub apart : (slot : ℕ) → phase_at k slot ≢ Settled → (standing_at k slot).source ≢ (standing_at k slot).target
+  pub targets : (slot : ℕ) → phase_at k slot ≢ Settled → (standing_at k slot).target < length k.stores
+  pub placed : (key value : List ℕ) (node : ℕ) → at k node key ≡ Some value → node ≡ home_in (standing_at k (slot_of key)) (λ n. at k n key)
+  pub union : (key value : List ℕ) → (get initial key ≡ Some value) ↔ ((node : ℕ) × (at k node key ≡ Some value))
+
 -- settled slots and no keys
 pub record IsNew (k : ClusterModel) : Type 0 where
   pub settled : (slot : ℕ) → phase_at k slot ≡ Settled
   pub no_keys : (node : ℕ) (key : List ℕ) → at k node key ≡ None
 
--- a world that some schedule leaves, from settled slots and no keys
+-- a new cluster is sound, and holds nothing
+abbrev pub NewIsSound : Type 0
+NewIsSound = (k : ClusterModel) → IsNew k → IsSound empty k
+
+-- a world that some schedule leaves, from a sound cluster
 abbrev pub IsReached : WorldModel → Type 0
-IsReached w = (workers : ℕ) × (run_limit : ℕ) × (cluster : ClusterModel) × (events : List Event) × IsNew cluster
-    × WorldRun (start workers run_limit cluster) events w
+IsReached w = (workers : ℕ) × (run_limit : ℕ) × (initial : StoreModel) × (cluster : ClusterModel) × (events : List Event) × IsSound initial cluster
+    × WorldRun (start_from workers run_limit initial cluster) events w
+
+-- what a schedule leaves is sound, and holds what the history leaves: another proxy can begin there
+abbrev pub EndsAreSound : Type 0
+EndsAreSound = (w : WorldModel) → IsReached w → IsSound (store_of w) w.cluster
 
 -- the headline holds after every schedule
 abbrev pub EverySchedule : Type 0
-EverySchedule = (workers run_limit : ℕ) (cluster : ClusterModel) (events : List Event) (w : WorldModel) → IsNew cluster
-    → WorldRun (start workers run_limit cluster) events w → Headline w
+EverySchedule = (workers run_limit : ℕ) (initial : StoreModel) (cluster : ClusterModel) (events : List Event) (w : WorldModel) → IsSound initial cluster
+    → WorldRun (start_from workers run_limit initial cluster) events w → Headline w
 
 -- There is no more to its three fields that ask whether an entry is ours: they hold of every entry.
 abbrev pub NoneShareAMoment : Type 0

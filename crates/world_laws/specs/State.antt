@@ -2,6 +2,7 @@
 -- Lanes and requests carry tickets; a part stands with its command alone. All lanes are one list: a worker's lane is
 -- those of its tickets, in order.
 use Rattle.std.specs.Prelude.{◌≡◌, ℕ, Bool, true, false, if◌then◌else◌, List, [], ◌∷◌, ◌++◌, map}
+use Rattle.std.specs.FinMap.{empty}
 use Rattle.slot_hash.specs.Slot.{slot_of}
 use Rattle.key_split.specs.PartModel.{PartModel}
 use Rattle.key_split.specs.declared.travel.Ticket.{Ticket}
@@ -10,6 +11,7 @@ use Rattle.key_split.specs.declared.travel.Ended.{Ended}
 use Rattle.command_future.specs.CommandModel.{progress_told}
 use Rattle.command_future.specs.declared.stage.Stage.TheVariants.{Awaits, Over}
 use Rattle.node_model.specs.Nodes.{ClusterModel}
+use Rattle.node_model.specs.Store.{StoreModel}
 use Rattle.node_model.specs.History.{EntryModel}
 use Rattle.world_laws.specs.declared.history.Answer.{Answer}
 pub use Rattle.world_laws.specs.declared.state.Arrival.{Arrival}
@@ -92,6 +94,8 @@ pub record WorldModel : Type 0 where
   -- how many commands a run has at most
   pub run_limit : ℕ
   pub cluster : ClusterModel
+  -- what the nodes held together at the start
+  pub initial : StoreModel
   -- in order of arrival
   pub commands : List Arrival
   -- posted, not yet carried; a worker's up list is those of its tickets
@@ -105,6 +109,23 @@ pub record WorldModel : Type 0 where
   -- how many events there were
   pub moment : ℕ
 
--- nothing has happened yet
+-- nothing has happened yet, before nodes that hold this store
+abbrev pub start_from : ℕ → ℕ → StoreModel → ClusterModel → WorldModel
+start_from workers run_limit initial cluster =
+    record {
+      workers = workers;
+      run_limit = run_limit;
+      cluster = cluster;
+      initial = initial;
+      commands = [];
+      ups = [];
+      links = [];
+      downs = [];
+      history = [];
+      answers = [];
+      moment = 0;
+    }
+
+-- the same before nodes that hold nothing
 abbrev pub start : ℕ → ℕ → ClusterModel → WorldModel
-start workers run_limit cluster = record { workers = workers; run_limit = run_limit; cluster = cluster; commands = []; ups = []; links = []; downs = []; history = []; answers = []; moment = 0 }
+start workers run_limit cluster = start_from workers run_limit empty cluster

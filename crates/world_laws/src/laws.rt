@@ -4,7 +4,7 @@ ghost use Rattle.std.specs.Prelude.{◌≡◌, List};
 ghost use Rattle.world_laws.specs.Alone.{DoesAlone, PostsAlone, ServesAlone};
 ghost use Rattle.world_laws.specs.Allowed.{LinksLeadToNodes, RunsHaveOneSlot, ServeIsAllowed, SizesStay, TakeIsAllowed};
 ghost use Rattle.world_laws.specs.Bare.{NoKeyAtTwoNodes};
-ghost use Rattle.world_laws.specs.Headline.{EachEntryArrived, EverySchedule, Headline, IsReached, NoneIsExecutedTwice, NoneShareAMoment};
+ghost use Rattle.world_laws.specs.Headline.{EachEntryArrived, EndsAreSound, EverySchedule, Headline, IsReached, NewIsSound, NoneIsExecutedTwice, NoneShareAMoment};
 ghost use Rattle.world_laws.specs.RunOfTwo.{RunOfTwo};
 ghost use Rattle.world_laws.specs.State.{WorldModel};
 ghost use Rattle.world_laws.specs.World.{WorldStep, WorldRun};
@@ -13,6 +13,12 @@ ghost use Rattle.world_laws.specs.declared.event.Event.{Event};
 /// After every schedule each command that ended with a reply stands exactly once in one legal history.
 pub fn every_schedule()
     ensures { EverySchedule }
+{}
+
+/// A new cluster is sound, and holds nothing; and what any schedule leaves is sound again, so another proxy can begin there.
+pub fn sound_starts()
+    ensures new { NewIsSound }
+    ensures ends { EndsAreSound }
 {}
 
 /// What the headline asks of an entry to be ours, each entry is where nobody else acts.

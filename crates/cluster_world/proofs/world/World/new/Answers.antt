@@ -1,9 +1,11 @@
 use Rattle.std.proofs.Common.{◌≡◌, true, false, ℕ, ◌<◌, List, [], length, Ok, refl, sym, ap, ◌∙◌, subst, arith}
+use Rattle.std.specs.FinMap.{empty}
 use Rattle.slot_map.specs.Map.{node_after}
 use Rattle.slot_map.specs.declared.ops.MapOp.{MapOp}
 use Rattle.node_model.specs.Nodes.{Opens}
 use Rattle.world_laws.specs.Headline.{IsReached}
 use Rattle.world_laws.specs.State.{WorldModel}
+use Rattle.world_laws.proofs.Sound.{new-sound}
 use Rattle.cluster_world.specs.Machine.{run_limit}
 use Rattle.cluster_world.proofs.Taking.{opens-new, opens-same, starts-fault}
 use Rattle.cluster_world.proofs.world.World.new.Goals as goal
@@ -19,7 +21,7 @@ invariant_of-result c =
     let changes : List MapOp = c.in-Ok.ensures.0 in
     let opens : Opens c.args.nodes (node_after changes) (Ok c.in-Ok-new.cluster) = c.in-Ok-new.ensures changes (c.in-Ok.ensures.1).shown in
     record {
-      reached = subst IsReached (sym c.new-in-Ok-new.ensures) (c.args.workers, run_limit, c.in-Ok-new.cluster, [], opens-new c.args.nodes (node_after changes) c.in-Ok-new.cluster opens, refl);
+      reached = subst IsReached (sym c.new-in-Ok-new.ensures) (c.args.workers, run_limit, empty, c.in-Ok-new.cluster, [], new-sound c.in-Ok-new.cluster (opens-new c.args.nodes (node_after changes) c.in-Ok-new.cluster opens), refl);
       workers = subst (λ (n : ℕ). 0 < n) (sym (ap (λ (w : WorldModel). w.workers) c.new-in-Ok-new.ensures)) (omega (arith, c.requires.0));
       nodes = sym (opens.1).all_nodes ∙ sym (ap (λ (w : WorldModel). length w.cluster.stores) c.new-in-Ok-new.ensures);
     }
