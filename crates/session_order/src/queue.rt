@@ -5,8 +5,8 @@ ghost use Rattle.std.specs.List.{list_all};
 ghost use Rattle.slot_hash.specs.Slot.{slot_of};
 ghost use Rattle.session_order.specs.Turn.{is_done, IsWaiting, IsOutAt, IsNumbered, HandOutcome, FollowOutcome, NextPlace};
 ghost use Rattle.session_order.specs.Tables.{AreSound, SameParts, HasRoom, parts_in, is_waiting, LinksIn, IsOpenAt, Unlinks, with_link};
-ghost use Rattle.session_order.specs.Next.{FollowerAt, HasTurnAt, NextOutAt, next_open};
-ghost use Rattle.session_order.specs.Front.{done_at_front};
+ghost use Rattle.session_order.specs.Next.{FollowerAt, HasTurnAt, IsNextOpen, NextOutAt};
+ghost use Rattle.session_order.specs.DoneParts.{done_at_front};
 ghost use Rattle.session_order.specs.LettingGo.{LetsGo, ForgetsAt};
 ghost use Rattle.std.specs.HashMap.{get};
 
@@ -73,7 +73,7 @@ impl Model for Queue {
 
     ghost use Rattle.session_order.specs.Turn.{IsNumbered};
     ghost use Rattle.session_order.specs.Tables.{AreSound};
-    ghost use Rattle.session_order.specs.Front.{done_at_front};
+    ghost use Rattle.session_order.specs.DoneParts.{done_at_front};
     ghost use Rattle.std.specs.Prelude.{◌≡◌};
 
     ghost view = { λ a. record { first = a.tables.first; stages = a.tables.stages.items } };
@@ -339,7 +339,7 @@ fn push_part(tables: &mut Tables, part: Part)
 fn next_open(tables: &Tables, number: u64) -> Option<u64>
     requires links { LinksIn tables.now }
     requires out { IsOutAt (parts_in tables.now) number }
-    ensures { (slot : ℕ) → slice_get tables.now.stages.items (number - tables.now.first) ≡ Some (PartStage.Out slot) → result ≡ next_open slot tables.now.first (number - tables.now.first) tables.now.stages.items }
+    ensures { IsNextOpen (parts_in tables.now) number result }
 {
     tables.later[(number - tables.first) as usize]
 }

@@ -9,11 +9,12 @@ use crate::closing::{Broken, Closing};
 use crate::drained::{Drained, tail_len};
 use crate::fault::SessionFault;
 use crate::queue::Queue;
-use crate::replies::{PendingReply, write_output};
-use crate::request_plan::{RequestPlan, plan_request};
-use crate::request_reader::{NextRequest, RequestReader};
-use key_split::{Ended, Joining, Part, Parts, Ticket};
-use resp_wire::{Bytes, Limits, NoMemory, Value, Words};
+use crate::replies::{Due, PendingReply};
+use crate::request_kind::RequestKind;
+use crate::request_reader::RequestReader;
+use crate::texts::goodbye;
+use key_split::{Ended, Joining, Part, Parts, PlanFault, Planned, Ticket, plan, refusal};
+use resp_wire::{Bytes, Limits, NoMemory, Value, WireFault, Words};
 use std::alloc::Global;
 use std::collections::VecDeque;
 use std::marker::Model;
@@ -133,17 +134,17 @@ impl Session {
             return Ok(false);
         }
         match self.reader.next() {
-            Ok(NextRequest::Words(words)) => self.add(words),
-            Ok(NextRequest::Skipped) => Ok(true),
-            Ok(NextRequest::Nothing) => Ok(false),
-            Err(SessionFault::NoMemory) => Err(SessionFault::NoMemory),
-            Err(SessionFault::Wire(fault)) => {
-                self.closing = Closing::Faulted(Broken::Wire(fault), true);
-                Err(SessionFault::Wire(fault))
-            }
-            Err(SessionFault::NotRequest) => {
+            Ok(Some(RequestKind::Words(words))) => self.add(words),
+            Ok(Some(RequestKind::Skipped)) => Ok(true),
+            Ok(Some(RequestKind::Refused)) => {
                 self.closing = Closing::Faulted(Broken::NotRequest, true);
                 Err(SessionFault::NotRequest)
+            }
+            Ok(None) => Ok(false),
+            Err(WireFault::NoMemory) => Err(SessionFault::NoMemory),
+            Err(fault) => {
+                self.closing = Closing::Faulted(Broken::Wire(fault), true);
+                Err(SessionFault::Wire(fault))
             }
         }
     }
@@ -259,15 +260,9 @@ impl Session {
     {
         let start = out.len();
         let line_owed = self.closing.owes_line();
-        match write_output(
-            self.alloc,
-            &self.requests,
-            &self.queue,
-            &mut self.ends,
-            line_owed,
-            most,
-            out,
-        ) {
+        let ends: &[Ended] = self.ends.make_contiguous();
+        let due = Due::new(&self.requests, &self.queue, ends);
+        match due.write(self.alloc, line_owed, most, out) {
             Ok(written) => {
                 self.closing = self.closing.after(self.requests.len() <= written.requests);
                 drop_front(&mut self.requests, written.requests);
@@ -333,6 +328,7 @@ impl Session {
     }
 
     // Adds what these words ask for. It is false where its parts are more than can be numbered, which is a fault.
+    #[tactic(auto, unfolding(crate::specs::PendingReply::plan_for))]
     fn add_words(&mut self, words: &[Bytes]) -> Result<bool, NoMemory>
         requires open { MayRead self.old }
         requires words { 0 < length words.now }
@@ -340,17 +336,24 @@ impl Session {
         ensures too_many { result ≡ Ok false → (with_words self.old words.now ≡ Err NotRequest) × (self.new ≡ broken_by self.old NotRequest) }
         ensures err { OnErr result (self.new ≡ self.old) }
     {
-        match plan_request(self.alloc, words)? {
-            RequestPlan::Reply(value) => {
+        match plan(self.alloc, words) {
+            Ok(Planned::Local(value)) => {
                 self.add_reply(value)?;
                 Ok(true)
             }
-            RequestPlan::Close(value) => {
+            Ok(Planned::Close) => {
+                let value = goodbye(self.alloc)?;
                 self.add_reply(value)?;
                 self.closing = Closing::Quit;
                 Ok(true)
             }
-            RequestPlan::Parts(how, parts) => self.add_parts(how, parts),
+            Ok(Planned::Parts(how, parts)) => self.add_parts(how, parts),
+            Err(PlanFault::NoMemory) => Err(NoMemory),
+            Err(fault) => {
+                let line = refusal(self.alloc, &fault)?;
+                self.add_reply(line)?;
+                Ok(true)
+            }
         }
     }
 
