@@ -33,7 +33,7 @@ effect_of numbered Skipped = Skips
 effect_of numbered Refused = Ends
 effect_of numbered (Words words) = effect_by numbered (plan_for words)
 
--- So many replies are owed for a client's bytes, behind these many parts: one to each request up to QUIT, and the error
+-- How many replies are owed for a client's bytes, behind these many parts: one to each request up to QUIT, and the error
 -- line of the first fault, if that comes before QUIT. Bytes that are less than a value are owed nothing.
 pub data Owes : ℕ → List ℕ → ℕ → Type 0 where
   unfinished : (numbered n : ℕ) (bytes : List ℕ) → front full bytes ≡ Partial → n ≡ 0 → Owes numbered bytes n
