@@ -4,7 +4,7 @@
 use Rattle.std.specs.Prelude.{◌≡◌, ◌<◌, ◌≤◌, ◌+◌, ◌^◌, ℕ, suc, zero, List, Option, Some, None, Result, Ok, Err, if◌then◌else◌, nat_le, length}
 use Rattle.resp_wire.specs.LimitsModel.{full}
 use Rattle.resp_wire.specs.Data.{Data}
-use Rattle.resp_wire.specs.Front.{Front, front, Whole, Partial, Faulty}
+use Rattle.resp_wire.specs.FirstValue.{Front, front, Whole, Partial, Faulty}
 use Rattle.resp_wire.specs.ReaderModel.{ReaderModel}
 use Rattle.resp_wire.specs.declared.fault.NoMemory.{NoMemory}
 use Rattle.resp_wire.specs.declared.fault.WireFault.{WireFault}

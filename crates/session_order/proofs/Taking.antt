@@ -1,7 +1,7 @@
 -- What the next request is, where a value was taken off the bytes for it.
 use Rattle.std.proofs.Common.{◌≡◌, List, [], ◌∷◌, ℕ, subst, unwrap_or, Option, Some, None, refl, sym, ap, ◌∙◌, inl, inr, Result, Ok, Err}
 use Rattle.resp_wire.specs.ReaderModel.{ReaderModel}
-use Rattle.resp_wire.specs.Front.{ReaderTakes}
+use Rattle.resp_wire.specs.FirstValue.{ReaderTakes}
 use Rattle.resp_wire.specs.Data.{Data, simple, error, integer, bulk, null_bulk, array, null_array, no_items, item}
 use Rattle.resp_wire.specs.Seen.{data_of}
 use Rattle.resp_wire.specs.Words.{words_of}

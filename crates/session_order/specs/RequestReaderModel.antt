@@ -3,7 +3,7 @@
 -- them: no request is lost or read twice.
 use Rattle.std.specs.Prelude.{◌≡◌, ◌⊎◌, ◌<◌, ℕ, List, Option, Some, None, Result, Ok, Err, length}
 use Rattle.resp_wire.specs.ReaderModel.{ReaderModel}
-use Rattle.resp_wire.specs.Front.{ReaderTakes, front, Whole, Faulty}
+use Rattle.resp_wire.specs.FirstValue.{ReaderTakes, front, Whole, Faulty}
 use Rattle.resp_wire.specs.Data.{Data}
 use Rattle.resp_wire.specs.Seen.{data_of}
 use Rattle.resp_wire.specs.declared.value.Value.{Value}

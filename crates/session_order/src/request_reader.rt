@@ -40,7 +40,7 @@ impl Model for RequestReader {
 
 impl RequestReader {
     ghost use Rattle.session_order.specs.RequestReaderModel.{TakeOutcome, HasWords, LacksValue};
-    ghost use Rattle.resp_wire.specs.Front.{Feeds};
+    ghost use Rattle.resp_wire.specs.FirstValue.{Feeds};
 
     pub fn new(alloc: Global, limits: Limits) -> RequestReader
         ensures { result ≡ record { input = record { bounds = limits; unread = []; fault = None }; ahead = None } }
