@@ -10,8 +10,8 @@ ghost use Rattle.session_order.specs.DoneParts.{done_at_front};
 ghost use Rattle.session_order.specs.LettingGo.{LetsGo, ForgetsAt};
 ghost use Rattle.std.specs.HashMap.{get};
 
-use key_split::Part;
-use resp_wire::NoMemory;
+use key_split::{Op, Part};
+use resp_wire::{Bytes, NoMemory};
 use slot_hash::Slot;
 use std::alloc::Global;
 use std::cmp::Reverse;
@@ -82,6 +82,7 @@ impl Model for Queue {
 }
 
 impl Queue {
+    ghost use Rattle.key_split.specs.OneKey.{HasArgs, one_at};
     ghost use Rattle.session_order.specs.Turn.{QueueModel, HandOutcome, FollowOutcome, NextPlace};
     ghost use Rattle.session_order.specs.Next.{FollowerAt, HasTurnAt, NextOutAt};
     ghost use Rattle.session_order.specs.declared.queue.PartStage.TheVariants.{Waiting, Done};
@@ -146,6 +147,18 @@ impl Queue {
     {
         make_room(&mut self.tables, parts.len())?;
         push_parts(&mut self.tables, parts);
+        Ok(())
+    }
+
+    /// Adds the part that an operation on one key makes behind the others. Once there is room for it, it is moved out of the words.
+    pub fn add_one(&mut self, alloc: Global, op: Op, words: &mut [Bytes]) -> Result<(), NoMemory>
+        requires numbered { self.old.first + length self.old.stages < 2 ^ 48 }
+        requires args { HasArgs op (drop 1 words.old) }
+        ensures ok { OnOk result (self.new ≡ record self.old { stages = self.old.stages ++ Waiting (one_at op (drop 1 words.old)) ∷ [] }) }
+        ensures err { OnErr result ((self.new ≡ self.old) × (words.new ≡ words.old)) }
+    {
+        make_room(&mut self.tables, 1)?;
+        push_part(&mut self.tables, Part::taken(alloc, op, &mut words[1..]));
         Ok(())
     }
 
