@@ -18,7 +18,7 @@ const PATIENCE: u64 = 5_000;
 /// Bytes that a head has at most.
 const HEAD_LENGTH: usize = 8 * 1024;
 
-/// So many connections are to be open at most.
+/// The most connections that are to be open.
 pub const MOST_CONNECTIONS: usize = 16;
 
 /// A connection for the page. The caller gives it the bytes that come (`receive`), has it answered (`answer`), and sends what
@@ -83,7 +83,7 @@ impl PageConnection {
         self.http.output()
     }
 
-    /// So many of them were sent, at this time.
+    /// `count` of them were sent, at this time.
     pub fn sent(&mut self, count: usize, now: u64)
         requires { count ≤ length (history self.old).pending }
         ensures history { history self.new ≡ after_sent (history self.old) count }

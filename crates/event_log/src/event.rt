@@ -10,7 +10,7 @@ use std::io;
 use std::net::SocketAddr;
 use std::sync::Arc;
 
-/// So many bytes of a node's host are shown at most.
+/// The most bytes of a node's host that are shown.
 const HOST_SHOWN: usize = 128;
 
 /// A node, as the log names it.
@@ -85,7 +85,7 @@ pub enum Event {
     SlotsTold(NodeName, SlotsTold),
     /// A connection was not accepted, or closed at once.
     ClientRefused(io::Error),
-    /// So many clients are there that others wait until some leave.
+    /// As many clients as may be, of this number, are there: others wait until some leave.
     ClientsFull(u64),
     /// A client sent what is no request, for this reason.
     ProtocolError(SocketAddr, SessionFault),

@@ -17,6 +17,9 @@ use Rattle.key_split.specs.Groups.{slot_at, slots, group_numbers, parts_of, alon
 use Rattle.key_split.specs.Names.{allows}
 use Rattle.key_split.specs.Plan.{PlanAnswer, Plans, Words, plan_as, set_with, increase}
 use Rattle.key_split.specs.Join.{CanBeJoined}
+use Rattle.key_split.specs.declared.planner.Wish.{Wish}
+use Rattle.key_split.specs.declared.planner.Wish.TheVariants as wish
+use Rattle.key_split.specs.Wishes.{HasWords, made}
 use Rattle.key_split.proofs.Grouping.{AllAmong, all-among, place, place-within, length-parts}
 
 some-parts : (o : Op) (p : Pair) (ps : List Pair) → 0 < length (parts_of o (p ∷ ps))
@@ -31,43 +34,24 @@ places-within o ps =
     subst (λ n. All (λ place. place < n) (group_numbers ps)) (sym (length-parts o ps))
     (All-map (λ place. place < length (slots ps)) (λ p. place (slot_at p) (slots ps)) ps (places-among ps (slots ps) (all-among ps)))
 
-set_with-joins : (mode : Option Mode) (args : Words) → IfOk (set_with mode args) CanBeJoined
-set_with-joins None args = tt
-set_with-joins (Some mode) args = refl
-
-increase-joins : (amount : Option ℤ) (args : Words) → IfOk (increase amount args) CanBeJoined
-increase-joins None args = tt
-increase-joins (Some n) args = refl
-
 either-joins : (b : Bool) (x y : Value) → IfOk {T = Planned} {E = PlanFault} (if b then Ok (Local x) else Ok (Local y)) CanBeJoined
 either-joins true x y = tt
 either-joins false x y = tt
 
-pub plan_as-joins : (name : Name) (args : Words) → allows name (length args + 1) ≡ true → IfOk (plan_as name args) CanBeJoined
-plan_as-joins Get args h = refl
-plan_as-joins Set args h = set_with-joins _ args
-plan_as-joins SetNx args h = refl
-plan_as-joins GetSet args h = refl
-plan_as-joins GetDel args h = refl
-plan_as-joins Append args h = refl
-plan_as-joins StrLen args h = refl
-plan_as-joins Incr args h = refl
-plan_as-joins Decr args h = refl
-plan_as-joins IncrBy args h = increase-joins _ args
-plan_as-joins Del [] h = absurd (false≢true h)
-plan_as-joins Del (key ∷ keys) h = some-parts op.Del _ _
-plan_as-joins Exists [] h = absurd (false≢true h)
-plan_as-joins Exists (key ∷ keys) h = some-parts op.Exists _ _
-plan_as-joins MGet [] h = absurd (false≢true h)
-plan_as-joins MGet (key ∷ keys) h = (some-parts op.MGet _ _, places-within op.MGet (alone (key ∷ keys)))
-plan_as-joins MSet [] h = absurd (false≢true h)
-plan_as-joins MSet (key ∷ []) h = absurd (false≢true h)
-plan_as-joins MSet (key ∷ value ∷ args) h = some-parts op.MSet _ _
-plan_as-joins Ping [] h = tt
-plan_as-joins Ping (text ∷ args) h = tt
-plan_as-joins Echo args h = tt
-plan_as-joins Select args h = either-joins _ _ _
-plan_as-joins Quit args h = tt
+pub made-joins : (wish : Wish) (args : Words) → HasWords wish args → IfOk (made wish args) CanBeJoined
+made-joins (wish.OneKey o) args h = refl
+made-joins (wish.Sum o) [] h = absurd (omega (arith, h.1))
+made-joins (wish.Sum o) (key ∷ keys) h = some-parts o _ _
+made-joins wish.MGet [] h = absurd (omega (arith, h))
+made-joins wish.MGet (key ∷ keys) h = (some-parts op.MGet _ _, places-within op.MGet (alone (key ∷ keys)))
+made-joins wish.MSet [] h = absurd (omega (arith, h))
+made-joins wish.MSet (key ∷ []) h = absurd (omega (arith, h))
+made-joins wish.MSet (key ∷ value ∷ args) h = some-parts op.MSet _ _
+made-joins wish.Ping [] h = tt
+made-joins wish.Ping (text ∷ args) h = tt
+made-joins wish.Echo args h = tt
+made-joins wish.Select args h = either-joins _ _ _
+made-joins wish.Quit args h = tt
 
 pub IfOk-planned : (wanted given : PlanAnswer) → Plans wanted given → IfOk wanted CanBeJoined → IfOk given CanBeJoined
 IfOk-planned wanted (Err e) h j = tt

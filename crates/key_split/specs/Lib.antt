@@ -4,6 +4,8 @@ pub mod Same
 pub mod Groups
 pub mod Names
 pub mod Plan
+pub mod OneKey
+pub mod Wishes
 pub mod Words
 pub mod Texts
 pub mod Woven

@@ -34,6 +34,23 @@ takes_group Exists = true
 takes_group MGet = true
 takes_group MSet = true
 
+-- the operation on one key takes a value
+abbrev pub takes_value : Op → Bool
+takes_value Get = false
+takes_value (Set mode) = true
+takes_value SetNx = true
+takes_value GetSet = true
+takes_value GetDel = false
+takes_value Append = true
+takes_value StrLen = false
+takes_value Incr = false
+takes_value Decr = false
+takes_value (IncrBy n) = false
+takes_value Del = false
+takes_value Exists = false
+takes_value MGet = false
+takes_value MSet = false
+
 -- all the keys, with their values
 abbrev pub pairs_in : PartModel → List Pair
 pairs_in c = (c.key, c.arg) ∷ c.rest

@@ -33,7 +33,7 @@ pub use name::{Name, same_letters};
 pub use number::{read_number, write_number};
 pub use part::{Mode, Op, Pair, Part, Parts};
 pub use planned::{Joining, Places, PlanFault, Planned};
-pub use planner::plan;
+pub use planner::{one_key_op, plan};
 pub use refusals::refusal;
 pub use run::Run;
 pub use tellings::told_value;

@@ -1,14 +1,17 @@
 //! An operation on keys of one slot.
 
-ghost use Rattle.std.specs.Prelude.{◌≡◌, ◌⊎◌, ◌↔◌, All, IsTrue, IfOk, OnOk, OnErr, [], ◌∷◌, ◌++◌};
+ghost use Rattle.std.specs.Prelude.{◌≡◌, ◌⊎◌, ◌↔◌, ◌<◌, All, IsTrue, IfOk, OnOk, OnErr, [], ◌∷◌, ◌++◌, length, slice_set};
 ghost use Rattle.slot_hash.specs.Slot.{slot_of};
-ghost use Rattle.key_split.specs.PartModel.{takes_group, HasFitKeys, HasOneSlot};
+ghost use Rattle.key_split.specs.PartModel.{takes_group, takes_value, HasFitKeys, HasOneSlot};
+ghost use Rattle.key_split.specs.Plan.{word_at};
+ghost use Rattle.key_split.specs.OneKey.{HasArgs, one_at};
 ghost use Rattle.key_split.specs.Same.{same_part};
 
 use resp_wire::{Bytes, NoMemory};
 use slot_hash::Slot;
 use std::alloc::Global;
 use std::marker::Model;
+use std::mem;
 
 /// When SET writes.
 #[derive(Clone, Copy, PartialEq, Eq)]
@@ -45,6 +48,13 @@ impl Op {
         ensures { result ≡ takes_group self }
     {
         matches!(self, Op::Del | Op::Exists | Op::MGet | Op::MSet)
+    }
+
+    /// Whether it is an operation on one key that takes a value.
+    pub fn takes_value(self) -> bool
+        ensures { result ≡ takes_value self }
+    {
+        matches!(self, Op::Set(_) | Op::SetNx | Op::GetSet | Op::Append)
     }
 }
 
@@ -109,6 +119,20 @@ impl Part {
         }
     }
 
+    /// The operation on the first argument, with the second as its value where it takes one. They are moved out of the arguments,
+    /// so it takes no memory.
+    pub fn taken(alloc: Global, op: Op, args: &mut [Bytes]) -> Part
+        requires { HasArgs op args.old }
+        ensures { result ≡ one_at op args.old }
+    {
+        let key = taken_word(alloc, args, 0);
+        if op.takes_value() {
+            let arg = taken_word(alloc, args, 1);
+            return Part::new(alloc, op, key, arg);
+        }
+        Part::new(alloc, op, key, Bytes::new(Vec::new(alloc)))
+    }
+
     /// Adds a further key with its value.
     pub fn push(&mut self, key: Bytes, arg: Bytes) -> Result<(), NoMemory>
         requires group { IsTrue (takes_group self.old.op) }
@@ -169,6 +193,15 @@ impl Part {
             slot: self.slot,
         })
     }
+}
+
+/// The word at this place, which is empty from now on.
+fn taken_word(alloc: Global, words: &mut [Bytes], place: usize) -> Bytes
+    requires { place < length words.old }
+    ensures word { result ≡ word_at words.old place }
+    ensures others { words.new ≡ slice_set words.old place [] }
+{
+    mem::replace(&mut words[place], Bytes::new(Vec::new(alloc)))
 }
 
 /// The same keys and values in memory of their own.

@@ -17,7 +17,7 @@ pub fn call(held: &mut Held<Cluster>, maps: &MapObjects, value: &mut Held<Value>
     }
 }
 
-/// So many nodes, whose slots are owned as the map says.
+/// As many nodes as the line says, whose slots are owned as the map says.
 fn renew(held: &mut Held<Cluster>, maps: &MapObjects, line: &mut Line) {
     let Some(count) = line.read() else {
         return;

@@ -37,7 +37,7 @@ fn rounds(alloc: Global, count: u64, size: usize) -> Result<(u64, u64), WireFaul
     Ok((round.values, round.bytes))
 }
 
-/// So many requests for a key of ten bytes.
+/// `count` requests for a key of ten bytes.
 fn requests(alloc: Global, count: u64) -> Option<Vec<u8>> {
     let mut text = Vec::new(alloc);
     for _ in 0..count {

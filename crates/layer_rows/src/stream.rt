@@ -16,7 +16,7 @@ pub struct MemoryStream {
     waits: bool,
     read_waited: bool,
     write_waited: bool,
-    /// So many bytes are taken before the stream fails.
+    /// How many bytes are taken before the stream fails.
     room: usize,
     reads: u64,
     writes: u64,
@@ -50,7 +50,7 @@ impl MemoryStream {
         self.at_once = at_once;
     }
 
-    /// So many bytes are taken before the stream fails.
+    /// `room` bytes are taken before the stream fails.
     pub fn make_room(&mut self, room: usize) {
         self.room = room;
     }

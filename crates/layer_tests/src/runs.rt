@@ -38,7 +38,7 @@ pub struct Counts {
 }
 
 impl Counts {
-    /// So many parts, all answered, with no step skipped and no worker stopped.
+    /// All parts, of this number, were answered, with no step skipped and no worker stopped.
     pub fn all_answered(answered: usize) -> Counts {
         Counts {
             answered,

@@ -16,7 +16,7 @@ pub(crate) enum Connection {
     /// The node has not answered AUTH yet.
     Greeting(PolledSocket, Handshake),
     /// Commands may go over it.
-    Standing(PolledSocket),
+    Open(PolledSocket),
 }
 
 impl Drop for Connection {
@@ -27,7 +27,7 @@ impl Drop for Connection {
                 drop(socket);
                 drop(handshake);
             }
-            Connection::Standing(socket) => drop(socket),
+            Connection::Open(socket) => drop(socket),
         }
     }
 }
@@ -41,14 +41,14 @@ impl Connection {
         match self {
             Connection::Connecting(stream) => connector.go_on_connecting(stream),
             Connection::Greeting(socket, handshake) => authenticate(socket, handshake),
-            Connection::Standing(socket) => Ok(Connection::Standing(socket)),
+            Connection::Open(socket) => Ok(Connection::Open(socket)),
         }
     }
 
     /// The socket, where commands may go over it.
-    pub(crate) fn standing(self) -> Result<PolledSocket, Connection> {
+    pub(crate) fn into_socket(self) -> Result<PolledSocket, Connection> {
         match self {
-            Connection::Standing(socket) => Ok(socket),
+            Connection::Open(socket) => Ok(socket),
             connection => Err(connection),
         }
     }
@@ -58,7 +58,7 @@ impl Connection {
         match self {
             Connection::Connecting(_) => Some(timeout("no connection in time")),
             Connection::Greeting(..) => Some(timeout("no reply to AUTH in time")),
-            Connection::Standing(_) => None,
+            Connection::Open(_) => None,
         }
     }
 }
@@ -70,7 +70,7 @@ pub(crate) fn authenticate(
 ) -> io::Result<Connection> {
     match handshake.advance(&mut socket) {
         HandshakeOutcome::Pending => Ok(Connection::Greeting(socket, handshake)),
-        HandshakeOutcome::Accepted => Ok(Connection::Standing(socket)),
+        HandshakeOutcome::Accepted => Ok(Connection::Open(socket)),
         HandshakeOutcome::Refused(error) => Err(error),
     }
 }

@@ -118,7 +118,7 @@ impl<'b, R: Clock + Net<Listener = TcpListener, Stream = TcpStream>> Connector<'
         };
         let socket = PolledSocket::new(stream, registration, &self.registry)?;
         let Some(credentials) = &self.credentials else {
-            return Ok(Connection::Standing(socket));
+            return Ok(Connection::Open(socket));
         };
         let Ok(credentials) = Arc::try_clone(credentials) else {
             return Err(ErrorKind::OutOfMemory.into());

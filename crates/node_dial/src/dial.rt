@@ -144,7 +144,7 @@ impl<'b, R: Clock + Net<Listener = TcpListener, Stream = TcpStream>> Dial for So
             return Err(DialFault::NoMemory);
         };
         let noted = match known.dial(&self.connector, host, port) {
-            DialOutcome::Standing(socket) => match self.port_over(socket, node, host, port) {
+            DialOutcome::Open(socket) => match self.port_over(socket, node, host, port) {
                 Ok(opened) => return Ok(opened),
                 Err(NoMemory) => return Err(DialFault::NoMemory),
             },
@@ -177,7 +177,7 @@ fn refusal(told: &Told) -> Option<Figure> {
     }
 }
 
-/// So many failures, and the one just now.
+/// The failures so far, and the one just now.
 fn one_more(failures: u64) -> u64
     requires { failures < 2 ^ 64 - 1 }
     ensures { result ≡ failures + 1 }

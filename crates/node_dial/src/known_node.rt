@@ -37,7 +37,7 @@ struct PendingDial {
 #[derive(Drop)]
 pub(crate) enum DialOutcome {
     /// A connection that commands may go over.
-    Standing(PolledSocket),
+    Open(PolledSocket),
     /// There is none yet: a dial is under way, or may not begin yet.
     Pending,
     /// A dial failed just now.
@@ -147,10 +147,10 @@ impl KnownNode {
     /// Gives the connection where it stands, and keeps it otherwise.
     fn keep(&mut self, dial: PendingDial) -> DialOutcome {
         let PendingDial { connection, begun } = dial;
-        match connection.standing() {
+        match connection.into_socket() {
             Ok(socket) => {
                 self.pause = DialPause::none();
-                DialOutcome::Standing(socket)
+                DialOutcome::Open(socket)
             }
             Err(connection) => {
                 put(&mut self.under_way, Some(PendingDial { connection, begun }));

@@ -8,7 +8,7 @@ use std::sync::Arc;
 use std::sync::atomic::{AtomicBool, Ordering};
 use std::thread::{self, JoinHandle, Threads};
 
-/// So many addresses of a name are kept.
+/// How many addresses of a name are kept.
 const ADDRESSES: usize = 4;
 /// The token of the wakers, which no socket has.
 const WAKER: Token = Token(usize::MAX);

@@ -3,7 +3,7 @@ use Rattle.std.proofs.Common.{◌≡◌, ◌<◌, ◌≤◌, ◌+◌, ◌++◌, 
 use Rattle.std.specs.Prelude.{Option, Some, None, Result, Ok, Err, true, false, reverse}
 use Rattle.std.specs.Option.{option_to_list}
 use Rattle.std.proofs.lemmas.List.{append-nil, reverse-append}
-use Rattle.resp_wire.specs.Front.{front, Whole}
+use Rattle.resp_wire.specs.FirstValue.{front, Whole}
 use Rattle.resp_wire.specs.Seen.{data_of}
 use Rattle.resp_wire.specs.LimitsModel.{LimitsModel}
 use Rattle.resp_wire.specs.ReaderModel.{ReaderModel}

@@ -6,7 +6,7 @@ use Rattle.std.specs.List.{flat_map}
 use Rattle.resp_wire.specs.LimitsModel.{LimitsModel}
 use Rattle.resp_wire.specs.Canonical.{canonical}
 use Rattle.resp_wire.specs.Data.{bulk, array, items_of}
-use Rattle.resp_wire.specs.Front.{front, Whole, Partial, Faulty}
+use Rattle.resp_wire.specs.FirstValue.{front, Whole, Partial, Faulty}
 use Rattle.resp_wire.specs.ReaderModel.{ReaderModel}
 use Rattle.resp_wire.specs.Seen.{data_of}
 use Rattle.resp_wire.specs.declared.value.Value.{Value}

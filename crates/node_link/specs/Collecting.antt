@@ -1,7 +1,7 @@
 -- How replies are collected until they tell a value, and how a request is drafted with what it awaits.
 -- Only private functions cite it.
 use Rattle.std.specs.Prelude.{◌≡◌, ◌<◌, ◌≤◌, ◌+◌, ◌++◌, ◌∷◌, ⊤, ◌⊎◌, List, [], ℕ, Bool, true, false, Option, Some, None, Result, Ok, Err, length, map}
-use Rattle.resp_wire.specs.Front.{front, Faulty}
+use Rattle.resp_wire.specs.FirstValue.{front, Faulty}
 use Rattle.resp_wire.specs.ReaderModel.{ReaderModel}
 use Rattle.resp_wire.specs.declared.fault.NoMemory as resp
 use Rattle.resp_wire.specs.declared.fault.WireFault.{WireFault}

@@ -1,7 +1,7 @@
 -- What it means that a port over bytes gives no value: its stream was read and is not gone, nothing whole waits in what came, and
 -- what waits to be written was offered before or has not waited long.
 use Rattle.std.specs.Prelude.{◌≡◌, ◌≤◌, ◌⊎◌, ◌++◌, ⊤, List, [], ◌∷◌, ℕ, take, Bool, true, false, Option, Some, None, Result, Ok, Err}
-use Rattle.resp_wire.specs.Front.{front, Partial}
+use Rattle.resp_wire.specs.FirstValue.{front, Partial}
 use Rattle.resp_wire.specs.ReaderModel.{ReaderModel}
 use Rattle.resp_wire.specs.declared.value.Value.{Value}
 use Rattle.node_link.specs.declared.link.Due.TheVariants as due

@@ -11,7 +11,7 @@ use resp_wire::{Limits, NoMemory, Reader, Value, WireFault};
 use std::alloc::Global;
 use std::marker::Model;
 
-/// So many bytes are read at once, in bytes.
+/// The most that is read at once, in bytes.
 const CHUNK: usize = 16 * 1024;
 
 /// Bytes that were read, as they come and as a reader holds them.

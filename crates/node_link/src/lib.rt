@@ -14,7 +14,7 @@
 
 mod block;
 mod block_port;
-mod byte_queue;
+mod buffer;
 mod dial;
 mod fuse;
 mod inbox;
@@ -33,7 +33,7 @@ mod told;
 
 pub use block::take_told;
 pub use block_port::BlockPort;
-pub use byte_queue::{drop_front, free_large};
+pub use buffer::{drop_front, free_large};
 pub use dial::{Dial, DialFault};
 pub use fuse::Fuse;
 pub use laws::replies_match;

@@ -4,7 +4,7 @@ ghost use Rattle.std.specs.Prelude.{◌≡◌, ◌≤◌, ◌-◌, ◌++◌, [],
 ghost use Rattle.node_link.specs.Bytes.{FlushOutcome, Offers, least_offer};
 ghost use Rattle.node_link.specs.Pieces.{DropsFirst, IsSettled, IsSound, first_of, front_of, held_in, spelled_first, waiting_in};
 
-use crate::byte_queue::free_large;
+use crate::buffer::free_large;
 use crate::piece::Piece;
 use crate::stream::{Flow, Gone, Stream};
 use resp_wire::{Bytes, NoMemory};
@@ -185,7 +185,7 @@ impl Pieces {
         }
     }
 
-    // So many bytes of the first piece were left.
+    // `left` bytes of the first piece were left.
     fn leave(&mut self, left: usize)
         requires settled { IsSettled self.old }
         requires within { left ≤ length (front_of self.old) }

@@ -7,7 +7,7 @@ ghost use Rattle.node_link.specs.Stream.{ReadOutcome, WriteOutcome};
 /// What one call on a stream moved.
 #[derive(Clone, Copy, PartialEq, Eq)]
 pub enum Flow {
-    /// So many bytes.
+    /// This number of bytes.
     Bytes(usize),
     /// No byte now; a later call may move some.
     Nothing,

@@ -1,7 +1,7 @@
 -- The value that stands first is answered.
 use Rattle.std.proofs.Common.{◌≡◌, ℕ, List, true, Ok, Some, OnOk, OnErr, inl, inr, ap}
 use Rattle.std.specs.Prelude.{Result}
-use Rattle.resp_wire.specs.Front.{ReaderTakes}
+use Rattle.resp_wire.specs.FirstValue.{ReaderTakes}
 use Rattle.resp_wire.specs.ReaderModel.{ReaderModel}
 use Rattle.resp_wire.specs.Seen.{data_of}
 use Rattle.resp_wire.specs.declared.value.Value.{Value}

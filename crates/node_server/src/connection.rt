@@ -181,7 +181,7 @@ impl Connection {
     {
         match kind_of(self.alloc, value) {
             Ok(RequestKind::Words(words)) => self.answer_words(&words, state, table),
-            Ok(RequestKind::Nothing) => Ok(()),
+            Ok(RequestKind::Skipped) => Ok(()),
             Ok(RequestKind::Refused) => self.refuse(),
             Err(_) => Err(NoMemory),
         }

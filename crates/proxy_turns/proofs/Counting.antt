@@ -7,7 +7,7 @@ use Rattle.key_split.specs.declared.travel.Ticket.{Ticket}
 use Rattle.key_split.specs.declared.travel.Ended.{Ended}
 use Rattle.resp_wire.specs.LimitsModel.{LimitsModel, full}
 use Rattle.resp_wire.specs.Data.{Data}
-use Rattle.resp_wire.specs.Front.{Front, front, Whole, Partial, Faulty}
+use Rattle.resp_wire.specs.FirstValue.{Front, front, Whole, Partial, Faulty}
 use Rattle.resp_wire.specs.ReaderModel.{ReaderModel}
 use Rattle.resp_wire.specs.Laws.{FrontKeepsValue, FrontKeepsFault}
 use Rattle.resp_wire.specs.declared.fault.NoMemory.{NoMemory}

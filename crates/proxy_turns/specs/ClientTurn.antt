@@ -20,6 +20,7 @@ use Rattle.proxy_lanes.specs.declared.map_view.NotEntered.{NotEntered}
 use Rattle.proxy_lanes.specs.declared.ring.Outlet.{Outlet}
 use Rattle.proxy_lanes.specs.Lane.{Posts}
 use Rattle.proxy_lanes.specs.View.{ViewModel}
+use Rattle.proxy_turns.specs.declared.uplink.Uplink.{Uplink}
 use Rattle.proxy_turns.specs.Port.{Moves}
 use Rattle.proxy_turns.specs.Commands.{CommandsModel, TakesRun, most_together, run_of, with_fresh, with_run, HasEndAt, HasEnd, Looks, GoesTo}
 use Rattle.proxy_turns.specs.declared.turned.Turned.{Turned}
@@ -33,6 +34,10 @@ pub record ClientContext (C : Type 0) : Type 0 where
   pub client : ClientModel C
   pub outlet : Outlet RunModel
   pub view : ViewModel
+
+-- a client at its worker's lane and view
+abbrev pub at : {C J : Type 0} → ClientModel C → Uplink J → ClientContext C
+at client uplink = record { client = client; outlet = uplink.outlet; view = uplink.view }
 
 pub data ClientEvent : Type 0 where
   Pulled : List ℕ → ClientEvent

@@ -114,6 +114,10 @@ AwaitsIn commands ticket = (c : CommandModel) × IsAwaited commands ticket c
 abbrev pub WantsPostAt : CommandsModel → ℕ → Type 0
 WantsPostAt commands number = (c : CommandModel) × (get commands.posted number ≡ Some c) × WantsPost c.stage
 
+-- so does that of this ticket
+abbrev pub TicketWantsPost : CommandsModel → ℕ → Ticket → Type 0
+TicketWantsPost commands number ticket = (c : CommandModel) × (get commands.posted number ≡ Some c) × WantsPost c.stage × (c.ticket ≡ ticket)
+
 -- the command of this ticket has ended so
 abbrev pub HasEnd : CommandsModel → ℕ → Ticket → Ended → Type 0
 HasEnd commands number ticket end = (c : CommandModel) × (get commands.posted number ≡ Some c) × (c.ticket ≡ ticket) × (c.stage ≡ Over end)

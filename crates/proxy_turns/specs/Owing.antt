@@ -4,7 +4,7 @@
 use Rattle.std.specs.Prelude.{◌≡◌, ◌<◌, ◌≤◌, ◌+◌, ◌^◌, ℕ, suc, zero, List, Option, Some, None, Result, Ok, Err, if◌then◌else◌, nat_le, length}
 use Rattle.resp_wire.specs.LimitsModel.{full}
 use Rattle.resp_wire.specs.Data.{Data}
-use Rattle.resp_wire.specs.Front.{Front, front, Whole, Partial, Faulty}
+use Rattle.resp_wire.specs.FirstValue.{Front, front, Whole, Partial, Faulty}
 use Rattle.resp_wire.specs.ReaderModel.{ReaderModel}
 use Rattle.resp_wire.specs.declared.fault.NoMemory.{NoMemory}
 use Rattle.resp_wire.specs.declared.fault.WireFault.{WireFault}
@@ -33,7 +33,7 @@ effect_of numbered Skipped = Skips
 effect_of numbered Refused = Ends
 effect_of numbered (Words words) = effect_by numbered (plan_for words)
 
--- So many replies are owed for a client's bytes, behind these many parts: one to each request up to QUIT, and the error
+-- How many replies are owed for a client's bytes, behind these many parts: one to each request up to QUIT, and the error
 -- line of the first fault, if that comes before QUIT. Bytes that are less than a value are owed nothing.
 pub data Owes : ℕ → List ℕ → ℕ → Type 0 where
   unfinished : (numbered n : ℕ) (bytes : List ℕ) → front full bytes ≡ Partial → n ≡ 0 → Owes numbered bytes n

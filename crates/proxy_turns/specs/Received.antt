@@ -2,7 +2,7 @@
 -- Only private functions cite it.
 use Rattle.std.specs.Prelude.{◌≡◌, ◌⊎◌, ◌≤◌, ◌<◌, ◌++◌, ℕ, List, Bool, true, false, Some, None, Result, Ok, Err}
 use Rattle.resp_wire.specs.Data.{Data}
-use Rattle.resp_wire.specs.Front.{front, Whole, Partial, Faulty}
+use Rattle.resp_wire.specs.FirstValue.{front, Whole, Partial, Faulty}
 use Rattle.resp_wire.specs.ReaderModel.{ReaderModel}
 use Rattle.resp_wire.specs.declared.fault.NoMemory.{NoMemory}
 use Rattle.resp_wire.specs.declared.fault.WireFault.{WireFault}

@@ -17,9 +17,9 @@ use slot_map::{NodeId, NodeTable};
 use std::alloc::Global;
 use std::sync::Wait;
 
-/// So many replies of a link are taken at most in one turn.
+/// The most replies of a link that are taken in one turn.
 const REPLIES_PER_TURN: u32 = 64;
-/// So many runs of a worker are carried at most in one turn.
+/// The most runs of a worker that are carried in one turn.
 const RUNS_PER_TURN: u32 = 16;
 
 /// Carries runs from the workers' lanes to the nodes, and what the nodes reply back, and renews the slot map.

@@ -16,7 +16,7 @@ pub(crate) const KEPT: usize = 256 * 1024;
 pub(crate) const MAX_READS: usize = 1024;
 /// How many runs are posted in one turn: others find room in the lane in the same turn.
 pub(crate) const MAX_SENT: usize = 64;
-/// So many commands go out together at most.
+/// The most commands that go out together.
 pub(crate) const MAX_RUN: usize = 64;
 /// Bytes of the words of those that go out together, from which on no more go with them.
 pub(crate) const MAX_RUN_WORDS: usize = 64 * 1024;

@@ -14,9 +14,10 @@ use crate::port::ClientPort;
 use crate::shared_room::SharedRoom;
 use crate::turned::{has_read, note_read};
 use crate::unpushed::Unpushed;
-use key_split::{Run, Ticket, Told};
+use crate::uplink::Uplink;
+use key_split::{Ticket, Told};
 use node_link::Flow;
-use proxy_lanes::{MapView, Naming, Outlet};
+use proxy_lanes::Naming;
 use resp_wire::{Limits, NoMemory};
 use session_order::{Session, SessionFault};
 use std::alloc::Global;
@@ -127,7 +128,7 @@ impl<C: ClientPort + Drop> ClientParts<C> {
     ghost use Rattle.session_order.specs.HangingUp.{HangsUp};
     ghost use Rattle.proxy_turns.specs.ClientModel.{IsClientServed, IsLeft};
     ghost use Rattle.proxy_turns.specs.ClientRest.{FeedsNone, IfStill, IsAnswered, PullsNone, ReadsNone, WorksNone};
-    ghost use Rattle.proxy_turns.specs.ClientTurn.{ClientContext, DoesWork, FeedsSession, PullsBytes, ReadsRequests};
+    ghost use Rattle.proxy_turns.specs.ClientTurn.{at, DoesWork, FeedsSession, PullsBytes, ReadsRequests};
 
     // Whether its session is finished and it has all its bytes.
     fn is_served(&self) -> bool
@@ -147,30 +148,28 @@ impl<C: ClientPort + Drop> ClientParts<C> {
     /// is ready.
     pub(crate) fn work<J: Naming>(
         &mut self,
-        outlet: &mut Outlet<Run>,
-        view: &mut MapView<J>,
+        uplink: &mut Uplink<J>,
         room: &mut SharedRoom,
     ) -> Result<bool, NoMemory>
-        ensures works { DoesWork C.moves (record { client = self.old; outlet = outlet.old; view = view.old }) result (record { client = self.new; outlet = outlet.new; view = view.new }) }
-        ensures none { IfStill result (WorksNone C.takes_none self.old self.new outlet.new) }
+        ensures works { DoesWork C.moves (at self.old uplink.old) result (at self.new uplink.new) }
+        ensures none { IfStill result (WorksNone C.takes_none self.old self.new uplink.new.outlet) }
     {
-        let sent = self.send(outlet, view, room.is_crowded())?;
-        let worked = self.take_in(outlet, view, room)?;
+        let sent = self.send(uplink, room.is_crowded())?;
+        let worked = self.take_in(uplink, room)?;
         Ok(sent | worked)
     }
 
     fn take_in<J: Naming>(
         &mut self,
-        outlet: &mut Outlet<Run>,
-        view: &mut MapView<J>,
+        uplink: &mut Uplink<J>,
         room: &mut SharedRoom,
     ) -> Result<bool, NoMemory>
-        ensures works { DoesWork C.moves (record { client = self.old; outlet = outlet.old; view = view.old }) result (record { client = self.new; outlet = outlet.new; view = view.new }) }
-        ensures none { IfStill result (WorksNone C.takes_none self.old self.new outlet.new) }
+        ensures works { DoesWork C.moves (at self.old uplink.old) result (at self.new uplink.new) }
+        ensures none { IfStill result (WorksNone C.takes_none self.old self.new uplink.new.outlet) }
     {
         let fed = self.feed(&mut room.piece)?;
         let read = self.read_all()?;
-        let sent = self.send(outlet, view, room.is_crowded())?;
+        let sent = self.send(uplink, room.is_crowded())?;
         let written = self.write()?;
         Ok(fed | read | sent | written)
     }

@@ -8,8 +8,9 @@ use crate::gate::Gate;
 use crate::port::ClientPort;
 use crate::shared_room::SharedRoom;
 use crate::turned::{Finish, NextStep, Settled, Turned};
-use key_split::{Run, Ticket, Told};
-use proxy_lanes::{MapView, Naming, Outlet};
+use crate::uplink::Uplink;
+use key_split::{Ticket, Told};
+use proxy_lanes::Naming;
 use resp_wire::{Limits, NoMemory};
 use std::alloc::Global;
 use std::marker::Model;
@@ -56,7 +57,7 @@ impl<C: ClientPort + Drop> ClientState<C> {
     ghost use Rattle.proxy_turns.specs.DueCommands.{IsSettled, IsToSettle, NextStepOf};
     ghost use Rattle.proxy_turns.specs.ClientModel.{IsDone, new_client};
     ghost use Rattle.proxy_turns.specs.ClientRest.{HasNoneToPull, IfStill, IfTurnedStill, IsAsleep, IsClientAtRest};
-    ghost use Rattle.proxy_turns.specs.ClientTurn.{ClientContext, ClientTurns, FinishOutcome, SettleOutcome, TurnOutcome};
+    ghost use Rattle.proxy_turns.specs.ClientTurn.{at, ClientTurns, FinishOutcome, SettleOutcome, TurnOutcome};
 
     pub(crate) fn new(
         alloc: Global,
@@ -76,18 +77,17 @@ impl<C: ClientPort + Drop> ClientState<C> {
     /// What a worker does for this client in a turn, beside what became of its commands.
     pub(crate) fn turn<J: Naming, G: Gate>(
         &mut self,
-        outlet: &mut Outlet<Run>,
-        view: &mut MapView<J>,
+        uplink: &mut Uplink<J>,
         room: &mut SharedRoom,
         gate: &G,
     ) -> Result<Turned, NoMemory>
-        ensures turns { TurnOutcome C.moves (record { client = self.old; outlet = outlet.old; view = view.old }) result (record { client = self.new; outlet = outlet.new; view = view.new }) }
-        ensures rests { IfTurnedStill result (IsClientAtRest C.gives_none C.takes_none self.new outlet.new) }
+        ensures turns { TurnOutcome C.moves (at self.old uplink.old) result (at self.new uplink.new) }
+        ensures rests { IfTurnedStill result (IsClientAtRest C.gives_none C.takes_none self.new uplink.new.outlet) }
     {
         if self.sleeps_on(gate) {
             return Ok(Turned::still());
         }
-        let moved = self.pull_and_work(outlet, view, room)?;
+        let moved = self.pull_and_work(uplink, room)?;
         let done = self.is_done();
         self.fall_asleep(moved, done);
         Ok(Turned { moved, done })
@@ -124,12 +124,11 @@ impl<C: ClientPort + Drop> ClientState<C> {
     // Pulls bytes, and does what there is to do. Of an idle client nothing more is asked where none came.
     fn pull_and_work<J: Naming>(
         &mut self,
-        outlet: &mut Outlet<Run>,
-        view: &mut MapView<J>,
+        uplink: &mut Uplink<J>,
         room: &mut SharedRoom,
     ) -> Result<bool, NoMemory>
-        ensures turns { ClientTurns C.moves (record { client = self.old; outlet = outlet.old; view = view.old }) result (record { client = self.new; outlet = outlet.new; view = view.new }) }
-        ensures rests { IfStill result (IsClientAtRest C.gives_none C.takes_none self.new outlet.new) }
+        ensures turns { ClientTurns C.moves (at self.old uplink.old) result (at self.new uplink.new) }
+        ensures rests { IfStill result (IsClientAtRest C.gives_none C.takes_none self.new uplink.new.outlet) }
     {
         let was_idle = is_idle(mem::replace(&mut self.rest, Rest::Awake));
         room.count(self.parts.held());
@@ -139,7 +138,7 @@ impl<C: ClientPort + Drop> ClientState<C> {
             self.rest = Rest::Idle;
             return Ok(false);
         }
-        let worked = self.parts.work(outlet, view, room)?;
+        let worked = self.parts.work(uplink, room)?;
         let is_asked_again = self.parts.forget_asked(is_held_back, worked);
         let more = self.parts.pull(&mut room.piece, !is_asked_again, false)?;
         let moved = pulled | worked | more;
@@ -159,14 +158,13 @@ impl<C: ClientPort + Drop> ClientState<C> {
     pub(crate) fn repost<J: Naming>(
         &mut self,
         number: u64,
-        outlet: &mut Outlet<Run>,
-        view: &mut MapView<J>,
+        uplink: &mut Uplink<J>,
     ) -> Result<Settled, NoMemory>
-        ensures settles { SettleOutcome C.moves (record { client = self.old; outlet = outlet.old; view = view.old }) result (record { client = self.new; outlet = outlet.new; view = view.new }) }
-        ensures settled { IsSettled result (IsToSettle self.new number) outlet.new }
+        ensures settles { SettleOutcome C.moves (at self.old uplink.old) result (at self.new uplink.new) }
+        ensures settled { IsSettled result (IsToSettle self.new number) uplink.new.outlet }
     {
         self.rest = Rest::Awake;
-        self.parts.repost(number, outlet, view)
+        self.parts.repost(number, uplink)
     }
 
     /// Tells the command of this ticket what came, where it awaits that. True where it does.

@@ -13,9 +13,10 @@ use crate::gate::Gate;
 use crate::port::ClientPort;
 use crate::shared_room::SharedRoom;
 use crate::turned::{Finish, NextStep, Settled, Turned};
+use crate::uplink::Uplink;
 use indexmap::IndexMap;
-use key_split::{Run, Ticket, Told};
-use proxy_lanes::{MapView, Naming, Outlet};
+use key_split::{Ticket, Told};
+use proxy_lanes::Naming;
 use resp_wire::NoMemory;
 
 /// The clients of a worker, by their numbers, in the order of their turns.
@@ -41,21 +42,20 @@ pub(crate) fn tell_client<C: ClientPort + Drop>(
 pub(crate) fn turn_at<C: ClientPort + Drop, J: Naming, G: Gate>(
     clients: &mut ClientTable<C>,
     place: usize,
-    outlet: &mut Outlet<Run>,
-    view: &mut MapView<J>,
+    uplink: &mut Uplink<J>,
     room: &mut SharedRoom,
     gate: &G,
 ) -> Result<Turned, NoMemory>
-    ensures serves { AtPlace clients.old.entries place (record { clients = clients_in clients.old.entries; outlet = outlet.old; view = view.old })
+    ensures serves { AtPlace clients.old.entries place (record { clients = clients_in clients.old.entries; outlet = uplink.old.outlet; view = uplink.old.view })
         (λ old new. TurnOutcome C.moves old result new) (result ≡ Ok (record { moved = false; done = false }))
-        (record { clients = clients_in clients.new.entries; outlet = outlet.new; view = view.new }) }
-    ensures turned { IfOk result (λ turned. IsTurnedAt C.gives_none C.takes_none clients.old.entries place turned outlet.new clients.new.entries) }
+        (record { clients = clients_in clients.new.entries; outlet = uplink.new.outlet; view = uplink.new.view }) }
+    ensures turned { IfOk result (λ turned. IsTurnedAt C.gives_none C.takes_none clients.old.entries place turned uplink.new.outlet clients.new.entries) }
     ensures len { length clients.new.entries ≡ length clients.old.entries }
 {
     let Some(client) = clients.get_index_mut(place) else {
         return Ok(Turned::still());
     };
-    client.turn(outlet, view, room, gate)
+    client.turn(uplink, room, gate)
 }
 
 /// Ends the command of this ticket, where it has an end.
@@ -76,19 +76,18 @@ pub(crate) fn finish_at<C: ClientPort + Drop>(
 pub(crate) fn repost_at<C: ClientPort + Drop, J: Naming>(
     clients: &mut ClientTable<C>,
     ticket: Ticket,
-    outlet: &mut Outlet<Run>,
-    view: &mut MapView<J>,
+    uplink: &mut Uplink<J>,
 ) -> Result<Settled, NoMemory>
-    ensures settles { AtClient (record { clients = clients_in clients.old.entries; outlet = outlet.old; view = view.old }) ticket.client
+    ensures settles { AtClient (record { clients = clients_in clients.old.entries; outlet = uplink.old.outlet; view = uplink.old.view }) ticket.client
         (λ old new. SettleOutcome C.moves old result new) (result ≡ Ok Settled.Nothing)
-        (record { clients = clients_in clients.new.entries; outlet = outlet.new; view = view.new }) }
-    ensures settled { IsSettled result (IsToSettleAt (clients_in clients.new.entries) ticket.client ticket.part) outlet.new }
+        (record { clients = clients_in clients.new.entries; outlet = uplink.new.outlet; view = uplink.new.view }) }
+    ensures settled { IsSettled result (IsToSettleAt (clients_in clients.new.entries) ticket.client ticket.part) uplink.new.outlet }
     ensures len { length clients.new.entries ≡ length clients.old.entries }
 {
     let Some(client) = clients.get_mut(&ticket.client) else {
         return Ok(Settled::Nothing);
     };
-    client.repost(ticket.part, outlet, view)
+    client.repost(ticket.part, uplink)
 }
 
 /// What the command of this ticket has to do.

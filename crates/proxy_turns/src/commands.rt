@@ -2,21 +2,18 @@
 
 mod posting;
 
-ghost use Rattle.std.specs.Prelude.{◌≡◌, ◌≢◌, ◌<◌, ◌↔◌, [], ◌∷◌, ◌++◌, ℕ, List, length, IsSome, OnOk, OnErr, IfSome, MatchOption, IsTrue, Some, true, false};
+ghost use Rattle.std.specs.Prelude.{◌≡◌, ◌≢◌, ◌<◌, ◌↔◌, [], ◌∷◌, ◌++◌, List, length, IsSome, IfSome, MatchOption, IsTrue, Some, true, false};
 ghost use Rattle.std.specs.FinMap as map;
-ghost use Rattle.command_future.specs.CommandModel.{CommandModel, WantsPost};
-ghost use Rattle.proxy_turns.specs.ClientRest.{HasNoPlace, IfStill};
+ghost use Rattle.command_future.specs.CommandModel.{CommandModel};
 ghost use Rattle.proxy_turns.specs.DueCommands.{StepOf};
-ghost use Rattle.proxy_turns.specs.Commands.{AreOneRun, BeginOutcome, Drops, FollowOutcome, HasEnd, HasEndAt, Hears, HearsOne, LastIsOut, PostsAtResult, PostsFreshResult, WantsPostAt, commanded, in_table, most_together};
+ghost use Rattle.proxy_turns.specs.Commands.{BeginOutcome, Drops, FollowOutcome, HasEnd, HasEndAt, Hears, HearsOne, LastIsOut, TicketWantsPost, WantsPostAt, commanded, in_table, most_together};
 
 use crate::client_limits::{MAX_RUN, MAX_RUN_WORDS};
 use crate::pause::pause_millis;
 use crate::place::put;
 use crate::turned::NextStep;
 use command_future::{Command, Want};
-use key_split::{Ended, Part, Run, Ticket, Told};
-use posting::{post_all, post_at};
-use proxy_lanes::{MapView, Naming, Outlet};
+use key_split::{Ended, Part, Ticket, Told};
 use resp_wire::NoMemory;
 use session_order::Session;
 use std::alloc::Global;
@@ -134,32 +131,6 @@ impl Commands {
         true
     }
 
-    /// Posts the commands that were not posted yet, together. True where they were posted.
-    pub(crate) fn post_fresh<J: Naming>(
-        &mut self,
-        outlet: &mut Outlet<Run>,
-        view: &mut MapView<J>,
-    ) -> Result<bool, NoMemory>
-        requires { AreOneRun self.old.fresh }
-        ensures posts { PostsFreshResult self.old outlet.old view.old result self.new outlet.new view.new }
-        ensures full { IfStill result (self.old.fresh ≢ [] → HasNoPlace outlet.new) }
-    {
-        post_all(self.alloc, &mut self.fresh, &mut self.posted, outlet, view)
-    }
-
-    /// Posts the command for the part of this number again, alone, where it wants that. True where it was posted.
-    pub(crate) fn post_again<J: Naming>(
-        &mut self,
-        number: u64,
-        outlet: &mut Outlet<Run>,
-        view: &mut MapView<J>,
-    ) -> Result<bool, NoMemory>
-        ensures posts { PostsAtResult self.old number outlet.old view.old result self.new outlet.new view.new }
-        ensures full { IfStill result (WantsPostAt self.old number → HasNoPlace outlet.new) }
-    {
-        post_at(self.alloc, &mut self.posted, number, outlet, view)
-    }
-
     /// Tells the command of this ticket what came, where it awaits that. True where it does.
     pub(crate) fn hear(&mut self, ticket: Ticket, told: Told) -> bool
         ensures { Hears self.old ticket told result self.new }
@@ -169,7 +140,7 @@ impl Commands {
 
     /// The ticket of the posted command for the part of this number, where it wants to be posted again.
     pub(crate) fn wants_post(&self, number: u64) -> Option<Ticket>
-        ensures { MatchOption result (WantsPostAt self.now number → ⊥) (λ ticket. (c : CommandModel) × (map.get self.now.posted number ≡ Some c) × WantsPost c.stage × (c.ticket ≡ ticket)) }
+        ensures { MatchOption result (WantsPostAt self.now number → ⊥) (TicketWantsPost self.now number) }
     {
         let Some(command) = self.posted.get(&number) else {
             return None;

@@ -26,7 +26,7 @@ pub trait Gate {
         true
     }
 
-    /// So many batches the worker has posted so far. Told after each turn that was not its last.
+    /// The count of batches that the worker has posted so far. Told after each turn that was not its last.
     fn posted(&self, _count: u64) {}
 
     /// What time it is, in milliseconds since some moment. Where there is no time, refused commands do not wait.

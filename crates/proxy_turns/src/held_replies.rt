@@ -10,7 +10,7 @@ use resp_wire::Value;
 const SMALLEST: usize = 1024;
 /// What a reply counts as before one has come.
 const UNKNOWN: usize = 16 * 1024;
-/// So many parts are always begun.
+/// The parts that are begun, however much is held.
 const FEWEST: u64 = 4;
 
 /// The size of a client's last replies, and what is held of those that came or will come, in bytes.
@@ -48,7 +48,7 @@ impl HeldReplies {
         self.ended = self.ended.saturating_add(bytes);
     }
 
-    /// So many bytes were drained.
+    /// `count` bytes were drained.
     pub(crate) fn drain(&mut self, count: usize) {
         self.ended = self.ended.saturating_sub(count);
     }

@@ -50,6 +50,7 @@ mod shared_room;
 mod tail;
 mod turned;
 mod unpushed;
+mod uplink;
 mod worker;
 mod worker_end;
 mod worker_state;

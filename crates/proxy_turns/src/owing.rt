@@ -87,7 +87,7 @@ fn effect_of(alloc: Global, value: Value, numbered: u64) -> Result<Effect, NoMem
 {
     match kind_of(alloc, value) {
         Ok(RequestKind::Words(words)) => effect_by(alloc, words.as_slice(), numbered),
-        Ok(RequestKind::Nothing) => Ok(Effect::Skips),
+        Ok(RequestKind::Skipped) => Ok(Effect::Skips),
         Ok(RequestKind::Refused) => Ok(Effect::Ends),
         Err(value) => {
             drop(value);

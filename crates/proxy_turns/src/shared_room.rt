@@ -27,7 +27,7 @@ impl SharedRoom {
         self.bytes = 0;
     }
 
-    /// So many bytes are held for the client that has its turn.
+    /// Adds the bytes that are held for the client that has its turn.
     pub(crate) fn count(&mut self, bytes: usize) {
         self.bytes = self.bytes.saturating_add(bytes);
     }

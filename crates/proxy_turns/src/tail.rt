@@ -48,7 +48,7 @@ impl Tail {
         self.as_slice().is_empty()
     }
 
-    /// So many bytes were pushed. Where none are left it is let go.
+    /// `count` bytes were pushed. Where none are left it is let go.
     pub(crate) fn count_pushed(&mut self, count: usize)
         requires { count ≤ length self.old }
         ensures { self.new ≡ drop count self.old }

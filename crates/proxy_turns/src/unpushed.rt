@@ -80,7 +80,7 @@ impl Unpushed {
         Ok(Some(drained.count))
     }
 
-    /// So many bytes were pushed.
+    /// `count` bytes were pushed.
     pub(crate) fn count_pushed(&mut self, count: usize)
         requires { count ≤ length self.old }
         ensures { self.new ≡ drop count self.old }

@@ -25,10 +25,11 @@ use crate::port::ClientPort;
 use crate::round::Round;
 use crate::shared_room::SharedRoom;
 use crate::turned::{Finish, NextStep, Settled, Turned};
+use crate::uplink::Uplink;
 use crate::worker_end::{WorkerEnd, WorkerOutcome};
 use indexmap::IndexMap;
-use key_split::{Run, Ticket, Told};
-use proxy_lanes::{Front, Inlet, LANE_PLACES, MapView, Naming, Newcomers, Outlet, WorkerEnds};
+use key_split::{Ticket, Told};
+use proxy_lanes::{Front, Inlet, LANE_PLACES, MapView, Naming, Newcomers, WorkerEnds};
 use resp_wire::{Limits, NoMemory};
 use std::alloc::Global;
 use std::mem;
@@ -46,8 +47,7 @@ pub(crate) struct WorkerState<C: ClientPort + Drop, J: Naming> {
     newcomers: Newcomers<Newcomer<C, J>>,
     // How many are still to come; `None` without end.
     left: Option<u32>,
-    outlet: Outlet<Run>,
-    view: MapView<J>,
+    uplink: Uplink<J>,
     inlet: Inlet<(Ticket, Told)>,
     /// How many parts have ended.
     pub(crate) answered: u64,
@@ -88,8 +88,7 @@ impl<C: ClientPort + Drop, J: Naming> WorkerState<C, J> {
             newest: None,
             newcomers,
             left,
-            outlet,
-            view,
+            uplink: Uplink { outlet, view },
             inlet,
             answered: 0,
             ports: Vec::new(alloc),
@@ -131,7 +130,7 @@ impl<C: ClientPort + Drop, J: Naming> WorkerState<C, J> {
 
     /// How many runs were posted.
     pub(crate) fn posted(&self) -> u64 {
-        self.outlet.posted()
+        self.uplink.outlet.posted()
     }
 
     /// Gives all ports back.
@@ -184,7 +183,7 @@ impl<C: ClientPort + Drop, J: Naming> WorkerState<C, J> {
             port,
             front,
         } = newcomer;
-        learn(&mut self.view, front);
+        learn(&mut self.uplink.view, front);
         let client = ClientState::new(self.alloc, self.worker, number, Limits::full(), port);
         let seat = Seat {
             worker: self.worker,
@@ -235,7 +234,7 @@ impl<C: ClientPort + Drop, J: Naming> WorkerState<C, J> {
     // Ends the commands that have ended, and posts those again that are due by now, while the lane takes them.
     fn settle_due<G: Gate>(&mut self, gate: &G) -> Result<bool, NoMemory>
         ensures settles { SettlesDue C.moves (state_model self.old) result (state_model self.new) }
-        ensures rest { OnOk result (AreSettled (clients_in self.new.clients.entries) self.new.outlet) }
+        ensures rest { OnOk result (AreSettled (clients_in self.new.clients.entries) self.new.uplink.outlet) }
         ensures pauses { IfStill result (AreAllLater (G.tells gate.now) (heap_items self.new.due.paused)) }
     {
         self.due.end_pauses(gate)?;
@@ -284,7 +283,7 @@ impl<C: ClientPort + Drop, J: Naming> WorkerState<C, J> {
         ensures settles { SettlesDue C.moves (state_model self.old) result (state_model self.new) }
         ensures ended { self.new.due.ended ≡ self.old.due.ended }
         ensures paused { self.new.due.paused ≡ self.old.due.paused }
-        ensures none { OnOk result ((self.new.due.due.items ≡ []) ⊎ HasNoPlace self.new.outlet) }
+        ensures none { OnOk result ((self.new.due.due.items ≡ []) ⊎ HasNoPlace self.new.uplink.outlet) }
     {
         let mut moved = false;
         while let Some(ticket) = self.due.first_due() {
@@ -300,10 +299,10 @@ impl<C: ClientPort + Drop, J: Naming> WorkerState<C, J> {
 
     fn post_one(&mut self, ticket: Ticket) -> Result<Settled, NoMemory>
         ensures settles { SettlesDue C.moves (state_model self.old) (settled_in result) (state_model self.new) }
-        ensures settled { IsSettled result (IsToSettleAt (clients_in self.new.clients.entries) ticket.client ticket.part) self.new.outlet }
+        ensures settled { IsSettled result (IsToSettleAt (clients_in self.new.clients.entries) ticket.client ticket.part) self.new.uplink.outlet }
         ensures due { self.new.due ≡ self.old.due }
     {
-        repost_at(&mut self.clients, ticket, &mut self.outlet, &mut self.view)
+        repost_at(&mut self.clients, ticket, &mut self.uplink)
     }
 
     // Gives each client its turn, and lets it go where it is done.
@@ -325,12 +324,13 @@ impl<C: ClientPort + Drop, J: Naming> WorkerState<C, J> {
     // Gives the client at this place its turn, and lets it go where it is done.
     fn serve_client_at<G: Gate>(&mut self, place: usize, gate: &G) -> Result<bool, NoMemory>
         ensures serves { ServesClients C.moves (state_model self.old) result (state_model self.new) }
-        ensures rests { IfStill result (IsStillAt C.gives_none C.takes_none self.old.clients.entries place self.new.outlet self.new.clients.entries) }
+        ensures rests { IfStill result (IsStillAt C.gives_none C.takes_none self.old.clients.entries place self.new.uplink.outlet self.new.clients.entries) }
         ensures due { self.new.due ≡ self.old.due }
     {
-        let posted = self.outlet.posted();
+        let posted = self.uplink.outlet.posted();
         let turned = self.turn_client_at(place, gate)?;
-        self.round.had_turn(place, self.outlet.posted() > posted);
+        self.round
+            .had_turn(place, self.uplink.outlet.posted() > posted);
         if !turned.done {
             return Ok(turned.moved);
         }
@@ -340,15 +340,14 @@ impl<C: ClientPort + Drop, J: Naming> WorkerState<C, J> {
 
     fn turn_client_at<G: Gate>(&mut self, place: usize, gate: &G) -> Result<Turned, NoMemory>
         ensures turns { TurnsClient C.moves (state_model self.old) (turned_in result) (state_model self.new) }
-        ensures turned { IfOk result (λ turned. IsTurnedAt C.gives_none C.takes_none self.old.clients.entries place turned self.new.outlet self.new.clients.entries) }
+        ensures turned { IfOk result (λ turned. IsTurnedAt C.gives_none C.takes_none self.old.clients.entries place turned self.new.uplink.outlet self.new.clients.entries) }
         ensures len { length self.new.clients.entries ≡ length self.old.clients.entries }
         ensures due { self.new.due ≡ self.old.due }
     {
         turn_at(
             &mut self.clients,
             place,
-            &mut self.outlet,
-            &mut self.view,
+            &mut self.uplink,
             &mut self.room,
             gate,
         )

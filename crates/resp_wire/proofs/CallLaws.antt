@@ -6,7 +6,7 @@ use Rattle.resp_wire.specs.Seen.{data_of}
 use Rattle.resp_wire.specs.LimitsModel.{LimitsModel}
 use Rattle.resp_wire.specs.Spelling.{Spells, SpellsAll}
 use Rattle.resp_wire.specs.ReaderModel.{ReaderModel}
-use Rattle.resp_wire.specs.Front.{Front, Whole, Partial, Faulty, front, Feeds, ReaderTakes}
+use Rattle.resp_wire.specs.FirstValue.{Front, Whole, Partial, Faulty, front, Feeds, ReaderTakes}
 use Rattle.resp_wire.specs.Calls.{ReaderCall, fed, took, fresh, Runs, bytes_of, values_of, IsDrained}
 use Rattle.resp_wire.specs.Stream.{HasFault}
 use Rattle.resp_wire.specs.Laws.{SpelledInOrder, CutsAlike}

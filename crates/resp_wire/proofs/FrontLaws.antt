@@ -3,7 +3,7 @@ use Rattle.std.proofs.Common.{◌≡◌, ℕ, List, refl, sym, ap, ◌∙◌}
 use Rattle.resp_wire.specs.Data.{Data}
 use Rattle.resp_wire.specs.LimitsModel.{LimitsModel}
 use Rattle.resp_wire.specs.Reading.{Reading, whole, partial, faulty, value_at}
-use Rattle.resp_wire.specs.Front.{Whole, Partial, Faulty, front, front_of, front-is}
+use Rattle.resp_wire.specs.FirstValue.{Whole, Partial, Faulty, front, front_of, front-is}
 use Rattle.resp_wire.specs.Stream.{Begins, NoneWhole, NoFault, HasFault}
 use Rattle.resp_wire.specs.Laws.{FrontIsWhole, FrontIsFaulty, FrontIsPartial}
 use Rattle.resp_wire.specs.declared.fault.WireFault.{WireFault}

@@ -8,7 +8,7 @@ use Rattle.resp_wire.specs.Resume.{extent, resume, GoesOn}
 use Rattle.resp_wire.specs.Places.{Finds}
 use Rattle.resp_wire.specs.Stream.{ReaderAnswers}
 use Rattle.resp_wire.specs.ReaderModel.{ReaderModel}
-use Rattle.resp_wire.specs.Front.{Feeds, ReaderTakes, front}
+use Rattle.resp_wire.specs.FirstValue.{Feeds, ReaderTakes, front}
 use Rattle.std.specs.Borrow.{Bor}
 use Rattle.resp_wire.specs.Gives.{Builds}
 use Rattle.resp_wire.specs.Seen.{data_of}

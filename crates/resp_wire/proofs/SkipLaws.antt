@@ -7,7 +7,7 @@ use Rattle.std.proofs.lemmas.Bool.{false≢true}
 use Rattle.resp_wire.specs.Data.{Data, Items, simple, error, integer, bulk, null_bulk, array, null_array, no_items, item, list_of, items_of}
 use Rattle.resp_wire.specs.LimitsModel.{LimitsModel}
 use Rattle.resp_wire.specs.ReaderModel.{ReaderModel}
-use Rattle.resp_wire.specs.Front.{ReaderTakes, front, Whole, Partial, Faulty}
+use Rattle.resp_wire.specs.FirstValue.{ReaderTakes, front, Whole, Partial, Faulty}
 use Rattle.resp_wire.specs.Spelling.{plus, minus, colon, dollar, star, integer_in, length_in}
 use Rattle.resp_wire.specs.Reading.{Reading, whole, partial, faulty, then_read, value_at, items_at, items_in, body_at, after_line, integer_at, bulk_at, array_at, counted_bulk, counted_array}
 use Rattle.resp_wire.specs.Gives.{LengthIs, BodyGives}

@@ -6,7 +6,7 @@ use Rattle.resp_wire.specs.Data.{Data}
 use Rattle.resp_wire.specs.Seen.{data_of}
 use Rattle.resp_wire.specs.LimitsModel.{LimitsModel}
 use Rattle.resp_wire.specs.ReaderModel.{ReaderModel}
-use Rattle.resp_wire.specs.Front.{front, Partial, Feeds, ReaderTakes}
+use Rattle.resp_wire.specs.FirstValue.{front, Partial, Feeds, ReaderTakes}
 use Rattle.resp_wire.specs.declared.value.Value.{Value}
 use Rattle.resp_wire.specs.declared.fault.WireFault.{WireFault}
 use Rattle.resp_wire.specs.declared.fault.WireFault.TheVariants.{NoMemory}

@@ -7,7 +7,7 @@ use Rattle.resp_wire.specs.Spelling.{Spells, SpellsAll}
 use Rattle.resp_wire.specs.Faults.{FirstFault}
 use Rattle.resp_wire.specs.Canonical.{canonical}
 use Rattle.resp_wire.specs.Same.{same_data}
-use Rattle.resp_wire.specs.Front.{front, Whole, Partial, Faulty}
+use Rattle.resp_wire.specs.FirstValue.{front, Whole, Partial, Faulty}
 use Rattle.resp_wire.specs.ReaderModel.{ReaderModel}
 use Rattle.resp_wire.specs.Calls.{ReaderCall, fresh, Runs, bytes_of, values_of, IsDrained}
 use Rattle.resp_wire.specs.Stream.{Begins, NoneWhole, NoFault, HasFault}

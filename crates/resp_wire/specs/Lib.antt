@@ -14,7 +14,7 @@ pub mod Faults
 pub mod Canonical
 pub mod Reading
 pub mod ReaderModel
-pub mod Front
+pub mod FirstValue
 pub mod Calls
 pub mod Stream
 pub mod Gives

@@ -1,5 +1,5 @@
 -- Reading as a function on lists, from where a value begins: what the private functions compute.
--- No contract of another crate cites it. `front` (Front.antt) is defined by it.
+-- No contract of another crate cites it. `front` (FirstValue.antt) is defined by it.
 use Rattle.std.specs.Prelude.{◌==◌, ◌-◌, ◌&&◌, ◌||◌, ℕ, suc, zero, Bool, false, List, [], ◌∷◌, take, drop, nat_lt, if◌then◌else◌}
 use Rattle.std.specs.Option.{option_map_or}
 use Rattle.resp_wire.specs.Data.{Data, Items, simple, error, integer, bulk, null_bulk, array, null_array, no_items, item}

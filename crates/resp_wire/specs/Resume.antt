@@ -10,7 +10,7 @@ use Rattle.resp_wire.specs.declared.fault.WireFault.{WireFault}
 abbrev pub extent : {A : Type 0} → Reading A → Reading (Unit {0})
 extent r = then_read r (λ _ rest. whole tt rest)
 
--- So many items still come in each open array, the outermost first; as many arrays as `room` may stand inside the outermost.
+-- How many items still come in each open array, the outermost first; as many arrays as `room` may stand inside the outermost.
 unfoldable pub resume : LimitsModel → ℕ → List ℕ → List ℕ → Reading (Unit {0})
 resume l room [] bytes = whole tt bytes
 resume l room (n ∷ inner) bytes = then_read (resume l (room - 1) inner bytes) (λ _ rest. extent (items_at (value_at l room) n rest))

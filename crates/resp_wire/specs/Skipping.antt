@@ -7,7 +7,7 @@ use Rattle.resp_wire.specs.Seen.{data_of}
 use Rattle.resp_wire.specs.Words.{words_of, bulks_of, is_bulk}
 use Rattle.resp_wire.specs.Reading.{Reading, whole}
 use Rattle.resp_wire.specs.ReaderModel.{ReaderModel}
-use Rattle.resp_wire.specs.Front.{ReaderTakes, front, Whole}
+use Rattle.resp_wire.specs.FirstValue.{ReaderTakes, front, Whole}
 use Rattle.resp_wire.specs.declared.value.Value.{Value}
 use Rattle.resp_wire.specs.declared.skip.Skipped.{Skipped}
 use Rattle.resp_wire.specs.declared.skip.Skipped.TheVariants.{Empty, Other}

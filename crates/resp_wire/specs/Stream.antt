@@ -1,5 +1,5 @@
 -- What a reader answers, in the words of spelling and first fault.
--- This says what `ReaderTakes` (Front.antt) says, by the standard's spellings in place of `front`. `Reader::next` meets
+-- This says what `ReaderTakes` (FirstValue.antt) says, by the standard's spellings in place of `front`. `Reader::next` meets
 -- both.
 use Rattle.std.specs.Prelude.{◌≡◌, ℕ, List, ◌++◌, Option, Some, None, Result, Ok, Err, MatchOption}
 use Rattle.resp_wire.specs.Data.{Data}

@@ -2,7 +2,7 @@
 -- Only private functions cite it.
 use Rattle.std.specs.Prelude.{◌≡◌, Option, Some, None, Result, Ok, Err}
 use Rattle.resp_wire.specs.ReaderModel.{ReaderModel}
-use Rattle.resp_wire.specs.Front.{ReaderTakes}
+use Rattle.resp_wire.specs.FirstValue.{ReaderTakes}
 use Rattle.resp_wire.specs.Stream.{ReaderAnswers}
 use Rattle.resp_wire.specs.Reading.{whole, partial, value_at}
 use Rattle.resp_wire.specs.Gives.{Builds}

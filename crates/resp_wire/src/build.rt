@@ -133,7 +133,7 @@ fn build_array<'a>(
     }
 }
 
-/// So many values, one after another. Their room is made at once, but for no more than the bytes can spell.
+/// `len` values, one after another. Their room is made at once, but for no more than the bytes can spell.
 #[cycle(build)]
 fn build_items<'a>(
     how: &Building<'_>,

@@ -2,7 +2,7 @@
 
 ghost use Rattle.std.specs.Prelude.{◌≡◌, [], None};
 ghost use Rattle.resp_wire.specs.Stream.{ReaderAnswers};
-ghost use Rattle.resp_wire.specs.Front.{Feeds, ReaderTakes};
+ghost use Rattle.resp_wire.specs.FirstValue.{Feeds, ReaderTakes};
 ghost use Rattle.resp_wire.specs.Skipping.{Skips};
 ghost use Rattle.resp_wire.specs.Taken.{TakesOff, TakesAtOnce, AnswersAndTakes};
 

@@ -2,7 +2,7 @@
 use Rattle.std.proofs.Common.{◌≡◌, ◌+◌, ◌^◌, ◌∷◌, [], List, ℕ, Bool, true, false, length, refl, sym, ap, subst, ◌∙◌, cond}
 use Rattle.std.specs.Prelude.{nat_le}
 use Rattle.resp_wire.specs.LimitsModel.{full}
-use Rattle.resp_wire.specs.Front.{Front, Whole, Partial, Faulty, front}
+use Rattle.resp_wire.specs.FirstValue.{Front, Whole, Partial, Faulty, front}
 use Rattle.session_order.specs.PendingReply.{plan_for, ends_session}
 use Rattle.session_order.specs.Output.{until_quit}
 use Rattle.session_order.specs.Requests.{RequestKindModel, Words, Skipped, Refused, asked_of}

@@ -1,7 +1,7 @@
 -- What is found first in what is left of a script.
 use Rattle.std.proofs.Common.{◌≡◌, ◌<◌, ◌≤◌, ◌+◌, ◌^◌, List, ℕ, Bool, true, false, Some, None, Result, Ok, Err, IfOk, length, refl, sym, ap, subst, ◌∙◌, cond, arith, rules, inl, inr}
 use Rattle.std.specs.Prelude.{nat_le}
-use Rattle.resp_wire.specs.Front.{Front, Whole, Partial, Faulty, front, ReaderTakes}
+use Rattle.resp_wire.specs.FirstValue.{Front, Whole, Partial, Faulty, front, ReaderTakes}
 use Rattle.resp_wire.specs.ReaderModel.{ReaderModel}
 use Rattle.resp_wire.specs.Laws.{FrontIsWhole}
 use Rattle.resp_wire.specs.Seen.{data_of}

@@ -2,7 +2,7 @@
 use Rattle.std.proofs.Common.{◌≡◌, ◌<◌, List, ℕ, Some, None, Ok, Err, length, length-append, refl, sym, ap, ◌∙◌, arith, inl, inr}
 use Rattle.resp_wire.specs.LimitsModel.{LimitsModel, full}
 use Rattle.resp_wire.specs.Data.{Data, simple, error, integer, bulk, null_bulk, array, null_array}
-use Rattle.resp_wire.specs.Front.{Faulty, front, ReaderTakes}
+use Rattle.resp_wire.specs.FirstValue.{Faulty, front, ReaderTakes}
 use Rattle.resp_wire.specs.ReaderModel.{ReaderModel}
 use Rattle.resp_wire.specs.Laws.{FrontIsWhole}
 use Rattle.resp_wire.specs.Seen.{data_of}

@@ -2,7 +2,7 @@
 use Rattle.std.proofs.Common.{◌≡◌, ◌<◌, ◌+◌, ◌++◌, ◌∷◌, [], List, ℕ, suc, Some, None, Ok, Err, length, drop, drop-cons, get_or, append_assoc, refl, sym, ap, subst, ◌∙◌, arith}
 use Rattle.std.proofs.lemmas.List.{append-nil, drop_all}
 use Rattle.resp_wire.specs.Data.{Data}
-use Rattle.resp_wire.specs.Front as wire
+use Rattle.resp_wire.specs.FirstValue as wire
 use Rattle.resp_wire.specs.ReaderModel.{ReaderModel}
 use Rattle.resp_wire.specs.Laws.{FrontIsWhole}
 use Rattle.resp_wire.specs.Seen.{data_of}

@@ -3,7 +3,7 @@
 -- is the last one.
 use Rattle.std.specs.Prelude.{◌≡◌, ◌+◌, ◌^◌, ℕ, Bool, true, false, List, [], ◌∷◌, length, nat_le, if◌then◌else◌, Result, Ok, Err}
 use Rattle.resp_wire.specs.LimitsModel.{full}
-use Rattle.resp_wire.specs.Front.{Front, Whole, Partial, Faulty, front}
+use Rattle.resp_wire.specs.FirstValue.{Front, Whole, Partial, Faulty, front}
 use Rattle.key_split.specs.PartModel.{PartModel}
 use Rattle.key_split.specs.declared.planned.Planned.{Planned}
 use Rattle.key_split.specs.declared.planned.Planned.TheVariants as planned

@@ -57,7 +57,7 @@ fn wanted_by(alloc: Global, value: Value, number: u64) -> Result<Wanted, NoMemor
 {
     match kind_of(alloc, value) {
         Ok(RequestKind::Words(words)) => wanted_for(alloc, words.as_slice(), number),
-        Ok(RequestKind::Nothing) => Ok(Wanted::Skip),
+        Ok(RequestKind::Skipped) => Ok(Wanted::Skip),
         Ok(RequestKind::Refused) => Ok(Wanted::Nothing(true)),
         Err(_) => Err(NoMemory),
     }

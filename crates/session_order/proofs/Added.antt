@@ -29,9 +29,11 @@ joinable_push (Parts how n ∷ rs) last all one = (all.0, joinable_push rs last 
 pub sound_reply : (incoming : RequestReaderModel) (requests more : List PendingReply) (queue : QueueModel) (ends : List Ended) (closing : Closing) (value : Value)
     → IsSoundSession incoming requests queue ends closing → length requests < 1024 → more ≡ requests ++ Reply value ∷ [] → IsSoundSession incoming more queue ends closing
 sound_reply incoming requests more queue ends closing value sound few is = rw is (record {
-  counted = parts_of_push requests (Reply value) ∙ omega (arith, sound.counted);
-  places = sound.places;
-  joinable = joinable_push requests (Reply value) sound.joinable tt;
+  due = record {
+    counted = parts_of_push requests (Reply value) ∙ omega (arith, sound.due.counted);
+    places = sound.due.places;
+    joinable = joinable_push requests (Reply value) sound.due.joinable tt;
+  };
   few = omega (arith, few, length-append requests (Reply value ∷ []));
   faultless = sound.faultless;
 })
@@ -43,9 +45,11 @@ pub sound_parts : (incoming : RequestReaderModel) (requests more : List PendingR
 sound_parts incoming requests more queue queue' ends ends' closing how parts count sound few can counted more_is queue_is ends_is =
     let waiting : length (map Waiting parts) ≡ length parts = length-map parts _ in
     rw (more_is, queue_is, ends_is) (record {
-      counted = parts_of_push requests (Parts how count) ∙ omega (arith, sound.counted, counted, length-append queue.stages (map Waiting parts), waiting);
-      places = omega (arith, sound.places, counted, length-append ends (replicate count Lost), length-replicate count Lost, length-append queue.stages (map Waiting parts), waiting);
-      joinable = joinable_push requests (Parts how count) sound.joinable (rw counted can, tt);
+      due = record {
+        counted = parts_of_push requests (Parts how count) ∙ omega (arith, sound.due.counted, counted, length-append queue.stages (map Waiting parts), waiting);
+        places = omega (arith, sound.due.places, counted, length-append ends (replicate count Lost), length-replicate count Lost, length-append queue.stages (map Waiting parts), waiting);
+        joinable = joinable_push requests (Parts how count) sound.due.joinable (rw counted can, tt);
+      };
       few = omega (arith, few, length-append requests (Parts how count ∷ []));
       faultless = sound.faultless;
     })

@@ -9,7 +9,7 @@ use Rattle.key_split.specs.PartModel.{PartModel}
 use Rattle.session_order.specs.declared.queue.PartStage.{PartStage}
 use Rattle.session_order.specs.declared.queue.PartStage.TheVariants.{Waiting, Out, Done}
 use Rattle.session_order.specs.Turn.{is_done, QueueModel, IsNumbered, HandOutcome, FollowOutcome}
-use Rattle.session_order.specs.Front.{done_at_front}
+use Rattle.session_order.specs.DoneParts.{done_at_front}
 
 all_both : (b rest : Bool) → b && rest ≡ true → (b ≡ true) × (rest ≡ true)
 all_both true rest all = (refl, all)

@@ -3,10 +3,10 @@
 use Rattle.std.specs.Prelude.{◌≡◌, ◌<◌, ℕ, List, Option, Some, None, Result, Ok, Err, length}
 use Rattle.resp_wire.specs.Seen.{data_of}
 use Rattle.resp_wire.specs.declared.value.Value.{Value}
-use Rattle.session_order.specs.declared.fault.SessionFault.{SessionFault}
-use Rattle.session_order.specs.declared.fault.SessionFault.TheVariants.{NoMemory, Wire, NotRequest}
-use Rattle.session_order.specs.declared.request_reader.NextRequest.{NextRequest}
-use Rattle.session_order.specs.declared.request_reader.NextRequest.TheVariants as next
+use Rattle.resp_wire.specs.declared.fault.WireFault.{WireFault}
+use Rattle.resp_wire.specs.declared.fault.WireFault.TheVariants as wire
+use Rattle.session_order.specs.declared.request_kind.RequestKind.{RequestKind}
+use Rattle.session_order.specs.declared.request_kind.RequestKind.TheVariants as wish
 use Rattle.session_order.specs.declared.request_reader.Ahead.{Ahead}
 use Rattle.session_order.specs.declared.request_reader.Ahead.TheVariants as ahead
 use Rattle.session_order.specs.Requests.{RequestKindModel, Words, Skipped, Refused, asked_of}
@@ -28,10 +28,10 @@ IsAhead (ahead.Value value) = (words : List (List ℕ)) × (asked_of (data_of va
 IsAhead (ahead.Words words) = 0 < length words
 
 -- what a value is given as, and what is kept ahead
-abbrev pub GiveOutcome : Value → Result NextRequest SessionFault → Ahead → Type 0
-GiveOutcome value (Ok (next.Words words)) new = (asked_of (data_of value) ≡ Words words) × (0 < length words) × (new ≡ ahead.Nothing)
-GiveOutcome value (Ok next.Skipped) new = (asked_of (data_of value) ≡ Skipped) × (new ≡ ahead.Nothing)
-GiveOutcome value (Ok next.Nothing) new = ⊥
-GiveOutcome value (Err NoMemory) new = ((words : List (List ℕ)) × (asked_of (data_of value) ≡ Words words)) × (new ≡ ahead.Value value)
-GiveOutcome value (Err (Wire fault)) new = ⊥
-GiveOutcome value (Err NotRequest) new = (asked_of (data_of value) ≡ Refused) × (new ≡ ahead.Nothing)
+abbrev pub GiveOutcome : Value → Result (Option RequestKind) WireFault → Ahead → Type 0
+GiveOutcome value (Ok (Some (wish.Words words))) new = (asked_of (data_of value) ≡ Words words) × (0 < length words) × (new ≡ ahead.Nothing)
+GiveOutcome value (Ok (Some wish.Skipped)) new = (asked_of (data_of value) ≡ Skipped) × (new ≡ ahead.Nothing)
+GiveOutcome value (Ok (Some wish.Refused)) new = (asked_of (data_of value) ≡ Refused) × (new ≡ ahead.Nothing)
+GiveOutcome value (Ok None) new = ⊥
+GiveOutcome value (Err wire.NoMemory) new = ((words : List (List ℕ)) × (asked_of (data_of value) ≡ Words words)) × (new ≡ ahead.Value value)
+GiveOutcome value (Err fault) new = ⊥

@@ -5,8 +5,8 @@ pub mod RequestKind
 pub mod Ahead
 pub mod RequestReaderModel
 pub mod PendingReply
-pub mod RequestPlan
 pub mod Replies
+pub mod Due
 pub mod SessionModel
 pub mod Sound
 pub mod Steps
@@ -14,7 +14,7 @@ pub mod Behind
 pub mod Next
 pub mod Output
 pub mod Life
-pub mod Front
+pub mod DoneParts
 pub mod LettingGo
 pub mod HangingUp
 pub mod Kept

@@ -37,3 +37,9 @@ NextOutAt queued number (Some next) = (queued.first ≤ next) × IsOutNext queue
 -- the number of the first part for this slot behind the one at i that has not ended
 abbrev pub next_open : ℕ → ℕ → ℕ → List PartStage → Option ℕ
 next_open slot first i stages = first_of (open_parts slot (suc (first + i)) (drop (suc i) stages))
+
+-- the number of the first part that has not ended behind the one of this number, which is out, for its slot
+abbrev pub IsNextOpen : QueueModel → ℕ → Option ℕ → Type 0
+IsNextOpen queued number next =
+    (slot : ℕ) → slice_get queued.stages (number - queued.first) ≡ Some (Out slot)
+    → next ≡ next_open slot queued.first (number - queued.first) queued.stages

@@ -9,6 +9,6 @@ use Rattle.session_order.specs.Requests.{RequestKindModel, Words, Skipped, Refus
 -- what is asked, by at least one word; memory is wanting for words alone
 abbrev pub Asks : RequestKindModel → Result RequestKind Value → Type 0
 Asks asked (Ok (wish.Words words)) = (asked ≡ Words words) × (0 < length words)
-Asks asked (Ok wish.Nothing) = asked ≡ Skipped
+Asks asked (Ok wish.Skipped) = asked ≡ Skipped
 Asks asked (Ok wish.Refused) = asked ≡ Refused
 Asks asked (Err value) = (words : List (List ℕ)) × (asked ≡ Words words)

@@ -3,16 +3,14 @@
 -- them: no request is lost or read twice.
 use Rattle.std.specs.Prelude.{◌≡◌, ◌⊎◌, ◌<◌, ℕ, List, Option, Some, None, Result, Ok, Err, length}
 use Rattle.resp_wire.specs.ReaderModel.{ReaderModel}
-use Rattle.resp_wire.specs.Front.{ReaderTakes, front, Whole, Faulty}
+use Rattle.resp_wire.specs.FirstValue.{ReaderTakes, front, Whole, Faulty}
 use Rattle.resp_wire.specs.Data.{Data}
 use Rattle.resp_wire.specs.Seen.{data_of}
 use Rattle.resp_wire.specs.declared.value.Value.{Value}
 use Rattle.resp_wire.specs.declared.fault.WireFault.{WireFault}
 use Rattle.resp_wire.specs.declared.fault.WireFault.TheVariants as wire
-use Rattle.session_order.specs.declared.fault.SessionFault.{SessionFault}
-use Rattle.session_order.specs.declared.fault.SessionFault.TheVariants.{NoMemory, Wire, NotRequest}
-use Rattle.session_order.specs.declared.request_reader.NextRequest.{NextRequest}
-use Rattle.session_order.specs.declared.request_reader.NextRequest.TheVariants as next
+use Rattle.session_order.specs.declared.request_kind.RequestKind.{RequestKind}
+use Rattle.session_order.specs.declared.request_kind.RequestKind.TheVariants as wish
 use Rattle.session_order.specs.Requests.{RequestKindModel, Words, Skipped, Refused, asked_of}
 
 -- The bytes that were fed and not read; and the words of a request that was taken off them and not read yet, for want of
@@ -60,17 +58,18 @@ IsGarbled old fault new =
     × (new ≡ record old { input = record old.input { fault = Some fault } })
 
 -- what taking the next request does
-abbrev pub TakeOutcome : RequestReaderModel → Result NextRequest SessionFault → RequestReaderModel → Type 0
-TakeOutcome old (Ok (next.Words words)) new = NextWords old words new
-TakeOutcome old (Ok next.Skipped) new = TakesValue old Skipped new
-TakeOutcome old (Ok next.Nothing) new = IsDry old × (new ≡ old)
-TakeOutcome old (Err NoMemory) new = KeepsWords old new
-TakeOutcome old (Err (Wire fault)) new = IsGarbled old fault new
-TakeOutcome old (Err NotRequest) new = TakesValue old Refused new
+abbrev pub TakeOutcome : RequestReaderModel → Result (Option RequestKind) WireFault → RequestReaderModel → Type 0
+TakeOutcome old (Ok (Some (wish.Words words))) new = NextWords old words new
+TakeOutcome old (Ok (Some wish.Skipped)) new = TakesValue old Skipped new
+TakeOutcome old (Ok (Some wish.Refused)) new = TakesValue old Refused new
+TakeOutcome old (Ok None) new = IsDry old × (new ≡ old)
+TakeOutcome old (Err wire.NoMemory) new = KeepsWords old new
+TakeOutcome old (Err fault) new = IsGarbled old fault new
 
 -- a request has at least one word
-abbrev pub HasWords : Result NextRequest SessionFault → Type 0
-HasWords (Ok (next.Words words)) = 0 < length words
-HasWords (Ok next.Skipped) = Unit {0}
-HasWords (Ok next.Nothing) = Unit {0}
+abbrev pub HasWords : Result (Option RequestKind) WireFault → Type 0
+HasWords (Ok (Some (wish.Words words))) = 0 < length words
+HasWords (Ok (Some wish.Skipped)) = Unit {0}
+HasWords (Ok (Some wish.Refused)) = Unit {0}
+HasWords (Ok None) = Unit {0}
 HasWords (Err fault) = Unit {0}

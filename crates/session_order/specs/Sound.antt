@@ -7,13 +7,10 @@ use Rattle.session_order.specs.declared.closing.Closing.{Closing}
 use Rattle.session_order.specs.declared.closing.Closing.TheVariants.{Open}
 use Rattle.session_order.specs.RequestReaderModel.{RequestReaderModel}
 use Rattle.session_order.specs.Turn.{QueueModel}
-use Rattle.session_order.specs.Replies.{parts_of, AreJoinable}
+use Rattle.session_order.specs.Due.{AreCounted}
 
 pub record IsSoundSession (incoming : RequestReaderModel) (requests : List PendingReply) (queue : QueueModel) (ends : List Ended) (closing : Closing) : Type 0 where
-  -- the parts are those of the requests, each with a place for its end
-  pub counted : parts_of requests ≡ length queue.stages
-  pub places : length ends ≡ length queue.stages
-  pub joinable : AreJoinable requests
+  pub due : AreCounted requests queue.stages ends
   pub few : length requests ≤ 1024
   -- an open session has met no fault
   pub faultless : closing ≡ Open → incoming.input.fault ≡ None

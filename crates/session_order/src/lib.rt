@@ -21,13 +21,13 @@ mod laws;
 mod queue;
 mod replies;
 mod request_kind;
-mod request_plan;
 mod request_reader;
 mod session;
+mod texts;
 
 pub use drained::Drained;
 pub use fault::SessionFault;
 pub use laws::{calls_keep, drains_output};
 pub use request_kind::{RequestKind, kind_of};
-pub use request_plan::{goodbye, protocol_error};
 pub use session::Session;
+pub use texts::{goodbye, protocol_error};

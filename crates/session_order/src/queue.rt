@@ -5,13 +5,13 @@ ghost use Rattle.std.specs.List.{list_all};
 ghost use Rattle.slot_hash.specs.Slot.{slot_of};
 ghost use Rattle.session_order.specs.Turn.{is_done, IsWaiting, IsOutAt, IsNumbered, HandOutcome, FollowOutcome, NextPlace};
 ghost use Rattle.session_order.specs.Tables.{AreSound, SameParts, HasRoom, parts_in, is_waiting, LinksIn, IsOpenAt, Unlinks, with_link};
-ghost use Rattle.session_order.specs.Next.{FollowerAt, HasTurnAt, NextOutAt, next_open};
-ghost use Rattle.session_order.specs.Front.{done_at_front};
+ghost use Rattle.session_order.specs.Next.{FollowerAt, HasTurnAt, IsNextOpen, NextOutAt};
+ghost use Rattle.session_order.specs.DoneParts.{done_at_front};
 ghost use Rattle.session_order.specs.LettingGo.{LetsGo, ForgetsAt};
 ghost use Rattle.std.specs.HashMap.{get};
 
-use key_split::Part;
-use resp_wire::NoMemory;
+use key_split::{Op, Part};
+use resp_wire::{Bytes, NoMemory};
 use slot_hash::Slot;
 use std::alloc::Global;
 use std::cmp::Reverse;
@@ -73,7 +73,7 @@ impl Model for Queue {
 
     ghost use Rattle.session_order.specs.Turn.{IsNumbered};
     ghost use Rattle.session_order.specs.Tables.{AreSound};
-    ghost use Rattle.session_order.specs.Front.{done_at_front};
+    ghost use Rattle.session_order.specs.DoneParts.{done_at_front};
     ghost use Rattle.std.specs.Prelude.{◌≡◌};
 
     ghost view = { λ a. record { first = a.tables.first; stages = a.tables.stages.items } };
@@ -82,6 +82,7 @@ impl Model for Queue {
 }
 
 impl Queue {
+    ghost use Rattle.key_split.specs.OneKey.{HasArgs, one_at};
     ghost use Rattle.session_order.specs.Turn.{QueueModel, HandOutcome, FollowOutcome, NextPlace};
     ghost use Rattle.session_order.specs.Next.{FollowerAt, HasTurnAt, NextOutAt};
     ghost use Rattle.session_order.specs.declared.queue.PartStage.TheVariants.{Waiting, Done};
@@ -146,6 +147,18 @@ impl Queue {
     {
         make_room(&mut self.tables, parts.len())?;
         push_parts(&mut self.tables, parts);
+        Ok(())
+    }
+
+    /// Adds the part that an operation on one key makes behind the others. Once there is room for it, it is moved out of the words.
+    pub fn add_one(&mut self, alloc: Global, op: Op, words: &mut [Bytes]) -> Result<(), NoMemory>
+        requires numbered { self.old.first + length self.old.stages < 2 ^ 48 }
+        requires args { HasArgs op (drop 1 words.old) }
+        ensures ok { OnOk result (self.new ≡ record self.old { stages = self.old.stages ++ Waiting (one_at op (drop 1 words.old)) ∷ [] }) }
+        ensures err { OnErr result ((self.new ≡ self.old) × (words.new ≡ words.old)) }
+    {
+        make_room(&mut self.tables, 1)?;
+        push_part(&mut self.tables, Part::taken(alloc, op, &mut words[1..]));
         Ok(())
     }
 
@@ -339,7 +352,7 @@ fn push_part(tables: &mut Tables, part: Part)
 fn next_open(tables: &Tables, number: u64) -> Option<u64>
     requires links { LinksIn tables.now }
     requires out { IsOutAt (parts_in tables.now) number }
-    ensures { (slot : ℕ) → slice_get tables.now.stages.items (number - tables.now.first) ≡ Some (PartStage.Out slot) → result ≡ next_open slot tables.now.first (number - tables.now.first) tables.now.stages.items }
+    ensures { IsNextOpen (parts_in tables.now) number result }
 {
     tables.later[(number - tables.first) as usize]
 }

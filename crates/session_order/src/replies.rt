@@ -7,14 +7,16 @@ ghost use Rattle.resp_wire.specs.Canonical.{line};
 ghost use Rattle.resp_wire.specs.Spelling.{dollar};
 ghost use Rattle.session_order.specs.Turn.{is_done};
 ghost use Rattle.key_split.specs.Join.{CanJoin};
-ghost use Rattle.session_order.specs.Replies.{HasParts, joined, ReplyOutcome, parts_of, AreJoinable, AreWritten, bytes_of, bytes_behind, lines_owed, MayBeTail, spelling, tail_in, ArePartsDone, WritesBut};
+ghost use Rattle.session_order.specs.Due.{AreCounted, WritesFirst, due_of};
+ghost use Rattle.session_order.specs.Replies.{HasParts, joined, ReplyOutcome, parts_of, bytes_of, lines_owed, MayBeTail, spelling, tail_in, ArePartsDone, WritesBut};
 
 use crate::queue::Queue;
-use crate::request_plan::protocol_error;
+use crate::texts::protocol_error;
 use key_split::{Ended, Joining, join};
 use resp_wire::{Bytes, NoMemory, Value, write_bulk_head, write_value};
 use std::alloc::Global;
 use std::collections::VecDeque;
+use std::marker::Model;
 
 /// A body of fewer bytes is always copied.
 const LEAST_TAIL: usize = 16 * 1024;
@@ -48,36 +50,70 @@ pub enum WrittenReply {
     Nothing,
 }
 
-/// Writes replies that are next in order until these are `most` bytes, and behind the last of all the error line, where it is
-/// owed. A large body that would be the end of them is not copied: it is their tail.
-pub fn write_output(
-    alloc: Global,
-    requests: &VecDeque<PendingReply>,
-    queue: &Queue,
-    ends: &mut VecDeque<Ended>,
-    line_owed: bool,
-    most: usize,
-    out: &mut Vec<u8>,
-) -> Result<WrittenReplies, NoMemory>
-    requires counted { parts_of requests.now.items ≡ length queue.now.stages }
-    requires places { length ends.old.items ≡ length queue.now.stages }
-    requires joinable { AreJoinable requests.now.items }
-    ensures written { IfOk result (λ n. (bytes : List ℕ) × (out.new.items ++ bytes_behind n.tail ≡ out.old.items ++ bytes) × AreWritten most requests.now.items queue.now.stages ends.old.items (lines_owed line_owed) n.requests bytes) }
-    ensures parts { IfOk result (λ n. n.parts ≡ parts_of (take n.requests requests.now.items)) }
-    ensures bound { IfOk result (λ n. (n.requests ≤ length requests.now.items) × (n.parts ≤ length queue.now.stages)) }
-    ensures left { IfOk result (λ n. parts_of (drop n.requests requests.now.items) + n.parts ≡ length queue.now.stages) }
-    ensures still_joinable { IfOk result (λ n. AreJoinable (drop n.requests requests.now.items)) }
-    ensures done { IfOk result (λ n. list_all is_done (take n.parts queue.now.stages) ≡ true) }
-    ensures ends { ends.new.items ≡ ends.old.items }
-    ensures grown { (more : List ℕ) × (out.new.items ≡ out.old.items ++ more) }
-{
-    let least = least_tail(line_owed, most);
-    let written = write_replies(alloc, requests, queue, ends, most, least, out)?;
-    if line_owed && requests.len() <= written.requests {
-        write_line(alloc, out)?;
-        return Ok(written);
+/// What a drain reads: the requests whose replies were not drained, how far their parts are, and the ends of these.
+#[derive(Drop)]
+pub struct Due<'a> {
+    requests: &'a VecDeque<PendingReply>,
+    queue: &'a Queue,
+    ends: &'a [Ended],
+}
+
+impl<'a> Model for Due<'a> {
+    ghost use Rattle.session_order.specs.Due.{DueModel, AreCounted};
+
+    ghost Value = { DueModel };
+
+    ghost use Rattle.std.specs.Coded.{codes};
+    ghost use Rattle.resp_wire.specs.Stored.{coded_data};
+
+    ghost coded = { Prim.hlevel (codes, coded_data) };
+
+    ghost view = { λ d. record { requests = d.requests.now.items; stages = d.queue.now.stages; ends = d.ends.now } };
+
+    ghost invariant = { λ d. AreCounted d.requests.now.items d.queue.now.stages d.ends.now };
+}
+
+impl<'a> Due<'a> {
+    pub fn new(requests: &'a VecDeque<PendingReply>, queue: &'a Queue, ends: &'a [Ended]) -> Due<'a>
+        requires { AreCounted requests.now.items queue.now.stages ends.now }
+        ensures { result ≡ record { requests = requests.now.items; stages = queue.now.stages; ends = ends.now } }
+    {
+        Due {
+            requests,
+            queue,
+            ends,
+        }
     }
-    Ok(written)
+
+    /// Writes replies that are next in order until these are `most` bytes, and behind the last of all the error line, where it is
+    /// owed. A large body that would be the end of them is not copied: it is their tail.
+    pub fn write(
+        &self,
+        alloc: Global,
+        line_owed: bool,
+        most: usize,
+        out: &mut Vec<u8>,
+    ) -> Result<WrittenReplies, NoMemory>
+        ensures written { IfOk result (λ n. WritesFirst most self.now (lines_owed line_owed) out.old.items n out.new.items) }
+        ensures parts { IfOk result (λ n. n.parts ≡ parts_of (take n.requests self.now.requests)) }
+        ensures grown { (more : List ℕ) × (out.new.items ≡ out.old.items ++ more) }
+    {
+        let least = least_tail(line_owed, most);
+        let written = write_replies(
+            alloc,
+            self.requests,
+            self.queue,
+            self.ends,
+            most,
+            least,
+            out,
+        )?;
+        if line_owed && self.requests.len() <= written.requests {
+            write_line(alloc, out)?;
+            return Ok(written);
+        }
+        Ok(written)
+    }
 }
 
 // The fewest bytes of a body that is not copied where it ends a drain. None where the error line is owed, which may stand
@@ -97,19 +133,16 @@ fn write_replies(
     alloc: Global,
     requests: &VecDeque<PendingReply>,
     queue: &Queue,
-    ends: &mut VecDeque<Ended>,
+    ends: &[Ended],
     most: usize,
     least: Option<usize>,
     out: &mut Vec<u8>,
 ) -> Result<WrittenReplies, NoMemory>
-    requires counted { parts_of requests.now.items ≡ length queue.now.stages }
-    requires places { length ends.old.items ≡ length queue.now.stages }
-    requires joinable { AreJoinable requests.now.items }
+    requires counted { AreCounted requests.now.items queue.now.stages ends.now }
     requires enough { IfSome least (λ n. most ≤ n) }
-    ensures written { IfOk result (λ n. (bytes : List ℕ) × (out.new.items ++ bytes_behind n.tail ≡ out.old.items ++ bytes) × AreWritten most requests.now.items queue.now.stages ends.old.items [] n.requests bytes) }
+    ensures written { IfOk result (λ n. WritesFirst most (due_of requests.now.items queue.now.stages ends.now) [] out.old.items n out.new.items) }
     ensures parts { IfOk result (λ n. n.parts ≡ parts_of (take n.requests requests.now.items)) }
     ensures tail { IfOk result (λ n. MayBeTail least n.tail) }
-    ensures ends { ends.new.items ≡ ends.old.items }
     ensures grown { (more : List ℕ) × (out.new.items ≡ out.old.items ++ more) }
 {
     let start = out.len();
@@ -152,17 +185,16 @@ fn write_reply(
     alloc: Global,
     owed: &PendingReply,
     queue: &Queue,
-    ends: &mut VecDeque<Ended>,
+    ends: &[Ended],
     from: usize,
     least: Option<usize>,
     out: &mut Vec<u8>,
 ) -> Result<WrittenReply, NoMemory>
     requires known { list_all is_done (take from queue.now.stages) ≡ true }
-    requires places { length ends.old.items ≡ length queue.now.stages }
-    requires fits { from ≤ length ends.old.items }
-    requires parts { HasParts owed.now (length ends.old.items - from) }
-    ensures ends { ends.new.items ≡ ends.old.items }
-    ensures does { ReplyOutcome owed.now (drop from queue.now.stages) (drop from ends.old.items) out.old.items result out.new.items }
+    requires places { length ends.now ≡ length queue.now.stages }
+    requires fits { from ≤ length ends.now }
+    requires parts { HasParts owed.now (length ends.now - from) }
+    ensures does { ReplyOutcome owed.now (drop from queue.now.stages) (drop from ends.now) out.old.items result out.new.items }
     ensures done { IfOk result (λ written. ArePartsDone (drop from queue.now.stages) written) }
     ensures tail { IfOk result (λ written. MayBeTail least (tail_in written)) }
 {
@@ -189,23 +221,22 @@ fn write_reply(
 fn write_joined(
     alloc: Global,
     how: &Joining,
-    ends: &mut VecDeque<Ended>,
+    ends: &[Ended],
     from: usize,
     count: usize,
     least: Option<usize>,
     out: &mut Vec<u8>,
 ) -> Result<Option<Bytes>, NoMemory>
-    requires fits { from + count ≤ length ends.old.items }
+    requires fits { from + count ≤ length ends.now }
     requires joinable { CanJoin how.now count }
-    ensures ends { ends.new.items ≡ ends.old.items }
-    ensures ok { IfOk result (λ tail. WritesBut tail (joined how.now (take count (drop from ends.old.items))) out.old.items out.new.items) }
+    ensures ok { IfOk result (λ tail. WritesBut tail (joined how.now (take count (drop from ends.now))) out.old.items out.new.items) }
     ensures err { OnErr result (out.new.items ≡ out.old.items) }
     ensures tail { IfOk result (λ tail. MayBeTail least tail) }
 {
     if let (Joining::One, Some(Ended::Answered(value))) = (how, ends.get(from)) {
         return write_answer(value, least, out);
     }
-    write_made(out, join_ends(alloc, how, ends, from, count)?)?;
+    write_made(out, join(alloc, how, &ends[from..from + count])?)?;
     Ok(None)
 }
 
@@ -242,46 +273,6 @@ fn large_body(value: &Value, least: Option<usize>) -> Option<(usize, Bytes)>
         return None;
     }
     Some((len, body.with_line_end()?))
-}
-
-#[tactic(auto, unfolding(crate::specs::Replies::joined))]
-// The reply that the ends of a request's parts make. The `count` ends begin at place `from`. Where they
-// do not stand side by side they are moved.
-fn join_ends(
-    alloc: Global,
-    how: &Joining,
-    ends: &mut VecDeque<Ended>,
-    from: usize,
-    count: usize,
-) -> Result<Value, NoMemory>
-    requires fits { from + count ≤ length ends.old.items }
-    requires joinable { CanJoin how.now count }
-    ensures ends { ends.new.items ≡ ends.old.items }
-    ensures reply { IfOk result (λ reply. reply ≡ joined how.now (take count (drop from ends.old.items))) }
-{
-    match side_by_side(ends, from, count) {
-        Some(own) => join(alloc, how, own),
-        None => {
-            let all: &[Ended] = ends.make_contiguous();
-            join(alloc, how, &all[from..from + count])
-        }
-    }
-}
-
-// The ends of `count` parts, the first of them at place `from`, if they stand side by side.
-fn side_by_side(ends: &VecDeque<Ended>, from: usize, count: usize) -> Option<&[Ended]>
-    requires { from + count ≤ length ends.now.items }
-    ensures { IfSome result (λ own. own.now ≡ take count (drop from ends.now.items)) }
-{
-    let (front, back) = ends.as_slices();
-    if from + count <= front.len() {
-        return Some(&front[from..from + count]);
-    }
-    if front.len() <= from {
-        let start = from - front.len();
-        return Some(&back[start..start + count]);
-    }
-    None
 }
 
 #[tactic(auto, unfolding(crate::specs::Replies::spelling))]

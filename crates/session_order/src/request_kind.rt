@@ -14,7 +14,7 @@ pub enum RequestKind {
     /// The words of a request; there is at least one.
     Words(Words),
     /// An empty or a null array, which asks for nothing.
-    Nothing,
+    Skipped,
     /// A value that is no request.
     Refused,
 }
@@ -26,7 +26,7 @@ pub fn kind_of(alloc: Global, value: Value) -> Result<RequestKind, Value>
     ensures kept { IfErr result (λ kept. kept ≡ value) }
 {
     if is_empty_array(&value) {
-        return Ok(RequestKind::Nothing);
+        return Ok(RequestKind::Skipped);
     }
     if !value.is_request() {
         return Ok(RequestKind::Refused);

@@ -4,22 +4,11 @@ ghost use Rattle.std.specs.Prelude.{◌≡◌, ◌<◌, [], None, Some, length};
 ghost use Rattle.resp_wire.specs.Seen.{data_of};
 ghost use Rattle.session_order.specs.Ahead.{GiveOutcome};
 
-use crate::fault::SessionFault;
 use crate::request_kind::{RequestKind, kind_of};
 use resp_wire::{Limits, Reader, Skipped, Value, WireFault, Words};
 use std::alloc::Global;
 use std::marker::Model;
 use std::mem;
-
-/// What is next.
-#[derive(Drop)]
-pub enum NextRequest {
-    Words(Words),
-    /// An empty or a null array, which asks for nothing.
-    Skipped,
-    /// No value is whole.
-    Nothing,
-}
 
 /// What was taken off the bytes and not given, for want of memory.
 #[derive(Drop)]
@@ -51,7 +40,7 @@ impl Model for RequestReader {
 
 impl RequestReader {
     ghost use Rattle.session_order.specs.RequestReaderModel.{TakeOutcome, HasWords, LacksValue};
-    ghost use Rattle.resp_wire.specs.Front.{Feeds};
+    ghost use Rattle.resp_wire.specs.FirstValue.{Feeds};
 
     pub fn new(alloc: Global, limits: Limits) -> RequestReader
         ensures { result ≡ record { input = record { bounds = limits; unread = []; fault = None }; ahead = None } }
@@ -70,34 +59,34 @@ impl RequestReader {
         self.reader.feed(piece)
     }
 
-    /// Takes the next request off the bytes.
-    pub fn next(&mut self) -> Result<NextRequest, SessionFault>
+    /// Takes the next request off the bytes, where one is whole.
+    pub fn next(&mut self) -> Result<Option<RequestKind>, WireFault>
         requires { self.old.input.fault ≡ None }
         ensures does { TakeOutcome self.old result self.new }
         ensures words { HasWords result }
     {
         match mem::replace(&mut self.ahead, Ahead::Nothing) {
-            Ahead::Words(words) => Ok(NextRequest::Words(words)),
+            Ahead::Words(words) => Ok(Some(RequestKind::Words(words))),
             Ahead::Value(value) => classify(self.alloc, value, &mut self.ahead),
             Ahead::Nothing => match self.reader.next() {
                 Ok(Some(value)) => classify(self.alloc, value, &mut self.ahead),
-                Ok(None) => Ok(NextRequest::Nothing),
+                Ok(None) => Ok(None),
                 Err(WireFault::NoMemory) => self.next_without_memory(),
-                Err(fault) => Err(SessionFault::Wire(fault)),
+                Err(fault) => Err(fault),
             },
         }
     }
 
     // A whole value stands first for which there is no memory: it is passed over where it is no request.
-    fn next_without_memory(&mut self) -> Result<NextRequest, SessionFault>
+    fn next_without_memory(&mut self) -> Result<Option<RequestKind>, WireFault>
         requires { LacksValue self.old }
         ensures does { TakeOutcome self.old result self.new }
         ensures words { HasWords result }
     {
         match self.reader.skip_other() {
-            None => Err(SessionFault::NoMemory),
-            Some(Skipped::Empty) => Ok(NextRequest::Skipped),
-            Some(Skipped::Other) => Err(SessionFault::NotRequest),
+            None => Err(WireFault::NoMemory),
+            Some(Skipped::Empty) => Ok(Some(RequestKind::Skipped)),
+            Some(Skipped::Other) => Ok(Some(RequestKind::Refused)),
         }
     }
 
@@ -112,17 +101,19 @@ impl RequestReader {
 }
 
 // What a value that was taken off the bytes asks for. A request whose words find no memory is kept ahead.
-fn classify(alloc: Global, value: Value, ahead: &mut Ahead) -> Result<NextRequest, SessionFault>
+fn classify(
+    alloc: Global,
+    value: Value,
+    ahead: &mut Ahead,
+) -> Result<Option<RequestKind>, WireFault>
     requires { ahead.old ≡ Ahead.Nothing }
     ensures { GiveOutcome value result ahead.new }
 {
     match kind_of(alloc, value) {
-        Ok(RequestKind::Words(words)) => Ok(NextRequest::Words(words)),
-        Ok(RequestKind::Nothing) => Ok(NextRequest::Skipped),
-        Ok(RequestKind::Refused) => Err(SessionFault::NotRequest),
+        Ok(kind) => Ok(Some(kind)),
         Err(value) => {
             *ahead = Ahead::Value(value);
-            Err(SessionFault::NoMemory)
+            Err(WireFault::NoMemory)
         }
     }
 }

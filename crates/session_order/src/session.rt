@@ -9,11 +9,14 @@ use crate::closing::{Broken, Closing};
 use crate::drained::{Drained, tail_len};
 use crate::fault::SessionFault;
 use crate::queue::Queue;
-use crate::replies::{PendingReply, write_output};
-use crate::request_plan::{RequestPlan, plan_request};
-use crate::request_reader::{NextRequest, RequestReader};
-use key_split::{Ended, Joining, Part, Parts, Ticket};
-use resp_wire::{Bytes, Limits, NoMemory, Value, Words};
+use crate::replies::{Due, PendingReply};
+use crate::request_kind::RequestKind;
+use crate::request_reader::RequestReader;
+use crate::texts::goodbye;
+use key_split::{
+    Ended, Joining, Op, Part, Parts, PlanFault, Planned, Ticket, one_key_op, plan, refusal,
+};
+use resp_wire::{Bytes, Limits, NoMemory, Value, WireFault, Words};
 use std::alloc::Global;
 use std::collections::VecDeque;
 use std::marker::Model;
@@ -133,17 +136,17 @@ impl Session {
             return Ok(false);
         }
         match self.reader.next() {
-            Ok(NextRequest::Words(words)) => self.add(words),
-            Ok(NextRequest::Skipped) => Ok(true),
-            Ok(NextRequest::Nothing) => Ok(false),
-            Err(SessionFault::NoMemory) => Err(SessionFault::NoMemory),
-            Err(SessionFault::Wire(fault)) => {
-                self.closing = Closing::Faulted(Broken::Wire(fault), true);
-                Err(SessionFault::Wire(fault))
-            }
-            Err(SessionFault::NotRequest) => {
+            Ok(Some(RequestKind::Words(words))) => self.add(words),
+            Ok(Some(RequestKind::Skipped)) => Ok(true),
+            Ok(Some(RequestKind::Refused)) => {
                 self.closing = Closing::Faulted(Broken::NotRequest, true);
                 Err(SessionFault::NotRequest)
+            }
+            Ok(None) => Ok(false),
+            Err(WireFault::NoMemory) => Err(SessionFault::NoMemory),
+            Err(fault) => {
+                self.closing = Closing::Faulted(Broken::Wire(fault), true);
+                Err(SessionFault::Wire(fault))
             }
         }
     }
@@ -259,15 +262,9 @@ impl Session {
     {
         let start = out.len();
         let line_owed = self.closing.owes_line();
-        match write_output(
-            self.alloc,
-            &self.requests,
-            &self.queue,
-            &mut self.ends,
-            line_owed,
-            most,
-            out,
-        ) {
+        let ends: &[Ended] = self.ends.make_contiguous();
+        let due = Due::new(&self.requests, &self.queue, ends);
+        match due.write(self.alloc, line_owed, most, out) {
             Ok(written) => {
                 self.closing = self.closing.after(self.requests.len() <= written.requests);
                 drop_front(&mut self.requests, written.requests);
@@ -312,6 +309,7 @@ impl Session {
 impl Session {
     ghost use Rattle.session_order.specs.Steps.{MayRead, AddOutcome, added, with_words, broken_by};
     ghost use Rattle.key_split.specs.Join.{CanJoin};
+    ghost use Rattle.key_split.specs.OneKey.{HasArgs, one_at};
     ghost use Rattle.key_split.specs.declared.planned.Planned.TheVariants as planned;
     ghost use Rattle.session_order.specs.declared.closing.Broken.TheVariants.{NotRequest};
 
@@ -322,35 +320,86 @@ impl Session {
         requires words { 0 < length words }
         ensures { AddOutcome self.old words result self.new }
     {
-        match self.add_words(words.as_slice()) {
+        let mut words = words.into_vec();
+        match self.add_words(words.as_mut_slice()) {
             Ok(true) => Ok(true),
             Ok(false) => Err(SessionFault::NotRequest),
             Err(_) => {
-                self.reader.put_back(words);
+                self.reader.put_back(Words::new(words));
                 Err(SessionFault::NoMemory)
             }
         }
     }
 
-    // Adds what these words ask for. It is false where its parts are more than can be numbered, which is a fault.
-    fn add_words(&mut self, words: &[Bytes]) -> Result<bool, NoMemory>
+    // Adds what these words ask for. It is false where its parts are more than can be numbered, which is a fault. A key and its value
+    // are moved out of the words where they are all of its part.
+    #[tactic(auto, unfolding(crate::specs::PendingReply::plan_for))]
+    fn add_words(&mut self, words: &mut [Bytes]) -> Result<bool, NoMemory>
+        requires open { MayRead self.old }
+        requires words { 0 < length words.old }
+        ensures added { result ≡ Ok true → with_words self.old words.old ≡ Ok self.new }
+        ensures too_many { result ≡ Ok false → (with_words self.old words.old ≡ Err NotRequest) × (self.new ≡ broken_by self.old NotRequest) }
+        ensures err { OnErr result ((self.new ≡ self.old) × (words.new ≡ words.old)) }
+    {
+        match one_key_op(words) {
+            Ok(Some(op)) => self.add_one(op, words),
+            Ok(None) => self.add_planned(words),
+            Err(fault) => {
+                let line = refusal(self.alloc, &fault)?;
+                self.add_reply(line)?;
+                Ok(true)
+            }
+        }
+    }
+
+    // Adds the part that an operation on one key makes. It is false where no more can be numbered, which is a fault.
+    fn add_one(&mut self, op: Op, words: &mut [Bytes]) -> Result<bool, NoMemory>
+        requires open { MayRead self.old }
+        requires args { HasArgs op (drop 1 words.old) }
+        ensures added { result ≡ Ok true → added self.old (Ok (planned.Parts Joining.One (one_at op (drop 1 words.old) ∷ []))) ≡ Ok self.new }
+        ensures too_many { result ≡ Ok false → (added self.old (Ok (planned.Parts Joining.One (one_at op (drop 1 words.old) ∷ []))) ≡ Err NotRequest) × (self.new ≡ broken_by self.old NotRequest) }
+        ensures err { OnErr result ((self.new ≡ self.old) × (words.new ≡ words.old)) }
+    {
+        if self.queue.room() == 0 {
+            self.closing = Closing::Faulted(Broken::NotRequest, true);
+            return Ok(false);
+        }
+        self.requests.reserve(1)?;
+        self.ends.reserve(1)?;
+        self.queue.add_one(self.alloc, op, words)?;
+        self.requests
+            .push_back_reserved(PendingReply::Parts(Joining::One, 1));
+        self.ends.push_back_reserved(Ended::Lost);
+        Ok(true)
+    }
+
+    // Adds what these words are planned as. It is false where the parts are more than can be numbered, which is a fault.
+    #[tactic(auto, unfolding(crate::specs::PendingReply::plan_for))]
+    fn add_planned(&mut self, words: &[Bytes]) -> Result<bool, NoMemory>
         requires open { MayRead self.old }
         requires words { 0 < length words.now }
         ensures added { result ≡ Ok true → with_words self.old words.now ≡ Ok self.new }
         ensures too_many { result ≡ Ok false → (with_words self.old words.now ≡ Err NotRequest) × (self.new ≡ broken_by self.old NotRequest) }
         ensures err { OnErr result (self.new ≡ self.old) }
     {
-        match plan_request(self.alloc, words)? {
-            RequestPlan::Reply(value) => {
+        match plan(self.alloc, words) {
+            Ok(Planned::Local(value)) => {
                 self.add_reply(value)?;
                 Ok(true)
             }
-            RequestPlan::Close(value) => {
+            Ok(Planned::Close) => {
+                let value = goodbye(self.alloc)?;
                 self.add_reply(value)?;
                 self.closing = Closing::Quit;
                 Ok(true)
             }
-            RequestPlan::Parts(how, parts) => self.add_parts(how, parts),
+            Ok(Planned::Parts(how, parts)) => self.add_parts(how, parts),
+            Err(PlanFault::NoMemory) => Err(NoMemory),
+            Err(fault) => {
+                let line = refusal(self.alloc, &fault)?;
+                self.add_reply(line)?;
+                Ok(true)
+            }
         }
     }
 

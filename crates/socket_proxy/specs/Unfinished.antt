@@ -2,7 +2,7 @@
 
 use Rattle.std.specs.Prelude.{◌≡◌, ◌⊎◌, ◌≤◌, ℕ, List, All, Contains}
 
--- So many bytes are held of one of them, or this is 0.
+-- How many bytes are held of one of them, or this is 0.
 abbrev pub IsHeld : ℕ → List ℕ → Type 0
 IsHeld known requests = (known ≡ 0) ⊎ Contains requests known
 

@@ -6,10 +6,10 @@ use proxy_runtime::{PolledSocket, ReadySet};
 use resp_wire::NoMemory;
 use std::alloc::Global;
 
-/// So many bytes are read at once.
+/// The most bytes that are read at once.
 const PIECE: usize = 4096;
 
-/// So many times that are read at most before a connection is closed.
+/// The most pieces that are read and thrown away before a connection is closed.
 const DISCARDED_PIECES: u32 = 16;
 
 /// A connection for the page, with its socket.

@@ -9,10 +9,10 @@ use std::io::{Read, Seek, SeekFrom};
 /// The line of the status file that has the memory that is resident, in KiB.
 const RESIDENT: &[u8] = b"VmRSS:";
 
-/// So many bytes of the status file are read at most.
+/// The most bytes of the status file that are read.
 const STATUS_LENGTH: usize = 4096;
 
-/// So many descriptors are looked at by one call.
+/// The descriptors that one call looks at.
 const DESCRIPTORS_LOOKED_AT: usize = 64;
 
 /// Descriptors from this number on are not looked for.

@@ -20,7 +20,7 @@ impl RequestTimes {
         }
     }
 
-    /// So many requests were read, at this time.
+    /// This number of requests was read, at this time.
     pub(crate) fn begin(&self, requests: u64, micros: u64) {
         let waiting = self.waiting.get();
         if waiting == 0 {

@@ -7,7 +7,7 @@ use Rattle.std.proofs.lemmas.List.{append-nil, map-append}
 use Rattle.resp_wire.specs.Data.{Data, items_of}
 use Rattle.resp_wire.specs.Seen.{data_of}
 use Rattle.resp_wire.specs.LimitsModel.{LimitsModel, full}
-use Rattle.resp_wire.specs.Front.{front, Whole, Faulty}
+use Rattle.resp_wire.specs.FirstValue.{front, Whole, Faulty}
 use Rattle.resp_wire.specs.Laws.{FrontIsFaulty, FrontIsWhole}
 use Rattle.resp_wire.specs.Spelling.{Spells, SpellsAll}
 use Rattle.key_split.specs.declared.planned.Planned.{Planned}

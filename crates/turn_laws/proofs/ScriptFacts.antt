@@ -15,7 +15,7 @@ use Rattle.resp_wire.specs.declared.value.Value.TheVariants.{Error}
 use Rattle.resp_wire.specs.Data.{Data, bulk, array, items_of}
 use Rattle.resp_wire.specs.LimitsModel.{full}
 use Rattle.resp_wire.specs.Spelling.{Spells, length_in}
-use Rattle.resp_wire.specs.Front.{front, Whole}
+use Rattle.resp_wire.specs.FirstValue.{front, Whole}
 use Rattle.resp_wire.specs.Laws.{FrontIsWhole}
 use Rattle.key_split.specs.declared.planned.Planned.TheVariants.{Parts}
 use Rattle.key_split.specs.declared.planned.Joining.TheVariants.{One}

@@ -14,5 +14,5 @@ mod Fleets
 mod Starting
 mod Kept
 mod Said
-mod Front
+mod ServingFirst
 mod Placed

@@ -38,7 +38,7 @@ fn fail_behind(nodes: &mut Nodes, line: &mut Line) {
     }
 }
 
-/// So many commands go together, the first among them.
+/// The most commands that go together, the first among them.
 fn set_longest(nodes: &mut Nodes, line: &mut Line) {
     let Some(longest) = line.read::<u16>() else {
         return;

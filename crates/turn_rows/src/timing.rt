@@ -41,7 +41,7 @@ fn show_elapsed<R: Clock>(rt: &R, start: &Instant, count: u64, line: &mut Line) 
     }
 }
 
-/// So many turns. True where one of them moved something.
+/// `count` turns. True where one of them moved something.
 fn turn<T: Turned>(turned: &mut T, count: u64) -> Result<bool, NoMemory> {
     let mut moved = false;
     for _ in 0..count {

@@ -32,7 +32,7 @@ impl<W: Turned, C: Turned> Turns<W, C> {
         }
     }
 
-    /// So many turns of each. True where something moved.
+    /// `count` turns of each. True where something moved.
     pub fn turn_all(&mut self, count: u64) -> Result<bool, NoMemory> {
         let mut moved = false;
         for _ in 0..count {

@@ -31,7 +31,7 @@ fn turn_worker<W: Turned>(workers: &mut [W], line: &mut Line) {
     }
 }
 
-/// So many turns of each.
+/// As many turns of each as the line says.
 fn turn_all<W: Turned, C: Turned>(turned: &mut Turns<W, C>, line: &mut Line) {
     if let Some(count) = line.read() {
         show_moved(turned.turn_all(count), line);

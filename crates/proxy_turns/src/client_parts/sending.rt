@@ -5,27 +5,26 @@ ghost use Rattle.std.specs.Prelude.{◌≡◌, [], ℕ, Ok, false, true};
 use super::ClientParts;
 use crate::client_limits::{MAX_RUN, MAX_SENT};
 use crate::port::ClientPort;
-use key_split::Run;
-use proxy_lanes::{MapView, Naming, Outlet};
+use crate::uplink::Uplink;
+use proxy_lanes::Naming;
 use resp_wire::NoMemory;
 
 impl<C: ClientPort + Drop> ClientParts<C> {
     ghost use Rattle.session_order.specs.Turn.{MayPost};
     ghost use Rattle.proxy_turns.specs.ClientRest.{BeginsNone, IfStill, MayBeHeld, PostsNone, SendsNone};
-    ghost use Rattle.proxy_turns.specs.ClientTurn.{BeginsCommands, ClientContext, DropsCommands, PostsCommands, SendsCommands};
+    ghost use Rattle.proxy_turns.specs.ClientTurn.{at, BeginsCommands, DropsCommands, PostsCommands, SendsCommands};
 
     /// Hands out some parts and posts their commands, while the lane takes them.
     pub(super) fn send<J: Naming>(
         &mut self,
-        outlet: &mut Outlet<Run>,
-        view: &mut MapView<J>,
+        uplink: &mut Uplink<J>,
         is_crowded: bool,
     ) -> Result<bool, NoMemory>
-        ensures sends { SendsCommands C.moves (record { client = self.old; outlet = outlet.old; view = view.old }) result (record { client = self.new; outlet = outlet.new; view = view.new }) }
-        ensures none { IfStill result (SendsNone self.old self.new outlet.new) }
+        ensures sends { SendsCommands C.moves (at self.old uplink.old) result (at self.new uplink.new) }
+        ensures none { IfStill result (SendsNone self.old self.new uplink.new.outlet) }
     {
         for sent in 0..MAX_SENT {
-            let moved = self.send_next(outlet, view, is_crowded)?;
+            let moved = self.send_next(uplink, is_crowded)?;
             if !moved {
                 return Ok(sent > 0);
             }
@@ -37,18 +36,17 @@ impl<C: ClientPort + Drop> ClientParts<C> {
     // no more.
     fn send_next<J: Naming>(
         &mut self,
-        outlet: &mut Outlet<Run>,
-        view: &mut MapView<J>,
+        uplink: &mut Uplink<J>,
         is_crowded: bool,
     ) -> Result<bool, NoMemory>
-        ensures sends { SendsCommands C.moves (record { client = self.old; outlet = outlet.old; view = view.old }) result (record { client = self.new; outlet = outlet.new; view = view.new }) }
-        ensures none { IfStill result (SendsNone self.old self.new outlet.new) }
+        ensures sends { SendsCommands C.moves (at self.old uplink.old) result (at self.new uplink.new) }
+        ensures none { IfStill result (SendsNone self.old self.new uplink.new.outlet) }
     {
         if self.gone {
             return Ok(self.drop_fresh());
         }
         let begun = self.begin_commands(is_crowded)?;
-        let posted = self.post_fresh(outlet, view)?;
+        let posted = self.post_fresh(uplink)?;
         Ok(begun | posted)
     }
 
@@ -146,15 +144,11 @@ impl<C: ClientPort + Drop> ClientParts<C> {
         self.commands.drop_fresh()
     }
 
-    fn post_fresh<J: Naming>(
-        &mut self,
-        outlet: &mut Outlet<Run>,
-        view: &mut MapView<J>,
-    ) -> Result<bool, NoMemory>
+    fn post_fresh<J: Naming>(&mut self, uplink: &mut Uplink<J>) -> Result<bool, NoMemory>
         requires { self.old.gone ≡ false }
-        ensures posts { PostsCommands C.moves (record { client = self.old; outlet = outlet.old; view = view.old }) result (record { client = self.new; outlet = outlet.new; view = view.new }) }
-        ensures none { IfStill result (PostsNone self.old self.new outlet.new) }
+        ensures posts { PostsCommands C.moves (at self.old uplink.old) result (at self.new uplink.new) }
+        ensures none { IfStill result (PostsNone self.old self.new uplink.new.outlet) }
     {
-        self.commands.post_fresh(outlet, view)
+        self.commands.post_fresh(uplink)
     }
 }

@@ -6,8 +6,9 @@ ghost use Rattle.std.specs.FinMap as map;
 use super::ClientParts;
 use crate::port::ClientPort;
 use crate::turned::{Finish, NextStep, Settled};
-use key_split::{Run, Ticket};
-use proxy_lanes::{MapView, Naming, Outlet};
+use crate::uplink::Uplink;
+use key_split::Ticket;
+use proxy_lanes::Naming;
 use resp_wire::NoMemory;
 
 impl<C: ClientPort + Drop> ClientParts<C> {
@@ -17,7 +18,7 @@ impl<C: ClientPort + Drop> ClientParts<C> {
     ghost use Rattle.proxy_turns.specs.Commands.{PostsAtResult};
     ghost use Rattle.proxy_turns.specs.ClientRest.{HasNoPlace, IfStill};
     ghost use Rattle.proxy_turns.specs.DueCommands.{IsSettled, IsToSettle, NextStepOf};
-    ghost use Rattle.proxy_turns.specs.ClientTurn.{ClientContext, FinishOutcome, PostsCommands, SettleOutcome};
+    ghost use Rattle.proxy_turns.specs.ClientTurn.{at, FinishOutcome, PostsCommands, SettleOutcome};
 
     /// Notes the end of the command for the part of this number, where it has one, and tells the session.
     pub(crate) fn finish(&mut self, number: u64) -> Result<Finish, NoMemory>
@@ -38,16 +39,15 @@ impl<C: ClientPort + Drop> ClientParts<C> {
     pub(crate) fn repost<J: Naming>(
         &mut self,
         number: u64,
-        outlet: &mut Outlet<Run>,
-        view: &mut MapView<J>,
+        uplink: &mut Uplink<J>,
     ) -> Result<Settled, NoMemory>
-        ensures settles { SettleOutcome C.moves (record { client = self.old; outlet = outlet.old; view = view.old }) result (record { client = self.new; outlet = outlet.new; view = view.new }) }
-        ensures settled { IsSettled result (IsToSettle self.new number) outlet.new }
+        ensures settles { SettleOutcome C.moves (at self.old uplink.old) result (at self.new uplink.new) }
+        ensures settled { IsSettled result (IsToSettle self.new number) uplink.new.outlet }
     {
         if !self.may_repost(number) {
             return Ok(Settled::Nothing);
         }
-        if self.post_again(number, outlet, view)? {
+        if self.post_again(number, uplink)? {
             return Ok(Settled::Posted);
         }
         Ok(Settled::Held)
@@ -83,14 +83,13 @@ impl<C: ClientPort + Drop> ClientParts<C> {
     fn post_again<J: Naming>(
         &mut self,
         number: u64,
-        outlet: &mut Outlet<Run>,
-        view: &mut MapView<J>,
+        uplink: &mut Uplink<J>,
     ) -> Result<bool, NoMemory>
         requires { (c : CommandModel) × (map.get self.old.commands.posted number ≡ Some c) × WantsPost c.stage × IsOut self.old.session c.ticket }
-        ensures posts { PostsCommands C.moves (record { client = self.old; outlet = outlet.old; view = view.old }) result (record { client = self.new; outlet = outlet.new; view = view.new }) }
-        ensures commands { PostsAtResult self.old.commands number outlet.old view.old result self.new.commands outlet.new view.new }
-        ensures full { IfStill result (HasNoPlace outlet.new) }
+        ensures posts { PostsCommands C.moves (at self.old uplink.old) result (at self.new uplink.new) }
+        ensures commands { PostsAtResult self.old.commands number uplink.old.outlet uplink.old.view result self.new.commands uplink.new.outlet uplink.new.view }
+        ensures full { IfStill result (HasNoPlace uplink.new.outlet) }
     {
-        self.commands.post_again(number, outlet, view)
+        self.commands.post_again(number, uplink)
     }
 }

@@ -1,17 +1,19 @@
 //! How commands are posted: those that were not posted yet together, and a posted one alone.
 
-ghost use Rattle.std.specs.Prelude.{◌≡◌, ◌≢◌, ◌<◌, ◌≤◌, ◌++◌, [], ◌∷◌, ℕ, List, Option, Result, All, IfOk, IfSome, MatchOption, OnErr, OnOk, false, length, ⊤};
+ghost use Rattle.std.specs.Prelude.{◌≡◌, ◌≢◌, ◌<◌, ◌≤◌, ◌++◌, [], ◌∷◌, ℕ, Option, Result, All, IfOk, IfSome, MatchOption, OnErr, OnOk, false, length, ⊤};
 ghost use Rattle.std.specs.FinMap as map;
 ghost use Rattle.std.specs.HashMap.{spare};
 ghost use Rattle.slot_hash.specs.Slot.{slot_of};
 ghost use Rattle.key_split.specs.Runs.{GoTogether};
-ghost use Rattle.command_future.specs.CommandModel.{CommandModel, IsFresh, MayPostTo, WantsPost};
+ghost use Rattle.command_future.specs.CommandModel.{IsFresh, MayPostTo, WantsPost};
 ghost use Rattle.proxy_lanes.specs.declared.map_view.NotEntered.{NotEntered};
 ghost use Rattle.proxy_turns.specs.ClientRest.{HasNoPlace, IfStill};
-ghost use Rattle.proxy_turns.specs.Commands.{AreOneRun, GoesTo, GoesWith, Looks, PostOutcome, PostsAtResult, PostsFreshResult, PostsRun, WantsPostAt, commanded, in_table, node_looked_up, run_of, with_posted};
+ghost use Rattle.proxy_turns.specs.Commands.{AreOneRun, GoesTo, GoesWith, Looks, PostOutcome, PostsAtResult, PostsFreshResult, PostsRun, WantsPostAt, in_table, node_looked_up, run_of, with_posted};
 
+use super::Commands;
 use crate::client_limits::KEPT_COMMANDS;
 use crate::seed::seed;
+use crate::uplink::Uplink;
 use command_future::{Command, Want};
 use key_split::{Batch, Run};
 use proxy_lanes::{MapView, Naming, Outlet};
@@ -21,32 +23,43 @@ use slot_map::NodeId;
 use std::alloc::{AllocFailed, Global};
 use std::collections::HashMap;
 
-// Posts the commands that were not posted yet, and puts them among the others. True where they were posted.
-pub(super) fn post_all<J: Naming>(
-    alloc: Global,
-    fresh: &mut Vec<Command>,
-    posted: &mut HashMap<u64, Command>,
-    outlet: &mut Outlet<Run>,
-    view: &mut MapView<J>,
-) -> Result<bool, NoMemory>
-    requires { AreOneRun fresh.old.items }
-    ensures posts { PostsFreshResult (commanded fresh.old.items posted.old.entries) outlet.old view.old result (commanded fresh.new.items posted.new.entries) outlet.new view.new }
-    ensures full { IfStill result (fresh.old.items ≢ [] → HasNoPlace outlet.new) }
-{
-    posted.reserve(fresh.len())?;
-    let [first, later @ ..] = fresh.as_slice() else {
-        return Ok(false);
-    };
-    let Some(node) = aim(first, view) else {
-        return Ok(false);
-    };
-    let run = run_of(alloc, first, later, node)?;
-    if !post_run(outlet, run) {
-        return Ok(false);
+impl Commands {
+    /// Posts the commands that were not posted yet, together, and puts them among the others. True where they were posted.
+    pub(crate) fn post_fresh<J: Naming>(&mut self, uplink: &mut Uplink<J>) -> Result<bool, NoMemory>
+        requires { AreOneRun self.old.fresh }
+        ensures posts { PostsFreshResult self.old uplink.old.outlet uplink.old.view result self.new uplink.new.outlet uplink.new.view }
+        ensures full { IfStill result (self.old.fresh ≢ [] → HasNoPlace uplink.new.outlet) }
+    {
+        self.posted.reserve(self.fresh.len())?;
+        let [first, later @ ..] = self.fresh.as_slice() else {
+            return Ok(false);
+        };
+        let Some(node) = aim(first, &mut uplink.view) else {
+            return Ok(false);
+        };
+        let run = run_of(self.alloc, first, later, node)?;
+        if !post_run(&mut uplink.outlet, run) {
+            return Ok(false);
+        }
+        keep_posted(&mut self.fresh, &mut self.posted, node);
+        free_large(&mut self.fresh);
+        Ok(true)
     }
-    keep_posted(fresh, posted, node);
-    free_large(fresh);
-    Ok(true)
+
+    /// Posts the command for the part of this number again, alone, where it wants that. True where it was posted.
+    pub(crate) fn post_again<J: Naming>(
+        &mut self,
+        number: u64,
+        uplink: &mut Uplink<J>,
+    ) -> Result<bool, NoMemory>
+        ensures posts { PostsAtResult self.old number uplink.old.outlet uplink.old.view result self.new uplink.new.outlet uplink.new.view }
+        ensures full { IfStill result (WantsPostAt self.old number → HasNoPlace uplink.new.outlet) }
+    {
+        let Some(command) = self.posted.get_mut(&number) else {
+            return Ok(false);
+        };
+        post_command(self.alloc, command, uplink)
+    }
 }
 
 // Frees the room of an empty list where it is for many commands.
@@ -110,39 +123,21 @@ fn keep_one(command: Command, posted: &mut HashMap<u64, Command>, node: NodeId)
     drop(put.unwrap());
 }
 
-// Posts the command for the part of this number alone, where it wants that. True where it was posted.
-pub(super) fn post_at<J: Naming>(
-    alloc: Global,
-    posted: &mut HashMap<u64, Command>,
-    number: u64,
-    outlet: &mut Outlet<Run>,
-    view: &mut MapView<J>,
-) -> Result<bool, NoMemory>
-    ensures posts { (fresh : List CommandModel) → PostsAtResult (commanded fresh posted.old.entries) number outlet.old view.old result (commanded fresh posted.new.entries) outlet.new view.new }
-    ensures full { IfStill result ((fresh : List CommandModel) → WantsPostAt (commanded fresh posted.old.entries) number → HasNoPlace outlet.new) }
-{
-    let Some(command) = posted.get_mut(&number) else {
-        return Ok(false);
-    };
-    post_command(alloc, command, outlet, view)
-}
-
 // Posts the command alone, where it wants that. True where it was posted.
 fn post_command<J: Naming>(
     alloc: Global,
     command: &mut Command,
-    outlet: &mut Outlet<Run>,
-    view: &mut MapView<J>,
+    uplink: &mut Uplink<J>,
 ) -> Result<bool, NoMemory>
-    ensures ok { IfOk result (λ moved. PostOutcome command.old outlet.old view.old moved command.new outlet.new view.new) }
-    ensures err { OnErr result (PostOutcome command.old outlet.old view.old false command.new outlet.new view.new) }
-    ensures full { IfStill result (WantsPost command.old.stage → HasNoPlace outlet.new) }
+    ensures ok { IfOk result (λ moved. PostOutcome command.old uplink.old.outlet uplink.old.view moved command.new uplink.new.outlet uplink.new.view) }
+    ensures err { OnErr result (PostOutcome command.old uplink.old.outlet uplink.old.view false command.new uplink.new.outlet uplink.new.view) }
+    ensures full { IfStill result (WantsPost command.old.stage → HasNoPlace uplink.new.outlet) }
 {
-    let Some(node) = aim(command, view) else {
+    let Some(node) = aim(command, &mut uplink.view) else {
         return Ok(false);
     };
     let batch = command.batch(alloc, node)?;
-    if !post_run(outlet, Run::one(alloc, batch)) {
+    if !post_run(&mut uplink.outlet, Run::one(alloc, batch)) {
         return Ok(false);
     }
     command.posted(node);

@@ -35,7 +35,7 @@ pub(crate) struct Signals {
 }
 
 impl Signals {
-    /// So many threads are to run, beside the carrier's.
+    /// `running` threads are to run, beside the carrier's.
     pub(crate) fn new(running: u64) -> Signals {
         Signals {
             stop: Flag::new(),

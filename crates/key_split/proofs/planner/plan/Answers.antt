@@ -1,14 +1,12 @@
-use Rattle.std.proofs.Common.{◌≡◌, ◌+◌, ◌-◌, ◌∙◌, ap, sym, arith, drop, length, take}
-use Rattle.std.proofs.lemmas.Grind.{common_steps}
-use Rattle.key_split.specs.Names.{allows}
-use Rattle.key_split.specs.Plan.{plan_as}
-use Rattle.key_split.proofs.Joinable.{plan_as-joins, IfOk-planned}
+use Rattle.std.proofs.Common.{◌≡◌, ◌-◌, arith, drop, length, length-drop, subst, sym, take}
+use Rattle.std.proofs.lemmas.List.{take_all}
+use Rattle.key_split.specs.Wishes.{HasWords, made}
+use Rattle.key_split.proofs.Joinable.{made-joins, IfOk-planned}
 use Rattle.key_split.proofs.planner.plan.Goals as goal
 
-pub returns-clause-joinable : goal.returns-clause-joinable
-returns-clause-joinable c =
+pub returns-in-Ok-clause-joinable : goal.returns-in-Ok-clause-joinable
+returns-in-Ok-clause-joinable c =
     let words = c.args.words.now in
-    let args = take (length words - 1) (drop 1 words) in
-    let count : length args + 1 ≡ length words = grind (arith, common_steps) in
-    let allowed = ap (allows c.in-Some.name) count ∙ sym c.allows.ensures ∙ c.if-not-allows.false in
-    IfOk-planned (plan_as c.in-Some.name args) c.plan_named.result c.plan_named.ensures (plan_as-joins c.in-Some.name args allowed)
+    let all : take (length words - 1) (drop 1 words) ≡ drop 1 words = take_all (length words - 1) (drop 1 words) (omega (arith, length-drop 1 words)) in
+    IfOk-planned (made c.in-Ok.wish (take (length words - 1) (drop 1 words))) c.make.result c.make.ensures
+    (made-joins c.in-Ok.wish _ (subst (HasWords c.in-Ok.wish) (sym all) c.in-Ok.ensures.1))

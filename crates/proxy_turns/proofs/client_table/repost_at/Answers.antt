@@ -11,7 +11,7 @@ pub returns-in_default-clause-settles : goal.returns-in_default-clause-settles
 returns-in_default-clause-settles g c =
     let same = ap (λ m. clients_in m.entries) c.get_mut.follows.holds-at-none in
     let absent = sym c.get_mut.ensures.value ∙ ap option_copied_mut c.in_default.is in
-    inl (sym (at_number c.args.ticket.client c.args.clients.now.entries) ∙ absent, refl, λ i. record { clients = same i; outlet = c.args.outlet.now; view = c.args.view.now })
+    inl (sym (at_number c.args.ticket.client c.args.clients.now.entries) ∙ absent, refl, λ i. record { clients = same i; outlet = c.args.uplink.now.outlet; view = c.args.uplink.now.view })
 
 pub returns-in_default-clause-len : goal.returns-in_default-clause-len
 returns-in_default-clause-len g c = ap (λ m. length m.entries) c.get_mut.follows.holds-at-none
@@ -39,4 +39,4 @@ returns-clause-settled g c =
     let writes = c.get_mut.follows.holds c.repost.new.self in
     let there = sym c.get_mut.ensures.value ∙ ap option_copied_mut c.in-Some.is in
     let put = wrote c.args.ticket.client c.in-Some.client.now c.repost.new.self entries _ there (writes.3 (ap is_some there)).0 in
-    settled_less c.repost.result _ _ c.repost.new.outlet (here_alone (clients_in entries) _ c.args.ticket.client c.args.ticket.part c.repost.new.self put.1) c.repost.ensures.settled
+    settled_less c.repost.result _ _ c.repost.new.uplink.outlet (here_alone (clients_in entries) _ c.args.ticket.client c.args.ticket.part c.repost.new.self put.1) c.repost.ensures.settled

@@ -38,4 +38,4 @@ returns-clause-turned g c =
     let there = sym c.get_index_mut.ensures.value ∙ ap option_copied_mut c.in-Some.is in
     let put = wrote_at c.args.clients.now c.args.place c.in-Some.client.now c.turn.new.self there c.get_index_mut.ensures.unique in
     turned_at g.C.ClientPort.gives_none g.C.ClientPort.takes_none g.C.ClientPort.moves c.args.clients.now.entries c.args.place put.0 c.in-Some.client.now c.turn.new.self
-    c.args.outlet.now c.turn.new.outlet c.args.view.now c.turn.new.view c.turn.result put.3 put.2 c.turn.ensures.turns c.turn.ensures.rests
+    c.args.uplink.now.outlet c.turn.new.uplink.outlet c.args.uplink.now.view c.turn.new.uplink.view c.turn.result put.3 put.2 c.turn.ensures.turns c.turn.ensures.rests

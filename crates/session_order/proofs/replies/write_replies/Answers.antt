@@ -15,18 +15,17 @@ loop-i-preserved c =
     let so_far = c.loop-i.invariant in
     let requests = c.args.requests.now.items in
     let stages = c.args.queue.now.stages in
-    let ends = c.args.ends.now.items in
+    let ends = c.args.ends.now in
     let below : c.loop-i.i < length requests = omega (arith, c.args.requests.now.ok.0, c.len-i-end.ensures) in
     let next = c.loop-i.i + 1 in
-    let more = one_more_replied c.loop-i.i c.index.result.now requests stages ends c.loop-i.ends.items c.loop-i.parts does.0 c.in-Whole.count
-    (at_place requests c.loop-i.i c.index.result.now below c.index.ensures) so_far.request_count so_far.parts so_far.same c.requires.counted does.1 in
+    let more = one_more_replied c.loop-i.i c.index.result.now requests stages ends c.args.ends.now c.loop-i.parts does.0 c.in-Whole.count
+    (at_place requests c.loop-i.i c.index.result.now below c.index.ensures) so_far.request_count so_far.parts refl c.requires.counted.counted does.1 in
     let few : length c.loop-i.out.items - length c.args.out.now.items < c.args.most = omega (arith, c.if-len-start.false, c.len.ensures, c.len-start.ensures, c.loop-i.out.ok.0, c.args.out.now.ok.0) in
     record {
-      same = c.write_reply.ensures.ends ∙ so_far.same;
       bound = more.bound;
       known = all_take is_done c.args.queue.now.stages c.loop-i.parts c.in-Whole.count _ refl so_far.known done;
       counted = more.counted;
-      joinable = joinable_drop requests next c.requires.joinable;
+      joinable = joinable_drop requests next c.requires.counted.joinable;
       written = written_more c.args.out.now.items c.loop-i.out.items c.write_reply.new.out.items (replies (take c.loop-i.i requests) stages ends [])
           (replies (take next requests) stages ends []) does.0 so_far.written does.2 more.spelled;
       parts = more.parts;
@@ -38,7 +37,7 @@ pub returns-then-len-start-clause-written : goal.returns-then-len-start-clause-w
 returns-then-len-start-clause-written c =
     let so_far = c.loop-i.invariant in
     let enough : c.args.most ≤ length c.loop-i.out.items - length c.args.out.now.items = omega (arith, c.if-len-start.true, c.len.ensures, c.len-start.ensures, c.loop-i.out.ok.0, c.args.out.now.ok.0) in
-    copied_so_far c.args.most c.loop-i.i c.args.requests.now.items c.args.queue.now.stages c.args.ends.now.items c.args.out.now.items _ c.copied.result
+    copied_so_far c.args.most c.loop-i.i c.args.requests.now.items c.args.queue.now.stages c.args.ends.now c.args.out.now.items _ c.copied.result
     (written_so_far _ _ _ _ _ c.args.queue.now.stages _ _ _ so_far.request_count so_far.written so_far.no_more (λ few. absurd (omega (arith, few, enough))) refl)
     c.copied.ensures.requests c.copied.ensures.tail
 
@@ -50,9 +49,8 @@ returns-in-Nothing-clause-written c =
     let stages = drop c.loop-i.parts c.args.queue.now.stages in
     let below : c.loop-i.i < length requests = omega (arith, c.args.requests.now.ok.0, c.len-i-end.ensures) in
     let at = at_place requests c.loop-i.i c.index.result.now below c.index.ensures in
-    let none = subst (λ ends. reply_of c.index.result.now stages (drop c.loop-i.parts ends) ≡ None) so_far.same does.0 in
-    copied_so_far c.args.most c.loop-i.i requests c.args.queue.now.stages c.args.ends.now.items c.args.out.now.items _ c.copied-in-Nothing.result
-    (written_so_far _ _ _ _ _ c.args.queue.now.stages _ _ _ so_far.request_count (does.1 ∙ so_far.written) so_far.no_more (λ few. none_replied c.loop-i.i _ requests stages _ at none) refl)
+    copied_so_far c.args.most c.loop-i.i requests c.args.queue.now.stages c.args.ends.now c.args.out.now.items _ c.copied-in-Nothing.result
+    (written_so_far _ _ _ _ _ c.args.queue.now.stages _ _ _ so_far.request_count (does.1 ∙ so_far.written) so_far.no_more (λ few. none_replied c.loop-i.i _ requests stages _ at does.0) refl)
     c.copied-in-Nothing.ensures.requests c.copied-in-Nothing.ensures.tail
 
 pub returns-clause-written : goal.returns-clause-written
@@ -61,7 +59,7 @@ returns-clause-written c =
     let requests = c.args.requests.now.items in
     let all : length requests ≤ c.loop-i.i = omega (arith, c.args.requests.now.ok.0, c.len-i-end.ensures) in
     let end : c.loop-i.i ≡ c.len-2.result = omega (arith, c.len-i-end.ensures, c.len-2.ensures) in
-    copied_so_far c.args.most c.len-2.result requests c.args.queue.now.stages c.args.ends.now.items c.args.out.now.items _ c.copied-2.result
+    copied_so_far c.args.most c.len-2.result requests c.args.queue.now.stages c.args.ends.now c.args.out.now.items _ c.copied-2.result
     (written_so_far _ _ _ _ _ c.args.queue.now.stages _ _ _ so_far.request_count so_far.written so_far.no_more (λ few. none_left c.loop-i.i requests _ _ all) end)
     c.copied-2.ensures.requests c.copied-2.ensures.tail
 
@@ -72,11 +70,11 @@ returns-in-Head-clause-written c =
     let so_far = c.loop-i.invariant in
     let requests = c.args.requests.now.items in
     let stages = c.args.queue.now.stages in
-    let ends = c.args.ends.now.items in
+    let ends = c.args.ends.now in
     let below : c.loop-i.i < length requests = omega (arith, c.args.requests.now.ok.0, c.len-i-end.ensures) in
     let next = c.loop-i.i + 1 in
-    let more = one_more_replied c.loop-i.i c.index.result.now requests stages ends c.loop-i.ends.items c.loop-i.parts does.0 c.in-Head.count
-    (at_place requests c.loop-i.i c.index.result.now below c.index.ensures) so_far.request_count so_far.parts so_far.same c.requires.counted does.1 in
+    let more = one_more_replied c.loop-i.i c.index.result.now requests stages ends c.args.ends.now c.loop-i.parts does.0 c.in-Head.count
+    (at_place requests c.loop-i.i c.index.result.now below c.index.ensures) so_far.request_count so_far.parts refl c.requires.counted.counted does.1 in
     let few : length c.loop-i.out.items - length c.args.out.now.items < c.args.most = omega (arith, c.if-len-start.false, c.len.ensures, c.len-start.ensures, c.loop-i.out.ok.0, c.args.out.now.ok.0) in
     ended_by_tail c.args.most next _ requests stages ends c.args.out.now.items c.loop-i.out.items _ does.2.0 c.in-Head.tail
     (replies (take c.loop-i.i requests) stages ends []) does.0 more.left so_far.written does.2.1 does.2.2 more.spelled
@@ -89,25 +87,24 @@ returns-in-Head-clause-parts c =
     let so_far = c.loop-i.invariant in
     let requests = c.args.requests.now.items in
     let stages = c.args.queue.now.stages in
-    let ends = c.args.ends.now.items in
+    let ends = c.args.ends.now in
     let below : c.loop-i.i < length requests = omega (arith, c.args.requests.now.ok.0, c.len-i-end.ensures) in
-    (one_more_replied c.loop-i.i c.index.result.now requests stages ends c.loop-i.ends.items c.loop-i.parts does.0 c.in-Head.count
-    (at_place requests c.loop-i.i c.index.result.now below c.index.ensures) so_far.request_count so_far.parts so_far.same c.requires.counted does.1).parts
+    (one_more_replied c.loop-i.i c.index.result.now requests stages ends c.args.ends.now c.loop-i.parts does.0 c.in-Head.count
+    (at_place requests c.loop-i.i c.index.result.now below c.index.ensures) so_far.request_count so_far.parts refl c.requires.counted.counted does.1).parts
 
 pub returns-in-Head-clause-grown : goal.returns-in-Head-clause-grown
 returns-in-Head-clause-grown c =
     let does = rw c.in-Head.is at c.in_ok-count.ensures.does in
-    let so_far = bytes_of (replies (take c.loop-i.i c.args.requests.now.items) c.args.queue.now.stages c.args.ends.now.items []) in
+    let so_far = bytes_of (replies (take c.loop-i.i c.args.requests.now.items) c.args.queue.now.stages c.args.ends.now []) in
     still_grown c.args.out.now.items c.loop-i.out.items _ so_far does.2.0 c.loop-i.invariant.written does.2.1
 
 pub loop-i-init : goal.loop-i-init
 loop-i-init c =
     record {
-      same = refl;
       bound = omega arith;
       known = refl;
-      counted = c.requires.counted;
-      joinable = c.requires.joinable;
+      counted = c.requires.counted.counted;
+      joinable = c.requires.counted.joinable;
       written = sym (append-nil c.args.out.now.items);
       parts = refl;
       request_count = omega arith;
@@ -119,7 +116,7 @@ write_reply-requires-clause-parts c =
     let so_far = c.loop-i.invariant in
     let requests = c.args.requests.now.items in
     let below : c.loop-i.i < length requests = omega (arith, c.args.requests.now.ok.0, c.len-i-end.ensures) in
-    let places : length c.loop-i.ends.items ≡ length c.args.queue.now.stages = ap length so_far.same ∙ c.requires.places in
+    let places : length c.args.ends.now ≡ length c.args.queue.now.stages = c.requires.counted.places in
     has_parts c.loop-i.i _ _ requests (at_place requests c.loop-i.i _ below c.index.ensures) so_far.joinable
     (omega (arith, so_far.counted, length-drop c.loop-i.parts c.args.queue.now.stages, places))
 
@@ -147,21 +144,21 @@ overflow_add-parts c =
     let so_far = c.loop-i.invariant in
     let requests = c.args.requests.now.items in
     let stages = c.args.queue.now.stages in
-    let ends = c.args.ends.now.items in
+    let ends = c.args.ends.now in
     let below : c.loop-i.i < length requests = omega (arith, c.args.requests.now.ok.0, c.len-i-end.ensures) in
-    let bound = (one_more_replied c.loop-i.i c.index.result.now requests stages ends c.loop-i.ends.items c.loop-i.parts does.0 c.in-Whole.count
-    (at_place requests c.loop-i.i c.index.result.now below c.index.ensures) so_far.request_count so_far.parts so_far.same c.requires.counted does.1).bound in
-    omega (arith, bound, c.requires.places, c.args.ends.now.ok.0, c.args.ends.now.small)
+    let bound = (one_more_replied c.loop-i.i c.index.result.now requests stages ends c.args.ends.now c.loop-i.parts does.0 c.in-Whole.count
+    (at_place requests c.loop-i.i c.index.result.now below c.index.ensures) so_far.request_count so_far.parts refl c.requires.counted.counted does.1).bound in
+    omega (arith, bound, c.requires.counted.places)
 
 pub write_reply-requires-clause-known : goal.write_reply-requires-clause-known
 write_reply-requires-clause-known c = c.loop-i.invariant.known
 
 pub write_reply-requires-clause-places : goal.write_reply-requires-clause-places
-write_reply-requires-clause-places c = ap length c.loop-i.invariant.same ∙ c.requires.places
+write_reply-requires-clause-places c = c.requires.counted.places
 
 pub write_reply-requires-clause-fits : goal.write_reply-requires-clause-fits
 write_reply-requires-clause-fits c =
-    let places : length c.loop-i.ends.items ≡ length c.args.queue.now.stages = ap length c.loop-i.invariant.same ∙ c.requires.places in
+    let places : length c.args.ends.now ≡ length c.args.queue.now.stages = c.requires.counted.places in
     omega (arith, c.loop-i.invariant.bound, places)
 
 pub returns-then-len-start-clause-parts : goal.returns-then-len-start-clause-parts
@@ -184,29 +181,14 @@ returns-clause-tail c = rw c.copied-2.ensures.tail tt
 pub returns-in-Head-clause-tail : goal.returns-in-Head-clause-tail
 returns-in-Head-clause-tail c = rw c.in-Head.is at c.in_ok-count.ensures.tail
 
-pub returns-in_err-count-clause-ends : goal.returns-in_err-count-clause-ends
-returns-in_err-count-clause-ends c = c.write_reply.ensures.ends ∙ c.loop-i.invariant.same
-
-pub returns-in-Head-clause-ends : goal.returns-in-Head-clause-ends
-returns-in-Head-clause-ends c = c.write_reply.ensures.ends ∙ c.loop-i.invariant.same
-
-pub returns-in-Nothing-clause-ends : goal.returns-in-Nothing-clause-ends
-returns-in-Nothing-clause-ends c = c.write_reply.ensures.ends ∙ c.loop-i.invariant.same
-
-pub returns-then-len-start-clause-ends : goal.returns-then-len-start-clause-ends
-returns-then-len-start-clause-ends c = c.loop-i.invariant.same
-
-pub returns-clause-ends : goal.returns-clause-ends
-returns-clause-ends c = c.loop-i.invariant.same
-
 pub overflow_add-result-in-Head : goal.overflow_add-result-in-Head
 overflow_add-result-in-Head c =
     let does = rw c.in-Head.is at c.in_ok-count.ensures.does in
     let so_far = c.loop-i.invariant in
     let requests = c.args.requests.now.items in
     let stages = c.args.queue.now.stages in
-    let ends = c.args.ends.now.items in
+    let ends = c.args.ends.now in
     let below : c.loop-i.i < length requests = omega (arith, c.args.requests.now.ok.0, c.len-i-end.ensures) in
-    let bound = (one_more_replied c.loop-i.i c.index.result.now requests stages ends c.loop-i.ends.items c.loop-i.parts does.0 c.in-Head.count
-    (at_place requests c.loop-i.i c.index.result.now below c.index.ensures) so_far.request_count so_far.parts so_far.same c.requires.counted does.1).bound in
-    omega (arith, bound, c.requires.places, c.args.ends.now.ok.0, c.args.ends.now.small)
+    let bound = (one_more_replied c.loop-i.i c.index.result.now requests stages ends c.args.ends.now c.loop-i.parts does.0 c.in-Head.count
+    (at_place requests c.loop-i.i c.index.result.now below c.index.ensures) so_far.request_count so_far.parts refl c.requires.counted.counted does.1).bound in
+    omega (arith, bound, c.requires.counted.places)

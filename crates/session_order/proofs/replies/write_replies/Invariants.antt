@@ -10,15 +10,14 @@ abbrev pub invariant-loop-i : goal.invariant-loop-i
 invariant-loop-i l =
     let requests = drop l.i l.requests.items in
     let stages = drop l.parts l.queue.stages in
-    let ends = drop l.parts l.fn.ends.items in
+    let ends = drop l.parts l.ends in
     record {
-      same : l.ends.items ≡ l.fn.ends.items;
       bound : l.parts ≤ length l.queue.stages;
       known : list_all is_done (take l.parts l.queue.stages) ≡ true;
       counted : parts_of requests ≡ length stages;
       joinable : AreJoinable requests;
-      written : l.out.items ≡ l.fn.out.items ++ bytes_of (replies (take l.i l.requests.items) l.queue.stages l.fn.ends.items []);
+      written : l.out.items ≡ l.fn.out.items ++ bytes_of (replies (take l.i l.requests.items) l.queue.stages l.ends []);
       parts : l.parts ≡ parts_of (take l.i l.requests.items);
-      request_count : l.i + (replied requests stages ends).0 ≡ (replied l.requests.items l.queue.stages l.fn.ends.items).0;
-      no_more : (fewer : ℕ) → fewer < l.i → length (bytes_of (first_replies fewer l.requests.items l.queue.stages l.fn.ends.items [])) < l.most;
+      request_count : l.i + (replied requests stages ends).0 ≡ (replied l.requests.items l.queue.stages l.ends).0;
+      no_more : (fewer : ℕ) → fewer < l.i → length (bytes_of (first_replies fewer l.requests.items l.queue.stages l.ends [])) < l.most;
     }

@@ -1,5 +1,5 @@
 use Rattle.std.proofs.Common.{◌≡◌, true, Ok, Some, rules, subst}
-use Rattle.resp_wire.specs.Front.{ReaderTakes}
+use Rattle.resp_wire.specs.FirstValue.{ReaderTakes}
 use Rattle.node_server.specs.contracts.connection.Connection.{the_view}
 use Rattle.node_server.specs.NodeConnections.{ConnectionModel, AnswersFront}
 use Rattle.node_server.proofs.Fronting.{answers-whole}

@@ -10,13 +10,13 @@ use Rattle.proxy_turns.proofs.client_parts.ClientParts.post_again.Goals as goal
 
 pub invariant_of-self : goal.invariant_of-self
 invariant_of-self g c =
-    sound_again_result c.self.inside.session c.self.inside.commands c.post_again.new.self c.args.number c.args.outlet.now c.post_again.new.outlet c.args.view.now c.post_again.new.view c.post_again.result c.post_again.ensures.posts c.self.invariant
+    sound_again_result c.self.inside.session c.self.inside.commands c.post_again.new.self c.args.number c.args.uplink.now.outlet c.post_again.new.uplink.outlet c.args.uplink.now.view c.post_again.new.uplink.view c.post_again.result c.post_again.ensures.posts c.self.invariant
 
 pub returns-clause-posts : goal.returns-clause-posts
 returns-clause-posts g c =
     let here = rw (← c.self.view_is) at c.requires in
     let turn : (d : CommandModel) → get c.self.inside.commands.posted c.args.number ≡ Some d → IsOut c.self.inside.session d.ticket = λ d at. subst (λ (x : CommandModel). IsOut c.self.inside.session x.ticket) (some_same here.0 d (sym here.1 ∙ at)) here.3 in
-    rw (← c.self.view_is) (turns_posts_again g.C.ClientPort.moves is_post (λ slot. refl) (λ run. refl) (λ run. refl) _ c.args.outlet.now c.post_again.new.outlet c.args.view.now c.post_again.new.view _ c.args.number c.post_again.result c.self.invariant turn c.post_again.ensures.posts)
+    rw (← c.self.view_is) (turns_posts_again g.C.ClientPort.moves is_post (λ slot. refl) (λ run. refl) (λ run. refl) _ c.args.uplink.now.outlet c.post_again.new.uplink.outlet c.args.uplink.now.view c.post_again.new.uplink.view _ c.args.number c.post_again.result c.self.invariant turn c.post_again.ensures.posts)
 
 pub returns-clause-full : goal.returns-clause-full
 returns-clause-full g c =

@@ -7,13 +7,13 @@ use Rattle.proxy_turns.proofs.client_parts.ClientParts.post_fresh.Goals as goal
 
 pub invariant_of-self : goal.invariant_of-self
 invariant_of-self g c =
-    sound_fresh_result c.self.inside.session c.self.inside.commands c.post_fresh.new.self c.args.outlet.now c.post_fresh.new.outlet c.args.view.now c.post_fresh.new.view c.post_fresh.result c.post_fresh.ensures.posts c.self.invariant
+    sound_fresh_result c.self.inside.session c.self.inside.commands c.post_fresh.new.self c.args.uplink.now.outlet c.post_fresh.new.uplink.outlet c.args.uplink.now.view c.post_fresh.new.uplink.view c.post_fresh.result c.post_fresh.ensures.posts c.self.invariant
 
 pub returns-clause-posts : goal.returns-clause-posts
-returns-clause-posts g c = rw (← c.self.view_is) (turns_posts_fresh g.C.ClientPort.moves is_post (λ slot. refl) (λ run. refl) (λ run. refl) _ c.args.outlet.now c.post_fresh.new.outlet c.args.view.now c.post_fresh.new.view _ c.post_fresh.result c.self.invariant (rw (← c.self.view_is) at c.requires) c.post_fresh.ensures.posts)
+returns-clause-posts g c = rw (← c.self.view_is) (turns_posts_fresh g.C.ClientPort.moves is_post (λ slot. refl) (λ run. refl) (λ run. refl) _ c.args.uplink.now.outlet c.post_fresh.new.uplink.outlet c.args.uplink.now.view c.post_fresh.new.uplink.view _ c.post_fresh.result c.self.invariant (rw (← c.self.view_is) at c.requires) c.post_fresh.ensures.posts)
 
 pub returns-clause-none : goal.returns-clause-none
-returns-clause-none g c = rw (← c.self.view_is) (posts_nothing _ _ c.args.outlet.now c.post_fresh.new.outlet c.args.view.now c.post_fresh.new.view c.post_fresh.result (rw (← c.self.view_is) at c.requires) c.post_fresh.ensures.posts c.post_fresh.ensures.full)
+returns-clause-none g c = rw (← c.self.view_is) (posts_nothing _ _ c.args.uplink.now.outlet c.post_fresh.new.uplink.outlet c.args.uplink.now.view c.post_fresh.new.uplink.view c.post_fresh.result (rw (← c.self.view_is) at c.requires) c.post_fresh.ensures.posts c.post_fresh.ensures.full)
 
 pub post_fresh-requires : goal.post_fresh-requires
 post_fresh-requires g c = one_run c.self.inside.session c.self.inside.commands c.self.invariant

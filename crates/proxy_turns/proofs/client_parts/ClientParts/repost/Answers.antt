@@ -9,7 +9,7 @@ returns-then-not-may_repost-clause-settled g c = c.may_repost.ensures.none c.if-
 
 pub returns-then-branch-clause-settled : goal.returns-then-branch-clause-settled
 returns-then-branch-clause-settled g c =
-    posted_by c.args.self.now.commands c.post_again.new.self c.args.number c.args.outlet.now c.post_again.new.outlet c.args.view.now c.post_again.new.view c.in_ok-post_again.field-0 c.if-branch.true c.in_ok-post_again.ensures.commands
+    posted_by c.args.self.now.commands c.post_again.new.self c.args.number c.args.uplink.now.outlet c.post_again.new.uplink.outlet c.args.uplink.now.view c.post_again.new.uplink.view c.in_ok-post_again.field-0 c.if-branch.true c.in_ok-post_again.ensures.commands
 
 pub returns-then-not-may_repost-clause-settles : goal.returns-then-not-may_repost-clause-settles
 returns-then-not-may_repost-clause-settles g c = goes_of g.C.ClientPort.moves is_post _ _ _ (stays g.C.ClientPort.moves is_post _)

@@ -7,7 +7,7 @@ use Rattle.proxy_turns.proofs.ClientResting.{drops_none, if_still, sends_none, t
 use Rattle.proxy_turns.proofs.client_parts.ClientParts.send_next.Goals as goal
 
 pub returns-then-self-clause-sends : goal.returns-then-self-clause-sends
-returns-then-self-clause-sends g c = goes_wider g.C.ClientPort.moves is_send is_drop command_dropped _ _ _ (c.drop_fresh.ensures.drops c.args.outlet.now c.args.view.now)
+returns-then-self-clause-sends g c = goes_wider g.C.ClientPort.moves is_send is_drop command_dropped _ _ _ (c.drop_fresh.ensures.drops c.args.uplink.now.outlet c.args.uplink.now.view)
 
 pub returns-in_err-posted-clause-sends : goal.returns-in_err-posted-clause-sends
 returns-in_err-posted-clause-sends g c =

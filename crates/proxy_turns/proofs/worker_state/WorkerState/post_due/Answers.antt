@@ -35,7 +35,7 @@ pub returns-clause-paused : goal.returns-clause-paused
 returns-clause-paused g c = c.loop-ticket.invariant.paused
 
 pub returns-then-is_held-clause-none : goal.returns-then-is_held-clause-none
-returns-then-is_held-clause-none g c = inr (held_full c.in_ok-settled.settled _ c.post_one.new.self.outlet (c.is_held.ensures.0 c.if-is_held.true) c.in_ok-settled.ensures.settled)
+returns-then-is_held-clause-none g c = inr (held_full c.in_ok-settled.settled _ c.post_one.new.self.uplink.outlet (c.is_held.ensures.0 c.if-is_held.true) c.in_ok-settled.ensures.settled)
 
 pub invariant_of-self : goal.invariant_of-self
 invariant_of-self g c =
@@ -45,7 +45,7 @@ invariant_of-self g c =
     record {
       ports_fit = c.post_one.new.self.ports_fit;
       due_known = due_dropped clients c.post_one.new.self.due c.drop_due.new.self ticket c.in-Some.ensures.0 first c.drop_due.ensures.due c.drop_due.ensures.kept
-          (left_none c.in_ok-settled.settled (IsToSettleAt clients ticket.client ticket.part) c.post_one.new.self.outlet (λ held. false≢true (sym c.if-is_held.false ∙ c.is_held.ensures.1 held)) c.in_ok-settled.ensures.settled)
+          (left_none c.in_ok-settled.settled (IsToSettleAt clients ticket.client ticket.part) c.post_one.new.self.uplink.outlet (λ held. false≢true (sym c.if-is_held.false ∙ c.is_held.ensures.1 held)) c.in_ok-settled.ensures.settled)
           c.post_one.new.self.due_known;
     }
 

@@ -35,14 +35,14 @@ loop-step-preserved g c =
       goes = all_then g.C.ClientPort.moves serves_client _ _ _ _ _ c.loop-step.invariant.goes c.in_ok-moved.ensures.serves;
       due = c.in_ok-moved.ensures.due ∙ c.loop-step.invariant.due;
       len = λ none. let both = or_false _ _ none in
-          let still : IsStillAt gives takes old.clients.entries c.place.result new.outlet new.clients.entries = if_turned _ c.in_ok-moved.ensures.rests both.1 in
+          let still : IsStillAt gives takes old.clients.entries c.place.result new.uplink.outlet new.clients.entries = if_turned _ c.in_ok-moved.ensures.rests both.1 in
           still.len ∙ c.loop-step.invariant.len both.0;
       rests = λ none. let both = or_false _ _ none in
-          let still : IsStillAt gives takes old.clients.entries c.place.result new.outlet new.clients.entries = if_turned _ c.in_ok-moved.ensures.rests both.1 in
+          let still : IsStillAt gives takes old.clients.entries c.place.result new.uplink.outlet new.clients.entries = if_turned _ c.in_ok-moved.ensures.rests both.1 in
           let full = full_on g.C.ClientPort.moves _ (state_model old) (state_model new) both.1 c.in_ok-moved.ensures.serves in
-          up_to (λ k. (place : ℕ) → IsPlace first count k place → IsAtRestAt gives takes new.clients.entries new.outlet place) c.loop-step.step
-          (λ k lt place is. still_on gives takes old.clients.entries new.clients.entries c.place.result place old.outlet new.outlet full still (c.loop-step.invariant.rests both.0 k lt place is))
-          (λ place is. subst (IsAtRestAt gives takes new.clients.entries new.outlet) (one_place first count c.loop-step.step c.place.result place here is) still.here);
+          up_to (λ k. (place : ℕ) → IsPlace first count k place → IsAtRestAt gives takes new.clients.entries new.uplink.outlet place) c.loop-step.step
+          (λ k lt place is. still_on gives takes old.clients.entries new.clients.entries c.place.result place old.uplink.outlet new.uplink.outlet full still (c.loop-step.invariant.rests both.0 k lt place is))
+          (λ place is. subst (IsAtRestAt gives takes new.clients.entries new.uplink.outlet) (one_place first count c.loop-step.step c.place.result place here is) still.here);
     }
 
 pub returns-clause-serves : goal.returns-clause-serves

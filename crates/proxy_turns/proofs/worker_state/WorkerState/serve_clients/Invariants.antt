@@ -11,5 +11,5 @@ invariant-loop-step g l = record {
   due : l.self.due ≡ l.initial.self.due;
   len : l.moved ≡ false → length l.self.clients.entries ≡ l.count;
   rests : l.moved ≡ false → (k : ℕ) → k < l.step → (place : ℕ) → IsPlace l.round.first l.count k place
-      → IsAtRestAt g.C.ClientPort.gives_none g.C.ClientPort.takes_none l.self.clients.entries l.self.outlet place;
+      → IsAtRestAt g.C.ClientPort.gives_none g.C.ClientPort.takes_none l.self.clients.entries l.self.uplink.outlet place;
 }

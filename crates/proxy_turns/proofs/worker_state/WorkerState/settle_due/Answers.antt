@@ -24,7 +24,7 @@ returns-clause-settles g c = all_then g.C.ClientPort.moves settles (state_model 
 
 pub returns-clause-rest : goal.returns-clause-rest
 returns-clause-rest g c =
-    settled_rest (clients_in c.post_due.new.self.clients.entries) c.post_due.new.self.outlet c.post_due.new.self.due (ap (λ d. d.items) c.in_ok-posted.ensures.ended ∙ c.in_ok-ended.ensures.none) c.in_ok-posted.ensures.none c.post_due.new.self.due_known
+    settled_rest (clients_in c.post_due.new.self.clients.entries) c.post_due.new.self.uplink.outlet c.post_due.new.self.due (ap (λ d. d.items) c.in_ok-posted.ensures.ended ∙ c.in_ok-ended.ensures.none) c.in_ok-posted.ensures.none c.post_due.new.self.due_known
 
 pub returns-in_err-end_pauses-clause-settles : goal.returns-in_err-end_pauses-clause-settles
 returns-in_err-end_pauses-clause-settles g c =

@@ -1,6 +1,6 @@
 use Rattle.std.proofs.Common.{arith, sym, ap, ◌∙◌}
 use Rattle.std.proofs.lemmas.Grind.{common_steps}
-use Rattle.session_order.specs.Front.{done_at_front}
+use Rattle.session_order.specs.DoneParts.{done_at_front}
 use Rattle.session_order.proofs.Fronting.{front_push}
 use Rattle.session_order.proofs.queue.Queue.add.Goals as goal
 

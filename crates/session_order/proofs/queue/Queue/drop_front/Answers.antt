@@ -1,7 +1,7 @@
 use Rattle.std.proofs.Common.{arith, ap, refl, ◌∙◌, ◌+◌, ◌≡◌, drop, length, length-drop, nat_eq}
 use Rattle.std.specs.HashMap.{get}
 use Rattle.std.specs.BinaryHeap.{heap_items}
-use Rattle.session_order.specs.Front.{done_at_front}
+use Rattle.session_order.specs.DoneParts.{done_at_front}
 use Rattle.session_order.specs.Tables.{tally}
 use Rattle.session_order.proofs.Fronting.{front_least, front_drop}
 use Rattle.session_order.proofs.Tabling.{dropped}

@@ -3,7 +3,7 @@ use Rattle.std.specs.Prelude.{is_ok}
 use Rattle.std.specs.VecDeque.{deque_capacity, deque_len}
 use Rattle.turn_play.specs.Waiting.{item_of, replies_to}
 use Rattle.turn_play.specs.declared.fault.PlayFault.TheVariants.{NoMemory}
-use Rattle.turn_play.proofs.Front.{answered, appended, failed, no-memory}
+use Rattle.turn_play.proofs.ServingFirst.{answered, appended, failed, no-memory}
 use Rattle.turn_play.proofs.Said.{said-length}
 use Rattle.turn_play.proofs.port.PlayPort.serve.Goals as goal
 

@@ -1,7 +1,7 @@
 use Rattle.std.proofs.Common.{◌≡◌, ◌+◌, ◌-◌, ◌∙◌, ap, arith, drop, length, length-drop, rules, take, take_all}
 use Rattle.std.proofs.Math.Seq.{paste}
 use Rattle.std.proofs.lemmas.List.Edits.{take-paste}
-use Rattle.node_link.proofs.byte_queue.drop_front.Goals as goal
+use Rattle.node_link.proofs.buffer.drop_front.Goals as goal
 
 pub returns : goal.returns
 returns c =
