@@ -5,3 +5,4 @@ pub mod History
 pub mod Opened
 pub mod Published
 pub mod Publishing
+pub mod Beside
