@@ -1,6 +1,7 @@
 -- What can be said of lanes where both ends of each are at hand: what was taken and what is left are all that was posted.
 -- A look posts and takes nothing. It changes only what each end knows of the other: more items that wait, more places that are free.
-use Rattle.std.specs.Prelude.{◌≡◌, ◌<◌, ℕ, List, ◌++◌, Option, Some, None, IsSomeAnd, IfSome, length, slice_get}
+use Rattle.std.specs.Prelude.{◌≡◌, ◌<◌, ℕ, List, ◌++◌, Option, Some, None, IfSome}
+use Rattle.std.specs.Option.{ForSome}
 use mathlib.Core.List.{IsPrefix}
 use Rattle.rtrb.specs.Ring.{ConsumerLooked, ProducerLooked}
 use Rattle.key_split.specs.Runs.{RunModel}
@@ -33,9 +34,9 @@ DownLooks None inlet new inlet' left = (new ≡ None) × (inlet' ≡ inlet) × (
 DownLooks (Some old) inlet new inlet' left = (next : Outlet (Ticket × Told)) × (new ≡ Some next) × LooksBeside old inlet next inlet' left
 
 module _ {H : Type 0} where
-  -- a worker's ends and the carrier's of its three lanes, of which the one down is open
+  -- a worker's ends and the carrier's of its three lanes: the two ends of each, of the one down while it is open
   abbrev pub AreBeside : Outlet RunModel → Inlet (Ticket × Told) → Inlet H → LaneEnds H → Type 0
-  AreBeside outlet inlet newcomers lane = IsLane outlet lane.up × IsSomeAnd lane.down (λ down. IsLane down inlet) × IsLane lane.door newcomers
+  AreBeside outlet inlet newcomers lane = IsLane outlet lane.up × ForSome lane.down (λ down. IsLane down inlet) × IsLane lane.door newcomers
 
   -- they look at each other
   abbrev pub LanesLook : Outlet RunModel → Inlet (Ticket × Told) → Inlet H → LaneEnds H → LeftInLanes → Outlet RunModel → Inlet (Ticket × Told) → Inlet H → LaneEnds H → Type 0

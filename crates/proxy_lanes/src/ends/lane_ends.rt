@@ -1,6 +1,6 @@
 //! The carrier's ends of one worker's lanes.
 
-ghost use Rattle.std.specs.Prelude.{IsSomeAnd};
+ghost use Rattle.std.specs.Option.{ForSome};
 ghost use Rattle.proxy_lanes.specs.Beside.{DownLooks};
 ghost use Rattle.proxy_lanes.specs.Lane.{IsLane};
 
@@ -117,7 +117,7 @@ fn look_down(
     down: &mut Option<Outlet<(Ticket, Told)>>,
     inlet: &mut Inlet<(Ticket, Told)>,
 ) -> usize
-    requires { IsSomeAnd down.old (λ outlet. IsLane outlet inlet.old) }
+    requires { ForSome down.old (λ outlet. IsLane outlet inlet.old) }
     ensures { DownLooks down.old inlet.old down.new inlet.new result }
 {
     match down {
