@@ -1,6 +1,6 @@
 -- What can be said of lanes where both ends of each are at hand: what was taken and what is left are all that was posted.
 -- A look posts and takes nothing. It changes only what each end knows of the other: more items that wait, more places that are free.
-use Rattle.std.specs.Prelude.{◌≡◌, ◌<◌, ℕ, List, ◌++◌, Option, Some, None, IfSome}
+use Rattle.std.specs.Prelude.{◌≡◌, ◌<◌, ℕ, ◌++◌, Option, Some, None, IfSome, length}
 use Rattle.std.specs.Option.{ForSome}
 use mathlib.Core.List.{IsPrefix}
 use Rattle.rtrb.specs.Ring.{ConsumerLooked, ProducerLooked}

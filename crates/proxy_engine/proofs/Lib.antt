@@ -1,0 +1,5 @@
+pub mod Ends
+pub mod Working
+pub mod Carrying
+pub mod Together
+pub mod Looking
