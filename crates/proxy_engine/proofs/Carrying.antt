@@ -64,7 +64,7 @@ module _ {H : Type 0} where
   lanes-after (x ∷ xs) (y ∷ ys) [] p q = absurd q
   lanes-after (x ∷ xs) (y ∷ ys) (z ∷ zs) p q = (lane-after x y z p.0 q.0, lanes-after xs ys zs p.1 q.1)
 
-  one-changes : (lanes : List (LaneEnds H)) (k : ℕ) (x y : LaneEnds H) → slice_get lanes k ≡ Some x → SameLane x y → SameLanes lanes (slice_set lanes k y)
+  pub one-changes : (lanes : List (LaneEnds H)) (k : ℕ) (x y : LaneEnds H) → slice_get lanes k ≡ Some x → SameLane x y → SameLanes lanes (slice_set lanes k y)
   one-changes [] k x y e s = absurd (cc)
   one-changes (z ∷ lanes) zero x y e s = let same : x ≡ z = cc in (subst (λ l. SameLane l y) same s, lanes-themselves lanes)
   one-changes (z ∷ lanes) (suc k) x y e s = (lane-itself z, one-changes lanes k x y e s)

@@ -3,3 +3,4 @@ pub mod Working
 pub mod Carrying
 pub mod Together
 pub mod Looking
+pub mod Turning

@@ -49,12 +49,6 @@ module _ {C J P : Type 0} where
     pub door : AtLanes engine (λ lane. IsInStep lane.door engine.worker.newcomers)
     pub view : IsPrefix engine.worker.view engine.carrier.published
 
-  -- whatever a turn answered, but that it is not so
-  abbrev pub InOrderAfter : Result Turned EngineFault → EngineModel C J P → Type 0
-  InOrderAfter (Ok turned) new = IsInOrder new
-  InOrderAfter (Err fault.NoMemory) new = IsInOrder new
-  InOrderAfter (Err fault.OutOfOrder) new = ⊤
-
   -- ---- a turn
 
   -- the ends of the lanes look at each other, which says whether something is left to do for one of them
@@ -68,42 +62,68 @@ module _ {C J P : Type 0} where
     pub down : AtLanes engine (λ lane. ForSome lane.down (λ outlet. IsDrained outlet engine.worker.inlet))
     pub door : AreToCome engine.worker.left → AtLanes engine (λ lane. IsDrained lane.door engine.worker.newcomers)
 
+  -- ---- the two parts of a turn, each with a look behind it
+
+  -- It says that something moved where one of its events did, or where something is left to do.
+  abbrev pub WorkerPart : Moves C → EngineModel C J P → Bool → EngineModel C J P → Type 0
+  WorkerPart moves old moved new = (mid : EngineModel C J P) × (went : Bool) × (left : Bool) × WorkerGoes moves old.worker went mid.worker
+      × (mid ≡ record old { worker = mid.worker }) × Looks mid left new × (moved ≡ went || left)
+
+  abbrev pub CarrierPart : (CarrierModel (Newcomer C J) P → Bool → CarrierModel (Newcomer C J) P → Type 0) → EngineModel C J P → Bool → EngineModel C J P → Type 0
+  CarrierPart goes old moved new = (mid : EngineModel C J P) × (went : Bool) × (left : Bool) × goes old.carrier went mid.carrier
+      × (mid ≡ record old { carrier = mid.carrier }) × Looks mid left new × (moved ≡ went || left)
+
+  -- a look after a turn that went so: all is in order, or the worker saw what was not published
+  abbrev pub LookAfter : EngineModel C J P → Result Bool NoMemory → Result Bool EngineFault → EngineModel C J P → Type 0
+  LookAfter old (Ok went) (Ok moved) new = (left : Bool) × Looks old left new × IsInOrder new × (moved ≡ went || left)
+  LookAfter old (Err refused) (Err fault.NoMemory) new = (left : Bool) × Looks old left new × IsInOrder new
+  LookAfter old went (Err fault.OutOfOrder) new = (left : Bool) × Looks old left new
+  LookAfter old went result new = ⊥
+
+  -- A part was done and all is in order; or memory ran out, and what was done before stands. It would not be in order only where the worker
+  -- saw what was not published.
+  abbrev pub PartEnds : (EngineModel C J P → Bool → EngineModel C J P → Type 0) → EngineModel C J P → Result Bool EngineFault → EngineModel C J P → Type 0
+  PartEnds Part old (Ok moved) new = Part old moved new × IsInOrder new
+  PartEnds Part old (Err fault.NoMemory) new = (moved : Bool) × Part old moved new × IsInOrder new
+  PartEnds Part old (Err fault.OutOfOrder) new = (moved : Bool) × Part old moved new
+
   module _ (moves : Moves C) (carrier_goes : CarrierModel (Newcomer C J) P → Bool → CarrierModel (Newcomer C J) P → Type 0) where
-    -- events of the worker, then events of the carrier, and whether one of them moved something
-    abbrev pub EngineGoes : EngineModel C J P → Bool → EngineModel C J P → Type 0
-    EngineGoes old moved new = (worked : Bool) × (carried : Bool) × WorkerGoes moves old.worker worked new.worker × carrier_goes old.carrier carried new.carrier
-        × (moved ≡ worked || carried)
-
-    -- both turns, or where memory ran out what was done before
-    abbrev pub EngineWorks : EngineModel C J P → Result Bool NoMemory → EngineModel C J P → Type 0
-    EngineWorks old (Ok moved) new = EngineGoes old moved new
-    EngineWorks old (Err refused) new = (moved : Bool) × EngineGoes old moved new
-
-    -- The same, and then a look. It says that something moved where something did, or is left to do.
+    -- the worker's part and then the carrier's, or what was done before a fault of one of them
     abbrev pub EngineTurns : EngineModel C J P → Result Turned EngineFault → EngineModel C J P → Type 0
-    EngineTurns old (Ok turned) new = (mid : EngineModel C J P) × (moved : Bool) × (left : Bool) × EngineGoes old moved mid × Looks mid left new × (turned.moved ≡ moved || left)
-    EngineTurns old (Err why) new = (mid : EngineModel C J P) × (moved : Bool) × (left : Bool) × EngineGoes old moved mid × Looks mid left new
+    EngineTurns old (Ok turned) new = (mid : EngineModel C J P) × (worked : Bool) × (carried : Bool)
+        × PartEnds (WorkerPart moves) old (Ok worked) mid × PartEnds (CarrierPart carrier_goes) mid (Ok carried) new × (turned.moved ≡ worked || carried)
+    EngineTurns old (Err why) new =
+        PartEnds (WorkerPart moves) old (Err why) new
+        ⊎ ((mid : EngineModel C J P) × (worked : Bool) × PartEnds (WorkerPart moves) old (Ok worked) mid × PartEnds (CarrierPart carrier_goes) mid (Err why) new)
 
   -- ---- rest
 
-  module _ (gives_none takes_none : C → Type 0) (gave_none : LinkModel P → Type 0) where
-    -- both turns moved nothing
-    abbrev pub AreAtRest : EngineModel C J P → Type 0
-    AreAtRest engine = IsWorkerAtRest gives_none takes_none engine.worker × IsAtRest gave_none engine.carrier
+  -- The worker's turn moved nothing and left it at rest, with a place free in the lanes, and a look found nothing in them.
+  abbrev pub WorkerRests : (C → Type 0) → (C → Type 0) → EngineModel C J P → Type 0
+  WorkerRests gives_none takes_none new = (mid : EngineModel C J P) × IsWorkerAtRest gives_none takes_none mid.worker × HavePlacesAt mid.worker mid.carrier.lanes × Looks mid false new
 
-    -- Nothing is left to do but to wait for clients, nodes and pauses: both were at rest, with a place free in the lanes, before a look that
-    -- found nothing in them.
-    pub record IsEngineAtRest (engine : EngineModel C J P) : Type 0 where
-      pub before : EngineModel C J P
-      pub rested : AreAtRest before
-      pub places : HavePlacesAt before.worker before.carrier.lanes
-      pub looked : Looks before false engine
-      pub drained : IsDrainedOf engine
+  -- the same of the carrier
+  abbrev pub CarrierRests : (LinkModel P → Type 0) → EngineModel C J P → Type 0
+  CarrierRests gave_none new = (mid : EngineModel C J P) × IsAtRest gave_none mid.carrier × HavePlacesAt mid.worker mid.carrier.lanes × Looks mid false new
 
-    -- what a turn leaves that moved nothing
-    abbrev pub EngineRests : Result Turned EngineFault → EngineModel C J P → Type 0
-    EngineRests (Ok turned) new = turned.moved ≡ false → IsEngineAtRest new
-    EngineRests (Err why) new = ⊤
+  -- this holds of what a part leaves that moved nothing
+  abbrev pub PartRests : (EngineModel C J P → Type 0) → Result Bool EngineFault → EngineModel C J P → Type 0
+  PartRests Rests (Ok moved) new = moved ≡ false → Rests new
+  PartRests Rests (Err why) new = ⊤
+
+  -- Nothing is left to do but to wait for clients, nodes and pauses: the worker was at rest, then the carrier was, and nothing is in the
+  -- lanes.
+  pub record IsEngineAtRest (gives_none takes_none : C → Type 0) (gave_none : LinkModel P → Type 0) (engine : EngineModel C J P) : Type 0 where
+    pub before : EngineModel C J P
+    pub same : before.worker.clients ≡ engine.worker.clients
+    pub worker : WorkerRests gives_none takes_none before
+    pub carrier : CarrierRests gave_none engine
+    pub drained : IsDrainedOf engine
+
+  -- what a turn leaves that moved nothing
+  abbrev pub EngineRests : (C → Type 0) → (C → Type 0) → (LinkModel P → Type 0) → Result Turned EngineFault → EngineModel C J P → Type 0
+  EngineRests gives_none takes_none gave_none (Ok turned) new = turned.moved ≡ false → IsEngineAtRest gives_none takes_none gave_none new
+  EngineRests gives_none takes_none gave_none (Err why) new = ⊤
 
   -- ---- a start, and new clients
 

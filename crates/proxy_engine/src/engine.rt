@@ -45,13 +45,12 @@ where
     ghost use Rattle.proxy_lanes.specs.Opened.{book_of};
     ghost use Rattle.proxy_turns.specs.Backend.{GaveNone};
     ghost use Rattle.proxy_turns.specs.CarrierModel.{CarrierGoes};
-    ghost use Rattle.proxy_turns.specs.ClientRest.{IfStill};
     ghost use Rattle.proxy_turns.specs.Swapping.{SwapOutcome};
     ghost use Rattle.proxy_turns.specs.Waiting.{AreAllLater, IsFirstDue};
     ghost use Rattle.proxy_turns.specs.Worker.{HandsBack};
     ghost use Rattle.proxy_turns.specs.WorkerModel.{AreAllServed};
     ghost use Rattle.proxy_engine.specs.Engine.{dial_in, engine_model, waiting_in};
-    ghost use Rattle.proxy_engine.specs.EngineModel.{AreAtRest, EngineRests, EngineTurns, EngineWorks, HandsClient, InOrderAfter, IsInOrder, IsNewEngine, Looks};
+    ghost use Rattle.proxy_engine.specs.EngineModel.{CarrierPart, CarrierRests, EngineRests, EngineTurns, HandsClient, IsDrainedOf, IsInOrder, IsNewEngine, LookAfter, Looks, PartEnds, PartRests, WorkerPart, WorkerRests};
 
     /// A worker that is to take `clients` clients, or clients without end, and a carrier with these seeds, of which the first is
     /// dialled at its first turn. NoMemory also where a lane or a place of the slot map was not made for another cause.
@@ -87,22 +86,18 @@ where
     }
 
     /// The worker's turn and then the carrier's. Whatever it answers but OutOfOrder, what was done stands, and the lanes and the
-    /// slot map are in order between their two ends. One that moved nothing has left nothing to do.
+    /// slot map are in order between their two ends, behind each of the two. One that moved nothing has left nothing to do.
     pub fn turn(&mut self) -> Result<Turned, EngineFault>
         ensures turns { EngineTurns C.moves (CarrierGoes P.failures P.is_garbled P.exchange P.gives_none D.opens P.longest) (engine_model D.failures self.old) result (engine_model D.failures self.new) }
         ensures rests { EngineRests C.gives_none C.takes_none (GaveNone P.failures P.is_garbled P.exchange P.gives_none) result (engine_model D.failures self.new) }
-        ensures in_order { InOrderAfter result (engine_model D.failures self.new) }
         ensures served { IfOk result (λ turned. IsTrue turned.served ↔ AreAllServed (engine_model D.failures self.new).worker) }
         ensures due { IfOk result (λ turned. IsFirstDue (waiting_in self.new) turned.next_due) }
+        ensures later { IfOk result (λ turned. turned.moved ≡ false → AreAllLater (G.tells self.old.worker.gate.now) (waiting_in self.new)) }
     {
-        let worked = self.work();
-        let left = self.look();
-        if !self.sees_front() {
-            return Err(EngineFault::OutOfOrder);
-        }
-        let moved = worked?;
+        let worked = self.turn_worker()?;
+        let carried = self.turn_carrier()?;
         Ok(Turned {
-            moved: moved | left,
+            moved: worked | carried,
             next_due: self.worker.next_due(),
             served: self.worker.is_served(),
         })
@@ -132,19 +127,41 @@ where
         self.worker.end(outcome)
     }
 
-    // Both turns, one behind the other.
-    fn work(&mut self) -> Result<bool, NoMemory>
-        ensures works { EngineWorks C.moves (CarrierGoes P.failures P.is_garbled P.exchange P.gives_none D.opens P.longest) (engine_model D.failures self.old) result (engine_model D.failures self.new) }
-        ensures rests { IfStill result (AreAtRest C.gives_none C.takes_none (GaveNone P.failures P.is_garbled P.exchange P.gives_none) (engine_model D.failures self.new)) }
+    fn turn_worker(&mut self) -> Result<bool, EngineFault>
+        ensures ends { PartEnds (WorkerPart C.moves) (engine_model D.failures self.old) result (engine_model D.failures self.new) }
+        ensures rests { PartRests (WorkerRests C.gives_none C.takes_none) result (engine_model D.failures self.new) }
+        ensures later { IfOk result (λ moved. moved ≡ false → AreAllLater (G.tells self.old.worker.gate.now) (waiting_in self.new)) }
     {
-        let worked = self.worker.turn()?;
-        let carried = self.carrier.turn()?;
-        Ok(worked | carried)
+        let worked = self.worker.turn();
+        self.look_after(worked)
+    }
+
+    fn turn_carrier(&mut self) -> Result<bool, EngineFault>
+        ensures ends { PartEnds (CarrierPart (CarrierGoes P.failures P.is_garbled P.exchange P.gives_none D.opens P.longest)) (engine_model D.failures self.old) result (engine_model D.failures self.new) }
+        ensures rests { PartRests (λ left. CarrierRests (GaveNone P.failures P.is_garbled P.exchange P.gives_none) left × IsDrainedOf left) result (engine_model D.failures self.new) }
+        ensures waiting { waiting_in self.new ≡ waiting_in self.old }
+    {
+        let carried = self.carrier.turn();
+        self.look_after(carried)
+    }
+
+    // A look after one of the two had its turn. Whether it moved something, or something is left to do.
+    fn look_after(&mut self, went: Result<bool, NoMemory>) -> Result<bool, EngineFault>
+        ensures looks { LookAfter (engine_model D.failures self.old) went result (engine_model D.failures self.new) }
+        ensures waiting { waiting_in self.new ≡ waiting_in self.old }
+    {
+        let left = self.look();
+        if !self.sees_front() {
+            return Err(EngineFault::OutOfOrder);
+        }
+        let moved = went?;
+        Ok(moved | left)
     }
 
     // The ends of the lanes look at each other. Whether something is left to do for one of them.
     fn look(&mut self) -> bool
-        ensures { Looks (engine_model D.failures self.old) result (engine_model D.failures self.new) }
+        ensures looks { Looks (engine_model D.failures self.old) result (engine_model D.failures self.new) }
+        ensures waiting { waiting_in self.new ≡ waiting_in self.old }
     {
         self.worker.look_beside(self.carrier.ends())
     }
@@ -152,6 +169,7 @@ where
     // Whether what the worker sees of the slot map is a front of what was published.
     fn sees_front(&mut self) -> bool
         ensures same { engine_model D.failures self.new ≡ engine_model D.failures self.old }
+        ensures waiting { waiting_in self.new ≡ waiting_in self.old }
         ensures front { IsTrue result → IsPrefix (engine_model D.failures self.new).worker.view (engine_model D.failures self.new).carrier.published }
     {
         match self.carrier.ends().map.tell() {
