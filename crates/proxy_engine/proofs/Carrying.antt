@@ -1,7 +1,8 @@
--- The carrier's events keep its ends of the lanes.
+-- The carrier's events keep its ends of the lanes, and what it published only grows.
 use Rattle.std.proofs.Common.{◌≡◌, ◌⊎◌, ⊎_elim, ℕ, zero, suc, List, [], ◌∷◌, Bool, true, false, Option, Some, None, Result, Ok, Err, refl, sym, ap, ◌∙◌, subst, length}
 use Rattle.std.specs.Prelude.{slice_get, slice_set}
 use Rattle.std.specs.List.{FoldsTo}
+use mathlib.Core.List.{IsPrefix}
 use Rattle.resp_wire.specs.declared.fault.NoMemory.{NoMemory}
 use Rattle.resp_wire.specs.declared.value.Value.{Value}
 use Rattle.key_split.specs.Runs.{RunModel}
@@ -15,9 +16,12 @@ use Rattle.proxy_lanes.specs.Ends.{ChangesAt, Gives, GivesDown, TakesUp}
 use Rattle.proxy_turns.specs.declared.pending_run.PendingRun.{PendingRun}
 use Rattle.proxy_turns.specs.declared.backend.Backend.{Backend}
 use Rattle.proxy_turns.specs.declared.backend.PendingTold.{PendingTold}
+use Rattle.proxy_turns.specs.declared.backend_step.BackendStep.{BackendStep}
+use Rattle.proxy_turns.specs.declared.backend_step.BackendStep.TheVariants.{Idle, Waited, Broke, Fetched, Answered, GaveUp, Closed, Published, Asked, Spared, Read, Unread, Renewed}
+use Rattle.proxy_turns.specs.Backend.{BackendContext, BackendDoes, Starves}
 use Rattle.proxy_turns.specs.PendingRun.{ComesBack, Delivers, GiveOutcome, TakeOutcome, TellOutcome, WaitsToGive, WaitsToTell}
 use Rattle.proxy_turns.specs.CarrierModel.{CarrierModel, CarrierDoes, CarrierEvent, CarrierGoes, CarrierTurns, AtBackend, Starved, WorkerAdded, BackendAdded, Looked, Took, Opened, Refused, Missed, SeedReached, Sought, Reached, NotFound, Sent, Gave, GaveUnsent}
-use Rattle.proxy_engine.proofs.Ends.{SameOutlet, SameInlet, outlet-itself, inlet-itself, outlet-after, inlet-after, posts-there, takes-there}
+use Rattle.proxy_engine.proofs.Ends.{SameOutlet, SameInlet, outlet-itself, inlet-itself, outlet-after, inlet-after, posts-there, takes-there, front-itself, front-after, same-front}
 
 abbrev Pair : Type 0
 Pair = Ticket × Told
@@ -124,7 +128,7 @@ module _ {H P : Type 0} (failures : P → ℕ) (is_garbled : P → Type 0) (exch
   elsewhere : (old new mid : Model) → new ≡ mid → mid.lanes ≡ old.lanes → SameLanes old.lanes new.lanes
   elsewhere old new mid e same = unchanged old.lanes new.lanes (ap (λ (c : Model). c.lanes) e ∙ same)
 
-  carrier-event : (event : CarrierEvent) (old new : Model) → Does old event new → SameLanes old.lanes new.lanes
+  pub carrier-event : (event : CarrierEvent) (old new : Model) → Does old event new → SameLanes old.lanes new.lanes
   carrier-event (AtBackend step) old new d = elsewhere old new _ d.5 refl
   carrier-event Starved old new d = ⊎_elim (λ c. elsewhere old new _ c.5 refl) (λ c. elsewhere old new _ c.7 refl) d
   carrier-event WorkerAdded old new d = elsewhere old new _ d refl
@@ -143,7 +147,7 @@ module _ {H P : Type 0} (failures : P → ℕ) (is_garbled : P → Type 0) (exch
   carrier-event Gave old new d = give-keeps true d.1 d.2 old.lanes new.lanes d.4
   carrier-event GaveUnsent old new d = tell-keeps true d.1 d.2 old.lanes new.lanes d.4
 
-  carrier-events : (events : List CarrierEvent) (old new : Model) → FoldsTo Does old events new → SameLanes old.lanes new.lanes
+  pub carrier-events : (events : List CarrierEvent) (old new : Model) → FoldsTo Does old events new → SameLanes old.lanes new.lanes
   carrier-events [] old new f = unchanged old.lanes new.lanes (ap (λ (c : Model). c.lanes) (sym f))
   carrier-events (event ∷ events) old new f = lanes-after old.lanes f.0.lanes new.lanes (carrier-event event old f.0 f.1) (carrier-events events f.0 new f.2)
 
@@ -153,3 +157,55 @@ module _ {H P : Type 0} (failures : P → ℕ) (is_garbled : P → Type 0) (exch
   pub carrier-turns : (old new : Model) (result : Result Bool NoMemory) → CarrierTurns failures is_garbled exchange gives_none opens longest old result new → SameLanes old.lanes new.lanes
   carrier-turns old new (Ok moved) t = carrier-goes old new moved t
   carrier-turns old new (Err refused) t = carrier-goes old new t.0 t.1
+
+  -- ---- what was published
+
+  abbrev More : BackendContext P → BackendContext P → Type 0
+  More old new = IsPrefix old.published new.published
+
+  seen-alike : (old new mid : BackendContext P) → new ≡ mid → mid.published ≡ old.published → More old new
+  seen-alike old new mid e same = same-front old.published new.published (ap (λ (c : BackendContext P). c.published) e ∙ same)
+
+  step-more : (unanswered : Bool) (step : BackendStep) (old new : BackendContext P) → BackendDoes failures is_garbled exchange gives_none unanswered old step new → More old new
+  step-more unanswered Idle old new d = seen-alike old new _ d refl
+  step-more unanswered Waited old new d = seen-alike old new _ d.4 refl
+  step-more unanswered Broke old new d = seen-alike old new _ d.5 refl
+  step-more unanswered Fetched old new d = seen-alike old new _ d.6 refl
+  step-more unanswered Answered old new d = seen-alike old new _ d.5 refl
+  step-more unanswered GaveUp old new d = seen-alike old new _ d.8 refl
+  step-more unanswered Closed old new d = seen-alike old new _ d.5 refl
+  step-more unanswered Published old new d = ⊎_elim (λ e. (d.1 ∷ [], sym e)) (λ e. same-front old.published new.published e.1) d.5
+  step-more unanswered Asked old new d = seen-alike old new _ d.6 refl
+  step-more unanswered Spared old new d = seen-alike old new _ d.2 refl
+  step-more unanswered Read old new d = seen-alike old new _ d.7 refl
+  step-more unanswered Unread old new d = seen-alike old new _ d.3 refl
+  step-more unanswered Renewed old new d = (d.0, sym (ap (λ (c : BackendContext P). c.published) d.2))
+
+  starved-more : (old new : BackendContext P) → Starves failures is_garbled exchange old new → More old new
+  starved-more old new s = ⊎_elim (λ e. seen-alike old new _ e refl) (λ c. seen-alike old new _ c.4 refl) s
+
+  -- nothing is published
+  untold : (old new mid : Model) → new ≡ mid → mid.published ≡ old.published → IsPrefix old.published new.published
+  untold old new mid e same = same-front old.published new.published (ap (λ (c : Model). c.published) e ∙ same)
+
+  pub published-event : (event : CarrierEvent) (old new : Model) → Does old event new → IsPrefix old.published new.published
+  published-event (AtBackend step) old new d = step-more _ step _ _ d.4
+  published-event Starved old new d = ⊎_elim (λ c. starved-more _ _ c.4) (λ c. untold old new _ c.7 refl) d
+  published-event WorkerAdded old new d = untold old new _ d refl
+  published-event BackendAdded old new d = untold old new _ d refl
+  published-event Looked old new d = untold old new _ d.0 refl
+  published-event Took old new d = untold old new _ d.5 refl
+  published-event Opened old new d = untold old new _ d.8 refl
+  published-event Refused old new d = untold old new _ d.9 refl
+  published-event Missed old new d = untold old new _ d.2 refl
+  published-event SeedReached old new d = untold old new _ d.3 refl
+  published-event Sought old new d = untold old new _ d.5 refl
+  published-event Reached old new d = untold old new _ d.9 refl
+  published-event NotFound old new d = untold old new _ d.2 refl
+  published-event Sent old new d = untold old new _ d.9 refl
+  published-event Gave old new d = untold old new _ d.5 refl
+  published-event GaveUnsent old new d = untold old new _ d.5 refl
+
+  pub published-events : (events : List CarrierEvent) (old new : Model) → FoldsTo Does old events new → IsPrefix old.published new.published
+  published-events [] old new f = same-front old.published new.published (ap (λ (c : Model). c.published) (sym f))
+  published-events (event ∷ events) old new f = front-after old.published f.0.published new.published (published-event event old f.0 f.1) (published-events events f.0 new f.2)

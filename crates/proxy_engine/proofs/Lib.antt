@@ -4,3 +4,4 @@ pub mod Carrying
 pub mod Together
 pub mod Looking
 pub mod Turning
+pub mod Growing

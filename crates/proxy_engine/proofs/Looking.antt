@@ -3,6 +3,7 @@ use Rattle.std.proofs.Common.{◌≡◌, ℕ, zero, suc, ◌<◌, ◌||◌, List
 use Rattle.std.specs.Prelude.{slice_get, slice_set}
 use Rattle.std.proofs.lemmas.List.{append-nil}
 use mathlib.Core.List.{IsPrefix}
+use Rattle.rtrb.specs.Ring.{ConsumerLooked, ProducerLooked}
 use Rattle.key_split.specs.Runs.{RunModel}
 use Rattle.key_split.specs.declared.travel.Ticket.{Ticket}
 use Rattle.key_split.specs.declared.travel.Told.{Told}
@@ -18,7 +19,7 @@ use Rattle.proxy_turns.specs.Arrivals.{AreToCome}
 use Rattle.proxy_turns.specs.Beside.{IsLeft, LookOutcome, LooksAt}
 use Rattle.proxy_turns.specs.WorkerModel.{WorkerModel}
 use Rattle.proxy_engine.specs.EngineModel.{EngineModel, IsDrainedOf, IsInOrder, Looks}
-use Rattle.proxy_engine.proofs.Ends.{SameOutlet, SameInlet, inlet-itself}
+use Rattle.proxy_engine.proofs.Ends.{SameOutlet, SameInlet, inlet-itself, same-front}
 use Rattle.proxy_engine.proofs.Working.{KeepsEnds}
 use Rattle.proxy_engine.proofs.Carrying.{KeepsDown, SameLane, SameLanes, changes}
 
@@ -33,6 +34,12 @@ one-outlet down next outlet p q = let both : Some next ≡ Some outlet = sym p �
 module _ {T : Type 0} where
   in-step : (outlet outlet' : Outlet T) (inlet inlet' : Inlet T) (left : ℕ) → LooksBeside outlet inlet outlet' inlet' left → IsInStep outlet' inlet'
   in-step outlet outlet' inlet inlet' left l = (held inlet', l.2)
+
+  pub outlet-looked : (old new : Outlet T) → ProducerLooked old.producer new.producer → SameOutlet old new
+  outlet-looked old new l = (l.0, same-front (posted old) (posted new) l.1)
+
+  pub inlet-looked : (old new : Inlet T) → ConsumerLooked old.consumer new.consumer → SameInlet old new
+  inlet-looked old new l = (l.0, same-front (taken old) (taken new) l.1)
 
   none-of : {X : Type 0} (xs : List X) → length xs ≡ 0 → xs ≡ []
   none-of [] e = refl
@@ -52,7 +59,7 @@ down-drained (Some old) b inlet inlet' left d z outlet e = subst (λ o. IsDraine
 
 down-same : (a b : Option (Outlet Pair)) (inlet inlet' : Inlet Pair) (left : ℕ) → DownLooks a inlet b inlet' left → KeepsDown a b × SameInlet inlet inlet'
 down-same None b inlet inlet' left d = (d.0, subst (λ i. SameInlet inlet i) (sym d.1) (inlet-itself inlet))
-down-same (Some old) b inlet inlet' left d = ((d.0, d.1, d.2.0.0), d.2.1.0)
+down-same (Some old) b inlet inlet' left d = ((d.0, d.1, outlet-looked old d.0 d.2.0), inlet-looked inlet inlet' d.2.1)
 
 -- ---- the lanes of a worker
 
@@ -67,14 +74,14 @@ module _ {C J : Type 0} where
 
   lane-same : (outlet outlet' : Outlet RunModel) (inlet inlet' : Inlet Pair) (newcomers newcomers' : Inlet (Newcomer C J)) (lane lane' : LaneEnds (Newcomer C J)) (counts : LeftInLanes)
       → LanesLook outlet inlet newcomers lane counts outlet' inlet' newcomers' lane' → SameLane lane lane'
-  lane-same outlet outlet' inlet inlet' newcomers newcomers' lane lane' counts l = (l.0.1.0, (down-same lane.down lane'.down inlet inlet' counts.down l.1).0, l.2.0.0)
+  lane-same outlet outlet' inlet inlet' newcomers newcomers' lane lane' counts l = (inlet-looked lane.up lane'.up l.0.1, (down-same lane.down lane'.down inlet inlet' counts.down l.1).0, outlet-looked lane.door lane'.door l.2.0)
 
   pub looked-same : (old new : WorkerModel C J) (lanes lanes' : Lanes) (counts : LeftInLanes) → LooksAt old lanes counts new lanes' → KeepsEnds old new × SameLanes lanes lanes'
   looked-same old new lanes lanes' counts l =
       let x = l.0.0 in
       let y = l.0.1 in
       let looked : LanesLook old.outlet old.inlet old.newcomers x counts new.outlet new.inlet new.newcomers y = l.0.4 in (
-        (ap (λ (w : WorkerModel C J). w.worker) l.1, looked.0.0.0, (down-same x.down y.down old.inlet new.inlet counts.down looked.1).1, looked.2.1.0),
+        (ap (λ (w : WorkerModel C J). w.worker) l.1, outlet-looked old.outlet new.outlet looked.0.0, (down-same x.down y.down old.inlet new.inlet counts.down looked.1).1, inlet-looked old.newcomers new.newcomers looked.2.1, same-front old.view new.view (ap (λ (w : WorkerModel C J). w.view) l.1)),
         changes _ (λ lane lane' r. lane-same old.outlet new.outlet old.inlet new.inlet old.newcomers new.newcomers lane lane' counts r) lanes lanes' old.worker l.0,
       )
 

@@ -21,14 +21,21 @@ module _ {H : Type 0} where
   same-count (x ∷ xs) (y ∷ ys) s = ap suc (same-count xs ys s.1)
 
   -- a lane was the same lane before
-  came-from : (old new : List (LaneEnds H)) (k : ℕ) (lane' : LaneEnds H) → SameLanes old new → slice_get new k ≡ Some lane' → (lane : LaneEnds H) × (slice_get old k ≡ Some lane) × SameLane lane lane'
+  pub came-from : (old new : List (LaneEnds H)) (k : ℕ) (lane' : LaneEnds H) → SameLanes old new → slice_get new k ≡ Some lane' → (lane : LaneEnds H) × (slice_get old k ≡ Some lane) × SameLane lane lane'
   came-from [] [] k lane' s e = absurd (cc)
   came-from [] (y ∷ ys) k lane' s e = absurd s
   came-from (x ∷ xs) [] k lane' s e = absurd s
   came-from (x ∷ xs) (y ∷ ys) zero lane' s e = let same : y ≡ lane' = cc in (x, refl, subst (λ l. SameLane x l) same s.0)
   came-from (x ∷ xs) (y ∷ ys) (suc k) lane' s e = came-from xs ys k lane' s.1 e
 
-down-back : (a b : Option (Outlet (Ticket × Told))) → KeepsDown a b → (next : Outlet (Ticket × Told)) → b ≡ Some next → (old : Outlet (Ticket × Told)) × (a ≡ Some old) × SameOutlet old next
+  -- and it is the same lane later
+  pub goes-to : (old new : List (LaneEnds H)) (k : ℕ) (lane : LaneEnds H) → SameLanes old new → slice_get old k ≡ Some lane → (lane' : LaneEnds H) × (slice_get new k ≡ Some lane') × SameLane lane lane'
+  goes-to [] ys k lane s e = absurd (cc)
+  goes-to (x ∷ xs) [] k lane s e = absurd s
+  goes-to (x ∷ xs) (y ∷ ys) zero lane s e = let same : x ≡ lane = cc in (y, refl, subst (λ l. SameLane l y) same s.0)
+  goes-to (x ∷ xs) (y ∷ ys) (suc k) lane s e = goes-to xs ys k lane s.1 e
+
+pub down-back : (a b : Option (Outlet (Ticket × Told))) → KeepsDown a b → (next : Outlet (Ticket × Told)) → b ≡ Some next → (old : Outlet (Ticket × Told)) × (a ≡ Some old) × SameOutlet old next
 down-back None b k next e = let none : b ≡ None = k in absurd (cc)
 down-back (Some old) b k next e =
     let both : Some k.0 ≡ Some next = sym k.1 ∙ e in

@@ -1,3 +1,4 @@
 pub mod Together
 pub mod EngineModel
 pub mod Engine
+pub mod Along

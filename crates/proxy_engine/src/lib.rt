@@ -13,6 +13,7 @@
 #![tactic(auto)]
 
 mod engine;
+pub mod laws;
 mod turned;
 
 pub use engine::Engine;

@@ -1,0 +1,13 @@
+//! What follows of a turn's events. The law is the contract of a function that does nothing.
+
+ghost use Rattle.proxy_engine.specs.Along.{CarrierStaysInOrder, WorkerStaysInOrder};
+
+use node_link::{Dial, RunPort};
+use proxy_lanes::Naming;
+use proxy_turns::ClientPort;
+
+/// Where an engine is in order before and after some events of its worker, or of its carrier, it is in order after each of them.
+pub fn stays_in_order<C: ClientPort + Drop, J: Naming, P: RunPort + Drop, D: Dial<Port = P>>()
+    ensures worker { WorkerStaysInOrder C J P C.moves }
+    ensures carrier { CarrierStaysInOrder C J P.failures P.is_garbled P.exchange P.gives_none D.opens P.longest }
+{}
