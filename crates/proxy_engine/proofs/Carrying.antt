@@ -1,6 +1,5 @@
 -- The carrier's events keep its ends of the lanes, and what it published only grows.
 use Rattle.std.proofs.Common.{◌≡◌, ◌⊎◌, ⊎_elim, ℕ, zero, suc, List, [], ◌∷◌, Bool, true, false, Option, Some, None, Result, Ok, Err, refl, sym, ap, ◌∙◌, subst, length}
-use Rattle.std.specs.Prelude.{slice_get, slice_set}
 use Rattle.std.specs.List.{FoldsTo}
 use mathlib.Core.List.{IsPrefix}
 use Rattle.resp_wire.specs.declared.fault.NoMemory.{NoMemory}
@@ -21,6 +20,7 @@ use Rattle.proxy_turns.specs.declared.backend_step.BackendStep.TheVariants.{Idle
 use Rattle.proxy_turns.specs.Backend.{BackendContext, BackendDoes, Starves}
 use Rattle.proxy_turns.specs.PendingRun.{ComesBack, Delivers, GiveOutcome, TakeOutcome, TellOutcome, WaitsToGive, WaitsToTell}
 use Rattle.proxy_turns.specs.CarrierModel.{CarrierModel, CarrierDoes, CarrierEvent, CarrierGoes, CarrierTurns, AtBackend, Starved, WorkerAdded, BackendAdded, Looked, Took, Opened, Refused, Missed, SeedReached, Sought, Reached, NotFound, Sent, Gave, GaveUnsent}
+use Rattle.proxy_engine.proofs.Pairs.{Pairs, pairs-after, pairs-changed, pairs-itself}
 use Rattle.proxy_engine.proofs.Ends.{SameOutlet, SameInlet, outlet-itself, inlet-itself, outlet-after, inlet-after, posts-there, takes-there, front-itself, front-after, same-front}
 
 abbrev Pair : Type 0
@@ -30,7 +30,7 @@ abbrev pub KeepsDown : Option (Outlet Pair) → Option (Outlet Pair) → Type 0
 KeepsDown None new = new ≡ None
 KeepsDown (Some old) new = (next : Outlet Pair) × (new ≡ Some next) × SameOutlet old next
 
-down-itself : (down : Option (Outlet Pair)) → KeepsDown down down
+pub down-itself : (down : Option (Outlet Pair)) → KeepsDown down down
 down-itself None = refl
 down-itself (Some outlet) = (outlet, refl, outlet-itself outlet)
 
@@ -39,6 +39,10 @@ down-after None b c p q = subst (λ o. KeepsDown o c) p q
 down-after (Some old) b c p q =
     let later : KeepsDown (Some p.0) c = subst (λ o. KeepsDown o c) p.1 q in
     (later.0, later.1, outlet-after old p.0 later.0 p.2 later.2)
+
+down-given : (a b : Option (Outlet Pair)) (pair : Pair) (given : Result (Unit {0}) Pair) → Gives a b pair given → KeepsDown a b
+down-given None b pair given g = g.0
+down-given (Some old) b pair given g = (g.0, g.1, posts-there old g.0 pair given g.2)
 
 module _ {H : Type 0} where
   abbrev pub SameLane : LaneEnds H → LaneEnds H → Type 0
@@ -51,30 +55,16 @@ module _ {H : Type 0} where
   lane-after a b c p q = (inlet-after a.up b.up c.up p.0 q.0, down-after a.down b.down c.down p.1 q.1, outlet-after a.door b.door c.door p.2 q.2)
 
   abbrev pub SameLanes : List (LaneEnds H) → List (LaneEnds H) → Type 0
-  SameLanes [] [] = Unit {0}
-  SameLanes [] (y ∷ ys) = ⊥
-  SameLanes (x ∷ xs) [] = ⊥
-  SameLanes (x ∷ xs) (y ∷ ys) = SameLane x y × SameLanes xs ys
+  SameLanes old new = Pairs SameLane old new
 
   pub lanes-themselves : (lanes : List (LaneEnds H)) → SameLanes lanes lanes
-  lanes-themselves [] = tt
-  lanes-themselves (lane ∷ lanes) = (lane-itself lane, lanes-themselves lanes)
+  lanes-themselves lanes = pairs-itself SameLane lane-itself lanes
 
   pub lanes-after : (a b c : List (LaneEnds H)) → SameLanes a b → SameLanes b c → SameLanes a c
-  lanes-after [] [] [] p q = tt
-  lanes-after [] [] (z ∷ zs) p q = absurd q
-  lanes-after [] (y ∷ ys) c p q = absurd p
-  lanes-after (x ∷ xs) [] c p q = absurd p
-  lanes-after (x ∷ xs) (y ∷ ys) [] p q = absurd q
-  lanes-after (x ∷ xs) (y ∷ ys) (z ∷ zs) p q = (lane-after x y z p.0 q.0, lanes-after xs ys zs p.1 q.1)
-
-  pub one-changes : (lanes : List (LaneEnds H)) (k : ℕ) (x y : LaneEnds H) → slice_get lanes k ≡ Some x → SameLane x y → SameLanes lanes (slice_set lanes k y)
-  one-changes [] k x y e s = absurd (cc)
-  one-changes (z ∷ lanes) zero x y e s = let same : x ≡ z = cc in (subst (λ l. SameLane l y) same s, lanes-themselves lanes)
-  one-changes (z ∷ lanes) (suc k) x y e s = (lane-itself z, one-changes lanes k x y e s)
+  lanes-after a b c p q = pairs-after SameLane lane-after a b c p q
 
   pub changes : (R : LaneEnds H → LaneEnds H → Type 0) → ((x y : LaneEnds H) → R x y → SameLane x y) → (old new : List (LaneEnds H)) (k : ℕ) → ChangesAt old k new R → SameLanes old new
-  changes R keeps old new k c = subst (λ lanes. SameLanes old lanes) (sym c.3) (one-changes old k c.0 c.1 c.2 (keeps c.0 c.1 c.4))
+  changes R keeps old new k c = pairs-changed R SameLane lane-itself keeps old new k c
 
   pub unchanged : (old new : List (LaneEnds H)) → new ≡ old → SameLanes old new
   unchanged old new e = subst (λ lanes. SameLanes old lanes) (sym e) (lanes-themselves old)
@@ -83,10 +73,6 @@ module _ {H : Type 0} where
 
   takes-up : (taken : Option RunModel) (x y : LaneEnds H) → TakesUp x y taken → SameLane x y
   takes-up taken x y t = subst (λ l. SameLane x l) (sym t.0) (takes-there x.up y.up taken t.1, down-itself x.down, outlet-itself x.door)
-
-  down-given : (a b : Option (Outlet Pair)) (pair : Pair) (given : Result (Unit {0}) Pair) → Gives a b pair given → KeepsDown a b
-  down-given None b pair given g = g.0
-  down-given (Some old) b pair given g = (g.0, g.1, posts-there old g.0 pair given g.2)
 
   gives-down : (pair : Pair) (given : Result (Unit {0}) Pair) (x y : LaneEnds H) → GivesDown x y pair given → SameLane x y
   gives-down pair given x y g = subst (λ l. SameLane x l) (sym g.0) (inlet-itself x.up, down-given x.down y.down pair given g.1, outlet-itself x.door)
@@ -117,7 +103,36 @@ module _ {H : Type 0} where
   take-keeps true k r r' old new t = changes _ (takes-up (Some t.0)) old new k t.3
   take-keeps false k r r' old new t = ⊎_elim (λ e. unchanged old new e.1) (λ c. changes _ (takes-up None) old new k c.1) t.1
 
-module _ {H P : Type 0} (failures : P → ℕ) (is_garbled : P → Type 0) (exchange : P → List Request → List Value → P → Type 0) (gives_none : P → Type 0) (opens : Endpoint → P → Type 0) (longest : P → ℕ) where
+-- ---- what was published
+
+module _ {P : Type 0} (failures : P → ℕ) (is_garbled : P → Type 0) (exchange : P → List Request → List Value → P → Type 0) (gives_none : P → Type 0) where
+  abbrev More : BackendContext P → BackendContext P → Type 0
+  More old new = IsPrefix old.published new.published
+
+  seen-alike : (old new mid : BackendContext P) → new ≡ mid → mid.published ≡ old.published → More old new
+  seen-alike old new mid e same = same-front old.published new.published (ap (λ (c : BackendContext P). c.published) e ∙ same)
+
+  step-more : (unanswered : Bool) (step : BackendStep) (old new : BackendContext P) → BackendDoes failures is_garbled exchange gives_none unanswered old step new → More old new
+  step-more unanswered Idle old new d = seen-alike old new _ d refl
+  step-more unanswered Waited old new d = seen-alike old new _ d.4 refl
+  step-more unanswered Broke old new d = seen-alike old new _ d.5 refl
+  step-more unanswered Fetched old new d = seen-alike old new _ d.6 refl
+  step-more unanswered Answered old new d = seen-alike old new _ d.5 refl
+  step-more unanswered GaveUp old new d = seen-alike old new _ d.8 refl
+  step-more unanswered Closed old new d = seen-alike old new _ d.5 refl
+  step-more unanswered Published old new d = ⊎_elim (λ e. (d.1 ∷ [], sym e)) (λ e. same-front old.published new.published e.1) d.5
+  step-more unanswered Asked old new d = seen-alike old new _ d.6 refl
+  step-more unanswered Spared old new d = seen-alike old new _ d.2 refl
+  step-more unanswered Read old new d = seen-alike old new _ d.7 refl
+  step-more unanswered Unread old new d = seen-alike old new _ d.3 refl
+  step-more unanswered Renewed old new d = (d.0, sym (ap (λ (c : BackendContext P). c.published) d.2))
+
+  starved-more : (old new : BackendContext P) → Starves failures is_garbled exchange old new → More old new
+  starved-more old new s = ⊎_elim (λ e. seen-alike old new _ e refl) (λ c. seen-alike old new _ c.4 refl) s
+
+-- ---- each event
+
+module _ (H : Type 0) {P : Type 0} (failures : P → ℕ) (is_garbled : P → Type 0) (exchange : P → List Request → List Value → P → Type 0) (gives_none : P → Type 0) (opens : Endpoint → P → Type 0) (longest : P → ℕ) where
   abbrev Model : Type 0
   Model = CarrierModel H P
 
@@ -158,39 +173,13 @@ module _ {H P : Type 0} (failures : P → ℕ) (is_garbled : P → Type 0) (exch
   carrier-turns old new (Ok moved) t = carrier-goes old new moved t
   carrier-turns old new (Err refused) t = carrier-goes old new t.0 t.1
 
-  -- ---- what was published
-
-  abbrev More : BackendContext P → BackendContext P → Type 0
-  More old new = IsPrefix old.published new.published
-
-  seen-alike : (old new mid : BackendContext P) → new ≡ mid → mid.published ≡ old.published → More old new
-  seen-alike old new mid e same = same-front old.published new.published (ap (λ (c : BackendContext P). c.published) e ∙ same)
-
-  step-more : (unanswered : Bool) (step : BackendStep) (old new : BackendContext P) → BackendDoes failures is_garbled exchange gives_none unanswered old step new → More old new
-  step-more unanswered Idle old new d = seen-alike old new _ d refl
-  step-more unanswered Waited old new d = seen-alike old new _ d.4 refl
-  step-more unanswered Broke old new d = seen-alike old new _ d.5 refl
-  step-more unanswered Fetched old new d = seen-alike old new _ d.6 refl
-  step-more unanswered Answered old new d = seen-alike old new _ d.5 refl
-  step-more unanswered GaveUp old new d = seen-alike old new _ d.8 refl
-  step-more unanswered Closed old new d = seen-alike old new _ d.5 refl
-  step-more unanswered Published old new d = ⊎_elim (λ e. (d.1 ∷ [], sym e)) (λ e. same-front old.published new.published e.1) d.5
-  step-more unanswered Asked old new d = seen-alike old new _ d.6 refl
-  step-more unanswered Spared old new d = seen-alike old new _ d.2 refl
-  step-more unanswered Read old new d = seen-alike old new _ d.7 refl
-  step-more unanswered Unread old new d = seen-alike old new _ d.3 refl
-  step-more unanswered Renewed old new d = (d.0, sym (ap (λ (c : BackendContext P). c.published) d.2))
-
-  starved-more : (old new : BackendContext P) → Starves failures is_garbled exchange old new → More old new
-  starved-more old new s = ⊎_elim (λ e. seen-alike old new _ e refl) (λ c. seen-alike old new _ c.4 refl) s
-
   -- nothing is published
   untold : (old new mid : Model) → new ≡ mid → mid.published ≡ old.published → IsPrefix old.published new.published
   untold old new mid e same = same-front old.published new.published (ap (λ (c : Model). c.published) e ∙ same)
 
   pub published-event : (event : CarrierEvent) (old new : Model) → Does old event new → IsPrefix old.published new.published
-  published-event (AtBackend step) old new d = step-more _ step _ _ d.4
-  published-event Starved old new d = ⊎_elim (λ c. starved-more _ _ c.4) (λ c. untold old new _ c.7 refl) d
+  published-event (AtBackend step) old new d = step-more failures is_garbled exchange gives_none _ step _ _ d.4
+  published-event Starved old new d = ⊎_elim (λ c. starved-more failures is_garbled exchange gives_none _ _ c.4) (λ c. untold old new _ c.7 refl) d
   published-event WorkerAdded old new d = untold old new _ d refl
   published-event BackendAdded old new d = untold old new _ d refl
   published-event Looked old new d = untold old new _ d.0 refl

@@ -61,16 +61,13 @@ module _ {C J P : Type 0} where
       }
 
   module _ (failures : P → ℕ) (is_garbled : P → Type 0) (exchange : P → List Request → List Value → P → Type 0) (gives_none : P → Type 0) (opens : Endpoint → P → Type 0) (longest : P → ℕ) where
-    abbrev Does : CarrierModel (Newcomer C J) P → CarrierEvent → CarrierModel (Newcomer C J) P → Type 0
-    Does = CarrierDoes failures is_garbled exchange gives_none opens longest
-
-    along-carriers : (engine : EngineModel C J P) (events : List CarrierEvent) (old new : CarrierModel (Newcomer C J) P) (f : FoldsTo Does old events new) → SameLanes engine.carrier.lanes old.lanes → IsPrefix engine.carrier.published old.published
-        → IsInOrder engine → IsInOrder (record engine { carrier = new }) → HoldsAlong Does (λ carrier. IsInOrder (record engine { carrier = carrier })) old events new f
+    along-carriers : (engine : EngineModel C J P) (events : List CarrierEvent) (old new : CarrierModel (Newcomer C J) P) (f : FoldsTo (CarrierDoes failures is_garbled exchange gives_none opens longest) old events new) → SameLanes engine.carrier.lanes old.lanes → IsPrefix engine.carrier.published old.published
+        → IsInOrder engine → IsInOrder (record engine { carrier = new }) → HoldsAlong (CarrierDoes failures is_garbled exchange gives_none opens longest) (λ carrier. IsInOrder (record engine { carrier = carrier })) old events new f
     along-carriers engine [] old new f lanes published first last = tt
     along-carriers engine (event ∷ events) old new f lanes published first last =
-        let next = lanes-after engine.carrier.lanes old.lanes f.0.lanes lanes (carrier-event failures is_garbled exchange gives_none opens longest event old f.0 f.1) in
-        let more = front-after engine.carrier.published old.published f.0.published published (published-event failures is_garbled exchange gives_none opens longest event old f.0 f.1) in
-        (between-carriers engine f.0 new next (carrier-events failures is_garbled exchange gives_none opens longest events f.0 new f.2) more first last, along-carriers engine events f.0 new f.2 next more first last)
+        let next = lanes-after engine.carrier.lanes old.lanes f.0.lanes lanes (carrier-event (Newcomer C J) failures is_garbled exchange gives_none opens longest event old f.0 f.1) in
+        let more = front-after engine.carrier.published old.published f.0.published published (published-event (Newcomer C J) failures is_garbled exchange gives_none opens longest event old f.0 f.1) in
+        (between-carriers engine f.0 new next (carrier-events (Newcomer C J) failures is_garbled exchange gives_none opens longest events f.0 new f.2) more first last, along-carriers engine events f.0 new f.2 next more first last)
 
     pub carrier-stays : CarrierStaysInOrder C J failures is_garbled exchange gives_none opens longest
     carrier-stays engine events new f first last =

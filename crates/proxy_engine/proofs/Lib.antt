@@ -1,3 +1,4 @@
+pub mod Pairs
 pub mod Ends
 pub mod Working
 pub mod Carrying
@@ -5,3 +6,4 @@ pub mod Together
 pub mod Looking
 pub mod Turning
 pub mod Growing
+pub mod Beginning

@@ -1,6 +1,6 @@
 -- What a look at both ends of the lanes shows.
 use Rattle.std.proofs.Common.{◌≡◌, ℕ, zero, suc, ◌<◌, ◌||◌, List, [], ◌∷◌, ◌++◌, Bool, true, false, Option, Some, None, Ok, refl, sym, ap, ◌∙◌, subst, arith, length, inl, inr}
-use Rattle.std.specs.Prelude.{slice_get, slice_set}
+use Rattle.std.specs.Prelude.{slice_get}
 use Rattle.std.proofs.lemmas.List.{append-nil}
 use mathlib.Core.List.{IsPrefix}
 use Rattle.rtrb.specs.Ring.{ConsumerLooked, ProducerLooked}
@@ -19,15 +19,13 @@ use Rattle.proxy_turns.specs.Arrivals.{AreToCome}
 use Rattle.proxy_turns.specs.Beside.{IsLeft, LookOutcome, LooksAt}
 use Rattle.proxy_turns.specs.WorkerModel.{WorkerModel}
 use Rattle.proxy_engine.specs.EngineModel.{EngineModel, IsDrainedOf, IsInOrder, Looks}
+use Rattle.proxy_engine.proofs.Pairs.{none-some, one-there, set-same}
 use Rattle.proxy_engine.proofs.Ends.{SameOutlet, SameInlet, inlet-itself, same-front}
 use Rattle.proxy_engine.proofs.Working.{KeepsEnds}
 use Rattle.proxy_engine.proofs.Carrying.{KeepsDown, SameLane, SameLanes, changes}
 
 abbrev Pair : Type 0
 Pair = Ticket × Told
-
-one-outlet : (down : Option (Outlet Pair)) (next outlet : Outlet Pair) → down ≡ Some next → down ≡ Some outlet → next ≡ outlet
-one-outlet down next outlet p q = let both : Some next ≡ Some outlet = sym p ∙ q in cc
 
 -- ---- one lane
 
@@ -50,12 +48,12 @@ module _ {T : Type 0} where
       sym (append-nil (taken inlet')) ∙ ap (λ xs. taken inlet' ++ xs) (sym (none-of (held inlet') (sym l.3 ∙ e))) ∙ l.2
 
 down-in-step : (a b : Option (Outlet Pair)) (inlet inlet' : Inlet Pair) (left : ℕ) → DownLooks a inlet b inlet' left → (outlet : Outlet Pair) → b ≡ Some outlet → IsInStep outlet inlet'
-down-in-step None b inlet inlet' left d outlet e = let none : b ≡ None = d.0 in absurd (cc)
-down-in-step (Some old) b inlet inlet' left d outlet e = subst (λ o. IsInStep o inlet') (one-outlet b d.0 outlet d.1 e) (in-step old d.0 inlet inlet' left d.2)
+down-in-step None b inlet inlet' left d outlet e = absurd (none-some b outlet d.0 e)
+down-in-step (Some old) b inlet inlet' left d outlet e = subst (λ o. IsInStep o inlet') (one-there b d.0 outlet d.1 e) (in-step old d.0 inlet inlet' left d.2)
 
 down-drained : (a b : Option (Outlet Pair)) (inlet inlet' : Inlet Pair) (left : ℕ) → DownLooks a inlet b inlet' left → left ≡ 0 → (outlet : Outlet Pair) → b ≡ Some outlet → IsDrained outlet inlet'
-down-drained None b inlet inlet' left d z outlet e = let none : b ≡ None = d.0 in absurd (cc)
-down-drained (Some old) b inlet inlet' left d z outlet e = subst (λ o. IsDrained o inlet') (one-outlet b d.0 outlet d.1 e) (drained old d.0 inlet inlet' left d.2 z)
+down-drained None b inlet inlet' left d z outlet e = absurd (none-some b outlet d.0 e)
+down-drained (Some old) b inlet inlet' left d z outlet e = subst (λ o. IsDrained o inlet') (one-there b d.0 outlet d.1 e) (drained old d.0 inlet inlet' left d.2 z)
 
 down-same : (a b : Option (Outlet Pair)) (inlet inlet' : Inlet Pair) (left : ℕ) → DownLooks a inlet b inlet' left → KeepsDown a b × SameInlet inlet inlet'
 down-same None b inlet inlet' left d = (d.0, subst (λ i. SameInlet inlet i) (sym d.1) (inlet-itself inlet))
@@ -63,20 +61,12 @@ down-same (Some old) b inlet inlet' left d = ((d.0, d.1, outlet-looked old d.0 d
 
 -- ---- the lanes of a worker
 
-set-same : {X : Type 0} (xs : List X) (k : ℕ) (x y : X) → slice_get xs k ≡ Some x → slice_get (slice_set xs k y) k ≡ Some y
-set-same [] k x y e = absurd (cc)
-set-same (z ∷ xs) zero x y e = refl
-set-same (z ∷ xs) (suc k) x y e = set-same xs k x y e
-
 module _ {C J : Type 0} where
-  abbrev Lanes : Type 0
-  Lanes = List (LaneEnds (Newcomer C J))
-
   lane-same : (outlet outlet' : Outlet RunModel) (inlet inlet' : Inlet Pair) (newcomers newcomers' : Inlet (Newcomer C J)) (lane lane' : LaneEnds (Newcomer C J)) (counts : LeftInLanes)
       → LanesLook outlet inlet newcomers lane counts outlet' inlet' newcomers' lane' → SameLane lane lane'
   lane-same outlet outlet' inlet inlet' newcomers newcomers' lane lane' counts l = (inlet-looked lane.up lane'.up l.0.1, (down-same lane.down lane'.down inlet inlet' counts.down l.1).0, outlet-looked lane.door lane'.door l.2.0)
 
-  pub looked-same : (old new : WorkerModel C J) (lanes lanes' : Lanes) (counts : LeftInLanes) → LooksAt old lanes counts new lanes' → KeepsEnds old new × SameLanes lanes lanes'
+  pub looked-same : (old new : WorkerModel C J) (lanes lanes' : List (LaneEnds (Newcomer C J))) (counts : LeftInLanes) → LooksAt old lanes counts new lanes' → KeepsEnds old new × SameLanes lanes lanes'
   looked-same old new lanes lanes' counts l =
       let x = l.0.0 in
       let y = l.0.1 in
@@ -86,20 +76,19 @@ module _ {C J : Type 0} where
       )
 
   -- the lane that was looked at is the worker's
-  at-new : (old new : WorkerModel C J) (lanes lanes' : Lanes) (counts : LeftInLanes) (l : LooksAt old lanes counts new lanes') (lane : LaneEnds (Newcomer C J)) → slice_get lanes' new.worker ≡ Some lane
+  at-new : (old new : WorkerModel C J) (lanes lanes' : List (LaneEnds (Newcomer C J))) (counts : LeftInLanes) (l : LooksAt old lanes counts new lanes') (lane : LaneEnds (Newcomer C J)) → slice_get lanes' new.worker ≡ Some lane
       → LanesLook old.outlet old.inlet old.newcomers l.0.0 counts new.outlet new.inlet new.newcomers lane
   at-new old new lanes lanes' counts l lane e =
-      let there : slice_get lanes' old.worker ≡ Some l.0.1 = ap (λ (xs : Lanes). slice_get xs old.worker) l.0.3 ∙ set-same lanes old.worker l.0.0 l.0.1 l.0.2 in
+      let there : slice_get lanes' old.worker ≡ Some l.0.1 = ap (λ (xs : List (LaneEnds (Newcomer C J))). slice_get xs old.worker) l.0.3 ∙ set-same lanes old.worker l.0.0 l.0.1 l.0.2 in
       let here : slice_get lanes' old.worker ≡ Some lane = ap (λ (w : WorkerModel C J). slice_get lanes' w.worker) (sym l.1) ∙ e in
-      let both : Some l.0.1 ≡ Some lane = sym there ∙ here in
-      let same : l.0.1 ≡ lane = cc in
+      let same = one-there (slice_get lanes' old.worker) l.0.1 lane there here in
       subst (λ lane'. LanesLook old.outlet old.inlet old.newcomers l.0.0 counts new.outlet new.inlet new.newcomers lane') same l.0.4
 
-  pub outcome-looks : (left : Bool) (old new : WorkerModel C J) (lanes lanes' : Lanes) → LookOutcome old lanes left new lanes' → (counts : LeftInLanes) × LooksAt old lanes counts new lanes'
+  pub outcome-looks : (left : Bool) (old new : WorkerModel C J) (lanes lanes' : List (LaneEnds (Newcomer C J))) → LookOutcome old lanes left new lanes' → (counts : LeftInLanes) × LooksAt old lanes counts new lanes'
   outcome-looks true old new lanes lanes' o = (o.0, o.1)
   outcome-looks false old new lanes lanes' o = (o.0, o.1)
 
-  pub outcome-same : (left : Bool) (old new : WorkerModel C J) (lanes lanes' : Lanes) → LookOutcome old lanes left new lanes' → KeepsEnds old new × SameLanes lanes lanes'
+  pub outcome-same : (left : Bool) (old new : WorkerModel C J) (lanes lanes' : List (LaneEnds (Newcomer C J))) → LookOutcome old lanes left new lanes' → KeepsEnds old new × SameLanes lanes lanes'
   outcome-same left old new lanes lanes' o = let l = outcome-looks left old new lanes lanes' o in looked-same old new lanes lanes' l.0 l.1
 
 -- ---- an engine

@@ -1,5 +1,5 @@
 -- A worker and the carrier's ends of its lanes stay together.
-use Rattle.std.proofs.Common.{◌≡◌, ℕ, zero, suc, ◌<◌, List, [], ◌∷◌, Option, Some, None, refl, sym, ap, ◌∙◌, subst, arith, length}
+use Rattle.std.proofs.Common.{◌≡◌, ℕ, ◌<◌, List, false, Option, Some, None, refl, sym, ap, ◌∙◌, subst, arith, length}
 use Rattle.std.specs.Prelude.{IsSome, slice_get}
 use Rattle.key_split.specs.declared.travel.Ticket.{Ticket}
 use Rattle.key_split.specs.declared.travel.Told.{Told}
@@ -9,41 +9,25 @@ use Rattle.proxy_lanes.specs.Beside.{AreBeside}
 use Rattle.proxy_turns.specs.declared.newcomer.Newcomer.{Newcomer}
 use Rattle.proxy_turns.specs.WorkerModel.{WorkerModel}
 use Rattle.proxy_engine.specs.Together.{AreTogether}
+use Rattle.proxy_engine.proofs.Pairs.{none-some, not-both, one-there, pairs-count, pairs-from, pairs-to}
 use Rattle.proxy_engine.proofs.Ends.{SameOutlet, lane-kept}
 use Rattle.proxy_engine.proofs.Working.{KeepsEnds, ends-themselves}
 use Rattle.proxy_engine.proofs.Carrying.{KeepsDown, SameLane, SameLanes}
 
 module _ {H : Type 0} where
-  same-count : (old new : List (LaneEnds H)) → SameLanes old new → length new ≡ length old
-  same-count [] [] s = refl
-  same-count [] (y ∷ ys) s = absurd s
-  same-count (x ∷ xs) [] s = absurd s
-  same-count (x ∷ xs) (y ∷ ys) s = ap suc (same-count xs ys s.1)
-
-  -- a lane was the same lane before
+  -- a lane was the same lane before, and is so later
   pub came-from : (old new : List (LaneEnds H)) (k : ℕ) (lane' : LaneEnds H) → SameLanes old new → slice_get new k ≡ Some lane' → (lane : LaneEnds H) × (slice_get old k ≡ Some lane) × SameLane lane lane'
-  came-from [] [] k lane' s e = absurd (cc)
-  came-from [] (y ∷ ys) k lane' s e = absurd s
-  came-from (x ∷ xs) [] k lane' s e = absurd s
-  came-from (x ∷ xs) (y ∷ ys) zero lane' s e = let same : y ≡ lane' = cc in (x, refl, subst (λ l. SameLane x l) same s.0)
-  came-from (x ∷ xs) (y ∷ ys) (suc k) lane' s e = came-from xs ys k lane' s.1 e
+  came-from old new k lane' s e = pairs-from SameLane old new k lane' s e
 
-  -- and it is the same lane later
   pub goes-to : (old new : List (LaneEnds H)) (k : ℕ) (lane : LaneEnds H) → SameLanes old new → slice_get old k ≡ Some lane → (lane' : LaneEnds H) × (slice_get new k ≡ Some lane') × SameLane lane lane'
-  goes-to [] ys k lane s e = absurd (cc)
-  goes-to (x ∷ xs) [] k lane s e = absurd s
-  goes-to (x ∷ xs) (y ∷ ys) zero lane s e = let same : x ≡ lane = cc in (y, refl, subst (λ l. SameLane l y) same s.0)
-  goes-to (x ∷ xs) (y ∷ ys) (suc k) lane s e = goes-to xs ys k lane s.1 e
+  goes-to old new k lane s e = pairs-to SameLane old new k lane s e
 
 pub down-back : (a b : Option (Outlet (Ticket × Told))) → KeepsDown a b → (next : Outlet (Ticket × Told)) → b ≡ Some next → (old : Outlet (Ticket × Told)) × (a ≡ Some old) × SameOutlet old next
-down-back None b k next e = let none : b ≡ None = k in absurd (cc)
-down-back (Some old) b k next e =
-    let both : Some k.0 ≡ Some next = sym k.1 ∙ e in
-    let same : k.0 ≡ next = cc in
-    (old, refl, subst (λ o. SameOutlet old o) same k.2)
+down-back None b k next e = absurd (none-some b next k e)
+down-back (Some old) b k next e = (old, refl, subst (λ o. SameOutlet old o) (one-there b k.0 next k.1 e) k.2)
 
 some-kept : (a b : Option (Outlet (Ticket × Told))) → KeepsDown a b → IsSome a → IsSome b
-some-kept None b k s = absurd (cc)
+some-kept None b k s = absurd (not-both false s refl)
 some-kept (Some old) b k s = subst IsSome (sym k.1) refl
 
 module _ {C J : Type 0} where
@@ -59,8 +43,8 @@ module _ {C J : Type 0} where
   together-kept w w' ls ls' k s t =
       let before : (lane' : LaneEnds (Newcomer C J)) → slice_get ls' w'.worker ≡ Some lane' → (lane : LaneEnds (Newcomer C J)) × (slice_get ls w.worker ≡ Some lane) × SameLane lane lane' = λ lane' e. came-from ls ls' w.worker lane' s (ap (slice_get ls') (sym k.0) ∙ e) in (
         k.0 ∙ t.0,
-        same-count ls ls' s ∙ t.1,
-        (omega (arith, t.2.0, k.0, same-count ls ls' s), λ lane' e. let f = before lane' e in beside-kept w w' f.0 lane' k f.2 (t.2.1 f.0 f.1)),
+        pairs-count SameLane ls ls' s ∙ t.1,
+        (omega (arith, t.2.0, k.0, pairs-count SameLane ls ls' s), λ lane' e. let f = before lane' e in beside-kept w w' f.0 lane' k f.2 (t.2.1 f.0 f.1)),
         (λ lane' e. let f = before lane' e in some-kept f.0.down lane'.down f.2.1 (t.3 f.0 f.1)),
       )
 

@@ -43,16 +43,16 @@ ends-after a b c p q = (
   front-after a.view b.view c.view p.4 q.4,
 )
 
-module _ {C J : Type 0} (moves : Moves C) where
-  abbrev ClientKeeps : ClientContext C → ClientContext C → Type 0
-  ClientKeeps old new = SameOutlet old.outlet new.outlet × IsPrefix old.view new.view
+abbrev ClientKeeps : {C : Type 0} → ClientContext C → ClientContext C → Type 0
+ClientKeeps old new = SameOutlet old.outlet new.outlet × IsPrefix old.view new.view
 
-  at-client : (old new mid : ClientContext C) → new ≡ mid → ClientKeeps old mid → ClientKeeps old new
-  at-client old new mid e k = subst (λ (c : ClientContext C). ClientKeeps old c) (sym e) k
+at-client : {C : Type 0} (old new mid : ClientContext C) → new ≡ mid → ClientKeeps old mid → ClientKeeps old new
+at-client {C} old new mid e k = subst (λ (c : ClientContext C). ClientKeeps old c) (sym e) k
 
-  client-itself : (context : ClientContext C) → ClientKeeps context context
-  client-itself context = (outlet-itself context.outlet, front-itself context.view)
+client-itself : {C : Type 0} (context : ClientContext C) → ClientKeeps context context
+client-itself context = (outlet-itself context.outlet, front-itself context.view)
 
+module _ {C : Type 0} (moves : Moves C) where
   client-event : (event : ClientEvent) (old new : ClientContext C) → ClientDoes moves old event new → ClientKeeps old new
   client-event (Pulled bytes) old new d = at-client old new _ d.1 (client-itself old)
   client-event (Fed result) old new d = at-client old new _ d.1 (client-itself old)
@@ -68,12 +68,13 @@ module _ {C J : Type 0} (moves : Moves C) where
   client-event Parted old new d = at-client old new _ d.3 (client-itself old)
   client-event (Dropped tickets) old new d = at-client old new _ d.3 (client-itself old)
 
+module _ {C J : Type 0} (moves : Moves C) where
   from : (old new mid : WorkerModel C J) → new ≡ mid → KeepsEnds old mid → KeepsEnds old new
   from old new mid e k = subst (λ (w : WorkerModel C J). KeepsEnds old w) (sym e) k
 
   pub worker-event : (event : WorkerEvent) (old new : WorkerModel C J) → WorkerDoes moves old event new → KeepsEnds old new
   worker-event (Did number event) old new d =
-      let kept = client-event event _ _ d.3 in
+      let kept = client-event moves event _ _ d.3 in
       from old new _ d.4 (refl, kept.0, inlet-itself old.inlet, inlet-itself old.newcomers, kept.1)
   worker-event (Finished number ticket end) old new d = from old new _ d.4 (ends-themselves old)
   worker-event (Took ticket told) old new d =

@@ -1,7 +1,7 @@
 -- What a worker and its carrier do as one value.
 -- A turn is the worker's and then the carrier's, as each of their contracts has it; then the ends of their lanes look at each other. So
 -- what each end took is a front of what the other put in, and the worker sees a front of the slot map that was published.
-use Rattle.std.specs.Prelude.{◌≡◌, ◌<◌, ◌||◌, ℕ, List, [], ◌∷◌, Bool, true, false, Option, Result, Ok, Err, ⊤, slice_get}
+use Rattle.std.specs.Prelude.{◌≡◌, ◌⊎◌, ◌||◌, ℕ, List, [], ◌∷◌, Bool, true, false, Option, Result, Ok, Err, ⊤, slice_get}
 use Rattle.std.specs.Option.{ForSome}
 use mathlib.Core.List.{IsPrefix}
 use Rattle.resp_wire.specs.declared.fault.NoMemory.{NoMemory}

@@ -120,11 +120,14 @@ where
     }
 
     /// Gives back the port of each client that the worker still has.
-    pub fn end(&mut self, outcome: WorkerOutcome) -> WorkerEnd<C>
+    pub fn end(self, outcome: WorkerOutcome) -> WorkerEnd<C>
         ensures outcome { result.outcome ≡ outcome }
-        ensures back { HandsBack (engine_model D.failures self.old).worker result }
+        ensures back { HandsBack (engine_model D.failures self).worker result }
     {
-        self.worker.end(outcome)
+        let Engine { worker, carrier } = self;
+        drop(carrier);
+        let mut worker = worker;
+        worker.end(outcome)
     }
 
     fn turn_worker(&mut self) -> Result<bool, EngineFault>
