@@ -144,6 +144,7 @@ impl<C: ClientPort + Drop, J: Naming> WorkerState<C, J> {
         requires { HasLanes (state_model self.old) (lanes_of ends.old) }
         ensures looks { LookOutcome (state_model self.old) (lanes_of ends.old) result (state_model self.new) (lanes_of ends.new) }
         ensures map { ends.new.map ≡ ends.old.map }
+        ensures due { self.new.due ≡ self.old.due }
     {
         let places = ends.have_places(self.worker, &self.outlet);
         let counts = ends.look_beside(
@@ -152,7 +153,7 @@ impl<C: ClientPort + Drop, J: Naming> WorkerState<C, J> {
             &mut self.inlet,
             &mut self.newcomers,
         );
-        !places || is_left(counts, self.left)
+        !places | is_left(counts, self.left)
     }
 
     /// Whether the front has all that the view knows.
