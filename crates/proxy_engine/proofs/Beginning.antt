@@ -5,6 +5,7 @@ use mathlib.Core.List.{IsPrefix}
 use Rattle.key_split.specs.declared.travel.Ticket.{Ticket}
 use Rattle.key_split.specs.declared.travel.Told.{Told}
 use Rattle.slot_map.specs.Table.{Endpoint}
+use Rattle.slot_map.specs.declared.ops.MapOp.{MapOp}
 use Rattle.proxy_lanes.specs.declared.ring.Outlet.{Outlet}
 use Rattle.proxy_lanes.specs.declared.ring.Inlet.{Inlet}
 use Rattle.proxy_lanes.specs.declared.ends.WorkerEnds.{WorkerEnds}
@@ -15,16 +16,17 @@ use Rattle.proxy_lanes.specs.Lane.{IsLane, IsNewLane, posted, taken}
 use Rattle.proxy_lanes.specs.Beside.{AreBeside, IsInStep}
 use Rattle.proxy_turns.specs.declared.newcomer.Newcomer.{Newcomer}
 use Rattle.proxy_turns.specs.Worker.{new_worker}
-use Rattle.proxy_turns.specs.CarrierModel.{new_carrier}
+use Rattle.proxy_turns.specs.WorkerModel.{WorkerModel}
+use Rattle.proxy_turns.specs.CarrierModel.{CarrierModel, new_carrier}
 use Rattle.proxy_engine.specs.Together.{AreTogether}
-use Rattle.proxy_engine.specs.EngineModel.{EngineModel, HandsClient, IsInOrder}
+use Rattle.proxy_engine.specs.EngineModel.{EngineModel, HandsClient, IsInOrder, IsNewEngine}
 use Rattle.proxy_engine.proofs.Pairs.{pairs-changed, pairs-from, some-same}
 use Rattle.proxy_engine.proofs.Ends.{SameOutlet, front-after, front-itself, inlet-itself, outlet-itself, posts-there}
 use Rattle.proxy_engine.proofs.Carrying.{SameLane, SameLanes, changes, down-itself}
 
 -- ---- new lanes
 
-pub only-lanes : {H J : Type 0} (ws : List (WorkerEnds H J)) (ls : List (LaneEnds H)) → AreLanes 1 ws ls → length ws ≡ 1 → (w : WorkerEnds H J) × (l : LaneEnds H) × (ws ≡ w ∷ []) × (ls ≡ l ∷ []) × AreLanesOf 1 0 w l
+only-lanes : {H J : Type 0} (ws : List (WorkerEnds H J)) (ls : List (LaneEnds H)) → AreLanes 1 ws ls → length ws ≡ 1 → (w : WorkerEnds H J) × (l : LaneEnds H) × (ws ≡ w ∷ []) × (ls ≡ l ∷ []) × AreLanesOf 1 0 w l
 only-lanes [] ls a e = absurd (omega (arith, e))
 only-lanes (w ∷ []) [] a e = absurd a
 only-lanes (w ∷ []) (l ∷ []) a e = (w, l, refl, refl, a.0)
@@ -32,7 +34,7 @@ only-lanes (w ∷ []) (l ∷ m ∷ ls) a e = absurd a.1
 only-lanes (w ∷ v ∷ ws) ls a e = absurd (omega (arith, e))
 
 -- what came off the end of a list of one
-pub one-off : {X : Type 0} (x y : X) (xs : List X) → x ∷ [] ≡ xs ++ y ∷ [] → x ≡ y
+one-off : {X : Type 0} (x y : X) (xs : List X) → x ∷ [] ≡ xs ++ y ∷ [] → x ≡ y
 one-off x y [] e = let same : x ∷ [] ≡ y ∷ [] = e in cc
 one-off x y (z ∷ []) e = absurd (let two : x ∷ [] ≡ z ∷ y ∷ [] = e in omega (arith, ap length two))
 one-off x y (z ∷ u ∷ xs) e = absurd (let many : x ∷ [] ≡ z ∷ u ∷ (xs ++ y ∷ []) = e in omega (arith, ap length many))
@@ -50,7 +52,7 @@ nothing-first : {X : Type 0} (xs ys : List X) → xs ≡ [] → IsPrefix xs ys
 nothing-first xs ys e = (ys, ap (λ zs. zs ++ ys) e)
 
 module _ {C J : Type 0} where
-  pub begin-together : (left : Option ℕ) (w : WorkerEnds (Newcomer C J) J) (l : LaneEnds (Newcomer C J)) → AreLanesOf 1 0 w l → AreTogether (new_worker w left) (l ∷ [])
+  begin-together : (left : Option ℕ) (w : WorkerEnds (Newcomer C J) J) (l : LaneEnds (Newcomer C J)) → AreLanesOf 1 0 w l → AreTogether (new_worker w left) (l ∷ [])
   begin-together left w l a =
       let down = new-down l.down w.inlet a.3 in
       let beside : AreBeside w.outlet w.inlet w.newcomers l = (a.2.0, (λ outlet e. (down.1 outlet e).0), a.4.0) in (
@@ -61,8 +63,8 @@ module _ {C J : Type 0} where
       )
 
 module _ {C J P : Type 0} where
-  pub begin-in-order : (left : Option ℕ) (seeds : List Endpoint) (failures : ℕ) (w : WorkerEnds (Newcomer C J) J) (l : LaneEnds (Newcomer C J)) → AreLanesOf 1 0 w l
-      → IsInOrder {C} {J} {P} (record { worker = new_worker w left; carrier = new_carrier (l ∷ []) seeds [] failures })
+  begin-in-order : (left : Option ℕ) (seeds : List Endpoint) (failures : ℕ) (w : WorkerEnds (Newcomer C J) J) (l : LaneEnds (Newcomer C J)) → AreLanesOf 1 0 w l
+      → IsInOrder {C = C} {J = J} {P = P} (record { worker = new_worker w left; carrier = new_carrier (l ∷ []) seeds [] failures })
   begin-in-order left seeds failures w l a =
       let down = new-down l.down w.inlet a.3 in record {
         up = λ lane e. let same = the-only l lane w.worker a.0 e in nothing-first (taken lane.up) (posted w.outlet) (ap (λ (x : LaneEnds (Newcomer C J)). taken x.up) (sym same) ∙ a.2.2);
@@ -102,3 +104,20 @@ module _ {C J P : Type 0} where
         view = order.view;
       } in
       subst IsInOrder (sym h.1) there
+
+  -- ---- what is made of new lanes
+
+  pub begun : (left : Option ℕ) (seeds : List Endpoint) (failures : ℕ) (ws : List (WorkerEnds (Newcomer C J) J)) (ls : List (LaneEnds (Newcomer C J))) (published : List MapOp) (popped : List (WorkerEnds (Newcomer C J) J)) (own : WorkerEnds (Newcomer C J) J)
+      (worker : WorkerModel C J) (carrier : CarrierModel (Newcomer C J) P) → AreLanes 1 ws ls → length ws ≡ 1 → published ≡ [] → ws ≡ popped ++ own ∷ [] → worker ≡ new_worker own left → carrier ≡ new_carrier ls seeds published failures
+      → IsNewEngine left seeds failures (record { worker = worker; carrier = carrier })
+  begun left seeds failures ws ls published popped own worker carrier lanes one none off is over =
+      let made = only-lanes ws ls lanes one in
+      let same : made.0 ≡ own = one-off made.0 own popped (sym made.2 ∙ off) in
+      let at : carrier ≡ new_carrier (made.1 ∷ []) seeds [] failures = over ∙ ap (λ xs. new_carrier xs seeds published failures) made.3 ∙ ap (λ ops. new_carrier (made.1 ∷ []) seeds ops failures) none in
+      (own, made.1, subst (λ w. AreLanesOf 1 0 w made.1) same made.4, λ i. record { worker = is i; carrier = at i })
+
+  pub new-together : (left : Option ℕ) (seeds : List Endpoint) (failures : ℕ) (engine : EngineModel C J P) → IsNewEngine left seeds failures engine → AreTogether engine.worker engine.carrier.lanes
+  new-together left seeds failures engine n = subst (λ (e : EngineModel C J P). AreTogether e.worker e.carrier.lanes) (sym n.3) (begin-together left n.0 n.1 n.2)
+
+  pub new-in-order : (left : Option ℕ) (seeds : List Endpoint) (failures : ℕ) (engine : EngineModel C J P) → IsNewEngine left seeds failures engine → IsInOrder engine
+  new-in-order left seeds failures engine n = subst IsInOrder (sym n.3) (begin-in-order left seeds failures n.0 n.1 n.2)

@@ -29,6 +29,10 @@ Pair = Ticket × Told
 
 -- ---- one lane
 
+none-of : {X : Type 0} (xs : List X) → length xs ≡ 0 → xs ≡ []
+none-of [] e = refl
+none-of (x ∷ xs) e = absurd (omega (arith, e))
+
 module _ {T : Type 0} where
   in-step : (outlet outlet' : Outlet T) (inlet inlet' : Inlet T) (left : ℕ) → LooksBeside outlet inlet outlet' inlet' left → IsInStep outlet' inlet'
   in-step outlet outlet' inlet inlet' left l = (held inlet', l.2)
@@ -38,10 +42,6 @@ module _ {T : Type 0} where
 
   pub inlet-looked : (old new : Inlet T) → ConsumerLooked old.consumer new.consumer → SameInlet old new
   inlet-looked old new l = (l.0, same-front (taken old) (taken new) l.1)
-
-  none-of : {X : Type 0} (xs : List X) → length xs ≡ 0 → xs ≡ []
-  none-of [] e = refl
-  none-of (x ∷ xs) e = absurd (omega (arith, e))
 
   drained : (outlet outlet' : Outlet T) (inlet inlet' : Inlet T) (left : ℕ) → LooksBeside outlet inlet outlet' inlet' left → left ≡ 0 → IsDrained outlet' inlet'
   drained outlet outlet' inlet inlet' left l e =
@@ -94,8 +94,8 @@ module _ {C J : Type 0} where
 -- ---- an engine
 
 none-left : (n : ℕ) → (0 < n → ⊥) → n ≡ 0
-none-left zero no = refl
-none-left (suc n) no = absurd (no (omega arith))
+none-left zero never = refl
+none-left (suc n) never = absurd (never (omega arith))
 
 module _ {C J P : Type 0} where
   -- after a look, and where the worker sees a front of what was published, all is in order

@@ -1,5 +1,6 @@
 -- The two parts of a turn.
 use Rattle.std.proofs.Common.{◌≡◌, ◌||◌, ℕ, List, Bool, true, false, Result, Ok, Err, refl, sym, ap, ◌∙◌, subst, inl, inr}
+use Rattle.std.specs.Prelude.{IfOk}
 use Rattle.resp_wire.specs.declared.fault.NoMemory.{NoMemory}
 use Rattle.resp_wire.specs.declared.value.Value.{Value}
 use Rattle.key_split.specs.Requests.{Request}
@@ -21,6 +22,10 @@ use Rattle.proxy_engine.proofs.Looking.{drained-of, outcome-looks}
 pub either-still : (a b : Bool) → a || b ≡ false → (a ≡ false) × (b ≡ false)
 either-still true b e = absurd (not-both true refl e)
 either-still false b e = (refl, e)
+
+-- what holds of a part that moved nothing holds of a turn that moved nothing
+pub still-later : (A : Type 0) (first : Result Bool EngineFault) (worked carried : Bool) → first ≡ Ok worked → IfOk first (λ moved. moved ≡ false → A) → worked || carried ≡ false → A
+still-later A first worked carried was later none = let now : worked ≡ false → A = subst (λ r. IfOk r (λ moved. moved ≡ false → A)) was later in now (either-still worked carried none).0
 
 module _ {C J P : Type 0} where
   -- a look that left nothing, where the turn before moved nothing

@@ -122,7 +122,7 @@ where
     /// Gives back the port of each client that the worker still has.
     pub fn end(self, outcome: WorkerOutcome) -> WorkerEnd<C>
         ensures outcome { result.outcome ≡ outcome }
-        ensures back { HandsBack (engine_model D.failures self).worker result }
+        ensures back { HandsBack (engine_model D.failures self.entry).worker result }
     {
         let Engine { worker, carrier } = self;
         drop(carrier);

@@ -1,5 +1,4 @@
 use Rattle.std.proofs.Common.{◌≡◌, Ok, Err, sym, subst, rules}
-use Rattle.resp_wire.specs.declared.fault.NoMemory.{NoMemory}
 use Rattle.proxy_engine.specs.declared.turned.EngineFault.TheVariants as fault
 use Rattle.proxy_engine.specs.Engine.{engine_model}
 use Rattle.proxy_engine.specs.EngineModel.{Looks}
@@ -22,8 +21,8 @@ returns-in_err-moved-clause-looks g c =
     let new = engine_model f c.sees_front.new.self in
     let looks : Looks old c.look-left.result new = subst (λ e. Looks old c.look-left.result e) (sym c.sees_front.ensures.same) c.look-left.ensures.looks in
     let is : c.from_residual.result ≡ Err fault.NoMemory = search rules in
-    let was : c.args.went ≡ Err NoMemory.NoMemory = search rules in
-    looked-starved old new c.args.went NoMemory.NoMemory c.from_residual.result c.look-left.result was is looks (in-order old new c.look-left.result looks (c.sees_front.ensures.front c.if-not-sees_front.false))
+    let was : c.args.went ≡ Err c.in_err-moved.field-0.0 = search rules in
+    looked-starved old new c.args.went _ c.from_residual.result c.look-left.result was is looks (in-order old new c.look-left.result looks (c.sees_front.ensures.front c.if-not-sees_front.false))
 
 pub returns-clause-looks : goal.returns-clause-looks
 returns-clause-looks g c =
