@@ -7,3 +7,5 @@ pub mod Looking
 pub mod Turning
 pub mod Growing
 pub mod Beginning
+pub mod Unseen
+pub mod UnseenCarrier

@@ -15,7 +15,7 @@ none-some o x p q = cc
 pub not-both : (b : Bool) → b ≡ true → b ≡ false → ⊥
 not-both b p q = cc
 
-nothing-there : {X : Type 0} (k : ℕ) (x : X) → slice_get [] k ≡ Some x → ⊥
+pub nothing-there : {X : Type 0} (k : ℕ) (x : X) → slice_get [] k ≡ Some x → ⊥
 nothing-there k x e = cc
 
 abbrev pub Pairs : {X : Type 0} → (X → X → Type 0) → List X → List X → Type 0

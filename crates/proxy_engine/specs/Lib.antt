@@ -2,3 +2,4 @@ pub mod Together
 pub mod EngineModel
 pub mod Engine
 pub mod Along
+pub mod Unseen
