@@ -69,9 +69,9 @@ module _ {C J P : Type 0} where
       let down = new-down l.down w.inlet a.3 in record {
         up = λ lane e. let same = the-only l lane w.worker a.0 e in nothing-first (taken lane.up) (posted w.outlet) (ap (λ (x : LaneEnds (Newcomer C J)). taken x.up) (sym same) ∙ a.2.2);
         down = λ lane e outlet o.
-          let same = the-only l lane w.worker a.0 e in
-          let there : l.down ≡ Some outlet = ap (λ (x : LaneEnds (Newcomer C J)). x.down) same ∙ o in
-          nothing-first (taken w.inlet) (posted outlet) (down.1 outlet there).2;
+            let same = the-only l lane w.worker a.0 e in
+            let there : l.down ≡ Some outlet = ap (λ (x : LaneEnds (Newcomer C J)). x.down) same ∙ o in
+            nothing-first (taken w.inlet) (posted outlet) (down.1 outlet there).2;
         door = λ lane e. nothing-first (taken w.newcomers) (posted lane.door) a.4.2;
         view = nothing-first w.view [] a.5;
       }
@@ -96,7 +96,7 @@ module _ {C J P : Type 0} where
       let next : EngineModel C J P = record old { carrier = record old.carrier { lanes = new.carrier.lanes } } in
       let k = old.worker.worker in
       let from : (lane : LaneEnds (Newcomer C J)) → slice_get new.carrier.lanes k ≡ Some lane → (w : LaneEnds (Newcomer C J)) × (slice_get old.carrier.lanes k ≡ Some w) × Handed w lane =
-        λ lane e. pairs-from Handed old.carrier.lanes new.carrier.lanes k lane (pairs-changed _ Handed handed-itself (hands-there client given) old.carrier.lanes new.carrier.lanes 0 h.0) e in
+      λ lane e. pairs-from Handed old.carrier.lanes new.carrier.lanes k lane (pairs-changed _ Handed handed-itself (hands-there client given) old.carrier.lanes new.carrier.lanes 0 h.0) e in
       let there : IsInOrder next = record {
         up = λ lane e. let was = from lane e in subst (λ inlet. IsInStep old.worker.outlet inlet) (sym was.2.0) (order.up was.0 was.1);
         down = λ lane e outlet o. let was = from lane e in order.down was.0 was.1 outlet (sym was.2.1 ∙ o);

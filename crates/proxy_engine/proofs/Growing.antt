@@ -53,9 +53,9 @@ module _ {C J P : Type 0} where
       let w = engine.worker in record {
         up = λ lane e. let to = goes-to mid.lanes new.lanes k lane later e in front-after (taken lane.up) (taken to.0.up) (posted w.outlet) to.2.0.1 (last.up to.0 to.1);
         down = λ lane e outlet o.
-          let from = came-from engine.carrier.lanes mid.lanes k lane before e in
-          let old = down-back from.0.down lane.down from.2.1 outlet o in
-          front-after (taken w.inlet) (posted old.0) (posted outlet) (first.down from.0 from.1 old.0 old.1) old.2.1;
+            let from = came-from engine.carrier.lanes mid.lanes k lane before e in
+            let old = down-back from.0.down lane.down from.2.1 outlet o in
+            front-after (taken w.inlet) (posted old.0) (posted outlet) (first.down from.0 from.1 old.0 old.1) old.2.1;
         door = λ lane e. let from = came-from engine.carrier.lanes mid.lanes k lane before e in front-after (taken w.newcomers) (posted from.0.door) (posted lane.door) (first.door from.0 from.1) from.2.2.1;
         view = front-after w.view engine.carrier.published mid.published first.view published;
       }

@@ -120,6 +120,6 @@ module _ {C J P : Type 0} where
         up = λ lane e. drained old.worker.outlet new.worker.outlet looked.0.0.up lane.up counts.up (at lane e).0 (none-left counts.up (λ some. none (inl some)));
         down = λ lane e. down-drained looked.0.0.down lane.down old.worker.inlet new.worker.inlet counts.down (at lane e).1 (none-left counts.down (λ some. none (inr (inl some))));
         door = λ come lane e.
-          let came : AreToCome old.worker.left = subst (λ (w : WorkerModel C J). AreToCome w.left) looked.1 come in
-          drained looked.0.0.door lane.door old.worker.newcomers new.worker.newcomers counts.door (at lane e).2 (none-left counts.door (λ some. none (inr (inr (came, some)))));
+            let came : AreToCome old.worker.left = subst (λ (w : WorkerModel C J). AreToCome w.left) looked.1 come in
+            drained looked.0.0.door lane.door old.worker.newcomers new.worker.newcomers counts.door (at lane e).2 (none-left counts.door (λ some. none (inr (inr (came, some)))));
       }

@@ -23,7 +23,8 @@ pub struct Engine<'g, C: ClientPort + Drop, J: Naming, R: Wait + Drop, D: Drop, 
 }
 
 // By hand, so that the crates above prove one call.
-impl<'g, C: ClientPort + Drop, J: Naming, R: Wait + Drop, D: Drop, P: Drop, G: Gate> Drop for Engine<'g, C, J, R, D, P, G> {
+impl<'g, C: ClientPort + Drop, J: Naming, R: Wait + Drop, D: Drop, P: Drop, G: Gate> Drop
+    for Engine<'g, C, J, R, D, P, G> {
     fn drop(self) {
         let Engine { worker, carrier } = self;
         drop(worker);

@@ -137,10 +137,7 @@ impl<C: ClientPort + Drop, J: Naming> WorkerState<C, J> {
 
     /// Looks at the carrier's ends of its lanes. Whether something is left there that one of them is to take, or no place was
     /// known to be free.
-    pub(crate) fn look_beside<M: Drop>(
-        &mut self,
-        ends: &mut CarrierEnds<Newcomer<C, J>, M>,
-    ) -> bool
+    pub(crate) fn look_beside<M: Drop>(&mut self, ends: &mut CarrierEnds<Newcomer<C, J>, M>) -> bool
         requires { HasLanes (state_model self.old) (lanes_of ends.old) }
         ensures looks { LookOutcome (state_model self.old) (lanes_of ends.old) result (state_model self.new) (lanes_of ends.new) }
         ensures map { ends.new.map ≡ ends.old.map }

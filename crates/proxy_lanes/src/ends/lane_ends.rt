@@ -113,10 +113,7 @@ impl<H: Drop> LaneEnds<H> {
 }
 
 // Looks down the lane to a worker, while it is open.
-fn look_down(
-    down: &mut Option<Outlet<(Ticket, Told)>>,
-    inlet: &mut Inlet<(Ticket, Told)>,
-) -> usize
+fn look_down(down: &mut Option<Outlet<(Ticket, Told)>>, inlet: &mut Inlet<(Ticket, Told)>) -> usize
     requires { ForSome down.old (λ outlet. IsLane outlet inlet.old) }
     ensures { DownLooks down.old inlet.old down.new inlet.new result }
 {

@@ -10,8 +10,7 @@ pub returns-clause-hands : goal.returns-clause-hands
 returns-clause-hands g c =
     let old = c.args.self.now.carrier in
     let ends = c.hand.new.self in
-    let value : c.ends.result.now ≡ ends_of old = c.ends.ensures.value in
-    (
+    let value : c.ends.result.now ≡ ends_of old = c.ends.ensures.value in (
       subst (λ e. ChangesAt (lanes_of e) 0 (lanes_of ends) (λ lane lane'. HandsOver lane lane' c.args.client c.hand.result)) value c.hand.ensures.lane,
       λ i. record { worker = worker_model c.args.self.now.worker; carrier = record (carrier_model g.D.Dial.failures (with_ends old ends)) { published = (c.hand.ensures.map ∙ (λ j. (value j).map)) i } },
     )

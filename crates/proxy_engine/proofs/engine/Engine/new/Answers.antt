@@ -9,14 +9,14 @@ returns-clause-begins g c =
     let f = g.D.Dial.failures in
     let made = c.in_ok-ends in
     begun c.args.clients c.args.seeds (f c.args.dial) made.ends.items (lanes_of made.carrier_ends) made.carrier_ends.map c.pop.new.self.items c.in-Some.own (worker_model c.new-worker.result) (carrier_model f c.new-carrier.result)
-      made.ensures.lanes made.ensures.workers.0 made.ensures.map c.in-Some.ensures.items c.new-worker.ensures.model c.new-carrier.ensures
+    made.ensures.lanes made.ensures.workers.0 made.ensures.map c.in-Some.ensures.items c.new-worker.ensures.model c.new-carrier.ensures
 
 pub invariant_of-result : goal.invariant_of-result
 invariant_of-result g c =
     let f = g.D.Dial.failures in
     let made = c.in_ok-ends in
     let begins = begun c.args.clients c.args.seeds (f c.args.dial) made.ends.items (lanes_of made.carrier_ends) made.carrier_ends.map c.pop.new.self.items c.in-Some.own (worker_model c.new-worker.result) (carrier_model f c.new-carrier.result)
-      made.ensures.lanes made.ensures.workers.0 made.ensures.map c.in-Some.ensures.items c.new-worker.ensures.model c.new-carrier.ensures in
+    made.ensures.lanes made.ensures.workers.0 made.ensures.map c.in-Some.ensures.items c.new-worker.ensures.model c.new-carrier.ensures in
     record { together = new-together c.args.clients c.args.seeds (f c.args.dial) (record { worker = worker_model c.new-worker.result; carrier = carrier_model f c.new-carrier.result }) begins }
 
 pub returns-clause-in_order : goal.returns-clause-in_order

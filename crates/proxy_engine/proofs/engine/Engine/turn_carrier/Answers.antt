@@ -24,11 +24,11 @@ returns-clause-ends g c =
     let f = g.D.Dial.failures in
     let node = g.P.NodePort in
     carrier-ends node.failures node.is_garbled node.exchange node.gives_none g.D.Dial.opens g.P.RunPort.longest (engine_model f c.args.self.now) (record { worker = worker_model c.args.self.now.worker; carrier = carrier_model f c.turn-carried.new.self }) (engine_model f c.look_after.new.self)
-      c.turn-carried.result c.look_after.result refl c.turn-carried.ensures.turns c.look_after.ensures.looks
+    c.turn-carried.result c.look_after.result refl c.turn-carried.ensures.turns c.look_after.ensures.looks
 
 pub returns-clause-rests : goal.returns-clause-rests
 returns-clause-rests g c =
     let f = g.D.Dial.failures in
     let node = g.P.NodePort in
     carrier-rests (GaveNone node.failures node.is_garbled node.exchange node.gives_none) (record { worker = worker_model c.args.self.now.worker; carrier = carrier_model f c.turn-carried.new.self }) (engine_model f c.look_after.new.self) c.turn-carried.result c.look_after.result
-      c.turn-carried.ensures.rests c.look_after.ensures.looks
+    c.turn-carried.ensures.rests c.look_after.ensures.looks

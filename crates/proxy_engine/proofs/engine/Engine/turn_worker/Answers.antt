@@ -20,11 +20,11 @@ pub returns-clause-ends : goal.returns-clause-ends
 returns-clause-ends g c =
     let f = g.D.Dial.failures in
     worker-ends g.C.ClientPort.moves (engine_model f c.args.self.now) (record { worker = worker_model c.turn-worked.new.self; carrier = carrier_model f c.args.self.now.carrier }) (engine_model f c.look_after.new.self) c.turn-worked.result c.look_after.result refl
-      c.turn-worked.ensures.turns c.look_after.ensures.looks
+    c.turn-worked.ensures.turns c.look_after.ensures.looks
 
 pub returns-clause-rests : goal.returns-clause-rests
 returns-clause-rests g c =
     let f = g.D.Dial.failures in
     let ports = g.C.ClientPort in
     worker-rests ports.gives_none ports.takes_none (record { worker = worker_model c.turn-worked.new.self; carrier = carrier_model f c.args.self.now.carrier }) (engine_model f c.look_after.new.self) c.turn-worked.result c.look_after.result
-      c.turn-worked.ensures.rests c.look_after.ensures.looks
+    c.turn-worked.ensures.rests c.look_after.ensures.looks
