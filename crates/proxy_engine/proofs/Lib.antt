@@ -9,3 +9,5 @@ pub mod Growing
 pub mod Beginning
 pub mod Unseen
 pub mod UnseenCarrier
+pub mod Knowing
+pub mod Events

@@ -31,10 +31,10 @@ module _ {T : Type 0} where
   pub items-themselves : (inlet : Inlet T) → KnowsItems inlet inlet
   items-themselves inlet = (((refl, refl, refl, refl), refl), refl, front-itself (held inlet))
 
-  producers-after : (a b c : Outlet T) → SameProducer a.producer b.producer → SameProducer b.producer c.producer → SameProducer a.producer c.producer
+  pub producers-after : (a b c : Outlet T) → SameProducer a.producer b.producer → SameProducer b.producer c.producer → SameProducer a.producer c.producer
   producers-after a b c p q = ((q.0.0 ∙ p.0.0, q.0.1 ∙ p.0.1, q.0.2 ∙ p.0.2, q.0.3 ∙ p.0.3), q.1 ∙ p.1)
 
-  consumers-after : (a b c : Inlet T) → SameConsumer a.consumer b.consumer → SameConsumer b.consumer c.consumer → SameConsumer a.consumer c.consumer
+  pub consumers-after : (a b c : Inlet T) → SameConsumer a.consumer b.consumer → SameConsumer b.consumer c.consumer → SameConsumer a.consumer c.consumer
   consumers-after a b c p q = ((q.0.0 ∙ p.0.0, q.0.1 ∙ p.0.1, q.0.2 ∙ p.0.2, q.0.3 ∙ p.0.3), q.1 ∙ p.1)
 
   pub posts-unseen : (less old new : Outlet T) (x : T) (given : Result (Unit {0}) T) → KnowsPlaces less old → Posts old new x given → Posts less new x given

@@ -36,7 +36,7 @@ gives-unseen (Some less) more new pair given k g =
     (at.0, at.1, posts-unseen less k.0 at.0 pair given k.2 at.2)
 
 module _ {H : Type 0} where
-  lane-themselves : (lane : LaneEnds H) → LaneKnows lane lane
+  pub lane-themselves : (lane : LaneEnds H) → LaneKnows lane lane
   lane-themselves lane = (items-themselves lane.up, down-themselves lane.down, places-themselves lane.door)
 
   abbrev Absorbs : (LaneEnds H → LaneEnds H → Type 0) → Type 0

@@ -3,3 +3,4 @@ pub mod EngineModel
 pub mod Engine
 pub mod Along
 pub mod Unseen
+pub mod Events
