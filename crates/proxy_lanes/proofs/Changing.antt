@@ -1,5 +1,5 @@
 -- One item of a list changes.
-use Rattle.std.proofs.Common.{◌≡◌, ℕ, ◌<◌, List, length, Some, slice_set, get_or, sym, ap, ◌∙◌}
+use Rattle.std.proofs.Common.{◌≡◌, ℕ, ◌<◌, List, length, Some, slice_get, slice_set, get_or, sym, ap, ◌∙◌}
 use Rattle.std.proofs.lemmas.Option.{slice_get-get_or}
 use Rattle.proxy_lanes.specs.Ends.{ChangesAt}
 
@@ -13,3 +13,7 @@ changed R xs k j x y below same value is = (
   ap (λ n. slice_set xs n y) same,
   is,
 )
+
+-- the item at this place, where the index computes to the place
+pub found : {A : Type 0} (xs : List A) (k j : ℕ) (x : A) → k < length xs → j ≡ k → x ≡ get_or xs j x → slice_get xs k ≡ Some x
+found xs k j x below same value = slice_get-get_or xs k x below ∙ ap Some (sym (value ∙ ap (λ n. get_or xs n x) same))

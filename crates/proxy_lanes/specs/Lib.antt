@@ -6,3 +6,4 @@ pub mod Opened
 pub mod Published
 pub mod Publishing
 pub mod View
+pub mod Beside

@@ -7,7 +7,7 @@ use crate::history::Naming;
 use crate::map_view::MapView;
 use crate::ring::{Inlet, Note, Outlet};
 use key_split::{Run, Ticket, Told};
-pub use lane_ends::LaneEnds;
+pub use lane_ends::{LaneEnds, LeftInLanes};
 pub use made::lanes;
 
 /// The end at which a worker takes the clients that are handed to it.
@@ -41,11 +41,12 @@ impl<H: Drop, M: Drop> Drop for CarrierEnds<H, M> {
 }
 
 impl<H: Drop, M: Drop> CarrierEnds<H, M> {
-    ghost use Rattle.std.specs.Prelude.{◌≡◌, ◌<◌, length, slice_get};
+    ghost use Rattle.std.specs.Prelude.{◌≡◌, ◌<◌, ◌↔◌, IsTrue, length, slice_get};
     ghost use Rattle.std.specs.Option.{ForSome};
     ghost use Rattle.proxy_lanes.specs.Lane.{IsNoteOf};
     ghost use Rattle.proxy_lanes.specs.Ends.{ChangesAt, FinishesDown, GivesDown, HandsOver, SettlesUp, TakesUp};
     ghost use Rattle.proxy_lanes.specs.Carrier.{lanes_of};
+    ghost use Rattle.proxy_lanes.specs.Beside.{AreBeside, HavePlaces, LanesLook};
 
     /// How many workers there are.
     pub fn workers(&self) -> usize
@@ -111,5 +112,29 @@ impl<H: Drop, M: Drop> CarrierEnds<H, M> {
         ensures map { self.new.map ≡ self.old.map }
     {
         self.lanes[usize::from(worker)].settle(note)
+    }
+
+    /// Whether a place is known to be free in this worker's lane down and in its lane up, whose other end is given.
+    pub fn have_places(&self, worker: u16, outlet: &Outlet<Run>) -> bool
+        requires { worker < length (lanes_of self.now) }
+        ensures { ForSome (slice_get (lanes_of self.now) worker) (λ lane. IsTrue result ↔ HavePlaces outlet.now lane) }
+    {
+        self.lanes[usize::from(worker)].have_places(outlet)
+    }
+
+    /// Looks at this worker's ends of its lanes. What was taken from each and what is left are then all that was posted.
+    pub fn look_beside(
+        &mut self,
+        worker: u16,
+        outlet: &mut Outlet<Run>,
+        inlet: &mut Inlet<(Ticket, Told)>,
+        newcomers: &mut Inlet<H>,
+    ) -> LeftInLanes
+        requires worker { worker < length (lanes_of self.old) }
+        requires beside { ForSome (slice_get (lanes_of self.old) worker) (AreBeside outlet.old inlet.old newcomers.old) }
+        ensures lane { ChangesAt (lanes_of self.old) worker (lanes_of self.new) (λ old new. LanesLook outlet.old inlet.old newcomers.old old result outlet.new inlet.new newcomers.new new) }
+        ensures map { self.new.map ≡ self.old.map }
+    {
+        self.lanes[usize::from(worker)].look_beside(outlet, inlet, newcomers)
     }
 }

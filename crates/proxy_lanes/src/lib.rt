@@ -19,7 +19,7 @@ mod ring;
 mod table;
 mod tables;
 
-pub use ends::{CarrierEnds, LaneEnds, Newcomers, WorkerEnds, lanes};
+pub use ends::{CarrierEnds, LaneEnds, LeftInLanes, Newcomers, WorkerEnds, lanes};
 pub use history::{Front, Naming, Opened};
 pub use map_view::{MapView, NotEntered};
 pub use map_writer::{MapWriter, Publisher};

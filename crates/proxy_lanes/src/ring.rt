@@ -78,8 +78,8 @@ pub struct Note<T: Drop> {
 }
 
 impl<T: Drop> Outlet<T> {
-    ghost use Rattle.std.specs.Prelude.{IfSome};
-    ghost use Rattle.proxy_lanes.specs.Lane.{Posts, FinishesAs, posted};
+    ghost use Rattle.std.specs.Prelude.{◌<◌, ◌↔◌, IfSome, IsTrue};
+    ghost use Rattle.proxy_lanes.specs.Lane.{Posts, FinishesAs, free_places, posted};
 
     /// Puts the item behind all that was posted. It comes back where no place is known to be free, or no number is left.
     pub fn post(&mut self, item: T) -> Result<(), T>
@@ -104,6 +104,13 @@ impl<T: Drop> Outlet<T> {
         self.next
     }
 
+    /// Whether a place is known to be free.
+    pub fn has_place(&self) -> bool
+        ensures { IsTrue result ↔ (0 < free_places self.now) }
+    {
+        self.producer.cached_slots() > 0
+    }
+
     /// Nothing more is posted. `None` where the other end is gone.
     pub fn finish(self) -> Option<Note<T>>
         ensures { IfSome result (FinishesAs self) }
@@ -117,7 +124,8 @@ impl<T: Drop> Outlet<T> {
 impl<T: Drop> Inlet<T> {
     ghost use Rattle.std.specs.Prelude.{◌<◌, ◌∷◌, ◌++◌, []};
     ghost use Rattle.rtrb.specs.Ring.{SameConsumer};
-    ghost use Rattle.proxy_lanes.specs.Lane.{IsNoteOf, Settles, Takes, held, numbered, taken};
+    ghost use Rattle.proxy_lanes.specs.Lane.{IsLane, IsNoteOf, Settles, Takes, held, numbered, taken};
+    ghost use Rattle.proxy_lanes.specs.Beside.{LooksBeside};
 
     /// Takes the next item.
     pub fn take(&mut self) -> Option<T>
@@ -146,5 +154,14 @@ impl<T: Drop> Inlet<T> {
     {
         let Note { mut finished } = note;
         self.consumer.slots_after(&mut finished)
+    }
+
+    /// How many items are left, where both ends are at hand. With those that were taken they are all that was posted.
+    pub fn look_beside(&mut self, outlet: &mut Outlet<T>) -> usize
+        requires { IsLane outlet.old self.old }
+        ensures { LooksBeside outlet.old self.old outlet.new self.new result }
+    {
+        outlet.producer.slots_beside(&mut self.consumer);
+        self.consumer.slots_beside(&mut outlet.producer)
     }
 }

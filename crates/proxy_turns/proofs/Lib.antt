@@ -25,3 +25,4 @@ pub mod Settling
 pub mod Undrained
 pub mod Turns
 pub mod Waiting
+pub mod Looks

@@ -57,6 +57,10 @@ carrier_model failures carrier = record {
 abbrev pub ends_of : {H M D P : Type 0} → Carrier H M D P → CarrierEnds H M
 ends_of carrier = carrier.ends
 
+-- what dials the nodes
+abbrev pub dial_of : {H M D P : Type 0} → Carrier H M D P → D
+dial_of carrier = carrier.dial
+
 -- the carrier with these ends, and all else as it is
 abbrev pub with_ends : {H M D P : Type 0} → Carrier H M D P → CarrierEnds H M → Carrier H M D P
 with_ends carrier ends = record carrier { ends = ends }

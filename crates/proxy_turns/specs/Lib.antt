@@ -25,3 +25,4 @@ pub mod Received
 pub mod Script
 pub mod Swapping
 pub mod Unpushed
+pub mod Beside

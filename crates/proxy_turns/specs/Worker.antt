@@ -3,6 +3,7 @@
 -- not said.
 use Rattle.std.specs.Prelude.{◌≡◌, [], ℕ, Bool, true, false, Option, Some, None, List, ⊤}
 use Rattle.std.specs.FinMap.{empty}
+use Rattle.std.specs.BinaryHeap.{heap_items}
 use Rattle.std.specs.declared.cmp.Reverse.{Reverse}
 use Rattle.futures.specs.declared.task.Poll.{Poll}
 use Rattle.futures.specs.declared.task.Poll.TheVariants.{Ready, Pending}
@@ -24,6 +25,10 @@ use Rattle.proxy_turns.specs.WorkerState.{state_model}
 
 abbrev pub worker_model : {C J G : Type 0} {P : port.Ghosts C} {N : naming.Ghosts J} → Worker C J G P N → WorkerModel C J
 worker_model worker = state_model worker.state
+
+-- the commands that wait, each with the time when it is due
+abbrev pub paused_in : {C J G : Type 0} {P : port.Ghosts C} {N : naming.Ghosts J} → Worker C J G P N → List (Reverse PausedCommand)
+paused_in worker = heap_items worker.state.due.paused
 
 -- it has not come to its end
 abbrev pub IsRunning : {C J G : Type 0} {P : port.Ghosts C} {N : naming.Ghosts J} → Worker C J G P N → Type 0

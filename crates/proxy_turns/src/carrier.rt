@@ -80,7 +80,7 @@ impl<H: Drop, M: Drop, D: Drop, P: Drop> Carrier<H, M, D, P> {
     ghost use Rattle.std.specs.Borrow.{Lends, sem};
     ghost use Rattle.proxy_lanes.specs.contracts.ends.CarrierEnds.{the_row as ends_row};
     ghost use Rattle.proxy_turns.specs.contracts.carrier.Carrier.{the_row as carrier_row};
-    ghost use Rattle.proxy_turns.specs.CarrierModel.{ends_of, with_ends};
+    ghost use Rattle.proxy_turns.specs.CarrierModel.{dial_of, ends_of, with_ends};
 
     /// The carrier's ends of the lanes, by which new clients are handed over.
     pub fn ends(&mut self) -> &mut CarrierEnds<H, M>
@@ -88,6 +88,13 @@ impl<H: Drop, M: Drop, D: Drop, P: Drop> Carrier<H, M, D, P> {
         ensures* writes_back { sem 𝓛 (Lends (carrier_row H.row M.row D.row P.row) (ends_row H.row M.row) self.entry result (with_ends self.old)) }
     {
         &mut self.ends
+    }
+
+    /// What dials the nodes.
+    pub fn dial(&self) -> &D
+        ensures { result.now ≡ dial_of self.now }
+    {
+        &self.dial
     }
 }
 

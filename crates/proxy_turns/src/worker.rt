@@ -1,13 +1,17 @@
 //! A worker, as a future: each poll is one pass of its gate and one turn.
 
-ghost use Rattle.std.specs.Prelude.{◌≡◌, false, true, ⊤};
+ghost use Rattle.std.specs.Prelude.{◌≡◌, ◌↔◌, IsTrue, false, true, ⊤};
 ghost use Rattle.std.specs.BinaryHeap.{heap_items};
 ghost use Rattle.futures.specs.Task.{Covers, Keeps};
 ghost use Rattle.futures.specs.Poll.{IfReady, OnPending};
-ghost use Rattle.proxy_turns.specs.WorkerModel.{WorkerTurns};
+ghost use mathlib.Core.List.{IsPrefix};
+ghost use Rattle.proxy_lanes.specs.Carrier.{lanes_of};
+ghost use Rattle.proxy_turns.specs.Beside.{HasLanes, LookOutcome};
+ghost use Rattle.proxy_turns.specs.Waiting.{AreAllLater, IsFirstDue};
+ghost use Rattle.proxy_turns.specs.WorkerModel.{AreAllServed, WorkerTurns};
 ghost use Rattle.proxy_turns.specs.ClientRest.{IfStill};
 ghost use Rattle.proxy_turns.specs.WorkerRest.{IsWorkerAtRest};
-ghost use Rattle.proxy_turns.specs.Worker.{Gives, HandsBack, IsRunning, PollOutcome, StepOutcome, TellsDue, new_worker, worker_model};
+ghost use Rattle.proxy_turns.specs.Worker.{Gives, HandsBack, IsRunning, PollOutcome, StepOutcome, TellsDue, new_worker, paused_in, worker_model};
 
 use crate::gate::Gate;
 use crate::newcomer::Newcomer;
@@ -16,7 +20,7 @@ use crate::worker_end::{WorkerEnd, WorkerOutcome};
 use crate::worker_state::WorkerState;
 use futures::Future;
 use futures::task::{Context, Poll};
-use proxy_lanes::{Naming, WorkerEnds};
+use proxy_lanes::{CarrierEnds, Front, Naming, WorkerEnds};
 use resp_wire::NoMemory;
 use std::alloc::Global;
 
@@ -64,8 +68,50 @@ impl<'g, C: ClientPort + Drop, J: Naming, G: Gate> Worker<'g, C, J, G> {
         ensures turns { WorkerTurns C.moves (worker_model self.old) result (worker_model self.new) }
         ensures rests { IfStill result (IsWorkerAtRest C.gives_none C.takes_none (worker_model self.new)) }
         ensures runs { IsRunning self.old → IsRunning self.new }
+        ensures pauses { IfStill result (AreAllLater (G.tells self.old.gate.now) (paused_in self.new)) }
     {
         self.state.turn(self.gate)
+    }
+
+    /// When the first of the commands that wait is to be posted again, by the gate's time.
+    pub fn next_due(&self) -> Option<u64>
+        ensures { IsFirstDue (paused_in self.now) result }
+    {
+        self.state.next_due()
+    }
+
+    /// Whether all clients that were to come came, and none is left.
+    pub fn is_served(&self) -> bool
+        ensures { IsTrue result ↔ AreAllServed (worker_model self.now) }
+    {
+        self.state.is_served()
+    }
+
+    /// Gives all ports back.
+    pub fn end(&mut self, outcome: WorkerOutcome) -> WorkerEnd<C>
+        ensures outcome { result.outcome ≡ outcome }
+        ensures back { HandsBack (worker_model self.old) result }
+    {
+        self.over = true;
+        self.state.end(outcome)
+    }
+
+    /// Looks at the carrier's ends of its lanes, where both are in one thread. Whether something is left there that one of them
+    /// is to take, or no place was known to be free.
+    pub fn look_beside<M: Drop>(&mut self, ends: &mut CarrierEnds<Newcomer<C, J>, M>) -> bool
+        requires { HasLanes (worker_model self.old) (lanes_of ends.old) }
+        ensures looks { LookOutcome (worker_model self.old) (lanes_of ends.old) result (worker_model self.new) (lanes_of ends.new) }
+        ensures map { ends.new.map ≡ ends.old.map }
+        ensures paused { paused_in self.new ≡ paused_in self.old }
+    {
+        self.state.look_beside(ends)
+    }
+
+    /// Whether the front has all that the worker's view of the map knows.
+    pub fn is_known_in(&self, front: &Front<J>) -> bool
+        ensures { IsTrue result → IsPrefix (worker_model self.now).view front.now }
+    {
+        self.state.is_known_in(front)
     }
 
     // One pass of the gate, and one turn where it lets the worker go on. What ends the worker, where something does.

@@ -10,6 +10,9 @@ ghost use Rattle.proxy_turns.specs.DueCommands.{AreNoted, AreSettled, HasRoom, I
 ghost use Rattle.proxy_turns.specs.WorkerRest.{AreClientsAtRest, ArePostedAtRest, HasNoNewcomer, HasNothingToTell};
 ghost use Rattle.proxy_turns.specs.Arrivals.{settled_in, turned_in};
 ghost use Rattle.proxy_turns.specs.Waiting.{AreAllLater, IsFirstDue};
+ghost use mathlib.Core.List.{IsPrefix};
+ghost use Rattle.proxy_lanes.specs.Carrier.{lanes_of};
+ghost use Rattle.proxy_turns.specs.Beside.{HasLanes, IsLeft, LookOutcome};
 
 use crate::client_state::ClientState;
 use crate::client_table::{
@@ -29,7 +32,9 @@ use crate::uplink::Uplink;
 use crate::worker_end::{WorkerEnd, WorkerOutcome};
 use indexmap::IndexMap;
 use key_split::{Ticket, Told};
-use proxy_lanes::{Front, Inlet, LANE_PLACES, MapView, Naming, Newcomers, WorkerEnds};
+use proxy_lanes::{
+    CarrierEnds, Front, Inlet, LANE_PLACES, LeftInLanes, MapView, Naming, Newcomers, WorkerEnds,
+};
 use resp_wire::{Limits, NoMemory};
 use std::alloc::Global;
 use std::mem;
@@ -126,6 +131,31 @@ impl<C: ClientPort + Drop, J: Naming> WorkerState<C, J> {
         ensures { IsFirstDue (heap_items self.now.due.paused) result }
     {
         self.due.next_due()
+    }
+
+    /// Looks at the carrier's ends of its lanes. Whether something is left there that one of them is to take, or no place was
+    /// known to be free.
+    pub(crate) fn look_beside<M: Drop>(&mut self, ends: &mut CarrierEnds<Newcomer<C, J>, M>) -> bool
+        requires { HasLanes (state_model self.old) (lanes_of ends.old) }
+        ensures looks { LookOutcome (state_model self.old) (lanes_of ends.old) result (state_model self.new) (lanes_of ends.new) }
+        ensures map { ends.new.map ≡ ends.old.map }
+        ensures due { self.new.due ≡ self.old.due }
+    {
+        let places = ends.have_places(self.worker, &self.uplink.outlet);
+        let counts = ends.look_beside(
+            self.worker,
+            &mut self.uplink.outlet,
+            &mut self.inlet,
+            &mut self.newcomers,
+        );
+        !places | is_left(counts, self.left)
+    }
+
+    /// Whether the front has all that the view knows.
+    pub(crate) fn is_known_in(&self, front: &Front<J>) -> bool
+        ensures { IsTrue result → IsPrefix (state_model self.now).view.known front.now }
+    {
+        self.uplink.view.is_in(front)
     }
 
     /// How many runs were posted.
@@ -365,6 +395,13 @@ impl<C: ClientPort + Drop, J: Naming> WorkerState<C, J> {
         keep_port(&mut self.ports, self.left, closed(port));
         true
     }
+}
+
+// Whether something is left in the lanes that is to be taken.
+fn is_left(counts: LeftInLanes, left: Option<u32>) -> bool
+    ensures { IsTrue result ↔ IsLeft counts left }
+{
+    counts.up > 0 || counts.down > 0 || (are_to_come(left) && counts.door > 0)
 }
 
 // What was published is known to the view from now on, as far as the front goes.
