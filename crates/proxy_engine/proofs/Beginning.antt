@@ -11,6 +11,7 @@ use Rattle.proxy_lanes.specs.declared.ring.Inlet.{Inlet}
 use Rattle.proxy_lanes.specs.declared.ends.WorkerEnds.{WorkerEnds}
 use Rattle.proxy_lanes.specs.declared.ends.lane_ends.LaneEnds.{LaneEnds}
 use Rattle.proxy_lanes.specs.Carrier.{AreLanes, AreLanesOf}
+use Rattle.proxy_lanes.specs.View.{ViewModel}
 use Rattle.proxy_lanes.specs.Ends.{ChangesAt, HandsOver}
 use Rattle.proxy_lanes.specs.Lane.{IsLane, IsNewLane, posted, taken}
 use Rattle.proxy_lanes.specs.Beside.{AreBeside, IsInStep}
@@ -73,7 +74,7 @@ module _ {C J P : Type 0} where
             let there : l.down ≡ Some outlet = ap (λ (x : LaneEnds (Newcomer C J)). x.down) same ∙ o in
             nothing-first (taken w.inlet) (posted outlet) (down.1 outlet there).2;
         door = λ lane e. nothing-first (taken w.newcomers) (posted lane.door) a.4.2;
-        view = nothing-first w.view [] a.5;
+        view = nothing-first w.view.known [] (ap (λ (v : ViewModel). v.known) a.5);
       }
 
 -- ---- a client is handed over

@@ -31,7 +31,7 @@ module _ {C J P : Type 0} where
         up = λ lane e. front-after (taken lane.up) (posted engine.worker.outlet) (posted mid.outlet) (first.up lane (ap (λ k. slice_get ls k) (sym before.0) ∙ e)) before.1.1;
         down = λ lane e outlet o. front-after (taken mid.inlet) (taken new.inlet) (posted outlet) later.2.1 (last.down lane (ap (λ k. slice_get ls k) later.0 ∙ e) outlet o);
         door = λ lane e. front-after (taken mid.newcomers) (taken new.newcomers) (posted lane.door) later.3.1 (last.door lane (ap (λ k. slice_get ls k) later.0 ∙ e));
-        view = front-after mid.view new.view engine.carrier.published later.4 last.view;
+        view = front-after mid.view.known new.view.known engine.carrier.published later.4 last.view;
       }
 
   module _ (moves : Moves C) where
@@ -57,7 +57,7 @@ module _ {C J P : Type 0} where
             let old = down-back from.0.down lane.down from.2.1 outlet o in
             front-after (taken w.inlet) (posted old.0) (posted outlet) (first.down from.0 from.1 old.0 old.1) old.2.1;
         door = λ lane e. let from = came-from engine.carrier.lanes mid.lanes k lane before e in front-after (taken w.newcomers) (posted from.0.door) (posted lane.door) (first.door from.0 from.1) from.2.2.1;
-        view = front-after w.view engine.carrier.published mid.published first.view published;
+        view = front-after w.view.known engine.carrier.published mid.published first.view published;
       }
 
   module _ (failures : P → ℕ) (is_garbled : P → Type 0) (exchange : P → List Request → List Value → P → Type 0) (gives_none : P → Type 0) (opens : Endpoint → P → Type 0) (longest : P → ℕ) where

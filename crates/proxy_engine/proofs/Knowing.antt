@@ -126,5 +126,5 @@ module _ {C J P : Type 0} where
             let d = down-to lane.down x.0.down x.2.1 outlet o in
             step-known outlet d.0 less.worker.inlet more.worker.inlet d.2 k.0.1 (order.down x.0 (ap (λ n. slice_get more.carrier.lanes n) number ∙ x.1) d.0 d.1);
         door = λ lane e. let x = to lane e in step-known lane.door x.0.door less.worker.newcomers more.worker.newcomers x.2.2 k.0.2 (order.door x.0 (ap (λ n. slice_get more.carrier.lanes n) number ∙ x.1));
-        view = subst (λ xs. IsPrefix xs less.carrier.published) (ap (λ (w : WorkerModel C J). w.view) k.0.3) (subst (λ ys. IsPrefix more.worker.view ys) (ap (λ (c : CarrierModel (Newcomer C J) P). c.published) k.1.1) order.view);
+        view = subst (λ xs. IsPrefix xs less.carrier.published) (ap (λ (w : WorkerModel C J). w.view.known) k.0.3) (subst (λ ys. IsPrefix more.worker.view.known ys) (ap (λ (c : CarrierModel (Newcomer C J) P). c.published) k.1.1) order.view);
       }

@@ -71,7 +71,7 @@ module _ {C J : Type 0} where
       let x = l.0.0 in
       let y = l.0.1 in
       let looked : LanesLook old.outlet old.inlet old.newcomers x counts new.outlet new.inlet new.newcomers y = l.0.4 in (
-        (ap (λ (w : WorkerModel C J). w.worker) l.1, outlet-looked old.outlet new.outlet looked.0.0, (down-same x.down y.down old.inlet new.inlet counts.down looked.1).1, inlet-looked old.newcomers new.newcomers looked.2.1, same-front old.view new.view (ap (λ (w : WorkerModel C J). w.view) l.1)),
+        (ap (λ (w : WorkerModel C J). w.worker) l.1, outlet-looked old.outlet new.outlet looked.0.0, (down-same x.down y.down old.inlet new.inlet counts.down looked.1).1, inlet-looked old.newcomers new.newcomers looked.2.1, same-front old.view.known new.view.known (ap (λ (w : WorkerModel C J). w.view.known) l.1)),
         changes _ (λ lane lane' r. lane-same old.outlet new.outlet old.inlet new.inlet old.newcomers new.newcomers lane lane' counts r) lanes lanes' old.worker l.0,
       )
 
@@ -99,7 +99,7 @@ none-left (suc n) never = absurd (never (omega arith))
 
 module _ {C J P : Type 0} where
   -- after a look, and where the worker sees a front of what was published, all is in order
-  pub in-order : (old new : EngineModel C J P) (left : Bool) → Looks old left new → IsPrefix new.worker.view new.carrier.published → IsInOrder new
+  pub in-order : (old new : EngineModel C J P) (left : Bool) → Looks old left new → IsPrefix new.worker.view.known new.carrier.published → IsInOrder new
   in-order old new left l view =
       let looked = outcome-looks left old.worker new.worker old.carrier.lanes new.carrier.lanes l.0 in
       let at = at-new old.worker new.worker old.carrier.lanes new.carrier.lanes looked.0 looked.1 in

@@ -4,7 +4,7 @@ use Rattle.std.specs.FinMap.{insert}
 use mathlib.Core.List.{IsPrefix}
 use Rattle.rtrb.specs.Ring.{SameConsumer, SameProducer}
 use Rattle.key_split.specs.Runs.{RunModel}
-use Rattle.slot_map.specs.declared.ops.MapOp.{MapOp}
+use Rattle.proxy_lanes.specs.View.{ViewModel}
 use Rattle.proxy_lanes.specs.declared.ring.Outlet.{Outlet}
 use Rattle.proxy_lanes.specs.declared.ring.Inlet.{Inlet}
 use Rattle.proxy_lanes.specs.Lane.{Posts, Takes, free_places, held, numbered, posted, taken}
@@ -69,7 +69,7 @@ module _ {C : Type 0} (moves : Moves C) where
   with_outlet : (outlet : Outlet RunModel) (a b : ClientContext C) → a ≡ b → record a { outlet = outlet } ≡ record b { outlet = outlet }
   with_outlet outlet a b e = ap (λ (c : ClientContext C). record c { outlet = outlet }) e
 
-  client-unseen : (event : ClientEvent) (client : ClientModel C) (less more : Outlet RunModel) (view : List MapOp) (new : ClientContext C) → KnowsPlaces less more
+  client-unseen : (event : ClientEvent) (client : ClientModel C) (less more : Outlet RunModel) (view : ViewModel) (new : ClientContext C) → KnowsPlaces less more
       → ClientDoes moves (record { client = client; outlet = more; view = view }) event new → ClientUnseen client less view event new
   client-unseen (Pulled bytes) client less more view new k d = (less, (d.0, with_outlet less _ _ d.1), stays less more new _ k d.1 refl)
   client-unseen (Fed result) client less more view new k d = (less, (d.0, with_outlet less _ _ d.1), stays less more new _ k d.1 refl)

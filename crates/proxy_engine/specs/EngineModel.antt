@@ -47,7 +47,7 @@ module _ {C J P : Type 0} where
     pub up : AtLanes engine (λ lane. IsInStep engine.worker.outlet lane.up)
     pub down : AtLanes engine (λ lane. ForSome lane.down (λ outlet. IsInStep outlet engine.worker.inlet))
     pub door : AtLanes engine (λ lane. IsInStep lane.door engine.worker.newcomers)
-    pub view : IsPrefix engine.worker.view engine.carrier.published
+    pub view : IsPrefix engine.worker.view.known engine.carrier.published
 
   -- ---- a turn
 

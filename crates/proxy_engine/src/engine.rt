@@ -174,7 +174,7 @@ where
     fn sees_front(&mut self) -> bool
         ensures same { engine_model D.failures self.new ≡ engine_model D.failures self.old }
         ensures waiting { waiting_in self.new ≡ waiting_in self.old }
-        ensures front { IsTrue result → IsPrefix (engine_model D.failures self.new).worker.view (engine_model D.failures self.new).carrier.published }
+        ensures front { IsTrue result → IsPrefix (engine_model D.failures self.new).worker.view.known (engine_model D.failures self.new).carrier.published }
     {
         match self.carrier.ends().map.tell() {
             Some(front) => self.worker.is_known_in(&front),

@@ -109,7 +109,7 @@ impl<'g, C: ClientPort + Drop, J: Naming, G: Gate> Worker<'g, C, J, G> {
 
     /// Whether the front has all that the worker's view of the map knows.
     pub fn is_known_in(&self, front: &Front<J>) -> bool
-        ensures { IsTrue result → IsPrefix (worker_model self.now).view front.now }
+        ensures { IsTrue result → IsPrefix (worker_model self.now).view.known front.now }
     {
         self.state.is_known_in(front)
     }
