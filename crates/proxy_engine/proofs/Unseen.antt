@@ -58,7 +58,7 @@ module _ {T : Type 0} where
 -- ---- a client
 
 module _ {C : Type 0} (moves : Moves C) where
-  abbrev ClientUnseen : ClientModel C → Outlet RunModel → List MapOp → ClientEvent → ClientContext C → Type 0
+  abbrev ClientUnseen : ClientModel C → Outlet RunModel → ViewModel → ClientEvent → ClientContext C → Type 0
   ClientUnseen client less view event new =
       (outlet : Outlet RunModel) × ClientDoes moves (record { client = client; outlet = less; view = view }) event (record new { outlet = outlet }) × KnowsPlaces outlet new.outlet
 
