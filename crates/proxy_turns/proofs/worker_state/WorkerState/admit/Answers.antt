@@ -24,7 +24,7 @@ pub returns-clause-admits : goal.returns-clause-admits
 returns-clause-admits g c =
     let state = c.args.self.now in
     let newcomer = c.in-Some.newcomer in
-    came_from g.C.ClientPort.moves admits (λ number. refl) (λ number. refl) (state_model state) (clients_in c.make_room.new.clients.entries) c.make_room.new.ports.items c.take.new.self c.put_new.new.newest c.one_fewer-self.result c.learn.new.uplink.view
+    came_from g.C.ClientPort.moves admits (λ number. refl) (λ number. refl) (state_model state) (clients_in c.make_room.new.clients.entries) c.make_room.new.ports.items c.take.new.self c.put_new.new.newest c.one_fewer-self.result c.learn.new.view
     (clients_in c.put_new.new.clients.entries) c.put_new.new.ports.items newcomer c.new-client.result c.make_room.ensures.clients c.make_room.ensures.ports
     c.in-Some.ensures c.one_fewer-self.ensures c.learn.ensures (c.new-client.ensures ∙ ap (λ bounds. new_client state.worker newcomer.number bounds newcomer.port) c.full.ensures) c.put_new.ensures.puts
 
