@@ -1,6 +1,6 @@
 //! Requests of which not all has come.
 
-ghost use Rattle.std.specs.Prelude.{◌≢◌, ◌<◌, ◌+◌, ◌↔◌, ◌∷◌, ℕ, List, IsTrue};
+ghost use Rattle.std.specs.Prelude.{◌≢◌, ◌<◌, ◌≤◌, ◌+◌, ◌*◌, ◌↔◌, ◌∷◌, ℕ, List, IsTrue};
 ghost use Rattle.socket_proxy.specs.Unfinished.{IsHeld, IsMost};
 
 use resp_wire::NoMemory;
@@ -9,13 +9,16 @@ use std::cell::Cell;
 use std::sync::atomic::{AtomicBool, AtomicU64, Ordering};
 use std::sync::{Arc, Mutex};
 
-/// So many bytes of unfinished requests are held for a worker's clients together at most, beside the largest one of them.
+/// So many bytes of unfinished requests are held for the clients of all workers at most, each of which has its share, beside the
+/// largest one of each worker's.
 const MAX_UNFINISHED: u64 = 512 * 1024 * 1024;
 
 /// The unfinished requests of a worker's clients. Its thread alone changes them.
 #[derive(Drop)]
 pub(crate) struct Unfinished {
     alloc: Global,
+    /// So many bytes may be held beside the largest of them.
+    most: u64,
     /// How many bytes are held of all of them together.
     together: AtomicU64,
     /// So many bytes are held of one of them, which may not be the largest, or 0.
@@ -53,10 +56,14 @@ impl HeldRequest {
 }
 
 impl Unfinished {
-    /// No request is unfinished.
-    pub(crate) fn new(alloc: Global) -> Result<Arc<Unfinished, Global>, NoMemory> {
+    /// No request is unfinished, of one of so many workers.
+    pub(crate) fn new(
+        alloc: Global,
+        workers: usize,
+    ) -> Result<Arc<Unfinished, Global>, NoMemory> {
         let unfinished = Unfinished {
             alloc,
+            most: share_of(workers as u64),
             together: AtomicU64::new(0),
             known: AtomicU64::new(0),
             requests: Mutex::new(Vec::new(alloc)),
@@ -99,7 +106,7 @@ impl Unfinished {
         request.bytes.store(bytes, Ordering::Relaxed);
         self.together.store(together, Ordering::Relaxed);
         self.known.store(known, Ordering::Relaxed);
-        if is_too_much(together, known) {
+        if is_too_much(together, known, self.most) {
             self.refuse_largest();
         }
     }
@@ -117,7 +124,7 @@ impl Unfinished {
             return;
         };
         let (together, bytes) = (self.together(), largest.bytes());
-        if !is_too_much(together, bytes) {
+        if !is_too_much(together, bytes, self.most) {
             self.known.store(bytes, Ordering::Relaxed);
             return;
         }
@@ -129,11 +136,21 @@ impl Unfinished {
     }
 }
 
-/// Whether too many bytes are held beside the largest request.
-fn is_too_much(together: u64, largest: u64) -> bool
-    ensures { IsTrue result ↔ (MAX_UNFINISHED + largest < together) }
+/// What each of so many workers may hold, which together hold no more than all may.
+fn share_of(workers: u64) -> u64
+    ensures { workers * result ≤ MAX_UNFINISHED }
 {
-    together.saturating_sub(largest) > MAX_UNFINISHED
+    if workers == 0 {
+        return MAX_UNFINISHED;
+    }
+    MAX_UNFINISHED / workers
+}
+
+/// Whether more than `most` bytes are held beside the largest request.
+fn is_too_much(together: u64, largest: u64, most: u64) -> bool
+    ensures { IsTrue result ↔ (most + largest < together) }
+{
+    together.saturating_sub(largest) > most
 }
 
 /// What is held of a request that is known, or 0, once another number of bytes is held of one of them. Where it was the largest,
