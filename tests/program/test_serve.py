@@ -53,6 +53,12 @@ class Serve(unittest.TestCase):
     def test_set_then_get_with_two_workers(self):
         self.check_set_then_get(2)
 
+    def test_set_then_get_with_four_workers(self):
+        self.check_set_then_get(4)
+
+    def test_set_then_get_with_the_most_workers(self):
+        self.check_set_then_get(64)
+
     def test_keys_of_three_nodes_in_one_request(self):
         sent = [request("MSET", "a", "1", "b", "2", "c", "3")]
         sent += [request(name, "a", "b", "x", "c") for name in ["MGET", "EXISTS", "DEL"]]

@@ -17,6 +17,7 @@ import cases_clients
 import cases_turns
 import cases_runs
 import cases_moves
+import cases_workers
 import cases_faults
 import cases_orders
 import cases_others

@@ -1,7 +1,7 @@
 -- A worker than which none has fewer clients.
 
-use Rattle.std.specs.Prelude.{◌≡◌, ◌≤◌, ℕ, List, Some, All, slice_get}
+use Rattle.std.specs.Prelude.{◌<◌, ◌≤◌, ℕ, List, length, slice_index}
 
--- the worker has so many clients, and none has fewer
+-- there is such a worker, and none has fewer clients
 abbrev pub IsEmptiest : List ℕ → ℕ → Type 0
-IsEmptiest clients worker = (fewest : ℕ) × (slice_get clients worker ≡ Some fewest) × All (λ count. fewest ≤ count) clients
+IsEmptiest clients worker = (worker < length clients) × ((other : ℕ) → other < length clients → slice_index clients worker ≤ slice_index clients other)

@@ -3,7 +3,7 @@
 ghost use Rattle.std.specs.Prelude.{◌≡◌, [], MatchOption};
 ghost use Rattle.socket_proxy.specs.Emptiest.{IsEmptiest};
 
-/// A worker than which none has fewer clients, where there are workers that have so many.
+/// Which of the workers that have so many clients has the fewest, where there is one.
 pub(crate) fn emptiest(clients: &[u64]) -> Option<usize>
     ensures { MatchOption result (clients.now ≡ []) (IsEmptiest clients.now) }
 {
@@ -11,7 +11,7 @@ pub(crate) fn emptiest(clients: &[u64]) -> Option<usize>
         return None;
     }
     let mut emptiest = 0;
-    for worker in 0..clients.len() {
+    for worker in 1..clients.len() {
         if clients[worker] < clients[emptiest] {
             emptiest = worker;
         }
