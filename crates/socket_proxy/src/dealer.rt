@@ -64,14 +64,18 @@ impl Dealer {
         else {
             return Err(arrival);
         };
-        outlet.post(arrival)?;
-        handle.wake();
-        Ok(())
+        match outlet.post(arrival) {
+            Ok(()) => {
+                handle.wake();
+                Ok(())
+            }
+            Err(arrival) => Err(arrival),
+        }
     }
 
     fn count_clients(&mut self, shared: &Shared) {
-        let counted = self.clients.iter_mut().zip(&self.outlets);
-        for ((clients, outlet), worker) in counted.zip(&shared.workers) {
+        let lanes = self.clients.iter_mut().zip(self.outlets.iter());
+        for ((clients, outlet), worker) in lanes.zip(shared.workers.iter()) {
             *clients = outlet
                 .posted()
                 .saturating_sub(worker.counted(Figure::ClientsGone));

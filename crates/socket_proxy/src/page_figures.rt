@@ -86,7 +86,10 @@ fn add_node(figures: &mut Vec<NodeFigures>, standing: NodeStanding) -> Result<()
         dial_failed,
         serves_slots,
     } = standing;
-    if let Some(node) = figures.iter_mut().find(|node| node.address == address) {
+    let known = figures.iter().position(|node| node.address == address);
+    if let Some(at) = known
+        && let Some(node) = figures.get_mut(at)
+    {
         node.has_link |= has_link;
         node.dial_failed |= dial_failed;
         node.serves_slots |= serves_slots;

@@ -39,14 +39,14 @@ pub(crate) struct WorkerTask<W, I> {
 pub(crate) type SocketTask = WorkerTask<Poller, Inlet<Arrival>>;
 
 /// A proxy over sockets, whole: a worker and its carrier.
-type SocketEngine<'b, J, R> = Engine<
-    'b,
+type SocketEngine<'g, 'b, J, R> = Engine<
+    'g,
     SocketClient,
     J,
     &'b R,
     SocketDial<'b, R>,
     NodeSocket,
-    SocketGate<'b>,
+    SocketGate<'g>,
 >;
 
 /// Serves the clients that are dealt to it, until all threads are told to stop. After a fault they are told.
@@ -137,9 +137,9 @@ where
 
 /// Takes the clients that were dealt, turns the proxy, polls now and then, and sleeps where nothing moved: until a socket is
 /// ready, another thread wakes this one, or the first of what waits is due.
-fn serve_until_stopped<'b, J, R>(
+fn serve_until_stopped<'g, 'b, J, R>(
     rt: &R,
-    engine: &mut SocketEngine<'b, J, R>,
+    engine: &mut SocketEngine<'g, 'b, J, R>,
     arrivals: &mut Arrivals<'_>,
     look_ups: &SharedLookUps,
     shared: &Shared,
@@ -178,8 +178,8 @@ where
 }
 
 /// Hands the clients over that were dealt to the worker. True where there was one.
-fn hand_over<'b, J: Naming, R: Wait + Clock + Net<Listener = TcpListener, Stream = TcpStream>>(
-    engine: &mut SocketEngine<'b, J, R>,
+fn hand_over<'g, 'b, J: Naming, R: Wait + Clock + Net<Listener = TcpListener, Stream = TcpStream>>(
+    engine: &mut SocketEngine<'g, 'b, J, R>,
     arrivals: &mut Arrivals<'_>,
 ) -> bool {
     let mut came = false;
@@ -200,8 +200,8 @@ fn hand_over<'b, J: Naming, R: Wait + Clock + Net<Listener = TcpListener, Stream
 }
 
 /// Hands a client over. It comes back where there is no place for it.
-fn hand<'b, J: Naming, R: Wait + Clock + Net<Listener = TcpListener, Stream = TcpStream>>(
-    engine: &mut SocketEngine<'b, J, R>,
+fn hand<'g, 'b, J: Naming, R: Wait + Clock + Net<Listener = TcpListener, Stream = TcpStream>>(
+    engine: &mut SocketEngine<'g, 'b, J, R>,
     client: NumberedClient,
 ) -> Result<(), NumberedClient> {
     let NumberedClient { number, port } = client;
