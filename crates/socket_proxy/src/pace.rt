@@ -1,6 +1,7 @@
 //! What a thread does behind a turn: it goes on, polls, or sleeps.
 
 ghost use Rattle.std.specs.Prelude.{◌≡◌, ◌<◌, ◌+◌, false, true};
+ghost use Rattle.socket_proxy.specs.declared.pace.TheConstants.{STILL_TURNS, TURNS_PER_POLL};
 
 /// So many turns that move something go by between two polls.
 const TURNS_PER_POLL: u32 = 4;

@@ -4,6 +4,7 @@ use proxy_runtime::ReadySet;
 use proxy_turns::Gate;
 
 /// Tells a worker the time of its thread, and of which sockets there is news.
+#[derive(Drop)]
 pub(crate) struct SocketGate<'b> {
     ready: &'b ReadySet,
 }

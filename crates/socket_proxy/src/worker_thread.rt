@@ -39,14 +39,14 @@ pub(crate) struct WorkerTask<W, I> {
 pub(crate) type SocketTask = WorkerTask<Poller, Inlet<Arrival>>;
 
 /// A proxy over sockets, whole: a worker and its carrier.
-type SocketEngine<'g, 'b, J, R> = Engine<
+type SocketEngine<'g, 'r, 'b, J, R> = Engine<
     'g,
     SocketClient,
     J,
     &'b R,
     SocketDial<'b, R>,
     NodeSocket,
-    SocketGate<'g>,
+    SocketGate<'r>,
 >;
 
 /// Serves the clients that are dealt to it, until all threads are told to stop. After a fault they are told.
@@ -120,7 +120,9 @@ where
     let gate = SocketGate::new(&handle.ready);
     let dial = upstream.dial(rt, alloc, handle, &poller, &look_ups)?;
     let seeds = upstream.seed_table(alloc)?;
-    let mut engine = Engine::new(alloc, rt, opened, &gate, dial, seeds, None)?;
+    let mut engine: SocketEngine<'_, '_, '_, J, R> = Engine::new(
+        alloc, rt, opened, &gate, dial, seeds, None,
+    )?;
     match serve_until_stopped(
         rt,
         &mut engine,
@@ -137,9 +139,9 @@ where
 
 /// Takes the clients that were dealt, turns the proxy, polls now and then, and sleeps where nothing moved: until a socket is
 /// ready, another thread wakes this one, or the first of what waits is due.
-fn serve_until_stopped<'g, 'b, J, R>(
+fn serve_until_stopped<'g, 'r, 'b, J, R>(
     rt: &R,
-    engine: &mut SocketEngine<'g, 'b, J, R>,
+    engine: &mut SocketEngine<'g, 'r, 'b, J, R>,
     arrivals: &mut Arrivals<'_>,
     look_ups: &SharedLookUps,
     shared: &Shared,
@@ -178,8 +180,8 @@ where
 }
 
 /// Hands the clients over that were dealt to the worker. True where there was one.
-fn hand_over<'g, 'b, J: Naming, R: Wait + Clock + Net<Listener = TcpListener, Stream = TcpStream>>(
-    engine: &mut SocketEngine<'g, 'b, J, R>,
+fn hand_over<'g, 'r, 'b, J: Naming, R: Wait + Clock + Net<Listener = TcpListener, Stream = TcpStream>>(
+    engine: &mut SocketEngine<'g, 'r, 'b, J, R>,
     arrivals: &mut Arrivals<'_>,
 ) -> bool {
     let mut came = false;
@@ -200,8 +202,8 @@ fn hand_over<'g, 'b, J: Naming, R: Wait + Clock + Net<Listener = TcpListener, St
 }
 
 /// Hands a client over. It comes back where there is no place for it.
-fn hand<'g, 'b, J: Naming, R: Wait + Clock + Net<Listener = TcpListener, Stream = TcpStream>>(
-    engine: &mut SocketEngine<'g, 'b, J, R>,
+fn hand<'g, 'r, 'b, J: Naming, R: Wait + Clock + Net<Listener = TcpListener, Stream = TcpStream>>(
+    engine: &mut SocketEngine<'g, 'r, 'b, J, R>,
     client: NumberedClient,
 ) -> Result<(), NumberedClient> {
     let NumberedClient { number, port } = client;
