@@ -82,7 +82,7 @@ class Serve(unittest.TestCase):
 
     def test_clients_that_leave_early_are_counted(self):
         """Two leave in the middle of a request. Once the third was answered, the proxy holds no socket of any of them."""
-        with cluster(2) as proxied:
+        with cluster(1) as proxied:
             _, process = proxied
             self.assertEqual(heard(proxied, GET), b"$-1\r\n+OK\r\n")
             before = self.settled(process)
