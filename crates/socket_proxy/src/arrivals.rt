@@ -3,12 +3,11 @@
 use crate::client::SocketClient;
 use crate::dealer::Arrival;
 use crate::shared::ThreadHandle;
-use crate::unfinished::{Unfinished, UnfinishedRequest};
+use crate::unfinished::{SharedUnfinished, UnfinishedRequest};
 use event_log::{Event, Figure};
 use mio::Registry;
 use proxy_lanes::Inlet;
 use proxy_runtime::{Peer, PolledSocket, Registration};
-use std::alloc::Global;
 use std::io;
 use std::io::ErrorKind;
 use std::sync::Arc;
@@ -35,7 +34,7 @@ pub(crate) struct Arrivals<'b> {
     handle: &'b ThreadHandle,
     /// What the thread's poll watches.
     registry: Registry,
-    unfinished: Arc<Unfinished, Global>,
+    unfinished: SharedUnfinished,
     /// The number of the next client; `None` once all are given.
     next: Option<u32>,
     /// A client that was taken and put back.
@@ -64,7 +63,7 @@ impl<'b> Arrivals<'b> {
         inlet: Inlet<Arrival>,
         handle: &'b ThreadHandle,
         registry: Registry,
-        unfinished: Arc<Unfinished, Global>,
+        unfinished: SharedUnfinished,
     ) -> Arrivals<'b> {
         Arrivals {
             inlet,
@@ -109,7 +108,10 @@ impl<'b> Arrivals<'b> {
             return Err(ErrorKind::OutOfMemory.into());
         };
         let report = Arc::try_clone(self.handle.report())?;
-        let request = UnfinishedRequest::new(Arc::try_clone(&self.unfinished)?);
+        let Ok(unfinished) = self.unfinished.clone() else {
+            return Err(ErrorKind::OutOfMemory.into());
+        };
+        let request = UnfinishedRequest::new(unfinished);
         let socket = PolledSocket::new(stream, registration, &self.registry)?;
         self.next = number.checked_add(1);
         Ok(NumberedClient {
