@@ -3,8 +3,8 @@
 use crate::event::{EVENT_LIMITS, Event, pair_shown};
 use crate::journal::EVENTS_WAITING;
 use crate::line::Line;
-use crate::rate_limit::RateLimit;
 use crate::node_places::NodePlaces;
+use crate::rate_limit::RateLimit;
 use crate::stream::ErrorStream;
 use crate::thread_report::ThreadReport;
 use crate::time::utc_text;

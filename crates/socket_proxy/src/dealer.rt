@@ -59,9 +59,10 @@ impl Dealer {
         let Some(worker) = emptiest(&self.clients) else {
             return Err(arrival);
         };
-        let (Some(outlet), Some(handle)) =
-            (self.outlets.get_mut(worker), shared.workers.get(worker))
-        else {
+        let (Some(outlet), Some(handle)) = (
+            self.outlets.get_mut(worker),
+            shared.workers.get(worker),
+        ) else {
             return Err(arrival);
         };
         match outlet.post(arrival) {

@@ -23,7 +23,10 @@ pub(crate) fn thread_figures(alloc: Global, shared: &Shared) -> Result<ThreadFig
         workers: workers_figures(alloc, shared)?,
         nodes: nodes_figures(alloc, shared)?,
         times: times_of(shared),
-        has_map: shared.workers.iter().all(|worker| worker.report().has_map()),
+        has_map: shared
+            .workers
+            .iter()
+            .all(|worker| worker.report().has_map()),
     })
 }
 

@@ -103,25 +103,19 @@ where
     let acceptor = acceptor(listener, &shared, &poller, clients, room)?;
     let reporter = Reporter::new(alloc, log, shared.reports(alloc)?)?;
     let desk = Desk::new(acceptor, dealer, reporter);
-    run_beside_page(
-        rt,
-        alloc,
-        pages,
-        &shared,
-        || -> Option<WireRunFault> {
-            run_workers(
-                rt,
-                alloc,
-                tasks,
-                &upstream,
-                &shared,
-                || -> Option<WireRunFault> {
-                    run_desk(rt, desk, poller, &shared);
-                    None
-                },
-            )
-        },
-    )
+    run_beside_page(rt, alloc, pages, &shared, || -> Option<WireRunFault> {
+        run_workers(
+            rt,
+            alloc,
+            tasks,
+            &upstream,
+            &shared,
+            || -> Option<WireRunFault> {
+                run_desk(rt, desk, poller, &shared);
+                None
+            },
+        )
+    })
 }
 
 /// What accepts clients.

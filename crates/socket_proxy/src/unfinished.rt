@@ -51,10 +51,7 @@ impl HeldRequest {
 
 impl Unfinished {
     /// No request is unfinished, of one of so many workers.
-    pub(crate) fn new(
-        alloc: Global,
-        workers: usize,
-    ) -> Result<SharedUnfinished, NoMemory> {
+    pub(crate) fn new(alloc: Global, workers: usize) -> Result<SharedUnfinished, NoMemory> {
         let unfinished = Unfinished {
             alloc,
             most: share_of(workers as u64),

@@ -180,10 +180,13 @@ where
 }
 
 /// Hands the clients over that were dealt to the worker. True where there was one.
-fn hand_over<'g, 'r, 'b, J: Naming, R: Wait + Clock + Net<Listener = TcpListener, Stream = TcpStream>>(
-    engine: &mut SocketEngine<'g, 'r, 'b, J, R>,
-    arrivals: &mut Arrivals<'_>,
-) -> bool {
+fn hand_over<
+    'g,
+    'r,
+    'b,
+    J: Naming,
+    R: Wait + Clock + Net<Listener = TcpListener, Stream = TcpStream>,
+>(engine: &mut SocketEngine<'g, 'r, 'b, J, R>, arrivals: &mut Arrivals<'_>) -> bool {
     let mut came = false;
     for _ in 0..ARRIVALS_PER_TURN {
         match arrivals.take() {
