@@ -17,7 +17,6 @@ import cases_clients
 import cases_turns
 import cases_runs
 import cases_moves
-import cases_workers
 import cases_faults
 import cases_orders
 import cases_others
@@ -27,6 +26,7 @@ import cases_idle
 import cases_program
 import cases_log
 import cases_page
+import cases_workers
 import cases_password
 import cases_nodes
 import cases_failover
