@@ -22,6 +22,8 @@ GROUP = 8
 LONG = 20000
 SIZES = {"3 B": 3, "1 KiB": 1024, "64 KiB": 65536}
 IDLE_SECONDS = 5.0
+# With so many workers each the proxy is measured.
+WORKERS = (1, 2)
 
 
 class Row:
@@ -142,8 +144,10 @@ def start_targets(room, program):
     plain = Server(room, "direct")
     targets = [Target("direct", plain.port, plain.process), start_nutcracker(room)]
     if os.access(program, os.X_OK):
-        proxy = Proxy(room, program, Cluster(room).nodes[0].port, workers=2)
-        targets.append(Target("serve", proxy.port, proxy.process))
+        seed = Cluster(room).nodes[0].port
+        for workers in WORKERS:
+            proxy = Proxy(room, program, seed, workers=workers, name=f"serve{workers}")
+            targets.append(Target(f"serve {workers}", proxy.port, proxy.process))
     else:
         print(f"{program} is not there: measured without it", file=sys.stderr)
     return targets

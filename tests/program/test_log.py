@@ -210,7 +210,7 @@ class Counted:
         folder = self.stack.enter_context(tempfile.TemporaryDirectory())
         self.path = os.path.join(folder, "log")
         log = self.stack.enter_context(open(self.path, "ab"))
-        self.serve(self.stack.enter_context(logging_proxy(self.seed(), log)))
+        self.serve(self.stack.enter_context(logging_proxy(self.seed(), log, workers=1)))
 
     def seed(self):
         """The port of the seed."""

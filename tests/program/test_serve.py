@@ -53,6 +53,12 @@ class Serve(unittest.TestCase):
     def test_set_then_get_with_two_workers(self):
         self.check_set_then_get(2)
 
+    def test_set_then_get_with_four_workers(self):
+        self.check_set_then_get(4)
+
+    def test_set_then_get_with_the_most_workers(self):
+        self.check_set_then_get(64)
+
     def test_keys_of_three_nodes_in_one_request(self):
         sent = [request("MSET", "a", "1", "b", "2", "c", "3")]
         sent += [request(name, "a", "b", "x", "c") for name in ["MGET", "EXISTS", "DEL"]]
@@ -76,7 +82,7 @@ class Serve(unittest.TestCase):
 
     def test_clients_that_leave_early_are_counted(self):
         """Two leave in the middle of a request. Once the third was answered, the proxy holds no socket of any of them."""
-        with cluster(2) as proxied:
+        with cluster(1) as proxied:
             _, process = proxied
             self.assertEqual(heard(proxied, GET), b"$-1\r\n+OK\r\n")
             before = self.settled(process)

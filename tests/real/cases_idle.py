@@ -60,7 +60,7 @@ def idle_costs_nothing(world):
 
 @case
 def a_client_alone_that_falls_silent_costs_nothing(world):
-    """Threads that looked on for its next request sleep as others do."""
+    """The thread that served it sleeps as others do."""
     with world.client() as client:
         for _ in range(1000):
             client.ask("GET", "a")

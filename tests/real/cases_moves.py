@@ -41,6 +41,10 @@ def move_round(world, writers, tags, rounds, seconds, pause=0.002, at_once=1):
 
 @case
 def counters_in_moves(world):
+    return count_in_moves(world, world.proxy, rounds=9, seconds=5)
+
+
+def count_in_moves(world, proxy, rounds, seconds):
     """Each counter ends at the number of its answered INCRs; no number is given twice."""
     tags = tags_of_nodes(world.cluster)
     counters = [key(tag, b"n%d" % number) for tag in tags for number in range(3)]
@@ -51,9 +55,11 @@ def counters_in_moves(world):
         for counter, reply in zip(counters, client.lines(len(counters))):
             ends.add(number, counter, reply)
 
-    with Writers(world.proxy, CLIENTS, turn) as writers:
-        moves = move_round(world, writers, tags, rounds=9, seconds=5)
-    with world.client() as client:
+    with proxy.client() as client:
+        client.value("DEL", *counters)
+    with Writers(proxy, CLIENTS, turn) as writers:
+        moves = move_round(world, writers, tags, rounds, seconds)
+    with proxy.client() as client:
         for counter in counters:
             given = [[value for what, value in mine if what == counter] for mine in ends.answered]
             check(all(mine == sorted(mine) for mine in given), f"{counter}: a client's numbers went back")

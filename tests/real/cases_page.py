@@ -20,8 +20,8 @@ CLIENTS, REQUESTS, ASKED = 50, 400, 1000
 class Page(OwnProxy):
     """A proxy of its own, with a page."""
 
-    def __init__(self, world, seed_port, name):
-        super().__init__(Proxy(world.room, world.program, seed_port, name=name, paged=True))
+    def __init__(self, world, seed_port, name, workers=2):
+        super().__init__(Proxy(world.room, world.program, seed_port, workers=workers, name=name, paged=True))
 
     def get(self, path, method="GET"):
         """Status and body."""

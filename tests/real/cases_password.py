@@ -100,7 +100,7 @@ class Gate:
         return self.auth() if words[0] == b"AUTH" else b"$2\r\nok\r\n"
 
     def proxy(self, world, name):
-        return Logged(world, self.port, name, variables_of(PASSWORD))
+        return Logged(world, self.port, name, variables_of(PASSWORD), workers=1)
 
 
 def after(seconds, reply):

@@ -16,11 +16,11 @@ TRYAGAIN = b"-TRYAGAIN Multiple keys request during rehashing of slot\r\n"
 
 
 class Scene:
-    """A proxy of its own before scripted nodes, the first of them the seed."""
+    """A proxy of its own before scripted nodes, the first of them the seed. It has one worker: each has connections of its own."""
 
-    def __init__(self, world, *nodes, workers=2, variables=None):
+    def __init__(self, world, *nodes, variables=None):
         self.nodes = nodes
-        self.proxy = Proxy(world.room, world.program, nodes[0].port, workers=workers, name="scene", variables=variables)
+        self.proxy = Proxy(world.room, world.program, nodes[0].port, workers=1, name="scene", variables=variables)
 
     def __enter__(self):
         return self.proxy
@@ -153,7 +153,7 @@ def groups_travel_as_one(world):
     """Keys of one slot go to their node in one command, in the request's order."""
     array = lambda keys: b"*%d\r\n" % len(keys) + b"".join(map(bulk, keys))
     node = ScriptedNode(lambda words: array(words[1:]) if words[0] == b"MGET" else b":2\r\n")
-    with Scene(world, node, workers=1) as proxy, proxy.client() as client:
+    with Scene(world, node) as proxy, proxy.client() as client:
         keys = ["{t}x", "b", "{t}y", "b", "{t}x"]
         check_same(client.ask("MGET", *keys), array([it.encode() for it in keys]), "MGET of two slots")
         check_same(sorted(node.words_seen()), [[b"MGET", b"b", b"b"], [b"MGET", b"{t}x", b"{t}y", b"{t}x"]], "requests for it")

@@ -27,6 +27,7 @@ import cases_idle
 import cases_program
 import cases_log
 import cases_page
+import cases_workers
 import cases_password
 import cases_nodes
 import cases_failover

@@ -6,7 +6,7 @@ ghost use Rattle.admin_page.specs.Page.{count_of};
 use crate::times::Times;
 use resp_wire::Bytes;
 
-/// What a thread that serves clients counted since the start.
+/// What a worker counted since the start of its clients.
 #[derive(Clone, Copy)]
 pub struct WorkerFigures {
     /// The thread's number.
@@ -48,7 +48,7 @@ impl WorkerFigures {
     }
 }
 
-/// What the thread that accepts clients and talks to the nodes counted since the start.
+/// What was counted since the start of clients that were accepted, and by all workers together of what goes to nodes and comes back.
 #[derive(Clone, Copy)]
 pub struct CarrierFigures {
     /// Clients that were accepted.

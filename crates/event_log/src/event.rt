@@ -67,6 +67,11 @@ impl NodeName {
         self.number == other.number
     }
 
+    /// Whether both have one address.
+    pub(crate) fn is_at_same(&self, other: &NodeName) -> bool {
+        self.address() == other.address()
+    }
+
     /// Whether the node listens at this host and port.
     pub fn is_at(&self, host: &[u8], port: u16) -> bool {
         match self.address.rsplit_once(':') {
@@ -140,17 +145,31 @@ const SLOTS_TOLD: usize = DIALS_FAILED + NODES;
 pub(crate) const EVENT_LIMITS: usize = SLOTS_TOLD + NODES;
 
 impl Event {
-    /// The place of the limit that counts events of this kind and node.
-    pub(crate) fn limit_place(&self) -> usize {
+    /// The node that it is of.
+    pub(crate) fn node(&self) -> Option<&NodeName> {
+        match self {
+            Event::LinkOpened(node)
+            | Event::LinkLost(node, _)
+            | Event::DialFailed(node, _)
+            | Event::SlotsTold(node, _) => Some(node),
+            Event::ClientRefused(_)
+            | Event::ClientsFull(_)
+            | Event::ProtocolError(..)
+            | Event::UnfinishedRequest(..) => None,
+        }
+    }
+
+    /// The place of the limit that counts events of this kind and of the node that has this place.
+    pub(crate) fn limit_place(&self, node: usize) -> usize {
         match self {
             Event::ClientRefused(_) => CLIENTS_REFUSED,
             Event::ProtocolError(..) => PROTOCOL_ERRORS,
             Event::UnfinishedRequest(..) => UNFINISHED_REQUESTS,
             Event::ClientsFull(_) => CLIENTS_FULL,
-            Event::LinkOpened(node) => LINKS_OPENED + usize::from(node.number),
-            Event::LinkLost(node, _) => LINKS_LOST + usize::from(node.number),
-            Event::DialFailed(node, _) => DIALS_FAILED + usize::from(node.number),
-            Event::SlotsTold(node, _) => SLOTS_TOLD + usize::from(node.number),
+            Event::LinkOpened(_) => LINKS_OPENED.saturating_add(node),
+            Event::LinkLost(..) => LINKS_LOST.saturating_add(node),
+            Event::DialFailed(..) => DIALS_FAILED.saturating_add(node),
+            Event::SlotsTold(..) => SLOTS_TOLD.saturating_add(node),
         }
     }
 

@@ -3,6 +3,7 @@
 use crate::event::{EVENT_LIMITS, Event, pair_shown};
 use crate::journal::EVENTS_WAITING;
 use crate::line::Line;
+use crate::node_places::NodePlaces;
 use crate::rate_limit::RateLimit;
 use crate::stream::ErrorStream;
 use crate::thread_report::ThreadReport;
@@ -20,6 +21,7 @@ pub(crate) struct EventWriter<'a> {
     alloc: Global,
     stream: &'a ErrorStream,
     limits: Vec<RateLimit>,
+    nodes: NodePlaces,
 }
 
 impl<'a> EventWriter<'a> {
@@ -32,6 +34,7 @@ impl<'a> EventWriter<'a> {
             alloc,
             stream,
             limits,
+            nodes: NodePlaces::new(alloc)?,
         })
     }
 
@@ -45,8 +48,18 @@ impl<'a> EventWriter<'a> {
         }
     }
 
+    /// The place of the limit that counts events of this kind, and of this node where it is of one.
+    fn limit_place(&mut self, event: &Event) -> usize {
+        let node = match event.node() {
+            Some(node) => self.nodes.place_of(node),
+            None => 0,
+        };
+        event.limit_place(node)
+    }
+
     fn write_event<R: Clock>(&mut self, rt: &R, event: &Event, now: u64) {
-        let Some(limit) = self.limits.get_mut(event.limit_place()) else {
+        let place = self.limit_place(event);
+        let Some(limit) = self.limits.get_mut(place) else {
             return;
         };
         let Some(left_out) = limit.admit(now, EVENT_INTERVAL_MILLIS) else {

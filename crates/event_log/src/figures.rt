@@ -2,8 +2,11 @@
 
 use std::sync::atomic::{AtomicU64, Ordering};
 
-/// How many figures there are.
+/// How many figures the line has.
 pub(crate) const FIGURES: usize = 17;
+
+/// How many are counted.
+const COUNTS: usize = FIGURES + 2;
 
 /// What is counted, each since the start.
 #[derive(Clone, Copy)]
@@ -28,8 +31,12 @@ pub enum Figure {
     DialsFailed,
     Links,
     LinksGone,
+    /// Bytes from clients.
     BytesIn,
+    /// Bytes to clients.
     BytesOut,
+    NodeBytesIn,
+    NodeBytesOut,
 }
 
 /// The keys of the figures in a line.
@@ -56,13 +63,15 @@ pub(crate) const FIGURE_NAMES: [&str; FIGURES] = [
 /// The counts of one thread, which alone changes them.
 #[derive(Drop)]
 pub(crate) struct Figures {
-    counts: [AtomicU64; FIGURES],
+    counts: [AtomicU64; COUNTS],
 }
 
 impl Figures {
     pub(crate) fn new() -> Figures {
         Figures {
             counts: [
+                AtomicU64::new(0),
+                AtomicU64::new(0),
                 AtomicU64::new(0),
                 AtomicU64::new(0),
                 AtomicU64::new(0),
@@ -100,10 +109,19 @@ impl Figures {
         }
     }
 
-    /// Adds these counts to a sum over all threads.
+    /// Adds these counts to a sum over all threads, the bytes of nodes to those of clients.
     pub(crate) fn add_to(&self, sums: &mut [u64; FIGURES]) {
         for (sum, count) in sums.iter_mut().zip(self.counts.iter()) {
             *sum = sum.wrapping_add(count.load(Ordering::Relaxed));
+        }
+        self.add_to_sum(Figure::NodeBytesIn, sums, Figure::BytesIn);
+        self.add_to_sum(Figure::NodeBytesOut, sums, Figure::BytesOut);
+    }
+
+    /// Adds the count of one figure to the sum of another.
+    fn add_to_sum(&self, figure: Figure, sums: &mut [u64; FIGURES], other: Figure) {
+        if let Some(sum) = sums.get_mut(other as usize) {
+            *sum = sum.wrapping_add(self.count_of(figure));
         }
     }
 }

@@ -24,6 +24,7 @@ mod figures;
 mod journal;
 mod line;
 mod node_board;
+mod node_places;
 mod rate_limit;
 mod reporter;
 mod stream;

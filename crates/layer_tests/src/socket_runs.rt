@@ -46,16 +46,22 @@ fn hears(alloc: Global, stream: &mut TcpStream, wanted: &[u8]) -> bool {
     stream.read_to_end(&mut heard).is_ok() && heard.as_slice() == wanted
 }
 
-/// A proxy with two workers that ends once `clients` clients have come and gone.
-fn proxy(listener: net::TcpListener, seed: u16, clients: u32, log: &ErrorStream) -> Proxy<'_>
-    ensures workers { result.workers ≡ 2 }
+/// A proxy with so many workers that ends once `clients` clients have come and gone.
+fn proxy(
+    listener: net::TcpListener,
+    seed: u16,
+    workers: u16,
+    clients: u32,
+    log: &ErrorStream,
+) -> Proxy<'_>
+    ensures workers { result.workers ≡ workers }
     ensures host { IsTrue (is_one_line result.host.now) }
 {
     Proxy {
         listener,
         host: b"127.0.0.1",
         port: seed,
-        workers: 2,
+        workers,
         clients: Some(clients),
         descriptors: None,
         credentials: None,
@@ -69,7 +75,7 @@ fn a_run_for_no_client_ends_at_once(rt: HostRuntime) -> Result<(), Fail> {
     run_wire(
         &rt,
         rt.alloc(),
-        proxy(listener, 1, 0, &ErrorStream::new(None)),
+        proxy(listener, 1, 2, 0, &ErrorStream::new(None)),
         None,
     )?;
     Ok(())
@@ -93,7 +99,7 @@ fn clients_that_leave_early_are_counted(rt: HostRuntime) -> Result<(), Fail> {
     run_wire(
         &rt,
         rt.alloc(),
-        proxy(listener, seed, 3, &ErrorStream::new(None)),
+        proxy(listener, seed, 4, 3, &ErrorStream::new(None)),
         None,
     )?;
     let wanted = b"-ERR proxy: gave up, not executed\r\n+OK\r\n";
@@ -205,7 +211,7 @@ fn nodes_and_a_proxy_in_one_process(rt: HostRuntime) -> Result<(), Fail> {
     run_wire(
         &rt,
         rt.alloc(),
-        proxy(listener, seed, 1, &ErrorStream::new(None)),
+        proxy(listener, seed, 1, 1, &ErrorStream::new(None)),
         None,
     )?;
     assert!(rt; nodes.join(&rt));

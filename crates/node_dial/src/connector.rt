@@ -7,7 +7,7 @@ use crate::handshake::Handshake;
 use crate::look_ups::SharedLookUps;
 use event_log::ThreadReport;
 use mio::Registry;
-use proxy_runtime::{PolledSocket, ReadySet, Registration};
+use proxy_runtime::{Peer, PolledSocket, ReadySet, Registration};
 use std::alloc::Global;
 use std::io;
 use std::io::ErrorKind;
@@ -113,7 +113,7 @@ impl<'b, R: Clock + Net<Listener = TcpListener, Stream = TcpStream>> Connector<'
 
     /// Has the connection watched, and says AUTH over it where that is to be said.
     fn watch(&self, stream: mio::net::TcpStream) -> io::Result<Connection> {
-        let Ok(registration) = Registration::new(&self.ready) else {
+        let Ok(registration) = Registration::new(&self.ready, Peer::Node) else {
             return Err(ErrorKind::OutOfMemory.into());
         };
         let socket = PolledSocket::new(stream, registration, &self.registry)?;

@@ -8,7 +8,7 @@ use crate::cluster_notes::{ClusterNotes, SharedNotes, share};
 use crate::connector::Connector;
 use crate::known_node::{DialOutcome, KnownNode};
 use crate::link_watch::LinkWatch;
-use crate::lost_nodes::{Look, look_at, note_asked, note_lost, note_reached};
+use crate::lost_nodes::{Look, look_at, next_ask, note_asked, note_lost, note_reached};
 use crate::node_stream::NodeStream;
 use event_log::{Figure, NodeName};
 use key_split::Told;
@@ -68,6 +68,13 @@ impl<'b, R: Clock + Net<Listener = TcpListener, Stream = TcpStream>> SocketDial<
         })
     }
 
+    /// The thread is to be awake when a node is to be asked next.
+    fn wake_to_seek(&self) {
+        if let Some(time) = next_ask(&self.cluster.lost) {
+            self.connector.ready().wake_at(time);
+        }
+    }
+
     /// A port to the node at this endpoint over a connection that stands.
     fn port_over(
         &self,
@@ -103,9 +110,11 @@ impl<'b, R: Clock + Net<Listener = TcpListener, Stream = TcpStream>> Dial for So
         let time = self.connector.last_time();
         self.look = look_at(&self.cluster.lost, time);
         if !self.look.is_due() {
+            self.wake_to_seek();
             return false;
         }
         note_asked(&self.cluster.lost, time);
+        self.wake_to_seek();
         true
     }
 

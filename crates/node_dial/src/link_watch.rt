@@ -52,7 +52,7 @@ impl LinkWatch {
         self.full.set(taken < offered);
     }
 
-    /// A read found nothing. True where the node is silent for too long.
+    /// A read found nothing. True where the node is silent for too long; the thread is to be awake when it would be.
     pub(crate) fn note_nothing(&self) -> bool {
         if !self.owes.get() {
             return false;
@@ -60,6 +60,8 @@ impl LinkWatch {
         let now = self.ready.time();
         let since = self.since.get().unwrap_or(now);
         self.since.set(Some(since));
-        now.saturating_sub(since) >= SILENCE_LIMIT_MILLIS
+        let limit = since.saturating_add(SILENCE_LIMIT_MILLIS);
+        self.ready.wake_at(limit);
+        now >= limit
     }
 }

@@ -95,6 +95,12 @@ pub(crate) fn look_at(lost: &Cell<LostNodes>, time: u64) -> Look {
     lost.get().look(time)
 }
 
+/// When a node is to be asked next, in milliseconds, where any is lost.
+pub(crate) fn next_ask(lost: &Cell<LostNodes>) -> Option<u64> {
+    let held = lost.get();
+    held.nodes.has_any().then_some(held.schedule.next())
+}
+
 /// A node is asked for CLUSTER SLOTS at this time.
 pub(crate) fn note_asked(lost: &Cell<LostNodes>, time: u64) {
     let mut held = lost.get();

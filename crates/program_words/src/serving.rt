@@ -47,7 +47,7 @@ pub(crate) const SERVE: Subcommand = Subcommand {
         Setting {
             name: "workers",
             value_name: "N",
-            help: "Threads that serve clients, 1 to 64; one more talks to the nodes",
+            help: "Threads that serve clients, 1 to 64; one more accepts them",
             required: true,
         },
         Setting {

@@ -5,9 +5,9 @@
 //! let done = run_threads(rt, alloc, tasks, &|task| work(task), &|| stop(), || carry())?;
 //!
 //! let ready = Arc::new(alloc, ReadySet::new(alloc, report)?)?;
-//! let (mut poller, parker) = Poller::new(rt, alloc)?;
-//! let mut socket = PolledSocket::new(stream, Registration::new(&ready)?, poller.registry())?;
-//! poller.sleep(&ready);
+//! let (mut poller, waker) = Poller::new(rt, alloc)?;
+//! let mut socket = PolledSocket::new(stream, Registration::new(&ready, Peer::Client)?, poller.registry())?;
+//! poller.sleep(&ready, u64::MAX);
 //! let flow = socket.read(&mut buffer);
 //! ```
 //!
@@ -19,7 +19,6 @@
 
 mod host;
 mod keepalive;
-mod parker;
 mod polled_socket;
 mod poller;
 mod ready_set;
@@ -28,10 +27,9 @@ mod threads;
 mod wire_fault;
 
 pub use host::Host;
-pub use parker::Parker;
 pub use polled_socket::PolledSocket;
 pub use poller::Poller;
-pub use ready_set::{ReadySet, Registration};
+pub use ready_set::{Peer, ReadySet, Registration};
 pub use socket::Socket;
 pub use threads::{ThreadsFault, run_threads};
 pub use wire_fault::WireRunFault;

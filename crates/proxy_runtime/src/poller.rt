@@ -1,6 +1,5 @@
 //! A thread's poll of its sockets.
 
-use crate::parker::Parker;
 use crate::ready_set::ReadySet;
 use crate::wire_fault::WireRunFault;
 use mio::{Events, Poll, Registry, Token, Waker};
@@ -10,8 +9,6 @@ use std::time::Duration;
 
 /// How many events one poll takes.
 const EVENTS: usize = 256;
-/// How long a thread sleeps at most, in milliseconds: events are written and a lost wake-up is made good no later than that.
-const SLEEP_MILLIS: u64 = 250;
 /// The waker's token, which no socket has.
 const WAKER: Token = Token(usize::MAX);
 
@@ -30,12 +27,12 @@ impl Drop for Poller {
 }
 
 impl Poller {
-    /// A poller, and the parker of the thread that has it.
-    pub fn new<R: Net>(rt: &R, alloc: Global) -> Result<(Poller, Parker), WireRunFault> {
+    /// A poller, and what wakes the thread that has it.
+    pub fn new<R: Net>(rt: &R, alloc: Global) -> Result<(Poller, Waker), WireRunFault> {
         let poll = Poll::new(rt).map_err(WireRunFault::Poll)?;
         let waker = Waker::new(poll.registry(), WAKER).map_err(WireRunFault::Waker)?;
         let events = Events::with_capacity(alloc, EVENTS)?;
-        Ok((Poller { poll, events }, Parker::new(waker)))
+        Ok((Poller { poll, events }, waker))
     }
 
     pub fn registry(&self) -> &Registry {
@@ -44,27 +41,26 @@ impl Poller {
 
     /// Notes what is ready now.
     pub fn poll_now(&mut self, ready: &ReadySet) {
-        self.poll_for(ready, Duration::from_millis(0));
+        self.poll_for(ready, Some(Duration::from_millis(0)));
     }
 
-    /// Sleeps until something is ready, another thread wakes this one, or a quarter of a second has passed. True where
-    /// the poll reported anything.
-    pub fn sleep(&mut self, ready: &ReadySet) -> bool {
-        self.sleep_for(ready, SLEEP_MILLIS)
+    /// Sleeps until something is ready, another thread wakes this one, or so many milliseconds have passed; without end for
+    /// `u64::MAX`.
+    pub fn sleep(&mut self, ready: &ReadySet, millis: u64) {
+        let limit = if millis == u64::MAX {
+            None
+        } else {
+            Some(Duration::from_millis(millis))
+        };
+        self.poll_for(ready, limit);
     }
 
-    /// The same, for at most `millis` milliseconds.
-    pub fn sleep_for(&mut self, ready: &ReadySet, millis: u64) -> bool {
-        self.poll_for(ready, Duration::from_millis(millis.min(SLEEP_MILLIS)))
-    }
-
-    fn poll_for(&mut self, ready: &ReadySet, limit: Duration) -> bool {
-        if self.poll.poll(&mut self.events, Some(limit)).is_err() {
-            return false;
+    fn poll_for(&mut self, ready: &ReadySet, limit: Option<Duration>) {
+        if self.poll.poll(&mut self.events, limit).is_err() {
+            return;
         }
         for event in &self.events {
             ready.note_event(event);
         }
-        !self.events.is_empty()
     }
 }

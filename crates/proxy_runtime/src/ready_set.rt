@@ -68,12 +68,8 @@ pub struct ReadySet {
     micros: AtomicU64,
     /// A socket gave or took bytes since the thread last asked.
     traffic: AtomicBool,
-    /// The entry of the socket that gave bytes last.
-    reader: AtomicU64,
-    /// How many reads in a row were of that socket.
-    reads: AtomicU64,
-    /// When it gave bytes, in milliseconds.
-    read_time: AtomicU64,
+    /// When the thread is to be awake again at the latest, in milliseconds; `u64::MAX` where nothing says so.
+    wake_time: AtomicU64,
     sockets: Vec<Readiness>,
     /// Where the search for a free entry goes on.
     next: AtomicU64,
@@ -86,9 +82,7 @@ impl Drop for ReadySet {
             time: _,
             micros: _,
             traffic: _,
-            reader: _,
-            reads: _,
-            read_time: _,
+            wake_time: _,
             sockets,
             next: _,
             report,
@@ -109,9 +103,7 @@ impl ReadySet {
             time: AtomicU64::new(0),
             micros: AtomicU64::new(0),
             traffic: AtomicBool::new(false),
-            reader: AtomicU64::new(0),
-            reads: AtomicU64::new(0),
-            read_time: AtomicU64::new(0),
+            wake_time: AtomicU64::new(u64::MAX),
             sockets,
             next: AtomicU64::new(0),
             report,
@@ -163,14 +155,24 @@ impl ReadySet {
         traffic
     }
 
-    /// How many reads in a row, up to the last that gave bytes, were of one socket.
-    pub fn reads_of_one(&self) -> u64 {
-        self.reads.load(Ordering::Relaxed)
+    /// The thread is to be awake again at this time, or before, in milliseconds.
+    pub fn wake_at(&self, time: u64) {
+        let earliest = self.wake_time.load(Ordering::Relaxed).min(time);
+        self.wake_time.store(earliest, Ordering::Relaxed);
     }
 
-    /// When a socket gave bytes last, in milliseconds.
-    pub fn read_time(&self) -> u64 {
-        self.read_time.load(Ordering::Relaxed)
+    /// Notes what time it is. Nothing says yet when the thread is to be awake after its next turn.
+    pub fn begin_turn<R: Clock>(&self, rt: &R) {
+        self.update_time(rt);
+        self.wake_time.store(u64::MAX, Ordering::Relaxed);
+    }
+
+    /// For how many milliseconds the thread may sleep, by the time that it saw last; `u64::MAX` without end.
+    pub fn millis_to_sleep(&self) -> u64 {
+        match self.wake_time.load(Ordering::Relaxed) {
+            u64::MAX => u64::MAX,
+            time => time.saturating_sub(self.time()),
+        }
     }
 
     /// Whether a read of the socket of this entry may give something.
@@ -181,19 +183,6 @@ impl ReadySet {
         }
     }
 
-    /// Notes that the socket of this entry gave bytes.
-    fn note_reader(&self, at: u64) {
-        let before = self.reader.load(Ordering::Relaxed);
-        let reads = if before == at {
-            self.reads.load(Ordering::Relaxed).saturating_add(1)
-        } else {
-            1
-        };
-        self.reader.store(at, Ordering::Relaxed);
-        self.reads.store(reads, Ordering::Relaxed);
-        self.read_time.store(self.time(), Ordering::Relaxed);
-    }
-
     /// Notes what a poll reported.
     pub(crate) fn note_event(&self, event: &event::Event) {
         if let Some(entry) = self.sockets.get(event.token().0) {
@@ -202,10 +191,36 @@ impl ReadySet {
     }
 }
 
+/// Who is at the other end of a socket.
+#[derive(Clone, Copy)]
+pub enum Peer {
+    Client,
+    Node,
+}
+
+impl Peer {
+    /// What counts the bytes that come from it.
+    fn bytes_in(self) -> Figure {
+        match self {
+            Peer::Client => Figure::BytesIn,
+            Peer::Node => Figure::NodeBytesIn,
+        }
+    }
+
+    /// What counts the bytes that go to it.
+    fn bytes_out(self) -> Figure {
+        match self {
+            Peer::Client => Figure::BytesOut,
+            Peer::Node => Figure::NodeBytesOut,
+        }
+    }
+}
+
 /// A socket's entry in the ready set of the thread that polls it, where one was free.
 pub struct Registration {
     ready: Arc<ReadySet, Global>,
     at: Option<usize>,
+    peer: Peer,
 }
 
 impl Drop for Registration {
@@ -213,17 +228,21 @@ impl Drop for Registration {
         if let Some(entry) = self.entry() {
             entry.claimed.store(false, Ordering::SeqCst);
         }
-        let Registration { ready, at: _ } = self;
+        let Registration {
+            ready,
+            at: _,
+            peer: _,
+        } = self;
         drop(ready);
     }
 }
 
 impl Registration {
     /// A registration for one more socket.
-    pub fn new(ready: &Arc<ReadySet, Global>) -> Result<Registration, NoMemory> {
+    pub fn new(ready: &Arc<ReadySet, Global>, peer: Peer) -> Result<Registration, NoMemory> {
         let ready = Arc::try_clone(ready)?;
         let at = ready.claim_entry();
-        Ok(Registration { ready, at })
+        Ok(Registration { ready, at, peer })
     }
 
     fn entry(&self) -> Option<&Readiness> {
@@ -263,14 +282,13 @@ impl Registration {
     /// The socket gave `count` bytes.
     pub(crate) fn note_read(&self, count: usize) {
         self.ready.traffic.store(true, Ordering::Relaxed);
-        self.ready.note_reader(self.token().0 as u64);
-        self.count(Figure::BytesIn, count as u64);
+        self.count(self.peer.bytes_in(), count as u64);
     }
 
     /// The socket took `count` bytes.
     pub(crate) fn note_written(&self, count: usize) {
         self.ready.traffic.store(true, Ordering::Relaxed);
-        self.count(Figure::BytesOut, count as u64);
+        self.count(self.peer.bytes_out(), count as u64);
     }
 
     /// What time it is, in microseconds, as the thread last saw it.

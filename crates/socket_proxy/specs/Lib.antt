@@ -1,1 +1,2 @@
+pub mod Emptiest
 pub mod Unfinished

@@ -1,240 +1,121 @@
-//! How the carrier's thread accepts clients, sleeps and wakes the workers.
+//! What the thread does that accepts clients and writes the log.
 
-use crate::acceptor::Acceptor;
-use crate::client::SocketClient;
-use crate::lookout::Lookout;
+use crate::acceptor::{Acceptor, RETRY_MILLIS};
+use crate::dealer::{Arrival, Dealer};
 use crate::shared::Shared;
-use mio::Registry;
-use mio::net::TcpStream;
-use proxy_lanes::CarrierEnds;
+use event_log::Reporter;
 use proxy_runtime::Poller;
-use std::io;
-use std::net::SocketAddr;
+use std::sync::Wait;
 use std::time::Clock;
 
-/// Milliseconds after which accepting is tried again, where a connection may wait for a descriptor or for room.
-const RETRY_MILLIS: u64 = 20;
+/// Clients that are accepted at most between two polls.
+const ACCEPT_BATCH: u32 = 16;
+/// Milliseconds after which the log is written at the latest.
+const LOG_MILLIS: u64 = 250;
 
-/// A client that was accepted, with its number and its worker.
-#[derive(Drop)]
-pub(crate) struct AcceptedClient {
-    pub(crate) number: u32,
-    pub(crate) worker: u16,
-    pub(crate) port: SocketClient,
-}
-
-/// What came of looking for a client.
-#[derive(Drop)]
-pub(crate) enum AcceptOutcome {
-    Accepted(AcceptedClient),
-    /// A connection that was closed at once.
-    Rejected,
-    NoneWaiting,
-}
-
-/// How much moved in some turns of the carrier.
-#[derive(Clone, Copy)]
-pub(crate) enum Activity {
-    Idle,
-    Active,
-    /// So much moved that more may wait.
-    Busy,
-}
-
-impl Activity {
-    /// With what moved beside the turns.
-    pub(crate) fn beside(self, moved: bool) -> Activity {
-        match self {
-            Activity::Idle if moved => Activity::Active,
-            activity => activity,
-        }
-    }
-}
-
-/// The acceptor, and the poll of the carrier's thread.
-pub(crate) struct AcceptLoop {
+/// Clients as they come in, and the log.
+pub(crate) struct Desk<'a> {
     acceptor: Acceptor,
-    poller: Poller,
-    lookout: Lookout,
-    /// What each worker's poll watches.
-    registries: Vec<Registry>,
-    /// The thread is marked asleep, and sleeps after one more turn that moves nothing.
-    marked_asleep: bool,
-    /// The thread slept before the turns that are over.
-    has_slept: bool,
-    /// When accepting is tried again, in milliseconds.
-    retried: u64,
+    dealer: Dealer,
+    /// A client that was accepted, and has no place at its worker yet.
+    waiting: Option<Arrival>,
+    reporter: Reporter<'a>,
 }
 
-impl Drop for AcceptLoop {
+impl Drop for Desk<'_> {
     fn drop(self) {
-        let AcceptLoop {
+        let Desk {
             acceptor,
-            poller,
-            lookout: _,
-            registries,
-            marked_asleep: _,
-            has_slept: _,
-            retried: _,
+            dealer,
+            waiting,
+            reporter,
         } = self;
         drop(acceptor);
-        drop(poller);
-        drop(registries);
+        drop(dealer);
+        drop(waiting);
+        drop(reporter);
     }
 }
 
-impl AcceptLoop {
-    /// A thread that did not sleep yet, with the registries of the workers.
-    pub(crate) fn new(acceptor: Acceptor, poller: Poller, registries: Vec<Registry>) -> AcceptLoop {
-        AcceptLoop {
+impl<'a> Desk<'a> {
+    /// No client has come.
+    pub(crate) fn new(acceptor: Acceptor, dealer: Dealer, reporter: Reporter<'a>) -> Desk<'a> {
+        Desk {
             acceptor,
-            poller,
-            lookout: Lookout::new(),
-            registries,
-            marked_asleep: false,
-            has_slept: false,
-            retried: 0,
+            dealer,
+            waiting: None,
+            reporter,
         }
     }
 
-    /// Accepts the next client.
-    pub(crate) fn accept_client(&mut self, shared: &Shared) -> AcceptOutcome {
-        self.retry(shared.carrier.ready.time());
-        if !self.acceptor.may_accept() {
-            return AcceptOutcome::NoneWaiting;
+    /// Accepts clients and deals them out. True where more may come at once.
+    fn accept_clients(&mut self, shared: &Shared) -> bool {
+        for _ in 0..ACCEPT_BATCH {
+            if !self.deal_waiting(shared) {
+                return false;
+            }
+            let Some((stream, address)) = self.acceptor.accept(shared.clients()) else {
+                return false;
+            };
+            self.acceptor.count_client();
+            put(&mut self.waiting, Some(Arrival { stream, address }));
         }
-        let Some((stream, address)) = self.acceptor.accept(shared.clients()) else {
-            return AcceptOutcome::NoneWaiting;
+        true
+    }
+
+    /// Deals the client that waits. False where it waits on.
+    fn deal_waiting(&mut self, shared: &Shared) -> bool {
+        let Some(arrival) = self.waiting.take() else {
+            return true;
         };
-        match self.register(shared, stream, address) {
-            Ok(accepted) => {
-                self.acceptor.count_client();
-                AcceptOutcome::Accepted(accepted)
-            }
-            Err(error) => {
-                self.acceptor.report(error);
-                AcceptOutcome::Rejected
+        match self.dealer.deal(shared, arrival) {
+            Ok(()) => true,
+            Err(arrival) => {
+                put(&mut self.waiting, Some(arrival));
+                false
             }
         }
     }
 
-    /// The connection as a client of the next number, registered with its worker's poll. It is closed where no number is
-    /// left, or it can't be registered.
-    fn register(
-        &self,
-        shared: &Shared,
-        stream: TcpStream,
-        address: SocketAddr,
-    ) -> io::Result<AcceptedClient> {
-        let Some(number) = self.acceptor.next_number() else {
-            return Err(io::Error::other("no number is left for a client"));
-        };
-        let worker = number as usize % self.registries.len().max(1);
-        let (Some(registry), Some(handle), Ok(place)) = (
-            self.registries.get(worker),
-            shared.workers.get(worker),
-            u16::try_from(worker),
-        ) else {
-            return Err(io::Error::other("no worker is there"));
-        };
-        let port = handle.client_over(stream, address, registry)?;
-        Ok(AcceptedClient {
-            number,
-            worker: place,
-            port,
-        })
-    }
-
-    /// After some turns: polls and wakes the workers where something moved, and sleeps where nothing did.
-    pub(crate) fn after_turns<H: Drop, M: Drop, R: Clock>(
-        &mut self,
-        rt: &R,
-        shared: &Shared,
-        ends: &CarrierEnds<H, M>,
-        activity: Activity,
-    ) {
-        match activity {
-            Activity::Idle => self.sleep_if_marked(rt, shared),
-            Activity::Active => {
-                self.wake_given(shared, ends);
-                self.after_moving_turns(rt, shared);
-            }
-            Activity::Busy => {
-                // a way up that was full has room again
-                shared.wake_workers();
-                self.wake_given(shared, ends);
-                self.poller.poll_now(&shared.carrier.ready);
-            }
-        }
-    }
-
-    /// Accepts again now and then: no event says that a descriptor or a place is free.
-    fn retry(&mut self, now: u64) {
-        if now >= self.retried {
-            self.retried = now.saturating_add(RETRY_MILLIS);
-            self.acceptor.retry();
-        }
-    }
-
-    /// Wakes the workers that were given something.
-    fn wake_given<H: Drop, M: Drop>(&mut self, shared: &Shared, ends: &CarrierEnds<H, M>) {
-        self.lookout.end();
-        if self.marked_asleep {
-            self.mark_awake(shared);
-        }
-        for (worker, handle) in shared.workers.iter().enumerate() {
-            if let Ok(worker) = u16::try_from(worker) {
-                handle.wake_given(ends.given(worker));
-            }
-        }
-    }
-
-    /// Polls, but behind the first turns after a sleep: most often these do all that the thread was woken for, and it sleeps again.
-    fn after_moving_turns<R: Clock>(&mut self, rt: &R, shared: &Shared) {
-        if self.has_slept {
-            self.has_slept = false;
-            self.look_on_or_mark(rt, shared);
-        } else {
-            self.poller.poll_now(&shared.carrier.ready);
-        }
-    }
-
-    /// Sleeps where the thread was marked asleep, and nothing moved since that was done.
-    fn sleep_if_marked<R: Clock>(&mut self, rt: &R, shared: &Shared) {
-        if self.marked_asleep {
-            self.sleep(shared);
-            self.lookout.slept(rt);
-        } else {
-            self.look_on_or_mark(rt, shared);
-        }
-    }
-
-    /// Looks on for a moment where that may pay. Otherwise the thread is marked asleep, and takes one more turn.
-    fn look_on_or_mark<R: Clock>(&mut self, rt: &R, shared: &Shared) {
-        if self
-            .lookout
-            .looks_on(rt, shared, shared.carrier.ready.time())
-        {
-            self.poller.poll_now(&shared.carrier.ready);
-        } else {
-            self.marked_asleep = true;
-            shared.carrier.parker.mark_asleep();
-        }
-    }
-
-    fn sleep(&mut self, shared: &Shared) {
-        let longest = if self.acceptor.starves() {
+    /// How long the thread may sleep, in milliseconds.
+    fn millis_to_sleep(&self) -> u64 {
+        if self.waiting.is_some() || self.acceptor.waits() {
             RETRY_MILLIS
         } else {
-            u64::MAX
-        };
-        self.poller.sleep_for(&shared.carrier.ready, longest);
-        self.mark_awake(shared);
-        self.has_slept = true;
+            LOG_MILLIS
+        }
     }
 
-    fn mark_awake(&mut self, shared: &Shared) {
-        self.marked_asleep = false;
-        shared.carrier.parker.mark_awake();
+    /// Whether all clients that were to come came, and are gone.
+    fn is_over(&self, shared: &Shared) -> bool {
+        self.acceptor.is_done() && shared.clients() == 0
+    }
+}
+
+fn put<T: Drop>(place: &mut Option<T>, value: Option<T>) {
+    *place = value;
+}
+
+/// Accepts clients and writes the log, until all threads are told to stop, or the last of all clients is gone, and then tells them.
+pub(crate) fn run_desk<R: Wait + Clock>(
+    rt: &R,
+    mut desk: Desk<'_>,
+    mut poller: Poller,
+    shared: &Shared,
+) {
+    let ready = &shared.acceptor.ready;
+    for _ in rt.forever() {
+        ready.update_time(rt);
+        desk.reporter.report(rt, ready.time());
+        if shared.is_stopped() || desk.is_over(shared) {
+            shared.stop();
+            return;
+        }
+        desk.acceptor.retry(ready.time());
+        if desk.accept_clients(shared) {
+            poller.poll_now(ready);
+        } else {
+            poller.sleep(ready, desk.millis_to_sleep());
+        }
     }
 }

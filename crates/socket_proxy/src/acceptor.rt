@@ -10,17 +10,20 @@ use std::io::ErrorKind;
 use std::net::{Net, SocketAddr, ToSocketAddrs};
 use std::os::fd::AsRawFd;
 
+/// Milliseconds after which accepting is tried again, where no event says that it may go on.
+pub(crate) const RETRY_MILLIS: u64 = 20;
+
 /// The listener with its registration, and how many clients may still be accepted.
 pub(crate) struct Acceptor {
     listener: TcpListener,
     registration: Registration,
-    /// The number of the next client; `None` once all are given.
-    next: Option<u32>,
     /// How many are still accepted; `None` without end.
     left: Option<u32>,
     room: ClientRoom,
     /// A connection may wait for a descriptor, or for room.
     starves: bool,
+    /// When accepting is tried again, in milliseconds.
+    retried: u64,
     /// That there is no room was reported.
     is_full: bool,
 }
@@ -30,10 +33,10 @@ impl Drop for Acceptor {
         let Acceptor {
             listener,
             registration,
-            next: _,
             left: _,
             room: _,
             starves: _,
+            retried: _,
             is_full: _,
         } = self;
         drop(listener);
@@ -55,22 +58,20 @@ impl Acceptor {
         Ok(Acceptor {
             listener,
             registration,
-            next: Some(0),
             left: clients,
             room,
             starves: false,
+            retried: 0,
             is_full: false,
         })
     }
 
-    /// Whether a connection may wait that may be accepted.
-    pub(crate) fn may_accept(&self) -> bool {
-        self.left != Some(0) && self.registration.may_read()
-    }
-
-    /// The next connection and its address, where one waits and there is room beside the clients. Where there is none, or
-    /// the system gives no descriptor for it, that is reported.
+    /// The next connection and its address, where one waits that may be accepted and there is room beside the clients. Where there
+    /// is none, or the system gives no descriptor for it, that is reported.
     pub(crate) fn accept(&mut self, clients: u64) -> Option<(TcpStream, SocketAddr)> {
+        if self.is_done() || !self.registration.may_read() {
+            return None;
+        }
         if self.lacks_room(clients) {
             self.starves = true;
             self.registration.clear_readable();
@@ -110,36 +111,35 @@ impl Acceptor {
         self.room.note_client(descriptor, clients.saturating_add(1));
     }
 
-    /// Whether a connection may wait for a descriptor, or for room.
-    pub(crate) fn starves(&self) -> bool {
-        self.starves
+    /// Whether all clients that were to come were accepted.
+    pub(crate) fn is_done(&self) -> bool {
+        self.left == Some(0)
+    }
+
+    /// Whether no event says when something is to be done next: a connection may wait for a descriptor or for room, or all
+    /// clients came.
+    pub(crate) fn waits(&self) -> bool {
+        self.starves || self.is_done()
     }
 
     /// Reports why no connection was accepted, where one may have waited.
-    pub(crate) fn report(&self, error: io::Error) {
+    fn report(&self, error: io::Error) {
         if error.kind() != ErrorKind::WouldBlock {
             self.registration.tell(Event::ClientRefused(error));
         }
     }
 
-    /// Accepts again, where a connection may wait for a descriptor or for room.
-    pub(crate) fn retry(&mut self) {
-        if self.starves {
+    /// Accepts again now and then, where a connection may wait for a descriptor or for room: no event says that one is free.
+    pub(crate) fn retry(&mut self, now: u64) {
+        if self.starves && now >= self.retried {
+            self.retried = now.saturating_add(RETRY_MILLIS);
             self.starves = false;
             self.registration.set_readable();
         }
     }
 
-    /// The number of the next client, where one is left.
-    pub(crate) fn next_number(&self) -> Option<u32> {
-        self.next
-    }
-
-    /// The client of the next number was accepted.
+    /// A client was accepted.
     pub(crate) fn count_client(&mut self) {
-        if let Some(number) = self.next {
-            self.next = number.checked_add(1);
-        }
         if let Some(left) = self.left {
             self.left = Some(left.saturating_sub(1));
         }

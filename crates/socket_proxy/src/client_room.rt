@@ -2,7 +2,7 @@
 
 ghost use Rattle.std.specs.Prelude.{◌≡◌, ◌⊎◌, ◌<◌, ◌≤◌, ◌+◌, ◌*◌};
 
-/// So many descriptors are kept for connections to nodes, or a quarter of the limit where that is less.
+/// So many descriptors are kept for each worker's connections to nodes, or of all a quarter where that is less.
 const KEPT_FOR_NODES: u64 = 64;
 
 /// For how many clients there is room. The system gives the lowest descriptor that is free, so a new client's descriptor
@@ -16,12 +16,12 @@ pub(crate) struct ClientRoom {
 }
 
 impl ClientRoom {
-    /// The room where this number of descriptors may be open, or any number of them.
-    pub(crate) fn new(descriptors: Option<u64>) -> ClientRoom {
+    /// The room beside the connections of so many workers, where this number of descriptors may be open, or any number of them.
+    pub(crate) fn new(descriptors: Option<u64>, workers: u16) -> ClientRoom {
         let limit = descriptors.unwrap_or(u64::MAX);
         ClientRoom {
             last: limit
-                .saturating_sub(kept_for_nodes(limit))
+                .saturating_sub(kept_for_nodes(limit, workers))
                 .saturating_sub(1),
             most: None,
         }
@@ -40,11 +40,11 @@ impl ClientRoom {
     }
 }
 
-/// How many of `limit` descriptors are kept for connections to nodes.
-fn kept_for_nodes(limit: u64) -> u64
-    ensures enough { result ≤ KEPT_FOR_NODES }
+/// How many of `limit` descriptors are kept for the connections of so many workers to nodes.
+fn kept_for_nodes(limit: u64, workers: u16) -> u64
+    ensures enough { result ≤ KEPT_FOR_NODES * workers }
     ensures a_quarter { 4 * result ≤ limit }
-    ensures no_fewer { (result ≡ KEPT_FOR_NODES) ⊎ (limit < 4 * (result + 1)) }
+    ensures no_fewer { (result ≡ KEPT_FOR_NODES * workers) ⊎ (limit < 4 * (result + 1)) }
 {
-    KEPT_FOR_NODES.min(limit / 4)
+    (KEPT_FOR_NODES * u64::from(workers)).min(limit / 4)
 }

@@ -5,23 +5,24 @@
 //! run_wire(rt, rt.alloc(), proxy, None)?;
 //! ```
 //!
-//! Each worker serves its clients in a thread of its own, and the carrier talks to the nodes and accepts clients in the
-//! caller's, which also writes the log. A thread polls its own sockets; it sleeps where nothing moves, and whoever gives it work wakes it.
+//! Each worker is a proxy of its own in a thread of its own: its clients, its connections to the nodes, its slot map. The caller's
+//! thread accepts clients, deals each to a worker than which none has fewer, and writes the log. A thread polls its own sockets,
+//! and sleeps in that poll where a turn moved nothing.
 //!
 //! Promise: `run_wire` is safe, and says what its faults mean. `Credentials` is AUTH, byte by byte; that each connection to a
 //! node begins with it is not proved. No dial begins before the node's pause is over, which is as long as `specs/DialPause.antt`
-//! says. What the workers and the carrier do with bytes is promised by `proxy_turns`, `proxy_lanes` and `node_link`. Of the
-//! threads, the sockets and the waking nothing more is proved.
+//! says. What a proxy does with bytes is promised by `proxy_engine`. A client is dealt to a worker that has no more clients than
+//! any other (`specs/Emptiest.antt`), as they are counted. Of the threads, the sockets and the waking nothing more is proved.
 #![tactic(auto)]
 
 mod accept_loop;
 mod acceptor;
-mod carrier_setup;
-mod carrier_thread;
+mod arrivals;
 mod client;
 mod client_room;
-mod gate;
-mod lookout;
+mod dealer;
+mod emptiest;
+mod pace;
 mod page_client;
 mod page_figures;
 mod page_thread;
@@ -30,7 +31,9 @@ mod request_times;
 mod run;
 mod setup;
 mod shared;
+mod socket_gate;
 mod unfinished;
+mod upstream;
 mod worker_thread;
 
 pub use acceptor::listen;

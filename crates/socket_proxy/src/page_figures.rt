@@ -16,32 +16,35 @@ pub(crate) struct ThreadFigures {
     pub(crate) has_map: bool,
 }
 
-/// What the threads report now.
+/// What the threads report now. There is a map once each worker has one.
 pub(crate) fn thread_figures(alloc: Global, shared: &Shared) -> Result<ThreadFigures, NoMemory> {
-    let carrier = shared.carrier.ready.report();
     Ok(ThreadFigures {
-        carrier: carrier_figures(carrier),
+        carrier: carrier_figures(shared),
         workers: workers_figures(alloc, shared)?,
-        nodes: nodes_figures(alloc, carrier)?,
+        nodes: nodes_figures(alloc, shared)?,
         times: times_of(shared),
-        has_map: carrier.has_map(),
+        has_map: shared
+            .workers
+            .iter()
+            .all(|worker| worker.report().has_map()),
     })
 }
 
-fn carrier_figures(report: &ThreadReport) -> CarrierFigures {
+/// What the workers counted together of what goes to nodes and comes back.
+fn carrier_figures(shared: &Shared) -> CarrierFigures {
     CarrierFigures {
-        clients: report.counted(Figure::Clients),
-        sent: report.counted(Figure::Sent),
-        unsent: report.counted(Figure::Unsent),
-        moved: report.counted(Figure::Moved),
-        ask: report.counted(Figure::Ask),
-        tryagain: report.counted(Figure::TryAgain),
-        clusterdown: report.counted(Figure::ClusterDown),
-        dials_failed: report.counted(Figure::DialsFailed),
-        links: report.counted(Figure::Links),
-        links_gone: report.counted(Figure::LinksGone),
-        bytes_in: report.counted(Figure::BytesIn),
-        bytes_out: report.counted(Figure::BytesOut),
+        clients: shared.acceptor.counted(Figure::Clients),
+        sent: shared.of_workers(Figure::Sent),
+        unsent: shared.of_workers(Figure::Unsent),
+        moved: shared.of_workers(Figure::Moved),
+        ask: shared.of_workers(Figure::Ask),
+        tryagain: shared.of_workers(Figure::TryAgain),
+        clusterdown: shared.of_workers(Figure::ClusterDown),
+        dials_failed: shared.of_workers(Figure::DialsFailed),
+        links: shared.of_workers(Figure::Links),
+        links_gone: shared.of_workers(Figure::LinksGone),
+        bytes_in: shared.of_workers(Figure::NodeBytesIn),
+        bytes_out: shared.of_workers(Figure::NodeBytesOut),
     }
 }
 
@@ -49,7 +52,7 @@ fn workers_figures(alloc: Global, shared: &Shared) -> Result<Vec<WorkerFigures>,
     let mut figures = Vec::new(alloc);
     for worker in &shared.workers {
         let number = u16::try_from(figures.len()).unwrap_or(u16::MAX);
-        figures.push(worker_figures(number, worker.ready.report()))?;
+        figures.push(worker_figures(number, worker.report()))?;
     }
     Ok(figures)
 }
@@ -67,33 +70,47 @@ fn worker_figures(number: u16, report: &ThreadReport) -> WorkerFigures {
     }
 }
 
-fn nodes_figures(alloc: Global, report: &ThreadReport) -> Result<Vec<NodeFigures>, NoMemory> {
+/// What the workers know together of each node, by its address.
+fn nodes_figures(alloc: Global, shared: &Shared) -> Result<Vec<NodeFigures>, NoMemory> {
     let mut figures = Vec::new(alloc);
-    for standing in report.nodes(alloc)? {
-        figures.push(node_figures(standing))?;
+    for worker in &shared.workers {
+        for standing in worker.report().nodes(alloc)? {
+            add_node(&mut figures, standing)?;
+        }
     }
     Ok(figures)
 }
 
-fn node_figures(standing: NodeStanding) -> NodeFigures {
+/// Adds what one more worker knows of a node.
+fn add_node(figures: &mut Vec<NodeFigures>, standing: NodeStanding) -> Result<(), NoMemory> {
     let NodeStanding {
         address,
         has_link,
         dial_failed,
         serves_slots,
     } = standing;
-    NodeFigures {
+    let known = figures.iter().position(|node| node.address == address);
+    if let Some(at) = known
+        && let Some(node) = figures.get_mut(at)
+    {
+        node.has_link |= has_link;
+        node.dial_failed |= dial_failed;
+        node.serves_slots |= serves_slots;
+        return Ok(());
+    }
+    figures.push(NodeFigures {
         address,
         has_link,
         dial_failed,
         serves_slots,
-    }
+    })?;
+    Ok(())
 }
 
 fn times_of(shared: &Shared) -> Times {
     let mut sums = TimeSums::none();
     for worker in &shared.workers {
-        worker.ready.report().add_times_to(&mut sums);
+        worker.report().add_times_to(&mut sums);
     }
     Times {
         counts: sums.counts,

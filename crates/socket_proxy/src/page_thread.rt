@@ -4,13 +4,12 @@ use crate::page_client::PageClient;
 use crate::page_figures::thread_figures;
 use crate::process_figures::process_figures;
 use crate::run::Admin;
-use crate::setup::push;
+use crate::setup::{push, shared_ready_set};
 use crate::shared::Shared;
 use admin_page::{Figures, MOST_CONNECTIONS, PageConnection};
-use event_log::ThreadReport;
 use mio::net::{TcpListener, TcpStream};
 use mio::{Interest, Registry};
-use proxy_runtime::{PolledSocket, Poller, ReadySet, Registration, WireRunFault};
+use proxy_runtime::{Peer, PolledSocket, Poller, ReadySet, Registration, WireRunFault};
 use resp_wire::NoMemory;
 use std::alloc::Global;
 use std::fs::File;
@@ -21,6 +20,9 @@ use std::net::Net;
 use std::random::RandomSource;
 use std::sync::{Arc, Wait};
 use std::time::Clock;
+
+/// How long the thread sleeps at most, in milliseconds: connections end after a time, and no poll reports that all threads stop.
+const SLEEP_MILLIS: u64 = 250;
 
 /// What the thread of the page is given.
 #[derive(Drop)]
@@ -59,10 +61,10 @@ fn page_setup<'a, R: Net>(
         version,
         status,
     } = admin;
-    let (poller, parker) = Poller::new(rt, alloc)?;
-    drop(parker);
-    let ready = own_ready_set(alloc)?;
-    let registration = Registration::new(&ready)?;
+    let (poller, waker) = Poller::new(rt, alloc)?;
+    drop(waker);
+    let ready = shared_ready_set(alloc)?;
+    let registration = Registration::new(&ready, Peer::Client)?;
     let watched = poller
         .registry()
         .register(&mut listener, registration.token(), Interest::READABLE);
@@ -78,12 +80,6 @@ fn page_setup<'a, R: Net>(
         }),
         Err(error) => Err(WireRunFault::Listen(error)),
     }
-}
-
-/// A set whose sockets nobody else counts.
-fn own_ready_set(alloc: Global) -> Result<Arc<ReadySet, Global>, NoMemory> {
-    let ready = ReadySet::new(alloc, ThreadReport::new(alloc)?)?;
-    Ok(Arc::new(alloc, ready)?)
 }
 
 /// Answers for the page until all threads are told to stop. What befalls one connection ends that one alone. Where there is no
@@ -138,7 +134,7 @@ fn answer_all<R: Wait + Clock + RandomSource>(
         if page.serve_clients(alloc, shared) {
             poller.poll_now(&page.ready);
         } else {
-            poller.sleep(&page.ready);
+            poller.sleep(&page.ready, SLEEP_MILLIS);
         }
     }
     unreachable!()
@@ -316,7 +312,7 @@ fn page_client<R: RandomSource>(
     registry: &Registry,
     now: u64,
 ) -> io::Result<PageClient> {
-    let Ok(registration) = Registration::new(ready) else {
+    let Ok(registration) = Registration::new(ready, Peer::Client) else {
         return Err(ErrorKind::OutOfMemory.into());
     };
     let keys = RandomState::new(rt)?;

@@ -1,27 +1,25 @@
 //! The proxy over sockets, whole.
 
-ghost use Rattle.std.specs.Prelude.{◌≡◌, ◌<◌, ◌≤◌, IsTrue};
+ghost use Rattle.std.specs.Prelude.{◌<◌, ◌≤◌, IsTrue};
 ghost use Rattle.resp_wire.specs.Text.{is_one_line};
-ghost use Rattle.proxy_lanes.specs.Opened.{book_of};
 
-use crate::carrier_setup::{CarrierSetup, carrier_setup};
-use crate::carrier_thread::run_carrier;
-use crate::client::SocketClient;
+use crate::accept_loop::{Desk, run_desk};
+use crate::acceptor::Acceptor;
+use crate::client_room::ClientRoom;
+use crate::dealer::{Arrival, Dealer};
 use crate::page_thread::{PageSetup, page_setups, run_page};
-use crate::setup::{ThreadSetups, client_share, push, setup_threads};
+use crate::setup::{ThreadSetups, push, setup_threads};
 use crate::shared::Shared;
-use crate::worker_thread::{SocketWorkerSetup, WorkerSetup, run_worker};
-use event_log::ErrorStream;
-use key_split::{Run, Ticket, Told};
+use crate::upstream::Upstream;
+use crate::worker_thread::{SocketTask, WorkerTask, run_worker};
+use event_log::{ErrorStream, Reporter};
 use mio::net::TcpListener;
 use node_dial::Credentials;
-use proxy_lanes::{Inlet, MapView, Naming, Newcomers, Opened, Outlet, WorkerEnds, lanes};
-use proxy_runtime::{Poller, ThreadsFault, WireRunFault, run_threads};
-use proxy_turns::Newcomer;
+use proxy_lanes::Inlet;
+use proxy_runtime::{Peer, Poller, Registration, ThreadsFault, WireRunFault, run_threads};
 use resp_wire::NoMemory;
 use std::alloc::{AllocGlobal, Global};
 use std::fs::File;
-use std::marker::Brand;
 use std::net::{self, Net};
 use std::random::RandomSource;
 use std::sync::Wait;
@@ -59,9 +57,9 @@ pub struct Admin<'a> {
     pub status: Option<File>,
 }
 
-/// Serves clients that come to the listener, by workers in threads of their own and a carrier in this one, before the cluster
-/// that the seed belongs to. Where there is an `admin`, one more thread answers for the page. After a fault all threads have
-/// ended.
+/// Serves clients that come to the listener before the cluster that the seed belongs to. Each worker does so in a thread of its
+/// own, by a proxy of its own; this thread accepts the clients and writes the log. Where there is an `admin`, one more thread
+/// answers for the page. After a fault all threads have ended.
 pub fn run_wire<R>(
     rt: &R,
     alloc: Global,
@@ -82,63 +80,56 @@ where
     requires workers { (0 < proxy.workers) × (proxy.workers ≤ 64) }
     requires host { IsTrue (is_one_line proxy.host.now) }
 {
-    let (workers, clients) = (proxy.workers, proxy.clients);
-    let pages = page_setups(rt, alloc, admin, proxy.descriptors)?;
+    let Proxy {
+        listener,
+        host,
+        port,
+        workers,
+        clients,
+        descriptors,
+        credentials,
+        log,
+    } = proxy;
+    let pages = page_setups(rt, alloc, admin, descriptors)?;
     let ThreadSetups {
         shared,
         pollers,
         poller,
     } = setup_threads(rt, alloc, workers)?;
-    let carrier = carrier_setup(alloc, proxy, &shared, poller, &pollers)?;
-    run_named::<Brand, R>(
-        rt,
-        alloc,
-        &shared,
-        pages,
-        pollers,
-        carrier,
-        workers,
-        clients,
-        Opened::new(),
-    )
+    let upstream = Upstream::new(alloc, host, port, credentials)?;
+    let (dealer, inlets) = Dealer::new(alloc, shared.workers.len())?;
+    let tasks = worker_tasks(alloc, pollers, inlets)?;
+    let room = ClientRoom::new(descriptors, workers);
+    let acceptor = acceptor(listener, &shared, &poller, clients, room)?;
+    let reporter = Reporter::new(alloc, log, shared.reports(alloc)?)?;
+    let desk = Desk::new(acceptor, dealer, reporter);
+    run_beside_page(rt, alloc, pages, &shared, || -> Option<WireRunFault> {
+        run_workers(
+            rt,
+            alloc,
+            tasks,
+            &upstream,
+            &shared,
+            || -> Option<WireRunFault> {
+                run_desk(rt, desk, poller, &shared);
+                None
+            },
+        )
+    })
 }
 
-/// Runs the workers and the carrier, with lanes of this name between them.
-fn run_named<J, R>(
-    rt: &R,
-    alloc: Global,
+/// What accepts clients.
+fn acceptor(
+    listener: TcpListener,
     shared: &Shared,
-    pages: Vec<PageSetup<'_>>,
-    pollers: Vec<Poller>,
-    carrier: CarrierSetup<'_>,
-    workers: u16,
+    poller: &Poller,
     clients: Option<u32>,
-    opened: Opened,
-) -> Result<(), WireRunFault>
-where
-    J: Naming + Send + Sync,
-    R: Threads
-        + Wait
-        + RandomSource
-        + Clock
-        + AllocGlobal
-        + Net<Listener = net::TcpListener, Stream = net::TcpStream>
-        + Copy
-        + Send
-        + Sync
-        + 'static,
-    requires name { book_of opened ≡ J.book }
-    requires workers { (0 < workers) × (workers ≤ 64) }
-{
-    let (worker_ends, ends) = lanes::<Newcomer<SocketClient, J>, J, &R>(
-        alloc, rt, opened, workers,
-    )?;
-    let setups = worker_setups(alloc, worker_ends, pollers, clients)?;
-    run_beside_page(rt, alloc, pages, shared, || -> Option<WireRunFault> {
-        run_workers(rt, alloc, setups, shared, || -> Option<WireRunFault> {
-            run_carrier(rt, alloc, ends, carrier, shared)
-        })
-    })
+    room: ClientRoom,
+) -> Result<Acceptor, WireRunFault> {
+    let registration = Registration::new(&shared.acceptor.ready, Peer::Client)?;
+    Acceptor::new(listener, registration, poller.registry(), clients, room).map_err(
+        WireRunFault::Listen,
+    )
 }
 
 /// Answers for the page in a thread of its own, where it is wanted, while clients are served in this one.
@@ -172,16 +163,16 @@ fn first_fault(faults: Vec<Option<WireRunFault>>) -> Option<WireRunFault> {
     faults.into_iter().flatten().next()
 }
 
-/// The workers run in threads of their own, and the carrier in this one.
-fn run_workers<J, C, R>(
+/// The workers run in threads of their own, and `accept` in this one.
+fn run_workers<C, R>(
     rt: &R,
     alloc: Global,
-    workers: Vec<SocketWorkerSetup<J>>,
+    tasks: Vec<SocketTask>,
+    upstream: &Upstream<'_>,
     shared: &Shared,
-    carry: C,
+    accept: C,
 ) -> Option<WireRunFault>
 where
-    J: Naming + Send + Sync,
     C: FnOnce() -> Option<WireRunFault>,
     R: Threads
         + Wait
@@ -189,16 +180,19 @@ where
         + Clock
         + AllocGlobal
         + Net<Listener = net::TcpListener, Stream = net::TcpStream>
-        + Sync,
-    requires carry { C.IsAlwaysCallable carry }
+        + Copy
+        + Send
+        + Sync
+        + 'static,
+    requires accept { C.IsAlwaysCallable accept }
 {
     let faults = run_worker_threads(
         rt,
         alloc,
-        workers,
-        &|setup| -> Option<WireRunFault> { run_worker(rt, alloc, setup, shared) },
+        tasks,
+        &|task| -> Option<WireRunFault> { run_worker(rt, alloc, task, upstream, shared) },
         &|| shared.stop(),
-        carry,
+        accept,
     );
     match faults {
         Ok(faults) => first_fault(faults),
@@ -206,67 +200,43 @@ where
     }
 }
 
-/// The threads, where each part of a setup may go to another thread. It gives each one's fault, the carrier's last.
-fn run_worker_threads<N, O, I, V, W, F, C, A, R>(
+/// The threads, where each part of a task may go to another thread. It gives each one's fault, this thread's last.
+fn run_worker_threads<W, I, F, C, A, R>(
     rt: &R,
     alloc: Global,
-    workers: Vec<WorkerSetup<N, O, I, V, W>>,
+    tasks: Vec<WorkerTask<W, I>>,
     work: &F,
     call_off: &A,
-    carry: C,
+    accept: C,
 ) -> Result<Vec<Option<WireRunFault>>, ThreadsFault>
 where
-    N: Drop + Send,
-    O: Drop + Send,
-    I: Drop + Send,
-    V: Drop + Send,
     W: Drop + Send,
-    F: Fn(WorkerSetup<N, O, I, V, W>) -> Option<WireRunFault> + Sync,
+    I: Drop + Send,
+    F: Fn(WorkerTask<W, I>) -> Option<WireRunFault> + Sync,
     C: FnOnce() -> Option<WireRunFault>,
     A: Fn(),
     R: Threads + Wait,
     requires work { F.IsAlwaysCallable work.now }
     requires call_off { A.IsAlwaysCallable call_off.now }
-    requires carry { C.IsAlwaysCallable carry }
+    requires accept { C.IsAlwaysCallable accept }
 {
-    run_threads(rt, alloc, workers, work, call_off, carry)
+    run_threads(rt, alloc, tasks, work, call_off, accept)
 }
 
-/// What each worker's thread is given. Each takes its share of all clients that come.
-fn worker_setups<J: Naming>(
+/// What each worker's thread is given.
+fn worker_tasks(
     alloc: Global,
-    ends: Vec<WorkerEnds<Newcomer<SocketClient, J>, J>>,
     pollers: Vec<Poller>,
-    clients: Option<u32>,
-) -> Result<Vec<SocketWorkerSetup<J>>, NoMemory> {
-    let mut setups = Vec::new(alloc);
-    for (ends, poller) in ends.into_iter().zip(pollers) {
-        push(&mut setups, worker_setup(ends, poller, clients))?;
+    inlets: Vec<Inlet<Arrival>>,
+) -> Result<Vec<SocketTask>, NoMemory> {
+    let mut tasks = Vec::new(alloc);
+    for (poller, inlet) in pollers.into_iter().zip(inlets) {
+        let task = WorkerTask {
+            worker: tasks.len(),
+            poller,
+            inlet,
+        };
+        push(&mut tasks, task)?;
     }
-    Ok(setups)
-}
-
-fn worker_setup<H: Drop, J: Naming>(
-    ends: WorkerEnds<H, J>,
-    poller: Poller,
-    clients: Option<u32>,
-) -> WorkerSetup<Newcomers<H>, Outlet<Run>, Inlet<(Ticket, Told)>, MapView<J>, Poller> {
-    let WorkerEnds {
-        worker,
-        workers,
-        outlet,
-        inlet,
-        newcomers,
-        view,
-    } = ends;
-    WorkerSetup {
-        worker,
-        workers,
-        clients: client_share(clients, worker, workers),
-        newcomers,
-        outlet,
-        inlet,
-        view,
-        poller,
-    }
+    Ok(tasks)
 }

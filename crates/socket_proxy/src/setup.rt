@@ -1,7 +1,6 @@
 //! What each thread is given before it starts.
 
 use crate::shared::{Shared, ThreadHandle};
-use crate::unfinished::Unfinished;
 use event_log::ThreadReport;
 use mio::Registry;
 use proxy_runtime::{Poller, ReadySet, WireRunFault};
@@ -16,11 +15,11 @@ pub(crate) struct ThreadSetups {
     pub(crate) shared: Shared,
     /// Those of the workers.
     pub(crate) pollers: Vec<Poller>,
-    /// The carrier's.
+    /// The acceptor's.
     pub(crate) poller: Poller,
 }
 
-/// Handles and pollers for the workers, and for the carrier.
+/// Handles and pollers for the workers, and for the acceptor.
 pub(crate) fn setup_threads<R: Net>(
     rt: &R,
     alloc: Global,
@@ -31,9 +30,9 @@ pub(crate) fn setup_threads<R: Net>(
     for _ in 0..workers {
         setup_worker(rt, alloc, &mut handles, &mut pollers)?;
     }
-    let (carrier, poller) = setup_thread(rt, alloc)?;
+    let (acceptor, poller) = setup_thread(rt, alloc)?;
     Ok(ThreadSetups {
-        shared: Shared::new(handles, carrier),
+        shared: Shared::new(handles, acceptor),
         pollers,
         poller,
     })
@@ -55,38 +54,18 @@ fn setup_worker<R: Net>(
 /// A thread's handle and poller.
 fn setup_thread<R: Net>(rt: &R, alloc: Global) -> Result<(ThreadHandle, Poller), WireRunFault> {
     let ready = shared_ready_set(alloc)?;
-    let (poller, parker) = Poller::new(rt, alloc)?;
-    let unfinished = Unfinished::new(alloc)?;
-    Ok((ThreadHandle::new(ready, parker, unfinished), poller))
+    let (poller, waker) = Poller::new(rt, alloc)?;
+    Ok((ThreadHandle::new(ready, waker), poller))
 }
 
-fn shared_ready_set(alloc: Global) -> Result<Arc<ReadySet, Global>, NoMemory> {
+/// A set whose sockets are counted alone.
+pub(crate) fn shared_ready_set(alloc: Global) -> Result<Arc<ReadySet, Global>, NoMemory> {
     let ready = ReadySet::new(alloc, ThreadReport::new(alloc)?)?;
     Ok(Arc::new(alloc, ready)?)
 }
 
 pub(crate) fn clone_registry(poller: &Poller) -> Result<Registry, WireRunFault> {
     poller.registry().try_clone().map_err(WireRunFault::Poll)
-}
-
-/// What each worker's poll watches.
-pub(crate) fn clone_registries(
-    alloc: Global,
-    pollers: &[Poller],
-) -> Result<Vec<Registry>, WireRunFault> {
-    let mut registries = Vec::new(alloc);
-    for poller in pollers {
-        push(&mut registries, clone_registry(poller)?)?;
-    }
-    Ok(registries)
-}
-
-/// How many of the clients with the numbers from 0 go to the worker, which go to the workers in turn.
-pub(crate) fn client_share(clients: Option<u32>, worker: u16, workers: u16) -> Option<u32> {
-    let clients = clients?;
-    let workers = u32::from(workers).max(1);
-    let more = u32::from(u32::from(worker) < clients % workers);
-    Some((clients / workers).saturating_add(more))
 }
 
 pub(crate) fn push<T: Drop>(list: &mut Vec<T>, item: T) -> Result<(), NoMemory> {

@@ -1,139 +1,143 @@
 //! Requests of which not all has come.
 
-ghost use Rattle.std.specs.Prelude.{◌≢◌, ◌<◌, ◌+◌, ◌↔◌, ◌∷◌, ℕ, List, IsTrue};
+ghost use Rattle.std.specs.Prelude.{◌≢◌, ◌<◌, ◌≤◌, ◌+◌, ◌*◌, ◌↔◌, ◌∷◌, ℕ, List, IsTrue};
 ghost use Rattle.socket_proxy.specs.Unfinished.{IsHeld, IsMost};
 
 use resp_wire::NoMemory;
 use std::alloc::Global;
-use std::cell::Cell;
-use std::sync::atomic::{AtomicBool, AtomicU64, Ordering};
-use std::sync::{Arc, Mutex};
+use std::cell::{Cell, RefCell};
+use std::rc::Rc;
 
-/// So many bytes of unfinished requests are held for a worker's clients together at most, beside the largest one of them.
+/// So many bytes of unfinished requests are held for the clients of all workers at most, each of which has its share, beside the
+/// largest one of each worker's.
 const MAX_UNFINISHED: u64 = 512 * 1024 * 1024;
 
-/// The unfinished requests of a worker's clients. Its thread alone changes them.
+/// The unfinished requests of a worker's clients.
 #[derive(Drop)]
 pub(crate) struct Unfinished {
     alloc: Global,
+    /// So many bytes may be held beside the largest of them.
+    most: u64,
     /// How many bytes are held of all of them together.
-    together: AtomicU64,
+    together: Cell<u64>,
     /// So many bytes are held of one of them, which may not be the largest, or 0.
-    known: AtomicU64,
-    requests: Mutex<Vec<Arc<HeldRequest, Global>>>,
+    known: Cell<u64>,
+    requests: RefCell<Vec<Rc<HeldRequest>>>,
 }
+
+/// The same, for each of the worker's clients.
+pub(crate) type SharedUnfinished = Rc<Unfinished>;
 
 /// What is held of one client's request.
 #[derive(Drop)]
 struct HeldRequest {
     /// How many bytes of it; 0 once it came whole.
-    bytes: AtomicU64,
+    bytes: Cell<u64>,
     /// It was the largest when too much was held.
-    is_refused: AtomicBool,
+    is_refused: Cell<bool>,
     /// Where it stands among those of its worker.
-    place: AtomicU64,
+    place: Cell<usize>,
 }
 
 impl HeldRequest {
-    fn new(place: u64) -> HeldRequest {
+    fn new(place: usize) -> HeldRequest {
         HeldRequest {
-            bytes: AtomicU64::new(0),
-            is_refused: AtomicBool::new(false),
-            place: AtomicU64::new(place),
+            bytes: Cell::new(0),
+            is_refused: Cell::new(false),
+            place: Cell::new(place),
         }
-    }
-
-    fn bytes(&self) -> u64 {
-        self.bytes.load(Ordering::Relaxed)
-    }
-
-    fn is_refused(&self) -> bool {
-        self.is_refused.load(Ordering::Relaxed)
     }
 }
 
 impl Unfinished {
-    /// No request is unfinished.
-    pub(crate) fn new(alloc: Global) -> Result<Arc<Unfinished, Global>, NoMemory> {
+    /// No request is unfinished, of one of so many workers.
+    pub(crate) fn new(alloc: Global, workers: usize) -> Result<SharedUnfinished, NoMemory> {
         let unfinished = Unfinished {
             alloc,
-            together: AtomicU64::new(0),
-            known: AtomicU64::new(0),
-            requests: Mutex::new(Vec::new(alloc)),
+            most: share_of(workers as u64),
+            together: Cell::new(0),
+            known: Cell::new(0),
+            requests: RefCell::new(Vec::new(alloc)),
         };
-        Ok(Arc::new(alloc, unfinished)?)
+        Ok(Rc::new(alloc, unfinished)?)
     }
 
     /// One more client's request, where nobody else is at the list.
-    fn add(&self) -> Result<Option<Arc<HeldRequest, Global>>, NoMemory> {
-        let Some(mut requests) = self.requests.try_lock() else {
+    fn add(&self) -> Result<Option<Rc<HeldRequest>>, NoMemory> {
+        let Ok(mut requests) = self.requests.try_borrow_mut() else {
             return Ok(None);
         };
-        let place = requests.len() as u64;
-        let request = Arc::new(self.alloc, HeldRequest::new(place))?;
-        requests.push(Arc::try_clone(&request)?)?;
+        let request = Rc::new(self.alloc, HeldRequest::new(requests.len()))?;
+        let Ok(listed) = request.clone() else {
+            return Err(NoMemory);
+        };
+        requests.push(listed)?;
         Ok(Some(request))
     }
 
     /// Forgets the request of a client that is gone. The last one of the list takes its place.
     fn remove(&self, request: &HeldRequest) {
         self.set(request, 0);
-        let Some(mut requests) = self.requests.try_lock() else {
+        let Ok(mut requests) = self.requests.try_borrow_mut() else {
             return;
         };
-        let place = request.place.load(Ordering::Relaxed) as usize;
+        let place = request.place.get();
         if place < requests.len() {
             requests.swap_remove(place);
         }
         if let Some(moved) = requests.get(place) {
-            moved.place.store(place as u64, Ordering::Relaxed);
+            moved.place.set(place);
         }
     }
 
     /// So many bytes of the request are held. Where that is too much for all together, the largest is refused.
     fn set(&self, request: &HeldRequest, bytes: u64) {
-        let before = request.bytes();
-        let others = self.together().saturating_sub(before);
+        let before = request.bytes.replace(bytes);
+        let others = self.together.get().saturating_sub(before);
         let together = others.saturating_add(bytes);
-        let known = known_after(self.known.load(Ordering::Relaxed), before, bytes);
-        request.bytes.store(bytes, Ordering::Relaxed);
-        self.together.store(together, Ordering::Relaxed);
-        self.known.store(known, Ordering::Relaxed);
-        if is_too_much(together, known) {
+        let known = known_after(self.known.get(), before, bytes);
+        self.together.set(together);
+        self.known.set(known);
+        if is_too_much(together, known, self.most) {
             self.refuse_largest();
         }
     }
 
-    fn together(&self) -> u64 {
-        self.together.load(Ordering::Relaxed)
-    }
-
     /// Looks for the largest request, and refuses it where too much is held beside it.
     fn refuse_largest(&self) {
-        let Some(requests) = self.requests.try_lock() else {
+        let Ok(requests) = self.requests.try_borrow() else {
             return;
         };
-        let Some(largest) = requests.iter().max_by_key(|request| request.bytes()) else {
+        let Some(largest) = requests.iter().max_by_key(|request| request.bytes.get()) else {
             return;
         };
-        let (together, bytes) = (self.together(), largest.bytes());
-        if !is_too_much(together, bytes) {
-            self.known.store(bytes, Ordering::Relaxed);
+        let (together, bytes) = (self.together.get(), largest.bytes.get());
+        if !is_too_much(together, bytes, self.most) {
+            self.known.set(bytes);
             return;
         }
-        largest.is_refused.store(true, Ordering::Relaxed);
-        largest.bytes.store(0, Ordering::Relaxed);
-        self.together
-            .store(together.saturating_sub(bytes), Ordering::Relaxed);
-        self.known.store(0, Ordering::Relaxed);
+        largest.is_refused.set(true);
+        largest.bytes.set(0);
+        self.together.set(together.saturating_sub(bytes));
+        self.known.set(0);
     }
 }
 
-/// Whether too many bytes are held beside the largest request.
-fn is_too_much(together: u64, largest: u64) -> bool
-    ensures { IsTrue result ↔ (MAX_UNFINISHED + largest < together) }
+/// What each of so many workers may hold, which together hold no more than all may.
+fn share_of(workers: u64) -> u64
+    ensures { workers * result ≤ MAX_UNFINISHED }
 {
-    together.saturating_sub(largest) > MAX_UNFINISHED
+    if workers == 0 {
+        return MAX_UNFINISHED;
+    }
+    MAX_UNFINISHED / workers
+}
+
+/// Whether more than `most` bytes are held beside the largest request.
+fn is_too_much(together: u64, largest: u64, most: u64) -> bool
+    ensures { IsTrue result ↔ (most + largest < together) }
+{
+    together.saturating_sub(largest) > most
 }
 
 /// What is held of a request that is known, or 0, once another number of bytes is held of one of them. Where it was the largest,
@@ -150,10 +154,10 @@ fn known_after(known: u64, before: u64, bytes: u64) -> u64
 
 /// What is held of a client's unfinished request, among those of its worker.
 pub(crate) struct UnfinishedRequest {
-    all: Arc<Unfinished, Global>,
+    all: SharedUnfinished,
     bytes: Cell<u64>,
     /// Its entry, once bytes of the client came.
-    held: Option<Arc<HeldRequest, Global>>,
+    held: Option<Rc<HeldRequest>>,
 }
 
 impl Drop for UnfinishedRequest {
@@ -170,7 +174,7 @@ impl Drop for UnfinishedRequest {
 
 impl UnfinishedRequest {
     /// No request is begun.
-    pub(crate) fn new(all: Arc<Unfinished, Global>) -> UnfinishedRequest {
+    pub(crate) fn new(all: SharedUnfinished) -> UnfinishedRequest {
         UnfinishedRequest {
             all,
             bytes: Cell::new(0),
@@ -186,7 +190,7 @@ impl UnfinishedRequest {
     /// How many bytes are held of it, and that it is refused, where it is.
     pub(crate) fn refused(&self) -> Option<u64> {
         match &self.held {
-            Some(held) if held.is_refused() => Some(self.bytes.get()),
+            Some(held) if held.is_refused.get() => Some(self.bytes.get()),
             _ => None,
         }
     }
@@ -208,7 +212,7 @@ impl UnfinishedRequest {
     pub(crate) fn finish(&self) {
         self.bytes.set(0);
         if let Some(held) = &self.held {
-            held.is_refused.store(false, Ordering::Relaxed);
+            held.is_refused.set(false);
             self.all.set(held, 0);
         }
     }

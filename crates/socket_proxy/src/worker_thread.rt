@@ -1,95 +1,230 @@
 //! What a worker's thread does.
 
+ghost use Rattle.std.specs.Prelude.{◌≡◌};
+ghost use Rattle.proxy_lanes.specs.Opened.{book_of};
+
+use crate::arrivals::{Arrivals, Arrived, NumberedClient};
 use crate::client::SocketClient;
-use crate::gate::SocketGate;
-use crate::shared::Shared;
-use futures::executor::block_on;
-use key_split::{Run, Ticket, Told};
-use proxy_lanes::{Inlet, MapView, Naming, Newcomers, Outlet, WorkerEnds};
-use proxy_runtime::{Poller, WireRunFault};
-use proxy_turns::{Newcomer, Worker, WorkerOutcome};
-use std::alloc::{AllocGlobal, Global};
-use std::random::RandomSource;
+use crate::dealer::Arrival;
+use crate::pace::{Next, Pace};
+use crate::setup::clone_registry;
+use crate::shared::{Shared, ThreadHandle};
+use crate::socket_gate::SocketGate;
+use crate::unfinished::Unfinished;
+use crate::upstream::Upstream;
+use node_dial::{LookUps, NodeSocket, SharedLookUps, SocketDial, advance_look_ups};
+use proxy_engine::{Engine, EngineFault};
+use proxy_lanes::{Inlet, Naming, Opened};
+use proxy_runtime::{Poller, ReadySet, WireRunFault};
+use proxy_turns::Newcomer;
+use std::alloc::Global;
+use std::marker::Brand;
+use std::net::{Net, TcpListener, TcpStream};
 use std::sync::Wait;
+use std::thread::Threads;
 use std::time::Clock;
 
-/// What a worker's thread is given: its ends of the lanes and its poller.
+/// Clients that are taken at most between two turns.
+const ARRIVALS_PER_TURN: u32 = 16;
+
+/// What a worker's thread is given alone.
 #[derive(Drop)]
-pub(crate) struct WorkerSetup<N, O, I, V, W> {
-    pub(crate) worker: u16,
-    pub(crate) workers: u16,
-    /// How many clients it is to take; `None` without end.
-    pub(crate) clients: Option<u32>,
-    pub(crate) newcomers: N,
-    pub(crate) outlet: O,
-    pub(crate) inlet: I,
-    pub(crate) view: V,
+pub(crate) struct WorkerTask<W, I> {
+    pub(crate) worker: usize,
     pub(crate) poller: W,
+    pub(crate) inlet: I,
 }
 
 /// What a worker over sockets is given.
-pub(crate) type SocketWorkerSetup<J> = WorkerSetup<
-    Newcomers<Newcomer<SocketClient, J>>,
-    Outlet<Run>,
-    Inlet<(Ticket, Told)>,
-    MapView<J>,
-    Poller,
+pub(crate) type SocketTask = WorkerTask<Poller, Inlet<Arrival>>;
+
+/// A proxy over sockets, whole: a worker and its carrier.
+type SocketEngine<'g, 'r, 'b, J, R> = Engine<
+    'g,
+    SocketClient,
+    J,
+    &'b R,
+    SocketDial<'b, R>,
+    NodeSocket,
+    SocketGate<'r>,
 >;
 
-/// Serves its clients to their end, or until all threads are told to stop. After a fault they are told.
-pub(crate) fn run_worker<J: Naming, R: Wait + Clock + RandomSource + AllocGlobal>(
+/// Serves the clients that are dealt to it, until all threads are told to stop. After a fault they are told.
+pub(crate) fn run_worker<R>(
     rt: &R,
     alloc: Global,
-    setup: SocketWorkerSetup<J>,
+    task: SocketTask,
+    upstream: &Upstream<'_>,
     shared: &Shared,
-) -> Option<WireRunFault> {
-    let fault = serve_clients(rt, alloc, setup, shared);
-    if fault.is_some() {
-        shared.stop();
-    }
-    shared.worker_ended();
-    fault
-}
-
-fn serve_clients<J: Naming, R: Wait + Clock + RandomSource + AllocGlobal>(
-    rt: &R,
-    alloc: Global,
-    setup: SocketWorkerSetup<J>,
-    shared: &Shared,
-) -> Option<WireRunFault> {
-    let Some(handle) = shared.workers.get(usize::from(setup.worker)) else {
-        drop(setup);
+) -> Option<WireRunFault>
+where
+    R: Threads
+        + Wait
+        + Clock
+        + Net<Listener = TcpListener, Stream = TcpStream>
+        + Copy
+        + Send
+        + 'static,
+{
+    let WorkerTask {
+        worker,
+        poller,
+        inlet,
+    } = task;
+    let Some(handle) = shared.workers.get(worker) else {
         return None;
     };
-    let WorkerSetup {
-        worker,
-        workers,
-        clients,
-        newcomers,
-        outlet,
-        inlet,
-        view,
+    match serve::<Brand, R>(
+        rt,
+        alloc,
+        Opened::new(),
+        upstream,
+        shared,
+        handle,
         poller,
-    } = setup;
-    let ends = WorkerEnds {
-        worker,
-        workers,
-        outlet,
         inlet,
-        newcomers,
-        view,
-    };
-    let gate = SocketGate::new(rt, poller, handle, shared);
-    let worker = Worker::new(alloc, ends, &gate, clients);
-    match block_on(rt, worker) {
-        Ok(end) => fault_in(end.outcome),
-        Err(error) => Some(WireRunFault::Thread(error)),
+    ) {
+        Ok(()) => None,
+        Err(fault) => {
+            shared.stop();
+            Some(fault)
+        }
     }
 }
 
-fn fault_in(outcome: WorkerOutcome) -> Option<WireRunFault> {
-    match outcome {
-        WorkerOutcome::Served | WorkerOutcome::Stopped => None,
-        WorkerOutcome::NoMemory => Some(WireRunFault::NoMemory),
+/// Serves by a proxy whose map's history has this name.
+fn serve<J, R>(
+    rt: &R,
+    alloc: Global,
+    opened: Opened,
+    upstream: &Upstream<'_>,
+    shared: &Shared,
+    handle: &ThreadHandle,
+    poller: Poller,
+    inlet: Inlet<Arrival>,
+) -> Result<(), WireRunFault>
+where
+    J: Naming,
+    R: Threads
+        + Wait
+        + Clock
+        + Net<Listener = TcpListener, Stream = TcpStream>
+        + Copy
+        + Send
+        + 'static,
+    requires name { book_of opened ≡ J.book }
+{
+    let look_ups = LookUps::new(alloc, clone_registry(&poller)?)?;
+    let unfinished = Unfinished::new(alloc, shared.workers.len())?;
+    let mut arrivals = Arrivals::new(inlet, handle, clone_registry(&poller)?, unfinished);
+    let gate = SocketGate::new(&handle.ready);
+    let dial = upstream.dial(rt, alloc, handle, &poller, &look_ups)?;
+    let seeds = upstream.seed_table(alloc)?;
+    let mut engine: SocketEngine<'_, '_, '_, J, R> = Engine::new(
+        alloc, rt, opened, &gate, dial, seeds, None,
+    )?;
+    match serve_until_stopped(
+        rt,
+        &mut engine,
+        &mut arrivals,
+        &look_ups,
+        shared,
+        &handle.ready,
+        poller,
+    ) {
+        Ok(()) => Ok(()),
+        Err(_) => Err(WireRunFault::NoMemory),
+    }
+}
+
+/// Takes the clients that were dealt, turns the proxy, polls now and then, and sleeps where nothing moved: until a socket is
+/// ready, another thread wakes this one, or the first of what waits is due.
+fn serve_until_stopped<'g, 'r, 'b, J, R>(
+    rt: &R,
+    engine: &mut SocketEngine<'g, 'r, 'b, J, R>,
+    arrivals: &mut Arrivals<'_>,
+    look_ups: &SharedLookUps,
+    shared: &Shared,
+    ready: &ReadySet,
+    mut poller: Poller,
+) -> Result<(), EngineFault>
+where
+    J: Naming,
+    R: Threads
+        + Wait
+        + Clock
+        + Net<Listener = TcpListener, Stream = TcpStream>
+        + Copy
+        + Send
+        + 'static,
+{
+    let mut pace = Pace::new();
+    for _ in rt.forever() {
+        if shared.is_stopped() {
+            return Ok(());
+        }
+        ready.begin_turn(rt);
+        let came = hand_over(engine, arrivals);
+        let looked_up = advance_look_ups(rt, look_ups);
+        let turned = engine.turn()?;
+        match pace.after(came | looked_up | turned.moved | ready.had_traffic()) {
+            Next::Turn => {}
+            Next::Poll => poller.poll_now(ready),
+            Next::Sleep => {
+                ready.wake_at(turned.next_due.unwrap_or(u64::MAX));
+                poller.sleep(ready, ready.millis_to_sleep());
+            }
+        }
+    }
+    unreachable!()
+}
+
+/// Hands the clients over that were dealt to the worker. True where there was one.
+fn hand_over<
+    'g,
+    'r,
+    'b,
+    J: Naming,
+    R: Wait + Clock + Net<Listener = TcpListener, Stream = TcpStream>,
+>(engine: &mut SocketEngine<'g, 'r, 'b, J, R>, arrivals: &mut Arrivals<'_>) -> bool {
+    let mut came = false;
+    for _ in 0..ARRIVALS_PER_TURN {
+        match arrivals.take() {
+            Arrived::Client(client) => {
+                if let Err(client) = hand(engine, client) {
+                    arrivals.put_back(client);
+                    return true;
+                }
+            }
+            Arrived::Refused => {}
+            Arrived::Nobody => return came,
+        }
+        came = true;
+    }
+    came
+}
+
+/// Hands a client over. It comes back where there is no place for it.
+fn hand<'g, 'r, 'b, J: Naming, R: Wait + Clock + Net<Listener = TcpListener, Stream = TcpStream>>(
+    engine: &mut SocketEngine<'g, 'r, 'b, J, R>,
+    client: NumberedClient,
+) -> Result<(), NumberedClient> {
+    let NumberedClient { number, port } = client;
+    let newcomer = Newcomer {
+        number,
+        port,
+        front: None,
+    };
+    match engine.hand(newcomer) {
+        Ok(()) => Ok(()),
+        Err(newcomer) => {
+            let Newcomer {
+                number,
+                port,
+                front,
+            } = newcomer;
+            drop(front);
+            Err(NumberedClient { number, port })
+        }
     }
 }

@@ -1,0 +1,122 @@
+//! The clients that are dealt to a worker, as they come.
+
+use crate::client::SocketClient;
+use crate::dealer::Arrival;
+use crate::shared::ThreadHandle;
+use crate::unfinished::{SharedUnfinished, UnfinishedRequest};
+use event_log::{Event, Figure};
+use mio::Registry;
+use proxy_lanes::Inlet;
+use proxy_runtime::{Peer, PolledSocket, Registration};
+use std::io;
+use std::io::ErrorKind;
+use std::sync::Arc;
+
+/// A client with its number.
+#[derive(Drop)]
+pub(crate) struct NumberedClient {
+    pub(crate) number: u32,
+    pub(crate) port: SocketClient,
+}
+
+/// What came of looking for a client.
+#[derive(Drop)]
+pub(crate) enum Arrived {
+    Client(NumberedClient),
+    /// A connection that was closed at once.
+    Refused,
+    Nobody,
+}
+
+/// What makes clients of the connections that are dealt to a worker.
+pub(crate) struct Arrivals<'b> {
+    inlet: Inlet<Arrival>,
+    handle: &'b ThreadHandle,
+    /// What the thread's poll watches.
+    registry: Registry,
+    unfinished: SharedUnfinished,
+    /// The number of the next client; `None` once all are given.
+    next: Option<u32>,
+    /// A client that was taken and put back.
+    waiting: Option<NumberedClient>,
+}
+
+impl Drop for Arrivals<'_> {
+    fn drop(self) {
+        let Arrivals {
+            inlet,
+            handle: _,
+            registry,
+            unfinished,
+            next: _,
+            waiting,
+        } = self;
+        drop(inlet);
+        drop(registry);
+        drop(unfinished);
+        drop(waiting);
+    }
+}
+
+impl<'b> Arrivals<'b> {
+    pub(crate) fn new(
+        inlet: Inlet<Arrival>,
+        handle: &'b ThreadHandle,
+        registry: Registry,
+        unfinished: SharedUnfinished,
+    ) -> Arrivals<'b> {
+        Arrivals {
+            inlet,
+            handle,
+            registry,
+            unfinished,
+            next: Some(0),
+            waiting: None,
+        }
+    }
+
+    /// Puts a client back, which comes next.
+    pub(crate) fn put_back(&mut self, client: NumberedClient) {
+        self.waiting = Some(client);
+    }
+
+    /// The next client. A connection that can't be watched is closed, and counts as a client that is gone.
+    pub(crate) fn take(&mut self) -> Arrived {
+        if let Some(client) = self.waiting.take() {
+            return Arrived::Client(client);
+        }
+        let Some(arrival) = self.inlet.take() else {
+            return Arrived::Nobody;
+        };
+        match self.client_over(arrival) {
+            Ok(client) => Arrived::Client(client),
+            Err(error) => {
+                let report = self.handle.report();
+                report.count(Figure::ClientsGone, 1);
+                report.tell(Event::ClientRefused(error));
+                Arrived::Refused
+            }
+        }
+    }
+
+    fn client_over(&mut self, arrival: Arrival) -> io::Result<NumberedClient> {
+        let Arrival { stream, address } = arrival;
+        let Some(number) = self.next else {
+            return Err(io::Error::other("no number is left for a client"));
+        };
+        let Ok(registration) = Registration::new(&self.handle.ready, Peer::Client) else {
+            return Err(ErrorKind::OutOfMemory.into());
+        };
+        let report = Arc::try_clone(self.handle.report())?;
+        let Ok(unfinished) = self.unfinished.clone() else {
+            return Err(ErrorKind::OutOfMemory.into());
+        };
+        let request = UnfinishedRequest::new(unfinished);
+        let socket = PolledSocket::new(stream, registration, &self.registry)?;
+        self.next = number.checked_add(1);
+        Ok(NumberedClient {
+            number,
+            port: SocketClient::new(socket, address, report, request),
+        })
+    }
+}
