@@ -132,7 +132,7 @@ module _ {P : Type 0} (failures : P → ℕ) (is_garbled : P → Type 0) (exchan
 
 -- ---- each event
 
-module _ (H : Type 0) {P : Type 0} (failures : P → ℕ) (is_garbled : P → Type 0) (exchange : P → List Request → List Value → P → Type 0) (gives_none : P → Type 0) (opens : Endpoint → P → Type 0) (longest : P → ℕ) where
+module _ (H : Type 0) {P : Type 0} (failures : P → ℕ) (is_garbled : P → Type 0) (exchange : P → List Request → List Value → P → Type 0) (gives_none : P → Type 0) (opens : Endpoint → Option P → ℕ → ℕ → Type 0) (longest : P → ℕ) where
   abbrev Model : Type 0
   Model = CarrierModel H P
 

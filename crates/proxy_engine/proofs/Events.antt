@@ -1,5 +1,5 @@
 -- A turn as events alone.
-use Rattle.std.proofs.Common.{◌≡◌, ℕ, Bool, List, [], ◌∷◌, Result, Ok, Err, refl, sym, ap, ◌∙◌, subst, ⊎_elim}
+use Rattle.std.proofs.Common.{◌≡◌, ℕ, Bool, List, Option, [], ◌∷◌, Result, Ok, Err, refl, sym, ap, ◌∙◌, subst, ⊎_elim}
 use Rattle.std.specs.List.{FoldsTo}
 use Rattle.resp_wire.specs.declared.value.Value.{Value}
 use Rattle.key_split.specs.Requests.{Request}
@@ -28,7 +28,7 @@ module _ {C J : Type 0} (moves : Moves C) where
       let later = workers-unseen events one.0 f.0 new one.2 f.2 in
       (later.0, (one.0, one.1, later.1), later.2)
 
-module _ (H : Type 0) {P : Type 0} (failures : P → ℕ) (is_garbled : P → Type 0) (exchange : P → List Request → List Value → P → Type 0) (gives_none : P → Type 0) (opens : Endpoint → P → Type 0) (longest : P → ℕ) where
+module _ (H : Type 0) {P : Type 0} (failures : P → ℕ) (is_garbled : P → Type 0) (exchange : P → List Request → List Value → P → Type 0) (gives_none : P → Type 0) (opens : Endpoint → Option P → ℕ → ℕ → Type 0) (longest : P → ℕ) where
   carriers-unseen : (events : List CarrierEvent) (less old new : CarrierModel H P) → CarrierKnows less old → FoldsTo (CarrierDoes failures is_garbled exchange gives_none opens longest) old events new
       → (after : CarrierModel H P) × FoldsTo (CarrierDoes failures is_garbled exchange gives_none opens longest) less events after × CarrierKnows after new
   carriers-unseen [] less old new k f = (less, refl, subst (λ (c : CarrierModel H P). CarrierKnows less c) f k)
@@ -37,7 +37,7 @@ module _ (H : Type 0) {P : Type 0} (failures : P → ℕ) (is_garbled : P → Ty
       let later = carriers-unseen events one.0 f.0 new one.2 f.2 in
       (later.0, (one.0, one.1, later.1), later.2)
 
-module _ (C J : Type 0) {P : Type 0} (moves : Moves C) (failures : P → ℕ) (is_garbled : P → Type 0) (exchange : P → List Request → List Value → P → Type 0) (gives_none : P → Type 0) (opens : Endpoint → P → Type 0) (longest : P → ℕ) where
+module _ (C J : Type 0) {P : Type 0} (moves : Moves C) (failures : P → ℕ) (is_garbled : P → Type 0) (exchange : P → List Request → List Value → P → Type 0) (gives_none : P → Type 0) (opens : Endpoint → Option P → ℕ → ℕ → Type 0) (longest : P → ℕ) where
   abbrev Comes : EngineModel C J P → List WorkerEvent → List CarrierEvent → EngineModel C J P → Type 0
   Comes = IsEventsTo C J moves failures is_garbled exchange gives_none opens longest
 

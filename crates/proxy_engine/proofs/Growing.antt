@@ -60,7 +60,7 @@ module _ {C J P : Type 0} where
         view = front-after w.view.known engine.carrier.published mid.published first.view published;
       }
 
-  module _ (failures : P → ℕ) (is_garbled : P → Type 0) (exchange : P → List Request → List Value → P → Type 0) (gives_none : P → Type 0) (opens : Endpoint → P → Type 0) (longest : P → ℕ) where
+  module _ (failures : P → ℕ) (is_garbled : P → Type 0) (exchange : P → List Request → List Value → P → Type 0) (gives_none : P → Type 0) (opens : Endpoint → Option P → ℕ → ℕ → Type 0) (longest : P → ℕ) where
     along-carriers : (engine : EngineModel C J P) (events : List CarrierEvent) (old new : CarrierModel (Newcomer C J) P) (f : FoldsTo (CarrierDoes failures is_garbled exchange gives_none opens longest) old events new) → SameLanes engine.carrier.lanes old.lanes → IsPrefix engine.carrier.published old.published
         → IsInOrder engine → IsInOrder (record engine { carrier = new }) → HoldsAlong (CarrierDoes failures is_garbled exchange gives_none opens longest) (λ carrier. IsInOrder (record engine { carrier = carrier })) old events new f
     along-carriers engine [] old new f lanes published first last = tt

@@ -123,7 +123,7 @@ module _ {H : Type 0} where
       (λ c. let a = changes _ (takes-up None) less more new k p c.1 in (a.0, (t.0, inr (c.0, a.1)), a.2))
       t.1
 
-module _ (H : Type 0) {P : Type 0} (failures : P → ℕ) (is_garbled : P → Type 0) (exchange : P → List Request → List Value → P → Type 0) (gives_none : P → Type 0) (opens : Endpoint → P → Type 0) (longest : P → ℕ) where
+module _ (H : Type 0) {P : Type 0} (failures : P → ℕ) (is_garbled : P → Type 0) (exchange : P → List Request → List Value → P → Type 0) (gives_none : P → Type 0) (opens : Endpoint → Option P → ℕ → ℕ → Type 0) (longest : P → ℕ) where
   abbrev Unseen : CarrierModel H P → CarrierEvent → CarrierModel H P → Type 0
   Unseen less event new = (after : CarrierModel H P) × CarrierDoes failures is_garbled exchange gives_none opens longest less event after × CarrierKnows after new
 
@@ -156,7 +156,7 @@ module _ (H : Type 0) {P : Type 0} (failures : P → ℕ) (is_garbled : P → Ty
       let after : CarrierModel H P = record less { lanes = a.0; pending_runs = slice_set less.pending_runs d.0 d.2 } in
       (after, (d.0, d.1, d.2, d.3, a.1, refl), elsewhere after new _ new.lanes a.2 d.5 refl)
   ends-know less more Opened new p d =
-      let after : CarrierModel H P = record less { backends = slice_set less.backends d.0 (record d.1 { link = Some (fresh_link d.3 d.0); asked = false }) } in
+      let after : CarrierModel H P = record less { backends = slice_set less.backends d.0 (record d.1 { link = Some (fresh_link d.3 d.0); asked = false }); failures = new.failures } in
       (after, (d.0, d.1, d.2, d.3, d.4, d.5, d.6, d.7, refl), elsewhere after new _ more p d.8 refl)
   ends-know less more Refused new p d =
       let after : CarrierModel H P = record less { pending_runs = slice_set less.pending_runs d.0 (record { run = None; refused = tickets_in d.2 }); failures = new.failures } in
@@ -170,7 +170,7 @@ module _ (H : Type 0) {P : Type 0} (failures : P → ℕ) (is_garbled : P → Ty
       let after : CarrierModel H P = record less { backends = slice_set less.backends d.0 (record d.1 { to_ask = true }) } in
       (after, (d.0, d.1, d.2, d.3, d.4, refl), elsewhere after new _ more p d.5 refl)
   ends-know less more Reached new p d =
-      let after : CarrierModel H P = record less { backends = slice_set less.backends d.0 (record d.1 { link = Some (fresh_link d.3 d.0); to_ask = true; asked = false }) } in
+      let after : CarrierModel H P = record less { backends = slice_set less.backends d.0 (record d.1 { link = Some (fresh_link d.3 d.0); to_ask = true; asked = false }); failures = new.failures } in
       (after, (d.0, d.1, d.2, d.3, d.4, d.5, d.6, d.7, d.8, refl), elsewhere after new _ more p d.9 refl)
   ends-know less more NotFound new p d = let after : CarrierModel H P = record less { failures = new.failures } in (after, (d.0, d.1, refl, d.3), elsewhere after new _ more p d.2 refl)
   ends-know less more Sent new p d =

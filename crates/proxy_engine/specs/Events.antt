@@ -1,6 +1,6 @@
 -- A turn as events alone: where the looks between are left out, it is events of the worker and then events of the carrier, and the
 -- lanes and the slot map are in order after each of them. No premise is asked but that they were in order before.
-use Rattle.std.specs.Prelude.{ℕ, List, Result, Ok, Err, ⊤}
+use Rattle.std.specs.Prelude.{ℕ, List, Option, Result, Ok, Err, ⊤}
 use Rattle.std.specs.List.{FoldsTo}
 use Rattle.resp_wire.specs.declared.value.Value.{Value}
 use Rattle.key_split.specs.Requests.{Request}
@@ -27,7 +27,7 @@ module _ {C J P : Type 0} where
   abbrev pub EngineKnows : EngineModel C J P → EngineModel C J P → Type 0
   EngineKnows less more = WorkerKnows less.worker more.worker × CarrierKnows less.carrier more.carrier
 
-module _ (C J : Type 0) {P : Type 0} (moves : Moves C) (failures : P → ℕ) (is_garbled : P → Type 0) (exchange : P → List Request → List Value → P → Type 0) (gives_none : P → Type 0) (opens : Endpoint → P → Type 0) (longest : P → ℕ) where
+module _ (C J : Type 0) {P : Type 0} (moves : Moves C) (failures : P → ℕ) (is_garbled : P → Type 0) (exchange : P → List Request → List Value → P → Type 0) (gives_none : P → Type 0) (opens : Endpoint → Option P → ℕ → ℕ → Type 0) (longest : P → ℕ) where
   abbrev pub CarrierActs : CarrierModel (Newcomer C J) P → CarrierEvent → CarrierModel (Newcomer C J) P → Type 0
   CarrierActs = CarrierDoes failures is_garbled exchange gives_none opens longest
 

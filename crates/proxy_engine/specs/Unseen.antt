@@ -53,7 +53,7 @@ module _ (C J : Type 0) (moves : Moves C) where
   WorkerDoesUnseen = (less old new : WorkerModel C J) (event : WorkerEvent) → WorkerKnows less old → WorkerDoes moves old event new
       → (after : WorkerModel C J) × WorkerDoes moves less event after × WorkerKnows after new
 
-module _ (H : Type 0) {P : Type 0} (failures : P → ℕ) (is_garbled : P → Type 0) (exchange : P → List Request → List Value → P → Type 0) (gives_none : P → Type 0) (opens : Endpoint → P → Type 0) (longest : P → ℕ) where
+module _ (H : Type 0) {P : Type 0} (failures : P → ℕ) (is_garbled : P → Type 0) (exchange : P → List Request → List Value → P → Type 0) (gives_none : P → Type 0) (opens : Endpoint → Option P → ℕ → ℕ → Type 0) (longest : P → ℕ) where
   -- and so does a carrier
   abbrev pub CarrierDoesUnseen : Type 0
   CarrierDoesUnseen = (less old new : CarrierModel H P) (event : CarrierEvent) → CarrierKnows less old → CarrierDoes failures is_garbled exchange gives_none opens longest old event new
