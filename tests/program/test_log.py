@@ -205,6 +205,9 @@ class StandardError(unittest.TestCase):
 class Counted:
     """A proxy that has served requests, of which it is known how many."""
 
+    # (with the one that looks whether the proxy answers)
+    clients = 4
+
     def __init__(self):
         self.stack = contextlib.ExitStack()
         folder = self.stack.enter_context(tempfile.TemporaryDirectory())
@@ -223,13 +226,16 @@ class Counted:
         heard(at, request("NOSUCH") + request("QUIT"))
 
     def wait_for_figures(self, test):
+        """Those that have its clients: what its threads do at the start may have a line before them."""
         test.path = self.path
-        words = test.wait_for("figures", level="info")
+        words = test.wait_for("figures", level="info", clients=str(self.clients))
         return {name: int(value) for name, value in words.items() if name != "level"}
 
 
 class Unreached(Counted):
     """The same before a seed that is not there: one command, which is tried as often as any."""
+
+    clients = 2
 
     def seed(self):
         return self.stack.enter_context(refused_port())
