@@ -35,12 +35,13 @@ def check_silent(logged, password):
         check(password.encode() not in words.read(), "the password stands among the program's words")
 
 
-def check_serves(logged):
-    """Keys of all nodes are written and read, and no line warns."""
+def check_serves(logged, cluster):
+    """Keys of all nodes are written and read, a connection to each is logged, and no line warns."""
     with logged.proxy.client() as client:
         client.value("MSET", *[word for key in KEYS for word in (key, b"v" + key)])
         check_same(client.value("MGET", *KEYS), [b"v" + key for key in KEYS], "the values")
-    check_same(len(logged.lines("link_opened")), 3, "connections to nodes")
+    for node in cluster.nodes[:3]:
+        logged.wait_for("link_opened", f"node=127.0.0.1:{node.port} ")
     check("level=warn" not in "".join(logged.lines()), f"a warning: {logged.lines()}")
 
 
@@ -48,7 +49,7 @@ def check_serves(logged):
 def nodes_with_a_password(world):
     cluster = locked_cluster(world)
     with Logged(world, cluster.nodes[0].port, "password", variables_of(PASSWORD)) as logged:
-        check_serves(logged)
+        check_serves(logged, cluster)
         check_silent(logged, PASSWORD)
 
 
@@ -58,7 +59,7 @@ def nodes_with_a_user(world):
     for node in cluster.nodes:
         node.value("ACL", "SETUSER", USER, "on", f">{password}", "~*", "+@all")
     with Logged(world, cluster.nodes[0].port, "user", variables_of(password, USER)) as logged:
-        check_serves(logged)
+        check_serves(logged, cluster)
         check_silent(logged, password)
 
 
