@@ -1,6 +1,6 @@
 //! A queue of bytes in one buffer: bytes come in at the back and go off at the front.
 
-ghost use Rattle.std.specs.Prelude.{◌≡◌, ◌≤◌, ◌++◌, [], length, drop, OnOk, OnErr, MatchOption};
+ghost use Rattle.std.specs.Prelude.{◌≡◌, ◌≤◌, ◌++◌, [], length, take, drop, OnOk, OnErr, MatchOption};
 ghost use Rattle.resp_wire.specs.Canonical.{canonical};
 ghost use Rattle.resp_wire.specs.Seen.{data_of};
 
@@ -14,6 +14,9 @@ use std::mem;
 
 /// How many bytes a buffer may have room for and be kept while nothing is in it.
 const MOST_KEPT_BYTES: usize = 65_536;
+
+/// The smallest buffer that is given away while something is in it.
+const LEAST_GIVEN_BYTES: usize = 1024;
 
 /// How many bytes come before room is made for as many as came lately.
 const MOST_SMALL_BYTES: usize = 16_384;
@@ -29,18 +32,20 @@ pub struct ByteQueue {
     bytes: Vec<u8>,
     /// Where those that are left begin.
     start: usize,
+    /// Where they end. What stands behind them is room.
+    end: usize,
     /// How much room was needed lately.
     expected: usize,
 }
 
 impl Model for ByteQueue {
-    ghost use Rattle.std.specs.Prelude.{List, ℕ, drop, length, ◌≤◌};
+    ghost use Rattle.std.specs.Prelude.{List, ℕ, take, drop, length, ◌≤◌};
 
     ghost Value = { List ℕ };
 
-    ghost view = { λ a. drop a.start a.bytes.items };
+    ghost view = { λ a. drop a.start (take a.end a.bytes.items) };
 
-    ghost invariant = { λ a. a.start ≤ length a.bytes.items };
+    ghost invariant = { λ a. (a.start ≤ a.end) × (a.end ≤ length a.bytes.items) };
 }
 
 impl ByteQueue {
@@ -51,6 +56,7 @@ impl ByteQueue {
         ByteQueue {
             bytes: Vec::new(alloc),
             start: 0,
+            end: 0,
             expected: 0,
         }
     }
@@ -64,7 +70,7 @@ impl ByteQueue {
     pub fn as_slice(&self) -> &[u8]
         ensures { result.now ≡ self.now }
     {
-        &self.bytes[self.start..]
+        &self.bytes[self.start..self.end]
     }
 
     /// How many bytes the buffer has room for.
@@ -78,12 +84,14 @@ impl ByteQueue {
     {
         let alloc = self.allocator();
         let mut bytes = mem::replace(&mut self.bytes, Vec::new(alloc));
+        bytes.truncate(self.end);
         let expected = expected_after(self.expected, bytes.len());
         give_back_room(&mut bytes);
         match Part::new(alloc, bytes, self.start) {
             Ok(part) => {
                 self.expected = expected;
                 self.start = 0;
+                self.end = 0;
                 Some(part)
             }
             Err(AllocFailed { value }) => {
@@ -98,12 +106,31 @@ impl ByteQueue {
         ensures ok { OnOk result (self.new ≡ self.old ++ piece.now) }
         ensures err { OnErr result (self.new ≡ self.old) }
     {
-        self.compact();
-        self.expect(piece.len());
-        match self.bytes.extend_from_slice(piece) {
+        self.start = compact(&mut self.bytes, self.start, self.end);
+        expect(&mut self.bytes, self.expected, piece.len());
+        let pushed = self.bytes.extend_from_slice(piece);
+        self.end = self.bytes.len();
+        match pushed {
             Ok(()) => Ok(()),
             Err(_) => Err(NoMemory),
         }
+    }
+
+    /// Puts the first `count` bytes of a buffer at the back. Where nothing is in the queue, the two change buffers, and no byte is
+    /// copied, but where more is expected than that buffer has room for.
+    pub(crate) fn push_from(&mut self, buffer: &mut Vec<u8>, count: usize) -> Result<(), NoMemory>
+        requires { count ≤ length buffer.old.items }
+        ensures ok { OnOk result (self.new ≡ self.old ++ take count buffer.old.items) }
+        ensures err { OnErr result (self.new ≡ self.old) }
+        ensures kept { OnErr result (buffer.new.items ≡ buffer.old.items) }
+    {
+        if self.start < self.end || self.expected > buffer.capacity() {
+            return self.push(&buffer[..count]);
+        }
+        mem::swap(&mut self.bytes, buffer);
+        self.start = 0;
+        self.end = count;
+        Ok(())
     }
 
     /// Puts the canonical spelling of a value at the back.
@@ -111,34 +138,37 @@ impl ByteQueue {
         ensures ok { OnOk result (self.new ≡ self.old ++ canonical (data_of value.now)) }
         ensures err { OnErr result (self.new ≡ self.old) }
     {
-        self.compact();
-        write_value(&mut self.bytes, value)
+        self.start = compact(&mut self.bytes, self.start, self.end);
+        let written = write_value(&mut self.bytes, value);
+        self.end = self.bytes.len();
+        written
     }
 
-    /// Moves the bytes to the front of the buffer where more than half of it is room in front of them.
-    fn compact(&mut self)
+    /// Gives the buffer away where it is spare: `room` is then that buffer, if it has more. What is left moves to a buffer that it
+    /// fills.
+    pub(crate) fn give_room(&mut self, room: &mut Vec<u8>)
         ensures { self.new ≡ self.old }
     {
-        let len = self.bytes.len();
-        if self.start > len / 2 {
-            self.bytes.copy_within(self.start..len, 0);
-            self.bytes.truncate(len - self.start);
-            self.start = 0;
+        if !self.is_spare() {
+            return;
+        }
+        let mut left = Vec::new(self.allocator());
+        if left.extend_from_slice(self.as_slice()).is_err() {
+            return;
+        }
+        self.start = 0;
+        self.end = left.len();
+        let buffer = mem::replace(&mut self.bytes, left);
+        if buffer.len() > room.len() {
+            *room = buffer;
         }
     }
 
-    /// Makes the room that was needed lately, where the next bytes do not fit in the buffer and are more than a few, or a quarter
-    /// more than they need: in a buffer that doubled a value may not fill the half. Where it is refused, the buffer grows by what
-    /// it must.
-    fn expect(&mut self, count: usize)
-        ensures { self.new ≡ self.old }
-    {
-        let len = self.bytes.len();
-        let needed = len.saturating_add(count);
-        if needed > MOST_SMALL_BYTES && needed > self.bytes.capacity() {
-            let room = self.expected.max(needed.saturating_add(needed / 4));
-            let _ = self.bytes.reserve_exact(room.saturating_sub(len));
-        }
+    /// Whether nothing is in the buffer, or it is neither small nor large and no more than half of it is in use.
+    fn is_spare(&self) -> bool {
+        let left = self.end - self.start;
+        let room = self.bytes.capacity();
+        left == 0 || (left <= room / 2 && (LEAST_GIVEN_BYTES..=MOST_KEPT_BYTES).contains(&room))
     }
 
     /// Drops this many bytes from the front.
@@ -147,7 +177,7 @@ impl ByteQueue {
         ensures { self.new ≡ drop count self.old }
     {
         self.start += count;
-        if self.start == self.bytes.len() {
+        if self.start == self.end {
             self.clear();
         }
     }
@@ -156,16 +186,46 @@ impl ByteQueue {
     fn clear(&mut self)
         ensures { self.new ≡ [] }
     {
-        let len = self.bytes.len();
+        let len = self.end;
         if len > MOST_SMALL_BYTES || self.expected > 0 {
             self.expected = expected_after(self.expected, len);
         }
         self.start = 0;
+        self.end = 0;
         if self.bytes.capacity() > MOST_KEPT_BYTES {
             self.bytes = Vec::new(self.allocator());
-        } else {
-            self.bytes.clear();
         }
+    }
+}
+
+/// Drops the room behind the bytes from `start` to `end`, and moves these to the front of the buffer where more than half of it is
+/// room in front of them. Answers where they begin.
+fn compact(bytes: &mut Vec<u8>, start: usize, end: usize) -> usize
+    requires ordered { start ≤ end }
+    requires within { end ≤ length bytes.old.items }
+    ensures same { drop result bytes.new.items ≡ drop start (take end bytes.old.items) }
+    ensures within { result ≤ length bytes.new.items }
+{
+    bytes.truncate(end);
+    if start <= end / 2 {
+        return start;
+    }
+    bytes.copy_within(start..end, 0);
+    bytes.truncate(end - start);
+    0
+}
+
+/// Makes the room that was needed lately, where the next bytes do not fit in the buffer and are more than a few, or a quarter
+/// more than they need: in a buffer that doubled a value may not fill the half. Where it is refused, the buffer grows by what
+/// it must.
+fn expect(bytes: &mut Vec<u8>, expected: usize, count: usize)
+    ensures { bytes.new.items ≡ bytes.old.items }
+{
+    let len = bytes.len();
+    let needed = len.saturating_add(count);
+    if needed > MOST_SMALL_BYTES && needed > bytes.capacity() {
+        let room = expected.max(needed.saturating_add(needed / 4));
+        let _ = bytes.reserve_exact(room.saturating_sub(len));
     }
 }
 

@@ -1,6 +1,6 @@
 //! A stream of values in pieces.
 
-ghost use Rattle.std.specs.Prelude.{◌≡◌, [], None};
+ghost use Rattle.std.specs.Prelude.{◌≡◌, ◌≤◌, [], None, OnErr, length, take};
 ghost use Rattle.resp_wire.specs.Stream.{ReaderAnswers};
 ghost use Rattle.resp_wire.specs.FirstValue.{Feeds, ReaderTakes};
 ghost use Rattle.resp_wire.specs.Skipping.{Skips};
@@ -75,6 +75,29 @@ impl Reader {
             Ok(()) => Ok(()),
             Err(NoMemory) => Err(WireFault::NoMemory),
         }
+    }
+
+    /// Takes the first `count` bytes of a buffer as the next piece of the stream. Where nothing is unread, the two change buffers, and no
+    /// byte is copied. What the buffer holds afterwards is room.
+    pub fn feed_from(&mut self, buffer: &mut Vec<u8>, count: usize) -> Result<(), WireFault>
+        requires { count ≤ length buffer.old.items }
+        ensures fed { Feeds self.old (take count buffer.old.items) result self.new }
+        ensures kept { OnErr result (buffer.new.items ≡ buffer.old.items) }
+    {
+        if let Some(fault) = self.fault {
+            return Err(fault);
+        }
+        match self.unread.push_from(buffer, count) {
+            Ok(()) => Ok(()),
+            Err(NoMemory) => Err(WireFault::NoMemory),
+        }
+    }
+
+    /// Gives the reader's buffer away where nothing is unread, or little of it: `room` is then that buffer, if it has more.
+    pub fn give_room(&mut self, room: &mut Vec<u8>)
+        ensures { self.new ≡ self.old }
+    {
+        self.unread.give_room(room);
     }
 
     /// Takes the first value off the front, or None where no whole value is there yet. After a fault of the

@@ -1,6 +1,6 @@
 //! What a reader was fed and has not read.
 
-ghost use Rattle.std.specs.Prelude.{◌≡◌, ◌≤◌, ◌++◌, [], length, drop, OnOk, OnErr};
+ghost use Rattle.std.specs.Prelude.{◌≡◌, ◌≤◌, ◌++◌, [], length, take, drop, OnOk, OnErr};
 ghost use Rattle.resp_wire.specs.Bodies.{AreEndOf};
 
 use crate::bodies::{Bodies, LEAST_SHARED_BYTES};
@@ -73,6 +73,26 @@ impl Unread {
             self.shared = None;
         }
         self.queue.push(piece)
+    }
+
+    /// Puts the first `count` bytes of a buffer at the back. Where nothing is unread, the two change buffers.
+    pub(crate) fn push_from(&mut self, buffer: &mut Vec<u8>, count: usize) -> Result<(), NoMemory>
+        requires { count ≤ length buffer.old.items }
+        ensures ok { OnOk result (self.new ≡ self.old ++ take count buffer.old.items) }
+        ensures err { OnErr result (self.new ≡ self.old) }
+        ensures kept { OnErr result (buffer.new.items ≡ buffer.old.items) }
+    {
+        if let Some(_) = &self.shared {
+            return self.push(&buffer[..count]);
+        }
+        self.queue.push_from(buffer, count)
+    }
+
+    /// Gives the buffer away where it is spare: `room` is then that buffer, if it has more.
+    pub(crate) fn give_room(&mut self, room: &mut Vec<u8>)
+        ensures { self.new ≡ self.old }
+    {
+        self.queue.give_room(room);
     }
 
     /// Drops this many bytes from the front. Those that are left move to the queue, or where memory is wanting
