@@ -1,7 +1,7 @@
 //! One client's session: its bytes in, its commands out, and its replies in the order of its requests.
 //!
 //! ```text
-//! session.feed(bytes)?; while session.read()? {}
+//! session.feed(&mut buffer, count)?; while session.read()? {}
 //! while let Some((ticket, part)) = session.ready() { .. }   // post it, and session.follower(ticket) behind it
 //! session.ended(ticket, end);
 //! let drained = session.drain(&mut out, 65_536)?;      // drained.tail stands behind out

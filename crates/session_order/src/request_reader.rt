@@ -1,6 +1,6 @@
 //! A client's bytes, and the request that is next of them.
 
-ghost use Rattle.std.specs.Prelude.{◌≡◌, ◌<◌, [], None, Some, length};
+ghost use Rattle.std.specs.Prelude.{◌≡◌, ◌<◌, ◌≤◌, [], None, Some, OnErr, length, take};
 ghost use Rattle.resp_wire.specs.Seen.{data_of};
 ghost use Rattle.session_order.specs.Ahead.{GiveOutcome};
 
@@ -52,11 +52,21 @@ impl RequestReader {
         }
     }
 
-    pub fn feed(&mut self, piece: &[u8]) -> Result<(), WireFault>
-        ensures fed { Feeds self.old.input piece.now result self.new.input }
+    /// Takes the first `count` bytes of a buffer, which may come back as another one.
+    pub fn feed(&mut self, buffer: &mut Vec<u8>, count: usize) -> Result<(), WireFault>
+        requires { count ≤ length buffer.old.items }
+        ensures fed { Feeds self.old.input (take count buffer.old.items) result self.new.input }
         ensures rest { self.new ≡ record self.old { input = self.new.input } }
+        ensures kept { OnErr result (buffer.new.items ≡ buffer.old.items) }
     {
-        self.reader.feed(piece)
+        self.reader.feed_from(buffer, count)
+    }
+
+    /// Gives the room of the bytes away, where none is left, or few are.
+    pub fn give_room(&mut self, room: &mut Vec<u8>)
+        ensures { self.new ≡ self.old }
+    {
+        self.reader.give_room(room);
     }
 
     /// Takes the next request off the bytes, where one is whole.

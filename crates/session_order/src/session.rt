@@ -1,6 +1,6 @@
 //! A client's session.
 
-ghost use Rattle.std.specs.Prelude.{◌≡◌, ◌≢◌, ℕ, List, ◌<◌, ◌≤◌, ◌+◌, ◌++◌, ◌^◌, ◌↔◌, [], ◌∷◌, None, IsTrue, IfSome, OnOk, OnErr, Ok, Err, true, false, length, map, drop, take, replicate};
+ghost use Rattle.std.specs.Prelude.{◌≡◌, ◌≢◌, ℕ, List, ◌<◌, ◌≤◌, ◌+◌, ◌-◌, ◌++◌, ◌^◌, ◌↔◌, [], ◌∷◌, None, IsTrue, IfOk, IfSome, OnOk, OnErr, Ok, Err, true, false, length, map, drop, take, replicate};
 ghost use Rattle.std.specs.VecDeque.{deque_len, deque_capacity};
 ghost use Rattle.session_order.specs.declared.queue.PartStage.TheVariants.{Waiting};
 ghost use Rattle.session_order.specs.LettingGo.{one_for};
@@ -107,20 +107,31 @@ impl Session {
         }
     }
 
-    /// Takes the whole piece, or nothing where too many requests are unanswered, and answers how many bytes it took.
-    pub fn feed(&mut self, piece: &[u8]) -> Result<usize, SessionFault>
-        ensures does { FeedOutcome self.old piece.now result self.new }
+    /// Takes the first `count` bytes of a buffer, or nothing where too many requests are unanswered, and answers how many it took. A
+    /// buffer whose bytes were taken may come back as another one.
+    pub fn feed(&mut self, buffer: &mut Vec<u8>, count: usize) -> Result<usize, SessionFault>
+        requires { count ≤ length buffer.old.items }
+        ensures does { FeedOutcome self.old (take count buffer.old.items) result self.new }
+        ensures left { IfOk result (λ n. take (count - n) buffer.new.items ≡ drop n (take count buffer.old.items)) }
+        ensures kept { OnErr result (buffer.new.items ≡ buffer.old.items) }
     {
         match self.closing {
             Closing::Faulted(why, _) => return Err(why.fault()),
             _ if self.requests.len() == MAX_UNANSWERED => return Ok(0),
-            Closing::Quit => return Ok(piece.len()),
+            Closing::Quit => return Ok(count),
             Closing::Open => {}
         }
-        match self.reader.feed(piece) {
-            Ok(()) => Ok(piece.len()),
+        match self.reader.feed(buffer, count) {
+            Ok(()) => Ok(count),
             Err(_) => Err(SessionFault::NoMemory),
         }
+    }
+
+    /// Gives the room of what was fed away, where all of it was read, or little is left: `room` is then that buffer, if it has more.
+    pub fn give_room(&mut self, room: &mut Vec<u8>)
+        ensures { self.new ≡ self.old }
+    {
+        self.reader.give_room(room);
     }
 
     /// Reads at most one request. It is false where none is whole, too many are unanswered, or QUIT was read.
