@@ -1,8 +1,8 @@
 -- The replies to a block, each at its place.
 use Rattle.std.proofs.Common.{◌≡◌, ◌<◌, ◌+◌, ◌-◌, ◌++◌, ◌∷◌, [], List, ℕ, zero, suc, length, drop, take, refl, ap, sym, subst, ◌∙◌, arith, Some}
-use Rattle.std.specs.Prelude.{Option, Bool, true, false, ◌&&◌, codes, nat_lt, replicate, reverse, slice_get, slice_index_or}
+use Rattle.std.specs.Prelude.{Option, Bool, true, false, ◌&&◌, codes, nat_lt, replicate, slice_get, slice_index_or}
 use Rattle.std.specs.List.{list_all}
-use Rattle.std.proofs.lemmas.List.{reverse-append, replicate_more, length-replicate}
+use Rattle.std.proofs.lemmas.List.{length-replicate}
 use Rattle.std.proofs.lemmas.List.{length-map}
 use Rattle.std.proofs.lemmas.Bool.Decides.{nat_tests}
 use Rattle.std.proofs.lemmas.Option.{slice_get_read}
@@ -18,13 +18,6 @@ split_last [] n e = absurd (omega (arith, e))
 split_last (x ∷ []) zero e = (x, refl, refl, refl)
 split_last (x ∷ y ∷ xs) zero e = absurd (omega (arith, e))
 split_last (x ∷ xs) (suc n) e = let h = split_last xs n (omega (arith, e)) in (h.0, ap (λ ys. x ∷ ys) h.1, h.2, ap suc h.3)
-
-pub reverse-replicate : {X : Type 0} (n : ℕ) (x : X) → reverse (replicate n x) ≡ replicate n x
-reverse-replicate zero x = refl
-reverse-replicate {X} (suc n) x =
-    let one : n + 1 ≡ suc n = omega arith in
-    let last : reverse (x ∷ replicate n x) ≡ reverse (replicate n x) ++ x ∷ [] = reverse-append (x ∷ []) (replicate n x) in
-    last ∙ ap (λ (ys : List X). ys ++ x ∷ []) (reverse-replicate n x) ∙ replicate_more n x ∙ ap (λ k. replicate k x) one
 
 both : (a b : Bool) → (a && b) ≡ true → (a ≡ true) × (b ≡ true)
 both true b e = (refl, e)
@@ -98,18 +91,19 @@ executed count n replies last popped told many len is at absent pop items =
     let a = by_array count (take count (drop 1 replies)) p.0 told (ap is_error same ∙ absent) p.2 p.3 (subst (λ (o : Option Value). AreItems o told) pops items) in
     (p.5 told a.0, omega (arith, a.1, p.4))
 
-pub refused : (count : ℕ) (replies queued : List Value) (seen last : Value) (told : List Value) → length replies ≡ count + 2 → is_answer count replies ≡ true
+pub refused : (count : ℕ) (replies queued : List Value) (seen last value : Value) → length replies ≡ count + 2 → is_answer count replies ≡ true
     → seen ≡ slice_index_or replies (count + 1) seen → is_error seen ≡ true → last ≡ slice_index_or replies (count + 1) last → queued ≡ take count (drop 1 replies)
-    → told ≡ replicate (length queued) (told_of_none queued last) → IsToldByBlock count replies (reverse told) × (0 < length (reverse told))
-refused count replies queued seen last told len is seen_at seen_error at cut are =
+    → value ≡ told_of_none queued last → IsToldByBlock count replies (replicate count value) × (0 < length (replicate count value))
+refused count replies queued seen last value len is seen_at seen_error at cut same_value =
     let p = placed count replies len is in
     let alike : last ≡ seen = sym (last_is count replies p.0 last len p.1 at) ∙ last_is count replies p.0 seen len p.1 seen_at in
     let present : is_error last ≡ true = ap is_error alike ∙ seen_error in
     let same = last_is count replies p.0 last len p.1 at in
-    let back : reverse told ≡ replicate (length queued) (told_of_none queued last) =
-    ap (λ (xs : List Value). reverse xs) are ∙ reverse-replicate (length queued) (told_of_none queued last) in
-    let by = by_error queued last (reverse told) present back in
-    let many : length (reverse told) ≡ length queued = ap (λ (xs : List Value). length xs) back ∙ length-replicate (length queued) (told_of_none queued last) in (
-      p.5 (reverse told) (subst (λ (qs : List Value). IsToldByExec qs p.0 (reverse told)) cut (subst (λ (v : Value). IsToldByExec queued v (reverse told)) (sym same) by)),
-      omega (arith, many, ap (λ (xs : List Value). length xs) cut, p.3, p.4),
+    let many : length queued ≡ count = ap (λ (xs : List Value). length xs) cut ∙ p.3 in
+    let told : replicate count value ≡ replicate (length queued) (told_of_none queued last) =
+    ap (λ k. replicate k value) (sym many) ∙ ap (λ (v : Value). replicate (length queued) v) same_value in
+    let by = by_error queued last (replicate count value) present told in (
+      p.5 (replicate count value)
+          (subst (λ (qs : List Value). IsToldByExec qs p.0 (replicate count value)) cut (subst (λ (v : Value). IsToldByExec queued v (replicate count value)) (sym same) by)),
+      omega (arith, length-replicate count value, p.4),
     )

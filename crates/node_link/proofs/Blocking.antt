@@ -21,6 +21,7 @@ use Rattle.node_link.specs.Blocks.{BlockExchanges, BlockPortModel, GoesAs, IsBlo
 use Rattle.node_link.specs.Collecting.{Collects, ValueOutcome, await_each}
 use Rattle.node_link.specs.Port.{NextOutcome}
 use Rattle.node_link.proofs.Moves.{appended, flushed}
+use Rattle.node_link.proofs.Replying.{settles_collected}
 
 plain_requests : (requests : List Request) → flat_map requests_at (map Plain requests) ≡ requests
 plain_requests [] = refl
@@ -61,9 +62,6 @@ run_requests run together more = by_later run.first run.later together more
 settles_sent : (sent : List Awaited) (old : RepliesModel) → Settles sent old [] [] (record old { awaited = old.awaited ++ sent })
 settles_sent sent old =
     ([], rw (append-nil old.came) (tells-nothing (old.awaited ++ sent) old.came), append-nil old.told)
-
-settles_collected : (old : RepliesModel) (came : List Value) → Settles [] old came [] (record old { came = old.came ++ came })
-settles_collected old came = ([], rw (append-nil old.awaited) (tells-nothing old.awaited (old.came ++ came)), append-nil old.told)
 
 -- a draft that is finished stands behind what waits
 pub finished : (out drafted done : OutboxModel) (bytes : List ℕ) → out.draft ≡ [] → drafted.unsent ≡ out.unsent → drafted.draft ≡ out.draft ++ bytes
@@ -208,7 +206,7 @@ module _ {S : Type 0} (failures : S → ℕ) (moved : S → List ℕ → List �
       → NextOutcome (λ (p : BlockPortModel S). failures p.bytes.stream) IsBlockGarbled (BlockExchanges moved) old result new
   next_from old new written read (Ok (Some value)) m u v blocks = ([], v.0, refl, (written, read, m, u, v.1, v.2), v.3, blocks)
   next_from old new written read (Ok None) m u v blocks = collects old new written read m u v.0 blocks
-  next_from old new written read (Err NoMemory) m u v blocks = collects old new written read m u v blocks
+  next_from old new written read (Err NoMemory) m u v blocks = ([], v.0, refl, (written, read, m, u, v.1, v.2), v.3, blocks)
   next_from old new written read (Err BadWire) m u v blocks = (v.1, collects old new written read m u v.0 blocks)
   next_from old new written read (Err Failed) m u v blocks = absurd v
 

@@ -1,8 +1,7 @@
 -- Replies that are collected, and the values that they tell.
 use Rattle.std.proofs.Common.{◌≡◌, ◌<◌, ◌≤◌, ◌+◌, ◌++◌, ◌∷◌, [], List, ℕ, length, drop, refl, ap, sym, subst, ◌∙◌, arith, append_assoc, inl, inr, length-append}
-use Rattle.std.specs.Prelude.{Option, Some, None, Result, Ok, Err, true, false, reverse}
-use Rattle.std.specs.Option.{option_to_list}
-use Rattle.std.proofs.lemmas.List.{append-nil, reverse-append}
+use Rattle.std.specs.Prelude.{Option, Some, None, Result, Ok, Err, true, false}
+use Rattle.std.proofs.lemmas.List.{append-nil}
 use Rattle.resp_wire.specs.FirstValue.{front, Whole}
 use Rattle.resp_wire.specs.Seen.{data_of}
 use Rattle.resp_wire.specs.LimitsModel.{LimitsModel}
@@ -14,8 +13,8 @@ use Rattle.node_link.specs.declared.port.PortFault.TheVariants.{NoMemory, Failed
 use Rattle.node_link.specs.declared.replies.Awaited.{Awaited}
 use Rattle.node_link.specs.declared.replies.Awaited.TheVariants as awaited
 use Rattle.node_link.specs.Bytes.{Splits, TakeOutcome}
-use Rattle.node_link.specs.Blocks.{RepliesModel, Settles, Tells, first_block, tells-nothing}
-use Rattle.node_link.specs.Collecting.{Collects, GatherOutcome, Gathers, ValueOutcome, most_held}
+use Rattle.node_link.specs.Blocks.{RepliesModel, Settles, Tells, first_block, still_settles, tells-nothing}
+use Rattle.node_link.specs.Collecting.{Collects, GatherOutcome, Gathers, Gives, NextTold, ValueOutcome, most_held}
 use Rattle.node_link.specs.Runs.{BlockOutcome, IsToldByBlock, is_answer}
 
 -- one value more off the front
@@ -79,13 +78,26 @@ tells_block (awaited.Block many ∷ later) left replies told rest count first by
     let same : count ≡ many = cc in
     inr (replies, [], told, [], sym (append-nil replies), subst (λ n. IsToldByBlock n replies told) same by, sym (append-nil told), rw (is, nothing) (tells-nothing later []))
 
+pub settles_collected : (old : RepliesModel) (came : List Value) → Settles [] old came [] (record old { came = old.came ++ came })
+settles_collected old came = ([], rw (append-nil old.awaited) (tells-nothing old.awaited (old.came ++ came)), append-nil old.told)
+
+-- what is collected gives nothing
+gives_none : (input input' : ReaderModel) (old new : RepliesModel) → Collects input old input' new → Gives input old [] input' new
+gives_none input input' old new c = (c.0, c.1, c.2, subst (λ (r : RepliesModel). Settles [] old c.0 [] r) (sym c.3) (settles_collected old c.0))
+
 -- a value that waited is given
-pub told_next : (input : ReaderModel) (old new : RepliesModel) (before after : List Value) (value : Value) → before ≡ after ++ option_to_list (Some value)
-    → old.told ≡ reverse before → new.told ≡ reverse after → new.awaited ≡ old.awaited → new.came ≡ old.came → ValueOutcome input old (Ok (Some value)) input new
-told_next input old new before after value is o n w c =
-    let turned : reverse before ≡ value ∷ reverse after = ap (λ (vs : List Value). reverse vs) is ∙ reverse-append after (value ∷ []) in
+pub told_next : (input : ReaderModel) (old new : RepliesModel) (value : Value) → NextTold old (Ok (Some value)) new → ValueOutcome input old (Ok (Some value)) input new
+told_next input old new value n =
     let tells = tells-nothing old.awaited old.came in
-    ([], refl, refl, ([], rw (append-nil old.awaited, append-nil old.came, w, c) tells, append-nil old.told ∙ o ∙ turned ∙ ap (λ (vs : List Value). value ∷ vs) (sym n)))
+    let awaited_same = ap (λ (r : RepliesModel). r.awaited) n.1 in
+    let came_same = ap (λ (r : RepliesModel). r.came) n.1 in
+    ([], refl, refl, ([], rw (append-nil old.awaited, append-nil old.came, awaited_same, came_same) tells, append-nil old.told ∙ n.0))
+
+-- or none is, for want of memory
+pub told_failed : (input : ReaderModel) (old new : RepliesModel) (fault : PortFault) → NextTold old (Err fault) new → ValueOutcome input old (Err fault) input new
+told_failed input old new NoMemory n = ([], refl, refl, subst (λ (r : RepliesModel). Settles [] old [] [] r) (sym n) (still_settles old))
+told_failed input old new BadWire n = absurd n
+told_failed input old new Failed n = absurd n
 
 -- a reply that is a value by itself
 pub one_reply : (input input' : ReaderModel) (old new : RepliesModel) (value : Value) → old.told ≡ [] → first_block old.awaited ≡ None
@@ -111,7 +123,7 @@ no_reply input input' replies none first t = (nothing_came input input' replies 
 
 pub reply_fault : (input input' : ReaderModel) (replies : RepliesModel) (fault : PortFault) → TakeOutcome input (Err fault) input'
     → ValueOutcome input replies (Err fault) input' replies
-reply_fault input input' replies NoMemory t = nothing_came input input' replies t.0 t.1
+reply_fault input input' replies NoMemory t = gives_none input input' replies replies (nothing_came input input' replies t.0 t.1)
 reply_fault input input' replies BadWire t = (nothing_came input input' replies t.0 t.1, inl (t.2, t.3))
 reply_fault input input' replies Failed t = absurd t
 
@@ -131,7 +143,7 @@ still_short count input input' old new none first g w told = (
 
 pub gather_failed : (wanted : ℕ) (input input' : ReaderModel) (old new : RepliesModel) (fault : PortFault) → GatherOutcome wanted input old.came (Err fault) input' new.came
     → new.awaited ≡ old.awaited → new.told ≡ old.told → ValueOutcome input old (Err fault) input' new
-gather_failed wanted input input' old new NoMemory g w told = collected input input' old new g.0 w told
+gather_failed wanted input input' old new NoMemory g w told = gives_none input input' old new (collected input input' old new g.0 w told)
 gather_failed wanted input input' old new BadWire g w told = (collected input input' old new g.0 w told, inl g.2)
 gather_failed wanted input input' old new Failed g w told = absurd g
 
@@ -140,32 +152,33 @@ pub block_failed : (count : ℕ) (input input' : ReaderModel) (old new : Replies
     → GatherOutcome (count + 2) input old.came (Ok true) input' came → BlockOutcome count came (Err fault) new.came → new.awaited ≡ old.awaited → new.told ≡ old.told
     → ValueOutcome input old (Err fault) input' new
 block_failed count input input' old new came NoMemory first g b w told =
-    collected input input' old new (subst (λ (c : List Value). Gathers input old.came input' c) (sym b.0) g.0) w told
+    gives_none input input' old new (collected input input' old new (subst (λ (c : List Value). Gathers input old.came input' c) (sym b.0) g.0) w told)
 block_failed count input input' old new came BadWire first g b w told = (
   collected input input' old new (subst (λ (c : List Value). Gathers input old.came input' c) (sym b.0) g.0) w told,
   inr (count, ap first_block w ∙ first, ap (λ (c : List Value). length c) b.0 ∙ g.1, ap (λ (c : List Value). is_answer count c) b.0 ∙ b.1),
 )
 block_failed count input input' old new came Failed first g b w told = absurd b
 
--- the replies to a block tell its commands
-pub block_told : (count : ℕ) (input input' : ReaderModel) (old new : RepliesModel) (came told left : List Value) (first_told : Option Value) → old.told ≡ []
-    → first_block old.awaited ≡ Some count → GatherOutcome (count + 2) input old.came (Ok true) input' came → IsToldByBlock count came (reverse told) → new.came ≡ []
-    → 0 < length (reverse told) → told ≡ left ++ option_to_list first_told → (first_told ≡ None → length told ≡ 0) → new.told ≡ reverse left → new.awaited ≡ drop 1 old.awaited
-    → ValueOutcome input old (Ok first_told) input' new
-block_told count input input' old new came told left (Some value) none first g by nothing some is absent n w =
-    let turned : reverse told ≡ value ∷ reverse left = ap (λ (vs : List Value). reverse vs) is ∙ reverse-append left (value ∷ []) in
-    let all = subst (λ (c : List Value). IsToldByBlock count c (reverse told)) g.0.3 by in
-    let tells = tells_block old.awaited new.awaited (old.came ++ g.0.0) (reverse told) new.came count first all nothing w in (
-      g.0.0,
-      g.0.1,
-      g.0.2,
-      (reverse told, rw (append-nil old.awaited) tells, ap (λ (vs : List Value). vs ++ reverse told) none ∙ turned ∙ ap (λ (vs : List Value). value ∷ vs) (sym n)),
-    )
-block_told count input input' old new came told left None none first g by nothing some is absent n w =
-    absurd (no_length told (absent refl) some) where
-      no_length : (xs : List Value) → length xs ≡ 0 → 0 < length (reverse xs) → ⊥
-      no_length [] e more = omega (arith, more)
-      no_length (x ∷ xs) e more = omega (arith, e)
+-- the replies to a block tell its commands, and these of the values were given
+block_gives : (count : ℕ) (input input' : ReaderModel) (old new : RepliesModel) (came told values : List Value) → old.told ≡ []
+    → first_block old.awaited ≡ Some count → GatherOutcome (count + 2) input old.came (Ok true) input' came → IsToldByBlock count came told
+    → told ≡ values ++ new.told → new.awaited ≡ drop 1 old.awaited → new.came ≡ [] → Gives input old values input' new
+block_gives count input input' old new came told values none first g by is w nothing =
+    let all = subst (λ (c : List Value). IsToldByBlock count c told) g.0.3 by in
+    let tells = tells_block old.awaited new.awaited (old.came ++ g.0.0) told new.came count first all nothing w in
+    (g.0.0, g.0.1, g.0.2, (told, rw (append-nil old.awaited) tells, ap (λ (vs : List Value). vs ++ told) none ∙ is))
+
+pub block_told : (count : ℕ) (input input' : ReaderModel) (old mid new : RepliesModel) (came told : List Value) (result : Result (Option Value) PortFault) → old.told ≡ []
+    → first_block old.awaited ≡ Some count → GatherOutcome (count + 2) input old.came (Ok true) input' came → IsToldByBlock count came told → 0 < length told
+    → mid.awaited ≡ drop 1 old.awaited → mid.came ≡ [] → mid.told ≡ told → NextTold mid result new → ValueOutcome input old result input' new
+block_told count input input' old mid new came told (Ok (Some value)) none first g by some w nothing all n =
+    block_gives count input input' old new came told (value ∷ []) none first g by (sym all ∙ n.0) (ap (λ (r : RepliesModel). r.awaited) n.1 ∙ w) (ap (λ (r : RepliesModel). r.came) n.1 ∙ nothing)
+block_told count input input' old mid new came told (Err NoMemory) none first g by some w nothing all n =
+    block_gives count input input' old new came told [] none first g by (sym all ∙ ap (λ (r : RepliesModel). r.told) (sym n)) (ap (λ (r : RepliesModel). r.awaited) n ∙ w) (ap (λ (r : RepliesModel). r.came) n ∙ nothing)
+block_told count input input' old mid new came told (Ok None) none first g by some w nothing all n =
+    absurd (omega (arith, some, ap (λ (vs : List Value). length vs) (sym all ∙ n.0)))
+block_told count input input' old mid new came told (Err BadWire) none first g by some w nothing all n = absurd n
+block_told count input input' old mid new came told (Err Failed) none first g by some w nothing all n = absurd n
 
 settles_later : (old new : RepliesModel) (came further values : List Value) → Settles [] (record old { came = old.came ++ came }) further values new
     → Settles [] old (came ++ further) values new
@@ -183,19 +196,23 @@ collects_then input mid next last read old so_far new c unread bounds d = (
       (same_replies _ _ refl (append_assoc old.came c.0 d.0) refl),
 )
 
--- what a later look gives, where more bytes came since one that gave nothing
-pub resumed : (input mid next last : ReaderModel) (read : List ℕ) (old so_far new : RepliesModel) (result : Result (Option Value) PortFault)
-    → Collects input old mid so_far → next.unread ≡ mid.unread ++ read → next.bounds ≡ mid.bounds → ValueOutcome next so_far result last new
-    → ValueOutcome (record input { unread = input.unread ++ read }) old result last new
-resumed input mid next last read old so_far new (Ok (Some value)) c unread bounds v = (
+gives_then : (input mid next last : ReaderModel) (read : List ℕ) (old so_far new : RepliesModel) (values : List Value) → Collects input old mid so_far
+    → next.unread ≡ mid.unread ++ read → next.bounds ≡ mid.bounds → Gives next so_far values last new → Gives (record input { unread = input.unread ++ read }) old values last new
+gives_then input mid next last read old so_far new values c unread bounds v = (
   c.0 ++ v.0,
   splits_then input.bounds input.unread c.0 mid.unread read v.0 last.unread c.1
       (subst (λ (b : LimitsModel). Splits b (mid.unread ++ read) v.0 last.unread) (bounds ∙ c.2) (subst (λ (u : List ℕ). Splits next.bounds u v.0 last.unread) unread v.1)),
   v.2 ∙ bounds ∙ c.2,
-  settles_later old new c.0 v.0 (value ∷ []) (subst (λ (s : RepliesModel). Settles [] s v.0 (value ∷ []) new) c.3 v.3),
+  settles_later old new c.0 v.0 values (subst (λ (s : RepliesModel). Settles [] s v.0 values new) c.3 v.3),
 )
+
+-- what a later look gives, where more bytes came since one that gave nothing
+pub resumed : (input mid next last : ReaderModel) (read : List ℕ) (old so_far new : RepliesModel) (result : Result (Option Value) PortFault)
+    → Collects input old mid so_far → next.unread ≡ mid.unread ++ read → next.bounds ≡ mid.bounds → ValueOutcome next so_far result last new
+    → ValueOutcome (record input { unread = input.unread ++ read }) old result last new
+resumed input mid next last read old so_far new (Ok (Some value)) c unread bounds v = gives_then input mid next last read old so_far new (value ∷ []) c unread bounds v
 resumed input mid next last read old so_far new (Ok None) c unread bounds v = (collects_then input mid next last read old so_far new c unread bounds v.0, v.1, v.2)
-resumed input mid next last read old so_far new (Err NoMemory) c unread bounds v = collects_then input mid next last read old so_far new c unread bounds v
+resumed input mid next last read old so_far new (Err NoMemory) c unread bounds v = gives_then input mid next last read old so_far new [] c unread bounds v
 resumed input mid next last read old so_far new (Err BadWire) c unread bounds v = (collects_then input mid next last read old so_far new c unread bounds v.0, v.1)
 resumed input mid next last read old so_far new (Err Failed) c unread bounds v = absurd v
 

@@ -59,12 +59,24 @@ abbrev pub Collects : ReaderModel → RepliesModel → ReaderModel → RepliesMo
 Collects input old input' new =
     (came : List Value) × Splits input.bounds input.unread came input'.unread × (input'.bounds ≡ input.bounds) × (new ≡ record old { came = old.came ++ came })
 
--- the next value is told, or replies are collected for it
+-- replies came, and these values were given
+abbrev pub Gives : ReaderModel → RepliesModel → List Value → ReaderModel → RepliesModel → Type 0
+Gives input old values input' new =
+    (came : List Value) × Splits input.bounds input.unread came input'.unread × (input'.bounds ≡ input.bounds) × Settles [] old came values new
+
+-- the next of the values that a block's replies told is given, where there is one
+abbrev pub NextTold : RepliesModel → Result (Option Value) PortFault → RepliesModel → Type 0
+NextTold old (Ok (Some value)) new = (old.told ≡ value ∷ new.told) × (new ≡ record old { told = new.told })
+NextTold old (Ok None) new = (old.told ≡ []) × (new ≡ old)
+NextTold old (Err NoMemory) new = new ≡ old
+NextTold old (Err BadWire) new = ⊥
+NextTold old (Err Failed) new = ⊥
+
+-- the next value is given, or replies are collected for it; where memory is wanting, what they tell may be known
 abbrev pub ValueOutcome : ReaderModel → RepliesModel → Result (Option Value) PortFault → ReaderModel → RepliesModel → Type 0
-ValueOutcome input old (Ok (Some value)) input' new =
-    (came : List Value) × Splits input.bounds input.unread came input'.unread × (input'.bounds ≡ input.bounds) × Settles [] old came (value ∷ []) new
+ValueOutcome input old (Ok (Some value)) input' new = Gives input old (value ∷ []) input' new
 ValueOutcome input old (Ok None) input' new = Collects input old input' new × IsWaiting input' × IsShort new
-ValueOutcome input old (Err NoMemory) input' new = Collects input old input' new
+ValueOutcome input old (Err NoMemory) input' new = Gives input old [] input' new
 ValueOutcome input old (Err BadWire) input' new = Collects input old input' new × (IsFaulty input' ⊎ HasBadBlock new)
 ValueOutcome input old (Err Failed) input' new = ⊥
 

@@ -2,14 +2,16 @@
 -- Redis documentation, "Transactions"; Redis Cluster specification, "MOVED Redirection", "ASK redirection".
 -- MULTI is answered +OK, a command +QUEUED or an error, EXEC an array with a reply for each command: they were executed in order
 -- and at once. Or EXEC is answered an error: none was executed. Any other answer is none that a node gives.
-use Rattle.std.specs.Prelude.{◌≡◌, ◌<◌, ◌+◌, ◌++◌, ◌&&◌, Result, Ok, Err, Vec, reverse, List, [], ◌∷◌, ℕ, Bool, true, false, Option, Some, None, codes, length, map, take, replicate, nat_eq, nat_lt, slice_get, if◌then◌else◌, IsTrue}
+use Rattle.std.specs.Prelude.{◌≡◌, ◌<◌, ◌+◌, ◌++◌, ◌&&◌, Result, Ok, Err, reverse, List, [], ◌∷◌, ℕ, Bool, true, false, Option, Some, None, codes, length, map, take, replicate, nat_eq, nat_lt, slice_get, if◌then◌else◌, IsTrue}
 use Rattle.std.specs.List.{find, list_all}
 use Rattle.std.specs.Option.{ForSome}
-use Rattle.std.specs.declared.alloc.Global.{Global}
 use Rattle.std.specs.Str.{bytes_eq}
 use Rattle.resp_wire.specs.Seen.{data_of}
+use Rattle.resp_wire.specs.declared.fault.NoMemory as resp
 use Rattle.resp_wire.specs.declared.value.Value.{Value}
 use Rattle.resp_wire.specs.declared.value.Value.TheVariants.{Simple, Error, Integer, Bulk, NullBulk, Array, NullArray}
+use Rattle.node_link.specs.declared.block_told.BlockTold.{BlockTold}
+use Rattle.node_link.specs.declared.block_told.BlockTold.TheVariants.{Each, Same}
 use Rattle.node_link.specs.declared.port.PortFault.{PortFault}
 use Rattle.node_link.specs.declared.port.PortFault.TheVariants.{NoMemory, Failed, BadWire}
 use Rattle.node_link.specs.Line.{first_word}
@@ -100,10 +102,21 @@ IsToldByBlock count replies told =
 abbrev pub IsRefusedBlock : ℕ → List Value → Type 0
 IsRefusedBlock count replies = (is_answer count replies ≡ true) × ForSome (slice_get replies (count + 1)) (λ exec. is_error exec ≡ true)
 
--- taking what the replies to a block give its commands, the last first: they stay where memory is wanting, which it can be
--- only where none was executed, and where they are no replies to such a block
-abbrev pub BlockOutcome : ℕ → List Value → Result (Vec Value Global) PortFault → List Value → Type 0
-BlockOutcome count old (Ok told) new = IsToldByBlock count old (reverse told.items) × (new ≡ []) × (0 < length (reverse told.items))
+-- the values that commands are told
+abbrev pub told_values : BlockTold → List Value
+told_values (Each values) = reverse values.items
+told_values (Same value count) = replicate count value
+
+-- the first of these values is given, where there is one; they stay where memory is wanting
+abbrev pub GivesNext : List Value → Result (Option Value) resp.NoMemory → List Value → Type 0
+GivesNext old (Ok (Some value)) new = old ≡ value ∷ new
+GivesNext old (Ok None) new = (old ≡ []) × (new ≡ [])
+GivesNext old (Err fault) new = new ≡ old
+
+-- taking what the replies to a block tell its commands: they stay where memory is wanting, which it can be only where none was
+-- executed, and where they are no replies to such a block
+abbrev pub BlockOutcome : ℕ → List Value → Result BlockTold PortFault → List Value → Type 0
+BlockOutcome count old (Ok told) new = IsToldByBlock count old (told_values told) × (new ≡ []) × (0 < length (told_values told))
 BlockOutcome count old (Err NoMemory) new = (new ≡ old) × IsRefusedBlock count old
 BlockOutcome count old (Err BadWire) new = (new ≡ old) × (is_answer count old ≡ false)
 BlockOutcome count old (Err Failed) new = ⊥

@@ -1,23 +1,24 @@
 //! What the replies to a block of commands tell them.
 
-ghost use Rattle.std.specs.Prelude.{◌≡◌, ◌+◌, ◌∷◌, IfOk, length, codes, option_map, slice_get, take, replicate, map, reverse};
+ghost use Rattle.std.specs.Prelude.{◌≡◌, ◌+◌, ◌∷◌, IfOk, length, codes, option_map, slice_get, take, map, reverse};
 ghost use Rattle.std.specs.List.{find, list_all};
 ghost use Rattle.node_link.specs.Runs.{BlockOutcome, common_ask, ends_block, is_answer, is_ask_to_all, is_error, is_error_of, is_error_with, is_moved, is_queued, is_text, redirect_of, told_of_none};
 ghost use Rattle.node_link.specs.Items.{AreItems};
 
+use crate::block_told::BlockTold;
 use crate::port::PortFault;
 use crate::redirect::{self, split_word};
 use key_split::error_line;
 use resp_wire::{NoMemory, Value};
 use std::alloc::Global;
 
-/// Takes what the replies to a block of `count` commands give them, the last first. Where memory is wanting, and where they are no
-/// replies to such a block, they stay.
+/// Takes what the replies to a block of `count` commands tell them. Where memory is wanting, and where they are no replies to such a
+/// block, they stay.
 pub fn take_told(
     alloc: Global,
     replies: &mut Vec<Value>,
     count: usize,
-) -> Result<Vec<Value>, PortFault>
+) -> Result<BlockTold, PortFault>
     requires { length replies.old.items ≡ count + 2 }
     ensures { BlockOutcome count replies.old.items result replies.new.items }
 {
@@ -27,12 +28,12 @@ pub fn take_told(
     if !is_error(&replies[count + 1]) {
         let executed = replies.pop();
         replies.clear();
-        return Ok(items_backwards(alloc, executed));
+        return Ok(BlockTold::Each(items_backwards(alloc, executed)));
     }
     match told_of_none(alloc, &replies[1..count + 1], &replies[count + 1]) {
-        Ok(told) => {
+        Ok(value) => {
             replies.clear();
-            Ok(told)
+            Ok(BlockTold::Same(value, count))
         }
         Err(NoMemory) => Err(PortFault::NoMemory),
     }
@@ -112,26 +113,13 @@ fn items_backwards(alloc: Global, reply: Option<Value>) -> Vec<Value>
 }
 
 // What each command is told where none was executed.
-fn told_of_none(alloc: Global, queued: &[Value], exec: &Value) -> Result<Vec<Value>, NoMemory>
-    ensures { IfOk result (λ told. told.items ≡ replicate (length queued.now) (told_of_none queued.now exec.now)) }
+fn told_of_none(alloc: Global, queued: &[Value], exec: &Value) -> Result<Value, NoMemory>
+    ensures { IfOk result (λ told. told ≡ told_of_none queued.now exec.now) }
 {
     match redirect_of(queued, exec) {
-        Some(redirect) => copies(alloc, redirect, queued.len()),
-        None => {
-            let again = error_line(alloc, b"TRYAGAIN")?;
-            copies(alloc, &again, queued.len())
-        }
+        Some(redirect) => redirect.copy(alloc),
+        None => error_line(alloc, b"TRYAGAIN"),
     }
-}
-
-fn copies(alloc: Global, value: &Value, count: usize) -> Result<Vec<Value>, NoMemory>
-    ensures { IfOk result (λ copies. copies.items ≡ replicate count value.now) }
-{
-    let mut copies = Vec::with_capacity(alloc, count)?;
-    while copies.len() < count {
-        copies.push_reserved(value.copy(alloc)?);
-    }
-    Ok(copies)
 }
 
 fn redirect_of<'a>(queued: &'a [Value], exec: &'a Value) -> Option<&'a Value>

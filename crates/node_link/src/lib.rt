@@ -14,6 +14,7 @@
 
 mod block;
 mod block_port;
+mod block_told;
 mod buffer;
 mod dial;
 mod fuse;
@@ -33,6 +34,7 @@ mod told;
 
 pub use block::take_told;
 pub use block_port::BlockPort;
+pub use block_told::BlockTold;
 pub use buffer::{drop_front, free_large};
 pub use dial::{Dial, DialFault};
 pub use fuse::Fuse;

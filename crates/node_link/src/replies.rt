@@ -5,10 +5,11 @@ ghost use Rattle.key_split.specs.Requests.{requests_of};
 ghost use Rattle.node_link.specs.Bytes.{input_of};
 ghost use Rattle.std.specs.List.{list_any};
 ghost use Rattle.node_link.specs.Blocks.{first_block, is_block};
-ghost use Rattle.node_link.specs.Collecting.{DrainsAtFalse, DrainsAtNone, GatherOutcome, ValueOutcome, await_each};
+ghost use Rattle.node_link.specs.Collecting.{DrainsAtFalse, DrainsAtNone, GatherOutcome, NextTold, ValueOutcome, await_each};
 ghost use Rattle.node_link.specs.declared.replies.Awaited.TheVariants as awaited;
 
 use crate::block::take_told;
+use crate::block_told::BlockTold;
 use crate::inbox::Inbox;
 use crate::port::PortFault;
 use key_split::Batch;
@@ -32,8 +33,8 @@ pub struct Replies {
     awaited: VecDeque<Awaited>,
     /// The replies to the block that is first, as far as they have come.
     came: Vec<Value>,
-    /// What a block's replies tell and was not given yet, the last first.
-    told: Vec<Value>,
+    /// What a block's replies tell and was not given yet.
+    told: BlockTold,
 }
 
 // By hand, so that the crates above prove one call.
@@ -52,17 +53,17 @@ impl Drop for Replies {
 }
 
 impl Model for Replies {
-    ghost use Rattle.std.specs.Prelude.{reverse};
     ghost use Rattle.std.specs.Coded.{codes};
     ghost use Rattle.resp_wire.specs.Stored.{coded_data};
     ghost use Rattle.node_link.specs.Blocks.{RepliesModel};
     ghost use Rattle.node_link.specs.Collecting.{IsWithinBlock};
+    ghost use Rattle.node_link.specs.Runs.{told_values};
 
     ghost Value = { RepliesModel };
 
     ghost coded = { Prim.hlevel (codes, coded_data) };
 
-    ghost view = { λ a. record { awaited = a.awaited.items; came = a.came.items; told = reverse a.told.items } };
+    ghost view = { λ a. record { awaited = a.awaited.items; came = a.came.items; told = told_values a.told } };
 
     ghost invariant = { λ a. IsWithinBlock a.awaited.items a.came.items };
 }
@@ -75,7 +76,7 @@ impl Replies {
             alloc,
             awaited: VecDeque::new(alloc),
             came: Vec::new(alloc),
-            told: Vec::new(alloc),
+            told: BlockTold::Each(Vec::new(alloc)),
         }
     }
 
@@ -125,12 +126,24 @@ impl Replies {
         ensures taken { ValueOutcome (input_of inbox.old) self.old result (input_of inbox.new) self.new }
         ensures drained { DrainsAtNone result inbox.new }
     {
-        if let Some(value) = self.told.pop() {
-            return Ok(Some(value));
+        match self.next_told() {
+            Ok(Some(value)) => return Ok(Some(value)),
+            Ok(None) => {}
+            Err(fault) => return Err(fault),
         }
         match first_block(&self.awaited) {
             None => self.take_reply(inbox),
             Some(count) => self.take_block(inbox, count),
+        }
+    }
+
+    // Takes the next value that a block's replies told.
+    fn next_told(&mut self) -> Result<Option<Value>, PortFault>
+        ensures { NextTold self.old result self.new }
+    {
+        match self.told.next(self.alloc) {
+            Ok(next) => Ok(next),
+            Err(NoMemory) => Err(PortFault::NoMemory),
         }
     }
 
@@ -168,7 +181,7 @@ impl Replies {
             Ok(told) => {
                 self.told = told;
                 self.awaited.pop_front();
-                Ok(self.told.pop())
+                self.next_told()
             }
             Err(fault) => Err(fault),
         }

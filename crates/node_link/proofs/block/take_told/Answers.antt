@@ -14,7 +14,7 @@ returns-in-Ok c =
     let span : c.args.count + 1 - 1 ≡ c.args.count = omega arith in
     let same : c.deref-2.result.now ≡ c.args.replies.now.items = search rules in
     let cut : queued ≡ take c.args.count (drop 1 c.args.replies.now.items) = rw (span, same) refl in
-    let all = refused c.args.count c.args.replies.now.items queued c.index.result.now c.index-2.result.now c.in-Ok.told.items c.requires (search rules) c.index.ensures (search rules) c.index-2.ensures cut (search rules) in
+    let all = refused c.args.count c.args.replies.now.items queued c.index.result.now c.index-2.result.now c.in-Ok.value c.requires (search rules) c.index.ensures (search rules) c.index-2.ensures cut (search rules) in
     (all.0, search rules, all.1)
 
 pub returns-in-Err : goal.returns-in-Err
