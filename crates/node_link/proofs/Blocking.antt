@@ -8,7 +8,7 @@ use Rattle.std.proofs.lemmas.List.Elements.{All-tail}
 use Rattle.resp_wire.specs.ReaderModel.{ReaderModel}
 use Rattle.resp_wire.specs.declared.value.Value.{Value}
 use Rattle.key_split.specs.declared.travel.Batch.{Batch}
-use Rattle.key_split.specs.Requests.{Request, requests_of}
+use Rattle.key_split.specs.Requests.{Request, Asking, Command, requests_of}
 use Rattle.key_split.specs.Runs.{GoTogether, IsTogether, RunModel, count_in, requests_of_run}
 use Rattle.node_link.specs.declared.port.PortFault.{PortFault}
 use Rattle.node_link.specs.declared.port.PortFault.TheVariants.{NoMemory, Failed, BadWire}
@@ -17,15 +17,18 @@ use Rattle.node_link.specs.declared.replies.Awaited.TheVariants as awaited
 use Rattle.node_link.specs.declared.stream.Gone.{Gone}
 use Rattle.node_link.specs.Bytes.{FlushOutcome, OutboxModel, UnsentModel, spelled}
 use Rattle.node_link.specs.Waiting.{GaveNone, IsWaiting}
-use Rattle.node_link.specs.Blocks.{BlockExchanges, BlockPortModel, GoesAs, IsBlockGarbled, IsShort, Item, Plain, Block, RepliesModel, Settles, awaited_by, items_for, items_of, requests_at, spelled_block, still_settles, tells-nothing, written_as}
+use Rattle.node_link.specs.Blocks.{BlockExchanges, BlockPortModel, blocked, GoesAs, IsBlockGarbled, IsShort, Item, Plain, Block, RepliesModel, Settles, awaited_by, items_for, items_of, sent_for, spelled_block, still_settles, tells-nothing, written_as}
 use Rattle.node_link.specs.Collecting.{Collects, ValueOutcome, await_each}
 use Rattle.node_link.specs.Port.{NextOutcome}
 use Rattle.node_link.proofs.Moves.{appended, flushed}
 use Rattle.node_link.proofs.Replying.{settles_collected}
 
-plain_requests : (requests : List Request) → flat_map requests_at (map Plain requests) ≡ requests
-plain_requests [] = refl
-plain_requests (request ∷ requests) = ap (λ (rs : List Request). request ∷ rs) (plain_requests requests)
+-- a batch goes request by request
+pub batch_plain : (batch : Batch) → sent_for (requests_of batch) ≡ map Plain (requests_of batch)
+batch_plain batch = asks batch.asking where
+  asks : (asking : Bool) → sent_for ((if asking then Asking ∷ [] else []) ++ Command batch.ticket batch.part ∷ []) ≡ map Plain ((if asking then Asking ∷ [] else []) ++ Command batch.ticket batch.part ∷ [])
+  asks true = refl
+  asks false = refl
 
 plain_written : (requests : List Request) → flat_map written_as (map Plain requests) ≡ spelled requests
 plain_written [] = refl
@@ -57,6 +60,37 @@ by_later first (next ∷ later) together more =
 -- the requests of a run of several are its commands
 pub run_requests : (run : RunModel) → IsTogether run → 0 < length run.later → length (requests_of_run run) ≡ count_in run
 run_requests run together more = by_later run.first run.later together more
+
+command_in : Batch → Request
+command_in batch = Command batch.ticket batch.part
+
+plain_is : (batch : Batch) → batch.asking ≡ false → requests_of batch ≡ command_in batch ∷ []
+unfolding command_in
+plain_is batch plain = rw plain refl
+
+later_commands : (first : Batch) (later : List Batch) → All (GoTogether first) later → flat_map requests_of later ≡ map command_in later
+later_commands first [] together = refl
+later_commands first (next ∷ later) together =
+    ap (λ (rs : List Request). rs ++ flat_map requests_of later) (plain_is next (of_first first next later together).next_goes_plain)
+    ∙ ap (λ (rs : List Request). command_in next ∷ rs) (later_commands first later (All-tail (GoTogether first) next later together))
+
+-- commands that follow one another are a block
+one_block : (first next : Batch) (later : List Batch) → sent_for (map command_in (first ∷ next ∷ later)) ≡ Block (map command_in (first ∷ next ∷ later)) ∷ []
+unfolding command_in
+one_block first next [] = refl
+one_block first next (third ∷ later) = ap (blocked (command_in first)) (one_block next third later)
+
+block_by : (first : Batch) (later : List Batch) → All (GoTogether first) later → 0 < length later → sent_for (flat_map requests_of (first ∷ later)) ≡ Block (flat_map requests_of (first ∷ later)) ∷ []
+block_by first [] together more = absurd (omega (arith, more))
+block_by first (next ∷ later) together more =
+    let all : flat_map requests_of (first ∷ next ∷ later) ≡ map command_in (first ∷ next ∷ later) =
+    ap (λ (rs : List Request). rs ++ flat_map requests_of (next ∷ later)) (plain_is first (of_first first next later together).first_goes_plain)
+    ∙ ap (λ (rs : List Request). command_in first ∷ rs) (later_commands first (next ∷ later) together) in
+    ap sent_for all ∙ one_block first next later ∙ ap (λ (rs : List Request). Block rs ∷ []) (sym all)
+
+-- a run of several goes as one block
+run_block : (run : RunModel) → IsTogether run → 0 < length run.later → sent_for (requests_of_run run) ≡ Block (requests_of_run run) ∷ []
+run_block run together more = block_by run.first run.later together more
 
 -- nothing comes for what is sent now
 settles_sent : (sent : List Awaited) (old : RepliesModel) → Settles sent old [] [] (record old { awaited = old.awaited ++ sent })
@@ -112,8 +146,6 @@ module _ {S : Type 0} (failures : S → ℕ) (moved : S → List ℕ → List �
   goes_quiet result old new flush input replies blocks =
       let f = flushed failures moved result old.bytes.stream new.bytes.stream old.bytes.unsent new.bytes.unsent flush in (
         [],
-        [],
-        refl,
         (f.0, [], f.1, f.2, append-nil old.bytes.input.unread ∙ sym (ap (λ (i : ReaderModel). i.unread) input), ap (λ (i : ReaderModel). i.bounds) input),
         subst (λ (r : RepliesModel). Settles [] old.replies [] [] r) (sym replies) (still_settles old.replies),
         blocks,
@@ -138,15 +170,11 @@ module _ {S : Type 0} (failures : S → ℕ) (moved : S → List ℕ → List �
     blocks,
   )
 
-  exchanged : (old new : BlockPortModel S) (items : List Item) → GoesAs moved old items new → BlockExchanges moved old (flat_map requests_at items) [] new
-  exchanged old new items goes = (
-    items,
-    [],
-    refl,
-    goes.0,
-    subst (λ (r : RepliesModel). Settles (map awaited_by items) old.replies [] [] r) (sym goes.1) (settles_sent (map awaited_by items) old.replies),
-    goes.2,
-  )
+  exchanged : (old new : BlockPortModel S) (requests : List Request) (items : List Item) → sent_for requests ≡ items → GoesAs moved old items new → BlockExchanges moved old requests [] new
+  exchanged old new requests items is goes =
+      let sent = subst (λ (sent : List Item). GoesAs moved old sent new) (sym is) goes in
+      let awaited = map awaited_by (sent_for requests) in
+      ([], sent.0, subst (λ (r : RepliesModel). Settles awaited old.replies [] [] r) (sym sent.1) (settles_sent awaited old.replies), sent.2)
 
   pub goes_plain : (old new : BlockPortModel S) (requests : List Request) (rest : List ℕ)
       → ((written : List ℕ) × moved old.bytes.stream written [] new.bytes.stream × (old.bytes.unsent ≡ written ++ rest))
@@ -158,14 +186,13 @@ module _ {S : Type 0} (failures : S → ℕ) (moved : S → List ℕ → List �
       let waits = subst (λ (ws : List Awaited). new.replies ≡ record old.replies { awaited = old.replies.awaited ++ ws }) (sym (plain_awaited requests)) replies in
       goes_as old new (map Plain requests) rest flush unsent input waits blocks
 
-  pub sends_plain : (old new : BlockPortModel S) (requests : List Request) (rest : List ℕ)
+  pub sends_plain : (old new : BlockPortModel S) (requests : List Request) (rest : List ℕ) → sent_for requests ≡ map Plain requests
       → ((written : List ℕ) × moved old.bytes.stream written [] new.bytes.stream × (old.bytes.unsent ≡ written ++ rest))
       → new.bytes.unsent ≡ rest ++ spelled requests → new.bytes.input ≡ old.bytes.input
       → new.replies ≡ record old.replies { awaited = old.replies.awaited ++ await_each requests } → new.takes_blocks ≡ old.takes_blocks
       → BlockExchanges moved old requests [] new
-  sends_plain old new requests rest flush is input replies blocks =
-      subst (λ (rs : List Request). BlockExchanges moved old rs [] new) (plain_requests requests)
-      (exchanged old new (map Plain requests) (goes_plain old new requests rest flush is input replies blocks))
+  sends_plain old new requests rest sent flush is input replies blocks =
+      exchanged old new requests (map Plain requests) sent (goes_plain old new requests rest flush is input replies blocks)
 
   pub goes_block : (old new : BlockPortModel S) (run : RunModel) (rest : List ℕ) → IsTogether run → 0 < length run.later
       → ((written : List ℕ) × moved old.bytes.stream written [] new.bytes.stream × (old.bytes.unsent ≡ written ++ rest))
@@ -184,16 +211,13 @@ module _ {S : Type 0} (failures : S → ℕ) (moved : S → List ℕ → List �
       → new.replies ≡ record old.replies { awaited = old.replies.awaited ++ awaited.Block (count_in run) ∷ [] } → new.takes_blocks ≡ old.takes_blocks
       → BlockExchanges moved old (requests_of_run run) [] new
   sends_block old new run rest together more flush is input replies blocks =
-      subst (λ (rs : List Request). BlockExchanges moved old rs [] new) (append-nil (requests_of_run run))
-      (exchanged old new (Block (requests_of_run run) ∷ []) (goes_block old new run rest together more flush is input replies blocks))
+      exchanged old new (requests_of_run run) (Block (requests_of_run run) ∷ []) (run_block run together more) (goes_block old new run rest together more flush is input replies blocks)
 
   collects : (old new : BlockPortModel S) (written read : List ℕ) → moved old.bytes.stream written read new.bytes.stream → old.bytes.unsent ++ [] ≡ written ++ new.bytes.unsent
       → Collects (record old.bytes.input { unread = old.bytes.input.unread ++ read }) old.replies new.bytes.input new.replies → new.takes_blocks ≡ old.takes_blocks
       → BlockExchanges moved old [] [] new
   collects old new written read m u c blocks = (
-    [],
     c.0,
-    refl,
     (written, read, m, u, c.1, c.2),
     subst (λ (r : RepliesModel). Settles [] old.replies c.0 [] r) (sym c.3) (settles_collected old.replies c.0),
     blocks,
@@ -204,9 +228,9 @@ module _ {S : Type 0} (failures : S → ℕ) (moved : S → List ℕ → List �
       → old.bytes.unsent ++ [] ≡ written ++ new.bytes.unsent
       → ValueOutcome (record old.bytes.input { unread = old.bytes.input.unread ++ read }) old.replies result new.bytes.input new.replies → new.takes_blocks ≡ old.takes_blocks
       → NextOutcome (λ (p : BlockPortModel S). failures p.bytes.stream) IsBlockGarbled (BlockExchanges moved) old result new
-  next_from old new written read (Ok (Some value)) m u v blocks = ([], v.0, refl, (written, read, m, u, v.1, v.2), v.3, blocks)
+  next_from old new written read (Ok (Some value)) m u v blocks = (v.0, (written, read, m, u, v.1, v.2), v.3, blocks)
   next_from old new written read (Ok None) m u v blocks = collects old new written read m u v.0 blocks
-  next_from old new written read (Err NoMemory) m u v blocks = ([], v.0, refl, (written, read, m, u, v.1, v.2), v.3, blocks)
+  next_from old new written read (Err NoMemory) m u v blocks = (v.0, (written, read, m, u, v.1, v.2), v.3, blocks)
   next_from old new written read (Err BadWire) m u v blocks = (v.1, collects old new written read m u v.0 blocks)
   next_from old new written read (Err Failed) m u v blocks = absurd v
 

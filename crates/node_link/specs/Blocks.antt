@@ -8,7 +8,7 @@ use Rattle.std.proofs.Common.{inl}
 use Rattle.std.proofs.lemmas.List.{append-nil}
 use Rattle.resp_wire.specs.declared.value.Value.{Value}
 use Rattle.key_split.specs.declared.travel.Batch.{Batch}
-use Rattle.key_split.specs.Requests.{Request, requests_of}
+use Rattle.key_split.specs.Requests.{Request, Asking, Command, Slots, requests_of}
 use Rattle.key_split.specs.Runs.{RunModel}
 use Rattle.node_link.specs.declared.replies.Awaited.{Awaited}
 use Rattle.node_link.specs.declared.replies.Awaited.TheVariants as awaited
@@ -22,9 +22,21 @@ pub data Item : Type 0 where
   Plain : Request → Item
   Block : List Request → Item
 
-abbrev pub requests_at : Item → List Request
-requests_at (Plain request) = request ∷ []
-requests_at (Block requests) = requests
+-- a command before these: it is of their block, where commands stand first
+abbrev pub blocked : Request → List Item → List Item
+blocked command [] = Plain command ∷ []
+blocked command (Plain Asking ∷ items) = Plain command ∷ Plain Asking ∷ items
+blocked command (Plain (Command ticket part) ∷ items) = Block (command ∷ Command ticket part ∷ []) ∷ items
+blocked command (Plain Slots ∷ items) = Plain command ∷ Plain Slots ∷ items
+blocked command (Block [] ∷ items) = Plain command ∷ items
+blocked command (Block (next ∷ later) ∷ items) = Block (command ∷ next ∷ later) ∷ items
+
+-- what one call sends for these requests: commands that follow one another are a block
+abbrev pub sent_for : List Request → List Item
+sent_for [] = []
+sent_for (Asking ∷ requests) = Plain Asking ∷ sent_for requests
+sent_for (Command ticket part ∷ requests) = blocked (Command ticket part) (sent_for requests)
+sent_for (Slots ∷ requests) = Plain Slots ∷ sent_for requests
 
 -- MULTI, the commands, EXEC
 abbrev pub spelled_block : List Request → List ℕ
@@ -110,12 +122,11 @@ module _ {S : Type 0} (moved : S → List ℕ → List ℕ → S → Type 0) whe
       Carries moved old.bytes (flat_map written_as items) [] new.bytes
       × (new.replies ≡ record old.replies { awaited = old.replies.awaited ++ map awaited_by items }) × (new.takes_blocks ≡ old.takes_blocks)
 
-  -- the requests went out, each plain or in a block, and the values are what the replies tell that came
+  -- the requests went out, a run of several in a block, and the values are what the replies tell that came
   abbrev pub BlockExchanges : BlockPortModel S → List Request → List Value → BlockPortModel S → Type 0
   BlockExchanges old requests values new =
-      (items : List Item) × (came : List Value) × (flat_map requests_at items ≡ requests)
-      × Carries moved old.bytes (flat_map written_as items) came new.bytes × Settles (map awaited_by items) old.replies came values new.replies
-      × (new.takes_blocks ≡ old.takes_blocks)
+      (came : List Value) × Carries moved old.bytes (flat_map written_as (sent_for requests)) came new.bytes
+      × Settles (map awaited_by (sent_for requests)) old.replies came values new.replies × (new.takes_blocks ≡ old.takes_blocks)
 
 -- the bytes that came are no values, or the values no replies to a block
 abbrev pub IsBlockGarbled : {S : Type 0} → BlockPortModel S → Type 0

@@ -108,7 +108,7 @@ impl<S: Stream> NodePort for BlockPort<S> {
 
     ghost gives_none = { BlockGivesNone S.asked S.offered };
 
-    ghost still = { λ p. ([], [], refl, ([], [], S.still p.bytes.stream, append-nil p.bytes.unsent, append-nil p.bytes.input.unread, refl), still_settles p.replies, refl) };
+    ghost still = { λ p. ([], ([], [], S.still p.bytes.stream, append-nil p.bytes.unsent, append-nil p.bytes.input.unread, refl), still_settles p.replies, refl) };
 
     fn send(&mut self, batch: &Batch) -> Result<(), PortFault>
         ensures does { SendOutcome (λ (p : BlockPortModel S). S.failures p.bytes.stream) IsBlockGarbled (BlockExchanges S.moved) self.old (requests_of batch.now) result self.new }

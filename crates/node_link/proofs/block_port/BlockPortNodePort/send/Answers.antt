@@ -2,7 +2,7 @@ use Rattle.std.proofs.Common.{◌∙◌, List, ℕ, ap, inl, inr, refl, subst, s
 use Rattle.key_split.specs.Requests.{requests_of}
 use Rattle.std.specs.Prelude.{⊤}
 use Rattle.node_link.specs.Bytes.{FlushOutcome, Offers, UnsentModel, input_of}
-use Rattle.node_link.proofs.Blocking.{finished, forgotten, goes_plain, goes_quiet, sends_plain}
+use Rattle.node_link.proofs.Blocking.{batch_plain, finished, forgotten, goes_plain, goes_quiet, sends_plain}
 use Rattle.node_link.proofs.block_port.BlockPortNodePort.send.Goals as goal
 
 pub returns-in-Err-clause-does : goal.returns-in-Err-clause-does
@@ -27,7 +27,7 @@ returns-in-Ok-clause-does g c =
     (sends_plain g.S.Stream.failures g.S.Stream.moved
     (record { bytes = record { stream = inside.stream; unsent = inside.outbox.unsent.bytes; refused = inside.outbox.unsent.refused; quiet_reads = inside.outbox.unsent.quiet_reads; input = input_of inside.inbox }; replies = inside.replies; takes_blocks = inside.takes_blocks })
     (record { bytes = record { stream = c.flush_before_send.new.stream; unsent = c.finish.new.self.unsent.bytes; refused = c.finish.new.self.unsent.refused; quiet_reads = c.finish.new.self.unsent.quiet_reads; input = input_of inside.inbox }; replies = c.draft_batch.new.replies; takes_blocks = inside.takes_blocks })
-    (requests_of c.args.batch.now) c.flush_before_send.new.self.unsent.bytes c.in_default.ensures.written unsent refl drafted.2 refl)
+    (requests_of c.args.batch.now) c.flush_before_send.new.self.unsent.bytes (batch_plain c.args.batch.now) c.in_default.ensures.written unsent refl drafted.2 refl)
 
 pub returns-in-Ok-clause-goes : goal.returns-in-Ok-clause-goes
 returns-in-Ok-clause-goes g c =
