@@ -6,6 +6,7 @@ ghost use Rattle.turn_laws.specs.ClientOutput.{AllClientsAreWritten, ClientsAreW
 ghost use Rattle.turn_laws.specs.LogOutput.{AnswersWereTold, LogIsWritten};
 ghost use Rattle.turn_laws.specs.Arrivals.{ArrivalsAreSent, SharedArrivalsAreSent};
 ghost use Rattle.turn_laws.specs.AnyPort.{AnyClients, AnyClientTurns, AnyPorts, WiresStand};
+ghost use Rattle.turn_laws.specs.ByteWires.{BeginsWire, ServesWire};
 ghost use Rattle.turn_laws.specs.Scripts.{GivesBack, LosesCommands, MisreadsLines, MovesUnderUse, PairsCommands};
 ghost use Rattle.turn_laws.specs.Refines.{CarrierRefines, HandedRefine, MovesRefine, NamesStay, NodesRefine, Refines, StartsRefine, ThrownRefine, WorkersRefine};
 ghost use Rattle.turn_laws.specs.LogHeadline.{HeadlineOfLogs, LogsAreHeld};
@@ -16,6 +17,7 @@ ghost use Rattle.turn_laws.specs.Fleet.{EveryFleet, FleetFollows, FleetsStand};
 ghost use Rattle.turn_laws.specs.Unclear.{HeardAlike, UnclearIsRefusal};
 ghost use Rattle.turn_laws.specs.Writing.{NamedIsReadBack, NewSlotsStand, SlotsStay, WrittenIsHeard};
 
+use crate::node_stream::NodeStream;
 use crate::wired_port::WiredPort;
 use key_split::laws::parts_of_plans_are_plain;
 use proxy_lanes::Naming;
@@ -85,6 +87,13 @@ pub fn any_client<C: ClientPort + Drop, J: Naming>()
 /// What a carrier does over ports that stand for wires is, over these wires, what the carrier of the system may do.
 pub fn any_port<H: Drop, P: WiredPort, D: Dial<Port = P>>()
     ensures { AnyPorts P.wired H P.failures P.is_garbled P.exchange P.gives_none D.opens P.longest }
+{}
+
+/// A port over bytes stands for a wire (`BlockPort` is a `WiredPort`), from its beginning on, and still does when the node at the other
+/// end has read one item of the wire in its bytes, and has written bytes that spell its replies.
+pub fn nodes_serve_bytes<S: NodeStream>()
+    ensures begins { BeginsWire S.far }
+    ensures serves { ServesWire S.far }
 {}
 
 /// What `any_port` asks of ports can be had.
