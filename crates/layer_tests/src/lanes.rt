@@ -1,12 +1,15 @@
 //! One lane: between two threads, when it is finished, and as the only one of a carrier.
 
 ghost use Rattle.rtrb.specs.Ring.{SameConsumer, SameProducer};
-ghost use Rattle.std.specs.Prelude.{◌≡◌};
+ghost use Rattle.std.specs.Prelude.{◌≡◌, ◌<◌, length, slice_get};
+ghost use Rattle.std.specs.Option.{ForSome};
+ghost use Rattle.proxy_lanes.specs.Carrier.{lanes_of};
+ghost use Rattle.proxy_lanes.specs.Lane.{IsLane};
 ghost use Rattle.proxy_lanes.specs.Opened.{book_of};
 
 use crate::numbered::run;
 use key_split::Run;
-use proxy_lanes::{CarrierEnds, Inlet, Naming, Opened, Outlet, lane, lanes};
+use proxy_lanes::{CarrierEnds, Inlet, Naming, Opened, Outlet, WorkerEnds, lane, lanes};
 use std::alloc::{AllocGlobal, Global};
 use std::marker::Brand;
 use std::sync::Wait;
@@ -49,6 +52,46 @@ fn what_is_left_is_settled(rt: HostRuntime) -> Result<(), Fail> {
     assert_eq!(rt; inlet.settle(note), 1);
     assert!(rt; takes(&mut inlet, 2));
     Ok(())
+}
+
+#[test]
+fn what_a_worker_left_is_settled_and_taken(rt: HostRuntime) -> Result<(), Fail> {
+    let settled = settles::<Brand, _>(rt, Opened::new())?;
+    assert!(rt; settled);
+    Ok(())
+}
+
+// The lanes of one worker, which posts three runs and finishes: whether the carrier settles that three are left, and takes them.
+fn settles<J, R>(rt: R, opened: Opened) -> Result<bool, Fail>
+where
+    J: Naming,
+    R: Wait + AllocGlobal + Copy + Drop,
+    requires { book_of opened ≡ J.book }
+{
+    let (mut ends, mut carrier) = lanes::<u32, J, R>(rt.alloc(), rt, opened, 1)?;
+    let Some(own) = ends.pop() else {
+        return Ok(false);
+    };
+    let WorkerEnds { outlet, .. } = own;
+    let settled = settles_three(rt.alloc(), outlet, &mut carrier);
+    Ok(settled && take_while_held(&mut carrier) == 3)
+}
+
+// Posts three runs and finishes: whether the carrier settles that three are left.
+fn settles_three<M: Drop>(
+    alloc: Global,
+    outlet: Outlet<Run>,
+    carrier: &mut CarrierEnds<u32, M>,
+) -> bool
+    requires one { 0 < length (lanes_of carrier.old) }
+    requires lane { ForSome (slice_get (lanes_of carrier.old) 0) (λ lane. IsLane outlet lane.up) }
+{
+    let mut outlet = outlet;
+    let posted = posts_three(alloc, &mut outlet);
+    match outlet.finish() {
+        Some(note) => carrier.settle(0, note) == 3 && posted,
+        None => false,
+    }
 }
 
 #[test]
