@@ -11,10 +11,11 @@ use resp_wire::{Limits, NoMemory, Reader, Value, WireFault};
 use std::alloc::Global;
 use std::marker::Model;
 
-/// The most that is read at once, in bytes.
+/// Room for one read at least, in bytes.
 const CHUNK: usize = 16 * 1024;
 
-/// Bytes that were read, as they come and as a reader holds them.
+/// Bytes that were read, as they come and as a reader holds them. A reader that has nothing unread takes the chunk as its buffer, and
+/// gives it back before the next read: so their bytes are not copied, and one buffer is left where nothing comes.
 pub struct Inbox {
     reader: Reader,
     chunk: Vec<u8>,
@@ -91,7 +92,7 @@ impl Inbox {
         if self.filled == 0 {
             return Ok(());
         }
-        match self.reader.feed(&self.chunk[..self.filled]) {
+        match self.reader.feed_from(&mut self.chunk, self.filled) {
             Ok(()) => {
                 self.filled = 0;
                 self.is_short = false;
@@ -107,9 +108,10 @@ impl Inbox {
         requires { self.old.unfed ≡ [] }
         ensures { self.new ≡ self.old }
     {
-        if !self.chunk.is_empty() {
+        if self.chunk.len() >= CHUNK {
             return Ok(());
         }
+        self.reader.give_room(&mut self.chunk);
         match self.chunk.resize(CHUNK, 0) {
             Ok(()) => Ok(()),
             Err(_) => Err(NoMemory),
