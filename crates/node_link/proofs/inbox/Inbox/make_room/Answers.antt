@@ -1,7 +1,7 @@
 use Rattle.std.proofs.Common.{◌≡◌, ◌≤◌, ◌∙◌, List, ℕ, [], ap, arith, length, subst, sym, take}
 use Rattle.std.proofs.lemmas.List.{length-take-le}
 use Rattle.resp_wire.specs.ReaderModel.{ReaderModel}
-use Rattle.node_link.specs.Bytes.{InboxModel, IsFaultFirst, IsShortWhere}
+use Rattle.node_link.specs.Bytes.{IsFaultFirst, IsShortWhere}
 use Rattle.node_link.specs.contracts.inbox.Inbox.{the_view}
 use Rattle.node_link.proofs.inbox.Inbox.make_room.Goals as goal
 
