@@ -1,8 +1,8 @@
-"""Ten thousand plays: what workers, the carrier and the nodes do, the steps of moves and connections that break, in an order that is
-handed in, each at random.
+"""Ten thousand plays: the engine's turns, what the nodes do, the steps of moves and connections that break, in an order that is handed in,
+each at random.
 
-Two workers serve three clients. Each play has lanes, nodes and clients of its own. In every other one connections break, so that
-commands are lost.
+Three clients are served, of which the last comes later. Each play has an engine, nodes and clients of its own. In every other one
+connections break, so that commands are lost.
 """
 
 import os
@@ -12,15 +12,17 @@ import sys
 sys.path.append(os.path.join(os.path.dirname(os.path.abspath(__file__)), "..", "program"))
 
 from answers import slot_of
-from orders import CLIENTS, OWN, SHARED, Seen, counted, script_of, served_as_by_one_store, steps_of_moves
+from orders import OWN, SHARED, Seen, counted, script_of, served_as_by_one_store, steps_of_moves
 from shared_plays import ten_thousand_shared_plays
 from table import Row, quoted, request
 
 PLAYS = 10_000
 # So many orders come at random, and so many rounds of all take the play to its end.
 ORDERS, TO_THE_END = 60, 40
+# The numbers of the clients, and how many orders are given before the last one comes.
+CLIENTS, BEFORE = (0, 1, 4), 15
 # What may be ordered, some of it more often than the rest.
-WORDS = ["worker 0", "worker 1", "carrier", "carrier", "serve 0", "serve 1", "serve 2", "serve 2", "move"]
+WORDS = [*3 * ["turn"], "serve 0", "serve 1", "serve 2", "serve 2", "move"]
 BREAKS = [*WORDS, "break 2"]
 
 
@@ -41,13 +43,20 @@ def last_steps(play):
     return [step for slot in slots for step in (*4 * [f"movekey {slot}"], f"own {slot}", f"release {slot}")]
 
 
+def add_client(row, number, script):
+    data = b"".join(request(*(word.encode() for word in each)) for each in script)
+    row.call(f"play client 0 {number} {quoted(data)}")
+
+
 def add_play(row, play, words, scripts):
-    """Clients come, and the play begins and is taken to its end, with both slots settled."""
-    for (number, worker), script in zip(CLIENTS, scripts):
-        data = b"".join(request(*(word.encode() for word in each)) for each in script)
-        row.call(f"play client {worker} {number} {quoted(data)}")
+    """The play begins, clients come, the last of them among the orders, and it is taken to its end, with both slots settled."""
     row.call("play begin")
-    row.call(f"play do {' '.join(orders_of(random.Random(play), play, words))}")
+    clients, orders = list(zip(CLIENTS, scripts)), orders_of(random.Random(play), play, words)
+    for number, script in clients[:-1]:
+        add_client(row, number, script)
+    row.call(f"play do {' '.join(orders[:BEFORE])}")
+    add_client(row, *clients[-1])
+    row.call(f"play do {' '.join(orders[BEFORE:])}")
     row.call(f"play do all {TO_THE_END} {' '.join(last_steps(play))} all {TO_THE_END}")
 
 
@@ -55,7 +64,7 @@ def add_whole_play(row, play, seen):
     """No connection breaks, and no two clients have a key in common: each is replied what one store replies."""
     scripts = [script_of(text, play) for text in OWN]
     add_play(row, play, WORDS, scripts)
-    for (number, _), script in zip(CLIENTS, scripts):
+    for number, script in zip(CLIENTS, scripts):
         row.call(f"play held {number}", served_as_by_one_store(script, seen))
 
 
@@ -64,7 +73,7 @@ def add_broken_play(row, play, seen):
     scripts = [script_of(text, play) for text in SHARED]
     add_play(row, play, BREAKS, scripts)
     held = {}
-    for client, (number, _) in enumerate(CLIENTS):
+    for client, number in enumerate(CLIENTS):
         row.call(f"play held {number}", counted(scripts, held, client, seen))
 
 

@@ -20,7 +20,7 @@ TAGS, PROXIES, CLIENTS = "pq", ("play", "second"), (0, 1)
 COMMANDS, EVENTS, TO_THE_END = 4, 60, 30
 # What happens: orders of either proxy, a look at how far a client is, a client that is no proxy.
 HAPPENS = [*6 * ["play"], *6 * ["second"], "move", "move", "ends", "others", "others"]
-WORDS = ["worker 0", "worker 1", "carrier", "carrier", "serve 0", "serve 1", "serve 2", "serve 2", "serve 2"]
+WORDS = [*4 * ["turn"], "serve 0", "serve 1", "serve 2", "serve 2", "serve 2"]
 # Of four plays one has neither breaks nor refusals.
 MORE = [[], ["break 2", "break 0"], ["tryagain 2", "down 2", "moved 2 1"], ["break 2", "tryagain 0", "down 2"]]
 # What all ask for, with a letter of its own for each command.
@@ -64,6 +64,7 @@ class Play:
         # what each client asked for, each with its tag, and by its moment what others did
         self.asked = {(proxy, client): [self.command() for _ in range(COMMANDS)] for proxy in PROXIES for client in CLIENTS}
         self.others = {}
+        self.begun = []
         self.steps = steps_of_moves(self.chance, number)
         self.orders, self.of = [], None
 
@@ -96,19 +97,22 @@ class Play:
         self.orders.append(words)
 
     def begin(self, proxy):
+        """A play begins, and its clients come."""
         self.call(f"{proxy} begin")
         for client in CLIENTS:
-            for _, command in self.asked[proxy, client]:
-                command.came = self.moment
+            self.client_comes(proxy, client)
 
-    def clients_come(self):
-        for (proxy, client), commands in self.asked.items():
-            data = b"".join(request(*(word.encode() for word in each.words)) for _, each in commands)
-            self.call(f"{proxy} client {client} {client} {quoted(data)}")
+    def client_comes(self, proxy, client):
+        commands = [command for _, command in self.asked[proxy, client]]
+        data = b"".join(request(*(word.encode() for word in each.words)) for each in commands)
+        self.call(f"{proxy} client 0 {client} {quoted(data)}")
+        self.begun.append((proxy, client))
+        for command in commands:
+            command.came = self.moment
 
     def look(self):
         """How many of a client's commands have ended by now: those for one slot in their order, those for two slots in any."""
-        proxy, client = self.chance.choice(list(self.asked))
+        proxy, client = self.chance.choice(self.begun)
         moment = self.moment + bool(self.orders)
 
         def test(answer):
@@ -190,7 +194,6 @@ class Play:
 def add_shared_play(row, number, seen):
     """A play, whose second proxy begins somewhere in it."""
     play = Play(row, number, seen)
-    play.clients_come()
     play.begin("play")
     late = play.chance.randrange(EVENTS // 2)
     for place, what in enumerate(play.chance.choices(HAPPENS, k=EVENTS)):

@@ -16,8 +16,8 @@ use Rattle.turn_laws.specs.Naming.{NamesNodes}
 use Rattle.turn_laws.specs.Refines.{IsStart}
 use Rattle.turn_laws.specs.SharedLog.{HeadlineOfSharedLogs, SharedLogsAreHeld}
 use Rattle.turn_laws.specs.Writing.{StandsAmong, StandsAtItsNodes}
-use Rattle.turn_play.specs.May.{HearsItsNodes, IsInOrder}
-use Rattle.turn_play.specs.Beside.{AreInOrderBeside, LeadsBeside, MayNowBeside, MayStepBeside, OthersMay, PlaysRefineBeside, StepBeside, shared_events_of}
+use Rattle.turn_play.specs.May.{HearsItsNodes, ListsItsNodes}
+use Rattle.turn_play.specs.Beside.{AreGivenBeside, LeadsBeside, MayNowBeside, MayStepBeside, OthersMay, PlaysRefineBeside, StepBeside, shared_events_of}
 use Rattle.turn_play.specs.Played.{Leads, Step}
 use Rattle.turn_play.specs.Playing.{PlayModel, PlaysSoundlyBeside, PlaysToBeside}
 use Rattle.turn_play.specs.Deeds.{IsReached, Reaches}
@@ -69,23 +69,23 @@ module _ {C J : Type 0} where
 
   -- ---- premises along steps
 
-  pub in-order : (s : System C J) (steps : List (StepBeside C J)) → AreMayBeside s steps → All (λ (step : StepBeside C J). IsInOrder step.next) steps → AreInOrderBeside s steps
-  in-order s [] may all = tt
-  in-order s (step ∷ steps) may all =
-      (may.0, All-head (λ (x : StepBeside C J). IsInOrder x.next) step steps all, in-order step.next steps may.1 (All-tail (λ (x : StepBeside C J). IsInOrder x.next) step steps all))
+  pub premises : (s : System C J) (steps : List (StepBeside C J)) → AreMayBeside s steps → All (λ (step : StepBeside C J). ListsItsNodes step.next) steps → AreGivenBeside s steps
+  premises s [] may all = tt
+  premises s (step ∷ steps) may all =
+      (may.0 (All-head (λ (x : StepBeside C J). ListsItsNodes x.next) step steps all), premises step.next steps may.1 (All-tail (λ (x : StepBeside C J). ListsItsNodes x.next) step steps all))
 
-  pub orders-join : (a : System C J) (steps : List (StepBeside C J)) (b : System C J) (later : List (StepBeside C J)) → LeadsBeside a steps b → AreInOrderBeside a steps → AreInOrderBeside b later → AreInOrderBeside a (steps ++ later)
-  orders-join a [] b later leads x y = subst (λ (s : System C J). AreInOrderBeside s later) (sym leads) y
-  orders-join a (step ∷ steps) b later leads x y = (x.0, x.1, orders-join step.next steps b later leads.1 x.2 y)
+  pub premises-join : (a : System C J) (steps : List (StepBeside C J)) (b : System C J) (later : List (StepBeside C J)) → LeadsBeside a steps b → AreGivenBeside a steps → AreGivenBeside b later → AreGivenBeside a (steps ++ later)
+  premises-join a [] b later leads x y = subst (λ (s : System C J). AreGivenBeside s later) (sym leads) y
+  premises-join a (step ∷ steps) b later leads x y = (x.0, premises-join step.next steps b later leads.1 x.1 y)
 
   -- behind what was reached, more is
-  pub reach : PlaysRefineBeside C J → (start : System C J) (before : List (StepBeside C J)) (s : System C J) (steps : List (StepBeside C J)) (s' : System C J) → IsReached start before s → LeadsBeside s steps s' → AreInOrderBeside s steps
+  pub reach : PlaysRefineBeside C J → (start : System C J) (before : List (StepBeside C J)) (s : System C J) (steps : List (StepBeside C J)) (s' : System C J) → IsReached start before s → LeadsBeside s steps s' → AreGivenBeside s steps
       → Reaches start (before ++ steps) s'
-  reach refine start before s steps s' reached leads ordered =
+  reach refine start before s steps s' reached leads given =
       let all = joined start before s steps s' reached.leads leads in
-      let order = orders-join start before s steps reached.leads reached.ordered ordered in (
-        record { starts = reached.starts; hears = reached.hears; leads = all; ordered = order },
-        refine start s' (before ++ steps) reached.starts reached.hears all order,
+      let premised = premises-join start before s steps reached.leads reached.given given in (
+        record { starts = reached.starts; hears = reached.hears; leads = all; given = premised },
+        refine start s' (before ++ steps) reached.starts reached.hears all premised,
       )
 
   pub soundly-beside : PlaysRefineBeside C J → (a b : PlayModel C J) → PlaysToBeside a b → PlaysSoundlyBeside a b
@@ -95,7 +95,7 @@ module _ {C J : Type 0} where
         one.1.0,
         one.1.1,
         one.2,
-        λ start before fresh hears go order. refine start one.0 (before ++ one.1.0) fresh hears (joined start before s one.1.0 one.0 go one.1.1) order,
+        λ start before fresh hears go given. refine start one.0 (before ++ one.1.0) fresh hears (joined start before s one.1.0 one.0 go one.1.1) given,
       )
 
 -- ---- a run of others
@@ -126,25 +126,25 @@ module _ (C J : Type 0) (laws : Laws C J) (shared : SharedRefines C J) (start : 
   abbrev Known : System C J → Type 0
   Known s = NamesNodes s × HearsItsNodes s
 
-  one-step : (s s' : System C J) (w : WorldModel) → IsShadow s w → Known s → (event : SharedEvent) → MayStepBeside s event s' → MayNowBeside s event → IsInOrder s' → SharedSystemStep s event s' × Known s'
-  one-step s s' w h known (SharedEvent.Ours event) may now order =
-      let x = step-holds laws.heard s s' w h known.0 known.1 event may now order in
+  one-step : (s s' : System C J) (w : WorldModel) → IsShadow s w → Known s → (event : SharedEvent) → MayStepBeside s event s' → MayNowBeside s event s' → SharedSystemStep s event s' × Known s'
+  one-step s s' w h known (SharedEvent.Ours event) may now =
+      let x = step-holds laws.heard s s' w h known.0 known.1 event may now in
       (x, (laws.names event s s' w h known.0 x, hears-on C J laws start fresh s s' event may x known.1))
-  one-step s s' w h known (SharedEvent.Theirs node asking done) may now order =
+  one-step s s' w h known (SharedEvent.Theirs node asking done) may now =
       (others-do s s' node asking done may now, (others-name s s' node asking done may known.0, others-hear s s' node asking done may known.1))
 
   -- the steps after some that were made
-  along : (before : List SharedEvent) (s s' : System C J) (steps : List (StepBeside C J)) → FoldsTo SharedSystemStep start before s → Known s → LeadsBeside s steps s' → AreInOrderBeside s steps → FoldsTo SharedSystemStep s (shared_events_of steps) s'
-  along before s s' [] f known go order = go
-  along before s s' (step ∷ steps) f known go order =
+  along : (before : List SharedEvent) (s s' : System C J) (steps : List (StepBeside C J)) → FoldsTo SharedSystemStep start before s → Known s → LeadsBeside s steps s' → AreGivenBeside s steps → FoldsTo SharedSystemStep s (shared_events_of steps) s'
+  along before s s' [] f known go given = go
+  along before s s' (step ∷ steps) f known go given =
       let r = shared start s before fresh f in
-      let x = one-step s step.next r.0 r.2 known step.event go.0 order.0 order.1 in
-      let later = along (before ++ step.event ∷ []) step.next s' steps (folds-beside before start s step.event step.next f x.0) x.1 go.1 order.2 in
+      let x = one-step s step.next r.0 r.2 known step.event go.0 given.0 in
+      let later = along (before ++ step.event ∷ []) step.next s' steps (folds-beside before start s step.event step.next f x.0) x.1 go.1 given.1 in
       (step.next, x.0, later)
 
 module _ (C J : Type 0) (laws : Laws C J) (shared : SharedRefines C J) (headline : HeadlineOfSharedLogs C J) (held : SharedLogsAreHeld C J) where
   pub plays-refine-beside : PlaysRefineBeside C J
-  plays-refine-beside start s' steps fresh hears go order =
-      let f = along C J laws shared start fresh [] start s' steps refl ((laws.starts start fresh).3, hears) go order in
+  plays-refine-beside start s' steps fresh hears go given =
+      let f = along C J laws shared start fresh [] start s' steps refl ((laws.starts start fresh).3, hears) go given in
       let events = shared_events_of steps in
       (f, headline start s' events fresh f, held start s' events fresh f, shared start s' events fresh f)

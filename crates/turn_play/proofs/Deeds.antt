@@ -5,22 +5,22 @@ use Rattle.proxy_turns.specs.Port.{Moves}
 use Rattle.turn_laws.specs.System.{System}
 use Rattle.turn_play.specs.declared.fault.PlayFault.{PlayFault}
 use Rattle.turn_play.specs.declared.order.Order.{Order}
-use Rattle.turn_play.specs.Beside.{AreInOrderBeside, LeadsBeside, PlaysRefineBeside, StepBeside}
-use Rattle.turn_play.specs.Obeying.{Obeys, ObeysAll}
+use Rattle.turn_play.specs.Beside.{AreGivenBeside, LeadsBeside, PlaysRefineBeside, StepBeside}
+use Rattle.turn_play.specs.Obeying.{Obeys, ObeysAll, StaysInOrder}
 use Rattle.turn_play.specs.Playing.{PlayModel, Shows}
 use Rattle.turn_play.specs.Port.{IsEnd, IsFresh, IsRead, PortExchanges, any_bytes, longest_run, no_count}
-use Rattle.turn_play.specs.Turns.{CarriersPlay, WorkersPlay}
+use Rattle.turn_play.specs.Turns.{EnginesPlay}
 use Rattle.turn_play.specs.Deeds.{AreDeeds, AreGranted, Deed, IsEventOf, IsGranted, ObeyedPlaysOn, left_by, steps_of}
 use Rattle.turn_play.proofs.Playing.{AreMayBeside}
-use Rattle.turn_play.proofs.Beside.{in-order, joined, orders-join, reach}
+use Rattle.turn_play.proofs.Beside.{premises, joined, premises-join, reach}
 use Rattle.turn_play.proofs.Obeyed.{obeyed-beside}
 
 module _ (C J : Type 0) (moves : Moves C) (gives_none takes_none : C → Type 0) where
-  -- what these orders did, and that it is in order where each is granted what it asks
+  -- what these orders did, and that the premises hold where each is granted what it asks
   abbrev pub DidAll : PlayModel C J → List Order → Result (Unit {0}) PlayFault → PlayModel C J → System C J → List (Deed C J) → Type 0
   DidAll old orders result new s deeds =
       AreDeeds moves gives_none takes_none s old orders result deeds new × Shows new (left_by s deeds) × LeadsBeside s (steps_of deeds) (left_by s deeds)
-      × (AreGranted s deeds → AreInOrderBeside s (steps_of deeds))
+      × (AreGranted s deeds → AreGivenBeside s (steps_of deeds))
 
   abbrev AreOf : Order → List (StepBeside C J) → Type 0
   AreOf what steps = All (λ (step : StepBeside C J). IsEventOf what step.event) steps
@@ -33,7 +33,7 @@ module _ (C J : Type 0) (moves : Moves C) (gives_none takes_none : C → Type 0)
     (refl, leads, are, inl (mid, obeys, shows, x.0)),
     x.1,
     joined s steps s' (steps_of later) (left_by s' later) leads x.2,
-    λ given. orders-join s steps s' (steps_of later) leads (in-order s steps (may given.0) given.1) (x.3 given.2),
+    λ given. premises-join s steps s' (steps_of later) leads (premises s steps (may given.0) given.1) (x.3 given.2),
   )
 
   -- the order at which a fault came
@@ -43,24 +43,24 @@ module _ (C J : Type 0) (moves : Moves C) (gives_none takes_none : C → Type 0)
     (refl, leads, are, inr (why, is, obeys, shows, refl)),
     shows,
     joined s steps s' [] s' leads refl,
-    λ given. orders-join s steps s' [] leads (in-order s steps (may given.0) given.1) tt,
+    λ given. premises-join s steps s' [] leads (premises s steps (may given.0) given.1) tt,
   )
 
-  module _ (workers : WorkersPlay C J moves) (carriers : CarriersPlay C J IsEnd no_count any_bytes PortExchanges IsRead IsFresh longest_run) where
-    pub did-all : (orders : List Order) (old : PlayModel C J) (result : Result (Unit {0}) PlayFault) (new : PlayModel C J) → ObeysAll moves gives_none takes_none old orders result new → (s : System C J) → Shows old s
+  module _ (engines : EnginesPlay C J moves IsEnd no_count any_bytes PortExchanges IsRead IsFresh longest_run) where
+    pub did-all : (orders : List Order) (old : PlayModel C J) (result : Result (Unit {0}) PlayFault) (new : PlayModel C J) → ObeysAll moves gives_none takes_none old orders result new → StaysInOrder result → (s : System C J) → Shows old s
         → (deeds : List (Deed C J)) × DidAll old orders result new s deeds
-    did-all [] old result new x s shows = ([], (x, subst (λ (p : PlayModel C J). Shows p s) (sym x.1) shows, refl, λ given. tt))
-    did-all (what ∷ orders) old result new (inl x) s shows =
-        let one = obeyed-beside C J moves gives_none takes_none workers carriers old what (Ok tt) x.0 x.1 s shows in
-        let later = did-all orders x.0 result new x.2 one.0 one.2 in
+    did-all [] old result new x stays s shows = ([], (x, subst (λ (p : PlayModel C J). Shows p s) (sym x.1) shows, refl, λ given. tt))
+    did-all (what ∷ orders) old result new (inl x) stays s shows =
+        let one = obeyed-beside C J moves gives_none takes_none engines old what (Ok tt) x.0 tt x.1 s shows in
+        let later = did-all orders x.0 result new x.2 stays one.0 one.2 in
         (record { order = what; steps = one.1.0; next = one.0 } ∷ later.0, did-more old what orders result x.0 new s one.0 one.1.0 one.1.1 one.1.2 one.1.3 x.1 one.2 later.0 later.1)
-    did-all (what ∷ orders) old result new (inr x) s shows =
-        let one = obeyed-beside C J moves gives_none takes_none workers carriers old what (Err x.0) new x.2 s shows in
+    did-all (what ∷ orders) old result new (inr x) stays s shows =
+        let one = obeyed-beside C J moves gives_none takes_none engines old what (Err x.0) new (subst StaysInOrder x.1 stays) x.2 s shows in
         (record { order = what; steps = one.1.0; next = one.0 } ∷ [], did-last old what orders x.0 result new s one.0 one.1.0 one.1.1 one.1.2 one.1.3 x.1 x.2 one.2)
 
     pub obeyed-plays-on : PlaysRefineBeside C J → ObeyedPlaysOn C J moves gives_none takes_none
-    obeyed-plays-on refine old new orders result x s shows =
-        let deeds = did-all orders old result new x s shows in (
+    obeyed-plays-on refine old new orders result x stays s shows =
+        let deeds = did-all orders old result new x stays s shows in (
           deeds.0,
           deeds.1.0,
           deeds.1.1,

@@ -18,19 +18,18 @@ use Rattle.turn_play.specs.declared.fault.PlayFault.{PlayFault}
 use Rattle.turn_play.specs.declared.moves.Move.{Move}
 use Rattle.turn_play.specs.declared.order.Order.{Order}
 use Rattle.turn_play.specs.declared.order.Order.TheVariants as order
-use Rattle.turn_play.specs.May.{HearsItsNodes, IsInOrder, MayMoveNow, MayNow}
+use Rattle.turn_play.specs.May.{HearsItsNodes, MayMoveNow, MayNow}
 use Rattle.turn_play.specs.Moving.{event_of}
-use Rattle.turn_play.specs.Beside.{AreInOrderBeside, LeadsBeside, MayNowBeside, MayStepBeside, StepBeside}
+use Rattle.turn_play.specs.Beside.{AreGivenBeside, LeadsBeside, MayNowBeside, MayStepBeside, StepBeside}
 use Rattle.turn_play.specs.Playing.{PlayModel, Shows}
 use Rattle.turn_play.specs.Port.{IsEnd, IsFresh, IsRead, PortExchanges, any_bytes, longest_run, no_count}
-use Rattle.turn_play.specs.Turns.{CarriersPlay, IsCarriers, IsWorkers, WorkersPlay}
+use Rattle.turn_play.specs.Turns.{EnginesPlay, IsTurns}
 use Rattle.turn_play.specs.Obeying.{IsOurs}
 use Rattle.turn_play.specs.Deeds.{AreDeeds, Deed, IsEventOf, left_by, steps_of}
 use Rattle.turn_play.specs.Fleets.{FleetGoes, HandedInFleets, IsFleetReached, OthersWait, PlaysAreFleets, ShowsAll, after_call}
 use Rattle.turn_play.proofs.Refining.{step-holds}
-use Rattle.turn_play.proofs.Playing.{Any, PlaysWhere}
-use Rattle.turn_play.proofs.Beside.{beside, in-order}
-use Rattle.turn_play.proofs.Handed.{handed-over}
+use Rattle.turn_play.proofs.Playing.{same-engine}
+use Rattle.turn_play.proofs.Handed.{IsHanded, handed-beside, handed-given}
 use Rattle.turn_play.proofs.Deeds.{did-all}
 
 -- ---- which event is a step of a slot
@@ -47,23 +46,14 @@ is_moved (Moved event) = true
 no-move : (event : SystemEvent) (e : Event) → is_moved event ≡ false → event ≡ Moved e → ⊥
 no-move event e still is = let it : true ≡ false = ap is_moved (sym is) ∙ still in absurd (cc)
 
-workers-still : (k : ℕ) (event : SystemEvent) → IsWorkers k event → is_moved event ≡ false
-workers-still k (AtWorker j event) x = refl
-workers-still k (AtCarrier event) x = absurd x
-workers-still k (Handed j number) x = absurd x
-workers-still k (AtNode j verdict) x = absurd x
-workers-still k (AtBroken j verdict) x = absurd x
-workers-still k (Thrown j) x = absurd x
-workers-still k (Moved event) x = absurd x
-
-carriers-still : (event : SystemEvent) → IsCarriers event → is_moved event ≡ false
-carriers-still (AtCarrier event) x = refl
-carriers-still (AtWorker j event) x = absurd x
-carriers-still (Handed j number) x = absurd x
-carriers-still (AtNode j verdict) x = absurd x
-carriers-still (AtBroken j verdict) x = absurd x
-carriers-still (Thrown j) x = absurd x
-carriers-still (Moved event) x = absurd x
+turns-still : (event : SystemEvent) → IsTurns event → is_moved event ≡ false
+turns-still (AtWorker j event) x = refl
+turns-still (AtCarrier event) x = refl
+turns-still (Handed j number) x = absurd x
+turns-still (AtNode j verdict) x = absurd x
+turns-still (AtBroken j verdict) x = absurd x
+turns-still (Thrown j) x = absurd x
+turns-still (Moved event) x = absurd x
 
 abbrev moved_by : SystemEvent → Event → Event
 moved_by (Moved event) other = event
@@ -91,14 +81,12 @@ module _ {C J : Type 0} where
       subst (MayMoveNow (f q)) (same-move (event_of move) (core.Import slot target) (sym is ∙ imports)) (waits q ne)
 
   event-waits : (f : Fleet C J) (p : ℕ) (what : Order) (event : SharedEvent) → IsOurs what → OthersWait f p what → IsEventOf what event → WaitFor f p event
-  event-waits f p (order.Worker k) (SharedEvent.Ours event) ours waits is = still-waits f p event (workers-still k event is)
-  event-waits f p order.Carrier (SharedEvent.Ours event) ours waits is = still-waits f p event (carriers-still event is)
+  event-waits f p order.Turn (SharedEvent.Ours event) ours waits is = still-waits f p event (turns-still event is)
   event-waits f p (order.Serve node verdict) (SharedEvent.Ours event) ours waits is = still-waits f p event (ap is_moved is)
   event-waits f p (order.Break node) (SharedEvent.Ours event) ours waits is = absurd is
   event-waits f p (order.Move move) (SharedEvent.Ours event) ours waits is = move-waits f p move event waits is
   event-waits f p (order.Others node asking parts) (SharedEvent.Ours event) ours waits is = absurd ours
-  event-waits f p (order.Worker k) (SharedEvent.Theirs n a done) ours waits is = absurd is
-  event-waits f p order.Carrier (SharedEvent.Theirs n a done) ours waits is = absurd is
+  event-waits f p order.Turn (SharedEvent.Theirs n a done) ours waits is = absurd is
   event-waits f p (order.Serve node verdict) (SharedEvent.Theirs n a done) ours waits is = absurd is
   event-waits f p (order.Break node) (SharedEvent.Theirs n a done) ours waits is = absurd is
   event-waits f p (order.Move move) (SharedEvent.Theirs n a done) ours waits is = absurd is
@@ -178,10 +166,10 @@ module _ (C J : Type 0) (heard : WrittenIsHeard) (stand : FleetsStand C J) (foll
     x.4,
   )
 
-  waits-all : (g : Fleet C J) → Aside f p g → (event : SystemEvent) → MayNow (g p) event → WaitFor f p (SharedEvent.Ours event)
+  waits-all : (g : Fleet C J) → Aside f p g → (event : SystemEvent) (next : System C J) → MayNow (g p) event next → WaitFor f p (SharedEvent.Ours event)
       → (slot target : ℕ) → event ≡ Moved (core.Import slot target) → (q : ℕ) → NoneAsksIn (g q) slot target
-  waits-all g aside event may waits slot target is q = ⊎_elim
-      (λ (y : ((q == p) ≡ true) × (q ≡ p)). subst (λ z. NoneAsksIn (g z) slot target) (sym y.1) (subst (MayNow (g p)) is may))
+  waits-all g aside event next may waits slot target is q = ⊎_elim
+      (λ (y : ((q == p) ≡ true) × (q ≡ p)). subst (λ z. NoneAsksIn (g z) slot target) (sym y.1) (subst (λ e. MayNow (g p) e next) is may))
       (λ (y : ((q == p) ≡ false) × (q ≢ p)).
       subst (λ (z : System C J). NoneAsksIn z slot target) (sym (aside q y.1)) (none-aside (f q) (g q).cluster (g q).log slot target (waits slot target is q y.1)))
       (eqb_tells q p)
@@ -190,13 +178,13 @@ module _ (C J : Type 0) (heard : WrittenIsHeard) (stand : FleetsStand C J) (foll
   Next before next = (event : SystemEvent) × (h : Fleet C J) × FleetRun C J start (before ++ FleetEvent.By p event ∷ []) h × (h p ≡ next) × Aside f p h
 
   -- a step of the proxy
-  goes : (before : List FleetEvent) (g : Fleet C J) → FleetRun C J start before g → Aside f p g → (event : SharedEvent) (next : System C J) → MayStepBeside (g p) event next → MayNowBeside (g p) event → IsInOrder next → WaitFor f p event
+  goes : (before : List FleetEvent) (g : Fleet C J) → FleetRun C J start before g → Aside f p g → (event : SharedEvent) (next : System C J) → MayStepBeside (g p) event next → MayNowBeside (g p) event next → WaitFor f p event
       → Next before next
-  goes before g r aside (SharedEvent.Theirs node asking done) next may now order waits = absurd waits
-  goes before g r aside (SharedEvent.Ours event) next may now order waits =
+  goes before g r aside (SharedEvent.Theirs node asking done) next may now waits = absurd waits
+  goes before g r aside (SharedEvent.Ours event) next may now waits =
       let s = stand start g before fresh r p in
-      let x : SystemStep (g p) event next = step-holds heard (g p) next s.world s.shadow s.names (hears-now before g r) event may now order in
-      let step = follows g p event next x (waits-all g aside event now waits) in (
+      let x : SystemStep (g p) event next = step-holds heard (g p) next s.world s.shadow s.names (hears-now before g r) event may now in
+      let step = follows g p event next x (waits-all g aside event next now waits) in (
         event,
         step.0,
         run-on before start g step.0 (FleetEvent.By p event) r step.1,
@@ -204,14 +192,14 @@ module _ (C J : Type 0) (heard : WrittenIsHeard) (stand : FleetsStand C J) (foll
         once-more f g step.0 p aside (λ q ne. left-aside (g q) (step.0 q) (step.0 p).cluster ((g q).log ++ log_of (map (foreign (length (g q).workers)) step.1.2)) (step.1.4 q ne)),
       )
 
-  walk : (steps : List (StepBeside C J)) (before : List FleetEvent) (g : Fleet C J) → FleetRun C J start before g → Aside f p g → (s' : System C J) → LeadsBeside (g p) steps s' → AreInOrderBeside (g p) steps → AllWait f p steps
+  walk : (steps : List (StepBeside C J)) (before : List FleetEvent) (g : Fleet C J) → FleetRun C J start before g → Aside f p g → (s' : System C J) → LeadsBeside (g p) steps s' → AreGivenBeside (g p) steps → AllWait f p steps
       → Led before s'
-  walk [] before g r aside s' leads order waits = ([], g, subst (λ es. FleetRun C J start es g) (sym (append-nil before)) r, leads, aside)
-  walk (step ∷ steps) before g r aside s' leads order waits =
-      let one = goes before g r aside step.event step.next leads.0 order.0 order.1 (All-head (λ (x : StepBeside C J). WaitFor f p x.event) step steps waits) in
+  walk [] before g r aside s' leads given waits = ([], g, subst (λ es. FleetRun C J start es g) (sym (append-nil before)) r, leads, aside)
+  walk (step ∷ steps) before g r aside s' leads given waits =
+      let one = goes before g r aside step.event step.next leads.0 given.0 (All-head (λ (x : StepBeside C J). WaitFor f p x.event) step steps waits) in
       one-more before one.0 s'
       (walk steps (before ++ FleetEvent.By p one.0 ∷ []) one.1 one.2 one.4 s' (subst (λ (z : System C J). LeadsBeside z steps s') (sym one.3) leads.1)
-      (subst (λ (z : System C J). AreInOrderBeside z steps) (sym one.3) order.2)
+      (subst (λ (z : System C J). AreGivenBeside z steps) (sym one.3) given.1)
       (All-tail (λ (x : StepBeside C J). WaitFor f p x.event) step steps waits))
 
 module _ {C J : Type 0} where
@@ -222,8 +210,7 @@ module _ {C J : Type 0} where
       subst (λ (play : PlayModel C J). Shows play (h q)) (ap (λ b. if b then new else record (plays q) { cluster = new.cluster }) (sym y.0)) (subst (λ z. Shows new (h z)) (sym y.1) shown))
       (λ (y : ((q == p) ≡ false) × (q ≢ p)).
       subst (λ (play : PlayModel C J). Shows play (h q)) (ap (λ b. if b then new else record (plays q) { cluster = new.cluster }) (sym y.0)) (record {
-        workers = ap (λ (t : System C J). t.workers) (aside q y.1) ∙ (shows q).workers;
-        carrier = ((shows q).carrier.0, (shows q).carrier.1, ap (λ (t : System C J). t.carrier) (aside q y.1) ∙ (shows q).carrier.2);
+        engine = same-engine IsEnd (plays q).engine (f q) (h q) (shows q).engine (ap (λ (t : System C J). t.workers) (aside q y.1)) (ap (λ (t : System C J). t.carrier) (aside q y.1));
         cluster = shared q p ∙ shown.cluster;
         nodes = ap (λ (t : System C J). t.nodes) (aside q y.1) ∙ (shows q).nodes;
       }))
@@ -232,9 +219,9 @@ module _ {C J : Type 0} where
 module _ (C J : Type 0) (heard : WrittenIsHeard) (stand : FleetsStand C J) (follows : FleetFollows C J) (every : EveryFleet C J) where
   -- steps of one proxy, for which the others wait
   fleet-goes : (plays : ℕ → PlayModel C J) (p : ℕ) (new : PlayModel C J) (f : Fleet C J) → ShowsAll plays f → (start : Fleet C J) (before : List FleetEvent) → IsFleetReached start before f
-      → (steps : List (StepBeside C J)) (s : System C J) → LeadsBeside (f p) steps s → Shows new s → AreInOrderBeside (f p) steps → AllWait f p steps → FleetGoes plays p new start before
-  fleet-goes plays p new f shows start before reached steps s leads shown order waits =
-      let led = walk C J heard stand follows start reached.starts reached.hears f p steps before f reached.runs (λ q ne. refl) s leads order waits in
+      → (steps : List (StepBeside C J)) (s : System C J) → LeadsBeside (f p) steps s → Shows new s → AreGivenBeside (f p) steps → AllWait f p steps → FleetGoes plays p new start before
+  fleet-goes plays p new f shows start before reached steps s leads shown given waits =
+      let led = walk C J heard stand follows start reached.starts reached.hears f p steps before f reached.runs (λ q ne. refl) s leads given waits in
       let all : List FleetEvent = before ++ map (FleetEvent.By p) led.0 in (
         led.0,
         led.1,
@@ -243,22 +230,25 @@ module _ (C J : Type 0) (heard : WrittenIsHeard) (stand : FleetsStand C J) (foll
         every start led.1 all reached.starts led.2,
       )
 
+  -- a client that was handed over is no step of a slot
+  handed-waits : (f : Fleet C J) (p number : ℕ) (event : SharedEvent) → IsHanded number event → WaitFor f p event
+  handed-waits f p number event is = subst (WaitFor f p) (sym is) (still-waits f p (Handed 0 number) refl)
+
   pub handed-in-fleets : HandedInFleets C J
-  handed-in-fleets plays p k client handed new x f shows =
-      let hands : PlaysWhere Any (λ e. e ≡ Handed k client.number) (plays p) new =
-      subst (PlaysWhere Any (λ e. e ≡ Handed k client.number) (plays p)) (sym x.1) (handed-over (plays p) new.carrier k client handed x.0) in
-      let one = beside Any (λ e. e ≡ Handed k client.number) (WaitFor f p) (λ event is. still-waits f p event (ap is_moved is)) (plays p) new hands (f p) (shows p) in (
+  handed-in-fleets plays p client handed new x f shows =
+      let one = handed-beside (plays p) new client handed x (f p) (shows p) in
+      let waits = All-weaker (λ (step : StepBeside C J). IsHanded client.number step.event) (λ (step : StepBeside C J). WaitFor f p step.event) (λ step is. handed-waits f p client.number step.event is) one.1.0 one.1.3 in (
         one.0,
         one.1.0,
         one.1.1,
         one.2,
-        λ start before reached order. fleet-goes plays p new f shows start before reached one.1.0 one.0 one.1.1 one.2 (in-order (f p) one.1.0 (one.1.2 tt) order) one.1.3,
+        λ start before reached. fleet-goes plays p new f shows start before reached one.1.0 one.0 one.1.1 one.2 (handed-given client.number one.1.0 (f p) one.1.3) waits,
       )
 
-  module _ (moves : Moves C) (gives_none takes_none : C → Type 0) (workers : WorkersPlay C J moves) (carriers : CarriersPlay C J IsEnd no_count any_bytes PortExchanges IsRead IsFresh longest_run) where
+  module _ (moves : Moves C) (gives_none takes_none : C → Type 0) (engines : EnginesPlay C J moves IsEnd no_count any_bytes PortExchanges IsRead IsFresh longest_run) where
     pub plays-are-fleets : PlaysAreFleets C J moves gives_none takes_none
-    plays-are-fleets plays p orders result new ours x f shows =
-        let did = did-all C J moves gives_none takes_none workers carriers orders (plays p) result new x (f p) (shows p) in (
+    plays-are-fleets plays p orders result new ours x stays f shows =
+        let did = did-all C J moves gives_none takes_none engines orders (plays p) result new x stays (f p) (shows p) in (
           did.0,
           did.1.0,
           λ start before reached given waits.

@@ -2,6 +2,7 @@ mod Refining
 mod Numbers
 mod Breaking
 mod Swapping
+mod Knowing
 mod Turning
 mod Playing
 mod Theirs
@@ -15,4 +16,3 @@ mod Starting
 mod Kept
 mod Said
 mod ServingFirst
-mod Placed

@@ -2,10 +2,13 @@
 use Rattle.std.proofs.Common.{◌≡◌, ◌≤◌, ◌<◌, ◌-◌, inl, inr, ℕ, zero, suc, Bool, List, [], ◌∷◌, Ok, Err, length, take, drop, get_or, refl, sym, ap, subst, arith}
 use Rattle.std.specs.Prelude.{All, Result}
 use Rattle.std.proofs.lemmas.List.Elements.{All-head, All-tail}
-use Rattle.resp_wire.specs.declared.fault.NoMemory.{NoMemory}
 use Rattle.node_model.specs.Nodes.{ClusterModel}
 use Rattle.node_model.specs.declared.standing.MoveFault.TheVariants as cause
 use Rattle.proxy_turns.specs.Port.{Moves}
+use Rattle.proxy_engine.specs.declared.turned.Turned.{Turned}
+use Rattle.proxy_engine.specs.declared.turned.EngineFault.{EngineFault}
+use Rattle.proxy_engine.specs.declared.turned.EngineFault.TheVariants as cause_of
+use Rattle.proxy_engine.specs.Events as engine
 use Rattle.turn_laws.specs.System.{System}
 use Rattle.turn_play.specs.declared.fault.PlayFault.{PlayFault}
 use Rattle.turn_play.specs.declared.fault.PlayFault.TheVariants as fault
@@ -13,9 +16,10 @@ use Rattle.turn_play.specs.declared.moves.Move.{Move}
 use Rattle.turn_play.specs.declared.moves.Move.TheVariants as step
 use Rattle.turn_play.specs.declared.order.Order.{Order}
 use Rattle.turn_play.specs.declared.order.Order.TheVariants as order
+use Rattle.turn_play.specs.Faults.{of_turn}
 use Rattle.turn_play.specs.May.{ClusterMoves, MayMoveNow}
 use Rattle.turn_play.specs.Moving.{MoveOutcome, MovesOrNot, event_of}
-use Rattle.turn_play.specs.Obeying.{CarrierIsTurned, IsOurs, IsTurned, Obeys, ObeysAll, ObeyedIsSound, ObeyedIsSoundBeside}
+use Rattle.turn_play.specs.Obeying.{IsOurs, IsTurned, Obeys, ObeysAll, ObeyedIsSound, ObeyedIsSoundBeside, StaysInOrder}
 use Rattle.turn_play.specs.Played.{PlaysRefine}
 use Rattle.turn_laws.specs.Steps.{SystemEvent, Moved}
 use Rattle.turn_laws.specs.Sharing.{SharedEvent}
@@ -23,10 +27,10 @@ use Rattle.turn_play.specs.Beside.{PlaysRefineBeside}
 use Rattle.turn_play.specs.Deeds.{IsEventOf, IsEventOfOthers, IsGranted}
 use Rattle.turn_play.specs.Playing.{PlayModel, PlaysTo, PlaysToBeside, Shows}
 use Rattle.turn_play.specs.Port.{IsEnd, IsFresh, IsRead, PortExchanges, any_bytes, longest_run, no_count, port-opens}
-use Rattle.turn_play.specs.Turns.{CarriersPlay, IsCarriers, IsWorkers, WorkersPlay}
+use Rattle.turn_play.specs.Turns.{EnginesPlay, IsTurns}
 use Rattle.turn_play.proofs.Beside.{beside, goes-beside, plainly-beside, soundly-beside}
 use Rattle.turn_play.proofs.Theirs.{others-came}
-use Rattle.turn_play.proofs.Playing.{Any, IsServed, PlaysWhere, PlaysWhereBeside, broke, carrier-turned, moved, plainly, plays-none, plays-on, plays-soundly, serves, worker-turned}
+use Rattle.turn_play.proofs.Playing.{Any, IsServed, PlaysWhere, PlaysWhereBeside, broke, engine-turned, moved, plainly, plays-none, plays-on, plays-soundly, serves, with_carrier}
 
 -- ---- a step of a move
 
@@ -80,13 +84,16 @@ module _ {C J : Type 0} where
   moves-on old move (Ok u) k (inr x) = same-cluster (MayMove move) (IsStepOf move) old k (not-now old.cluster move k x)
   moves-on old move (Err fault.NoMemory) k x = same-cluster (MayMove move) (IsStepOf move) old k (no-memory old.cluster move k x)
   moves-on old move (Err fault.NotServed) k x = absurd x
+  moves-on old move (Err fault.OutOfOrder) k x = absurd x
 
-module _ (C J : Type 0) (moves : Moves C) (gives_none takes_none : C → Type 0) (workers : WorkersPlay C J moves) (carriers : CarriersPlay C J IsEnd no_count any_bytes PortExchanges IsRead IsFresh longest_run) where
-  turned : (old : PlayModel C J) (k : ℕ) (result : Result Bool NoMemory) (new : PlayModel C J) → IsTurned moves gives_none takes_none old k result new → PlaysWhere Any (IsWorkers k) old new
-  turned old k result new x = subst (PlaysWhere Any (IsWorkers k) old) (sym x.5) (worker-turned old k x.0 x.1 x.2 (λ s at. workers s k x.0 x.1 result at x.3))
+-- a turn that the play calls sound is one
+sound-turn : (cause : EngineFault) (why : PlayFault) → why ≡ of_turn cause → StaysInOrder (Err why) → engine.IsSound (Err cause)
+sound-turn cause_of.NoMemory why is stays = tt
+sound-turn cause_of.OutOfOrder why is stays = subst (λ w. StaysInOrder (Err w)) is stays
 
-  carried : (old : PlayModel C J) (result : Result Bool NoMemory) (new : PlayModel C J) → CarrierIsTurned old result new → PlaysWhere Any IsCarriers old new
-  carried old result new x = subst (PlaysWhere Any IsCarriers old) (sym x.2) (carrier-turned old new.carrier (λ s shows. carriers port-opens s old.carrier new.carrier result shows x.0))
+module _ (C J : Type 0) (moves : Moves C) (gives_none takes_none : C → Type 0) (engines : EnginesPlay C J moves IsEnd no_count any_bytes PortExchanges IsRead IsFresh longest_run) where
+  turned : (old : PlayModel C J) (result : Result Turned EngineFault) (new : PlayModel C J) → IsTurned moves gives_none takes_none old result new → engine.IsSound result → PlaysWhere Any IsTurns old new
+  turned old result new x sound = subst (PlaysWhere Any IsTurns old) (sym x.2) (engine-turned old new.engine (λ s shows. engines port-opens s old.engine new.engine result shows x.0 sound))
 
   -- where what the order asks is granted
   abbrev Asked : Order → System C J → Type 0
@@ -96,55 +103,51 @@ module _ (C J : Type 0) (moves : Moves C) (gives_none takes_none : C → Type 0)
   abbrev Own : Order → SystemEvent → Type 0
   Own what event = IsEventOf what (SharedEvent.Ours event)
 
-  obeyed : (old : PlayModel C J) (what : Order) (result : Result (Unit {0}) PlayFault) (new : PlayModel C J) → IsOurs what → Obeys moves gives_none takes_none old what result new → PlaysWhere (Asked what) (Own what) old new
-  obeyed old (order.Worker k) (Ok u) new ours (inl x) = same Any (IsWorkers k) old new x.1
-  obeyed old (order.Worker k) (Ok u) new ours (inr x) = turned old k (Ok x.0) new x.1
-  obeyed old (order.Worker k) (Err why) new ours x = turned old k (Err x.1.0) new x.1.1
-  obeyed old order.Carrier (Ok u) new ours x = carried old (Ok x.0) new x.1
-  obeyed old order.Carrier (Err why) new ours x = carried old (Err x.1.0) new x.1.1
-  obeyed old (order.Serve node verdict) result new ours x = subst (PlaysWhere Any (IsServed node verdict) old) (sym x.1) (serves old node verdict result new.cluster new.carrier x.0)
-  obeyed old (order.Break node) result new ours x = subst (PlaysWhere Any (λ event. ⊥) old) (sym x.1.1) (broke old node new.carrier x.1.0)
-  obeyed old (order.Move move) result new ours x = subst (PlaysWhere (MayMove move) (IsStepOf move) old) (sym x.1) (moves-on old move result new.cluster x.0)
-  obeyed old (order.Others node asking parts) result new ours x = absurd ours
+  obeyed : (old : PlayModel C J) (what : Order) (result : Result (Unit {0}) PlayFault) (new : PlayModel C J) → IsOurs what → StaysInOrder result → Obeys moves gives_none takes_none old what result new → PlaysWhere (Asked what) (Own what) old new
+  obeyed old order.Turn (Ok u) new ours stays x = turned old (Ok x.0) new x.1 tt
+  obeyed old order.Turn (Err why) new ours stays x = turned old (Err x.0) new x.2 (sound-turn x.0 why x.1 stays)
+  obeyed old (order.Serve node verdict) result new ours stays x = subst (PlaysWhere Any (IsServed node verdict) old) (sym x.1) (serves old node verdict result new.cluster new.engine.carrier x.0)
+  obeyed old (order.Break node) result new ours stays x = subst (PlaysWhere Any (λ event. ⊥) old) (sym x.1.1) (broke old node new.engine.carrier x.1.0)
+  obeyed old (order.Move move) result new ours stays x = subst (PlaysWhere (MayMove move) (IsStepOf move) old) (sym x.1) (moves-on old move result new.cluster x.0)
+  obeyed old (order.Others node asking parts) result new ours stays x = absurd ours
 
-  obeyed-plainly : (old : PlayModel C J) (what : Order) (result : Result (Unit {0}) PlayFault) (new : PlayModel C J) → IsOurs what → Obeys moves gives_none takes_none old what result new → PlaysTo old new
-  obeyed-plainly old what result new ours x = plainly (Asked what) (Own what) old new (obeyed old what result new ours x)
+  obeyed-plainly : (old : PlayModel C J) (what : Order) (result : Result (Unit {0}) PlayFault) (new : PlayModel C J) → IsOurs what → StaysInOrder result → Obeys moves gives_none takes_none old what result new → PlaysTo old new
+  obeyed-plainly old what result new ours stays x = plainly (Asked what) (Own what) old new (obeyed old what result new ours stays x)
 
-  obeyed-all : (orders : List Order) (old : PlayModel C J) (result : Result (Unit {0}) PlayFault) (new : PlayModel C J) → All IsOurs orders → ObeysAll moves gives_none takes_none old orders result new → PlaysTo old new
-  obeyed-all [] old result new ours x = plainly Any (λ event. ⊥) old new (same Any (λ event. ⊥) old new x.1)
-  obeyed-all (what ∷ orders) old result new ours (inl x) =
-      plays-on old x.0 new (obeyed-plainly old what (Ok tt) x.0 (All-head IsOurs what orders ours) x.1) (obeyed-all orders x.0 result new (All-tail IsOurs what orders ours) x.2)
-  obeyed-all (what ∷ orders) old result new ours (inr x) = obeyed-plainly old what (Err x.0) new (All-head IsOurs what orders ours) x.2
+  obeyed-all : (orders : List Order) (old : PlayModel C J) (result : Result (Unit {0}) PlayFault) (new : PlayModel C J) → All IsOurs orders → StaysInOrder result → ObeysAll moves gives_none takes_none old orders result new → PlaysTo old new
+  obeyed-all [] old result new ours stays x = plainly Any (λ event. ⊥) old new (same Any (λ event. ⊥) old new x.1)
+  obeyed-all (what ∷ orders) old result new ours stays (inl x) =
+      plays-on old x.0 new (obeyed-plainly old what (Ok tt) x.0 (All-head IsOurs what orders ours) tt x.1) (obeyed-all orders x.0 result new (All-tail IsOurs what orders ours) stays x.2)
+  obeyed-all (what ∷ orders) old result new ours stays (inr x) = obeyed-plainly old what (Err x.0) new (All-head IsOurs what orders ours) (subst StaysInOrder x.1 stays) x.2
 
   pub obeyed-is-sound : PlaysRefine C J → ObeyedIsSound C J moves gives_none takes_none
-  obeyed-is-sound refine old new orders result x ours = plays-soundly refine old new (obeyed-all orders old result new ours x)
+  obeyed-is-sound refine old new orders result x stays ours = plays-soundly refine old new (obeyed-all orders old result new ours stays x)
 
   -- the same where others come
-  alone-beside : (old : PlayModel C J) (what : Order) (result : Result (Unit {0}) PlayFault) (new : PlayModel C J) → IsOurs what → Obeys moves gives_none takes_none old what result new → PlaysWhereBeside (Asked what) (IsEventOf what) old new
-  alone-beside old what result new ours x = beside (Asked what) (Own what) (IsEventOf what) (λ event is. is) old new (obeyed old what result new ours x)
+  alone-beside : (old : PlayModel C J) (what : Order) (result : Result (Unit {0}) PlayFault) (new : PlayModel C J) → IsOurs what → StaysInOrder result → Obeys moves gives_none takes_none old what result new → PlaysWhereBeside (Asked what) (IsEventOf what) old new
+  alone-beside old what result new ours stays x = beside (Asked what) (Own what) (IsEventOf what) (λ event is. is) old new (obeyed old what result new ours stays x)
 
-  pub obeyed-beside : (old : PlayModel C J) (what : Order) (result : Result (Unit {0}) PlayFault) (new : PlayModel C J) → Obeys moves gives_none takes_none old what result new → PlaysWhereBeside (Asked what) (IsEventOf what) old new
-  obeyed-beside old (order.Worker k) result new x = alone-beside old (order.Worker k) result new tt x
-  obeyed-beside old order.Carrier result new x = alone-beside old order.Carrier result new tt x
-  obeyed-beside old (order.Serve node verdict) result new x = alone-beside old (order.Serve node verdict) result new tt x
-  obeyed-beside old (order.Break node) result new x = alone-beside old (order.Break node) result new tt x
-  obeyed-beside old (order.Move move) result new x = alone-beside old (order.Move move) result new tt x
-  obeyed-beside old (order.Others node asking parts) (Ok u) new x =
+  pub obeyed-beside : (old : PlayModel C J) (what : Order) (result : Result (Unit {0}) PlayFault) (new : PlayModel C J) → StaysInOrder result → Obeys moves gives_none takes_none old what result new → PlaysWhereBeside (Asked what) (IsEventOf what) old new
+  obeyed-beside old order.Turn result new stays x = alone-beside old order.Turn result new tt stays x
+  obeyed-beside old (order.Serve node verdict) result new stays x = alone-beside old (order.Serve node verdict) result new tt stays x
+  obeyed-beside old (order.Break node) result new stays x = alone-beside old (order.Break node) result new tt stays x
+  obeyed-beside old (order.Move move) result new stays x = alone-beside old (order.Move move) result new tt stays x
+  obeyed-beside old (order.Others node asking parts) (Ok u) new stays x =
       subst (PlaysWhereBeside (Asked (order.Others node asking parts)) (IsEventOfOthers node asking parts.items) old) (sym x.1) (others-came old node asking parts.items new.told new.cluster x.0)
-  obeyed-beside old (order.Others node asking parts) (Err why) new x =
+  obeyed-beside old (order.Others node asking parts) (Err why) new stays x =
       let what : Order = order.Others node asking parts in
       beside (Asked what) (Own what) (IsEventOf what) (λ event is. is) old new (same (Asked what) (Own what) old new x.1)
 
-  plainly-obeyed : (old : PlayModel C J) (what : Order) (result : Result (Unit {0}) PlayFault) (new : PlayModel C J) → Obeys moves gives_none takes_none old what result new → PlaysToBeside old new
-  plainly-obeyed old what result new x = plainly-beside (Asked what) (IsEventOf what) old new (obeyed-beside old what result new x)
+  plainly-obeyed : (old : PlayModel C J) (what : Order) (result : Result (Unit {0}) PlayFault) (new : PlayModel C J) → StaysInOrder result → Obeys moves gives_none takes_none old what result new → PlaysToBeside old new
+  plainly-obeyed old what result new stays x = plainly-beside (Asked what) (IsEventOf what) old new (obeyed-beside old what result new stays x)
 
-  obeyed-all-beside : (orders : List Order) (old : PlayModel C J) (result : Result (Unit {0}) PlayFault) (new : PlayModel C J) → ObeysAll moves gives_none takes_none old orders result new → PlaysToBeside old new
-  obeyed-all-beside [] old result new x = λ s shows. (s, ([], refl), subst (λ (p : PlayModel C J). Shows p s) (sym x.1) shows)
-  obeyed-all-beside (what ∷ orders) old result new (inl x) = goes-beside old x.0 new (plainly-obeyed old what (Ok tt) x.0 x.1) (obeyed-all-beside orders x.0 result new x.2)
-  obeyed-all-beside (what ∷ orders) old result new (inr x) = plainly-obeyed old what (Err x.0) new x.2
+  obeyed-all-beside : (orders : List Order) (old : PlayModel C J) (result : Result (Unit {0}) PlayFault) (new : PlayModel C J) → StaysInOrder result → ObeysAll moves gives_none takes_none old orders result new → PlaysToBeside old new
+  obeyed-all-beside [] old result new stays x = λ s shows. (s, ([], refl), subst (λ (p : PlayModel C J). Shows p s) (sym x.1) shows)
+  obeyed-all-beside (what ∷ orders) old result new stays (inl x) = goes-beside old x.0 new (plainly-obeyed old what (Ok tt) x.0 tt x.1) (obeyed-all-beside orders x.0 result new stays x.2)
+  obeyed-all-beside (what ∷ orders) old result new stays (inr x) = plainly-obeyed old what (Err x.0) new (subst StaysInOrder x.1 stays) x.2
 
   pub obeyed-is-sound-beside : PlaysRefineBeside C J → ObeyedIsSoundBeside C J moves gives_none takes_none
-  obeyed-is-sound-beside refine old new orders result x = soundly-beside refine old new (obeyed-all-beside orders old result new x)
+  obeyed-is-sound-beside refine old new orders result x stays = soundly-beside refine old new (obeyed-all-beside orders old result new stays x)
 
 -- ---- the next order
 

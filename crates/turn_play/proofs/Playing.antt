@@ -9,25 +9,26 @@ use Rattle.node_model.specs.Runs.{deed_for, DoesRun}
 use Rattle.node_model.specs.declared.role.Verdict.{Verdict}
 use Rattle.proxy_turns.specs.declared.newcomer.Newcomer.{Newcomer}
 use Rattle.proxy_turns.specs.declared.backend.Backend.{Backend}
-use Rattle.proxy_turns.specs.WorkerModel.{WorkerModel}
 use Rattle.proxy_turns.specs.CarrierModel.{CarrierModel}
 use Rattle.proxy_turns.specs.Swapping.{SwapOutcome, with_port}
+use Rattle.proxy_engine.specs.EngineModel.{EngineModel}
+use Rattle.proxy_engine.specs.Unseen.{LanesKnow}
 use Rattle.world_laws.specs.declared.event.Event.{Event}
 use Rattle.turn_laws.specs.Wire.{Wire, Item, Asks, Runs, Lists, Execution, executions, parts_in}
 use Rattle.turn_laws.specs.System.{System}
 use Rattle.turn_laws.specs.Steps.{SystemEvent, AtWorker, AtCarrier, Handed, AtNode, AtBroken, Thrown, Moved, log_of}
 use Rattle.turn_laws.specs.AnyPort.{IsWired, AreWired, over_link, link_over, over_backend, over_backends, over_wires}
 use Rattle.turn_play.specs.declared.fault.PlayFault.{PlayFault}
-use Rattle.turn_play.specs.May.{MayServeNext, ClusterMoves, MayNow, MayMoveNow}
+use Rattle.turn_play.specs.May.{MayServeNext, ClusterMoves, ListsItsNodes, MayNow, MayMoveNow}
 use Rattle.turn_play.specs.Played.{Step, Leads, PlaysRefine}
 use Rattle.turn_laws.specs.Sharing.{SharedEvent}
 use Rattle.turn_play.specs.Beside.{StepBeside, LeadsBeside, MayNowBeside}
-use Rattle.turn_play.specs.Turns.{IsWorkers, IsCarriers, PlaysWorker, ShowsCarrier, PlaysCarrier}
+use Rattle.turn_play.specs.Turns.{IsTurns, PlaysEngine, ShowsCarrier, ShowsEngine}
 use Rattle.turn_play.specs.Port.{PortModel, IsEnd}
 use Rattle.turn_play.specs.Waiting.{asking_after}
 use Rattle.turn_play.specs.Serving.{IsSaid, PortServes, ServeOutcome, ServesAt, BreaksAt, okay}
 use Rattle.turn_play.specs.Playing.{PlayModel, Shows, PlaysTo, PlaysSoundly}
-use Rattle.turn_play.proofs.Turning.{set-itself}
+use Rattle.turn_play.proofs.Turning.{leads-join, set-itself}
 
 -- ---- the wire of a backend
 
@@ -119,14 +120,10 @@ abbrev pub IsServed : ℕ → Verdict → SystemEvent → Type 0
 IsServed node verdict event = event ≡ AtNode node verdict
 
 module _ {C J : Type 0} where
-  leads-join : (a : System C J) (steps : List (Step C J)) (b : System C J) (later : List (Step C J)) (c : System C J) → Leads a steps b → Leads b later c → Leads a (steps ++ later) c
-  leads-join a [] b later c x y = subst (λ (s : System C J). Leads s later c) (sym x) y
-  leads-join a (step ∷ steps) b later c x y = (x.0, leads-join step.next steps b later c x.1 y)
-
-  -- The events of these steps may happen, each in the system that it finds.
+  -- The events of these steps may happen, each in the system that it finds, where the carrier's table lists nodes of the cluster behind it.
   abbrev pub AreMay : System C J → List (Step C J) → Type 0
   AreMay s [] = Unit {0}
-  AreMay s (step ∷ steps) = MayNow s step.event × AreMay step.next steps
+  AreMay s (step ∷ steps) = (ListsItsNodes step.next → MayNow s step.event step.next) × AreMay step.next steps
 
   abbrev pub EachIs : (SystemEvent → Type 0) → List (Step C J) → Type 0
   EachIs Is steps = All (λ (step : Step C J). Is step.event) steps
@@ -145,7 +142,7 @@ module _ {C J : Type 0} where
   -- the same where others act
   abbrev pub AreMayBeside : System C J → List (StepBeside C J) → Type 0
   AreMayBeside s [] = Unit {0}
-  AreMayBeside s (step ∷ steps) = MayNowBeside s step.event × AreMayBeside step.next steps
+  AreMayBeside s (step ∷ steps) = (ListsItsNodes step.next → MayNowBeside s step.event step.next) × AreMayBeside step.next steps
 
   abbrev pub PlaysWhereBeside : (System C J → Type 0) → (SharedEvent → Type 0) → PlayModel C J → PlayModel C J → Type 0
   PlaysWhereBeside Given Is old new =
@@ -156,28 +153,19 @@ module _ {C J : Type 0} where
   pub plainly : (Given : System C J → Type 0) (Is : SystemEvent → Type 0) (old new : PlayModel C J) → PlaysWhere Given Is old new → PlaysTo old new
   plainly Given Is old new x s shows = let one = x s shows in (one.0, (one.1.0, one.1.1), one.2)
 
-  workers-may : (k : ℕ) (event : SystemEvent) (s : System C J) → IsWorkers k event → MayNow s event
-  workers-may k (AtWorker j event) s is = tt
-  workers-may k (AtCarrier event) s is = absurd is
-  workers-may k (Handed j number) s is = absurd is
-  workers-may k (AtNode j verdict) s is = absurd is
-  workers-may k (AtBroken j verdict) s is = absurd is
-  workers-may k (Thrown j) s is = absurd is
-  workers-may k (Moved event) s is = absurd is
+  turns-may : (event : SystemEvent) (s next : System C J) → IsTurns event → ListsItsNodes next → MayNow s event next
+  turns-may (AtWorker j event) s next is lists = tt
+  turns-may (AtCarrier event) s next is lists = lists
+  turns-may (Handed j number) s next is lists = absurd is
+  turns-may (AtNode j verdict) s next is lists = absurd is
+  turns-may (AtBroken j verdict) s next is lists = absurd is
+  turns-may (Thrown j) s next is lists = absurd is
+  turns-may (Moved event) s next is lists = absurd is
 
-  carriers-may : (event : SystemEvent) (s : System C J) → IsCarriers event → MayNow s event
-  carriers-may (AtCarrier event) s is = tt
-  carriers-may (AtWorker j event) s is = absurd is
-  carriers-may (Handed j number) s is = absurd is
-  carriers-may (AtNode j verdict) s is = absurd is
-  carriers-may (AtBroken j verdict) s is = absurd is
-  carriers-may (Thrown j) s is = absurd is
-  carriers-may (Moved event) s is = absurd is
-
-  all-may : (Is : SystemEvent → Type 0) → ((event : SystemEvent) (s : System C J) → Is event → MayNow s event) → (steps : List (Step C J)) (s : System C J) → All (λ (step : Step C J). Is step.event) steps → AreMay s steps
-  all-may Is may [] s all = tt
-  all-may Is may (step ∷ steps) s all =
-      (may step.event s (All-head (λ (x : Step C J). Is x.event) step steps all), all-may Is may steps step.next (All-tail (λ (x : Step C J). Is x.event) step steps all))
+  all-may : (steps : List (Step C J)) (s : System C J) → All (λ (step : Step C J). IsTurns step.event) steps → AreMay s steps
+  all-may [] s all = tt
+  all-may (step ∷ steps) s all =
+      (turns-may step.event s step.next (All-head (λ (x : Step C J). IsTurns x.event) step steps all), all-may steps step.next (All-tail (λ (x : Step C J). IsTurns x.event) step steps all))
 
   -- nothing is asked of the system
   abbrev pub Any : System C J → Type 0
@@ -195,44 +183,35 @@ module _ {C J : Type 0} where
   pub plays-soundly : PlaysRefine C J → (a b : PlayModel C J) → PlaysTo a b → PlaysSoundly a b
   plays-soundly refine a b x s shows =
       let one = x s shows in
-      (one.0, one.1.0, one.1.1, one.2, λ start before fresh hears go order. refine start one.0 (before ++ one.1.0) fresh hears (leads-join start before s one.1.0 one.0 go one.1.1) order)
+      (one.0, one.1.0, one.1.1, one.2, λ start before fresh hears go given. refine start one.0 (before ++ one.1.0) fresh hears (leads-join start before s one.1.0 one.0 go one.1.1) given)
 
-  -- a worker's turn
-  pub worker-turned : (old : PlayModel C J) (k : ℕ) (model new : WorkerModel C J) → slice_get old.workers k ≡ Some model
-      → ((s : System C J) → slice_get s.workers k ≡ Some model → PlaysWorker s k new) → PlaysWhere Any (IsWorkers k) old (record old { workers = slice_set old.workers k new })
-  worker-turned old k model new at turns s shows =
-      let x = turns s (ap (λ ws. slice_get ws k) shows.workers ∙ at) in (
+  -- a turn
+  pub engine-turned : (old : PlayModel C J) (new : EngineModel C J PortModel) → ((s : System C J) → ShowsEngine IsEnd old.engine s → PlaysEngine IsEnd s new) → PlaysWhere Any IsTurns old (record old { engine = new })
+  engine-turned old new turns s shows =
+      let x = turns s shows.engine in (
         x.0,
-        (x.1.0, x.1.1, (λ given. all-may (IsWorkers k) (workers-may k) x.1.0 s x.1.2), x.1.2),
-        record {
-          workers = ap (λ (t : System C J). t.workers) x.2 ∙ ap (λ ws. slice_set ws k new) shows.workers;
-          carrier = (shows.carrier.0, shows.carrier.1, ap (λ (t : System C J). t.carrier) x.2 ∙ shows.carrier.2);
-          cluster = ap (λ (t : System C J). t.cluster) x.2 ∙ shows.cluster;
-          nodes = ap (λ (t : System C J). t.nodes) x.2 ∙ shows.nodes;
-        },
+        (x.1.0, x.1.1, (λ given. all-may x.1.0 s x.1.2), x.1.2),
+        record { engine = x.2; cluster = ap (λ (t : System C J). t.cluster) x.3 ∙ shows.cluster; nodes = ap (λ (t : System C J). t.nodes) x.3 ∙ shows.nodes },
       )
 
-  -- the carrier's
-  pub carrier-turned : (old : PlayModel C J) (new : CarrierModel (Newcomer C J) PortModel) → ((s : System C J) → ShowsCarrier IsEnd old.carrier s → PlaysCarrier IsEnd s new) → PlaysWhere Any IsCarriers old (record old { carrier = new })
-  carrier-turned old new turns s shows =
-      let x = turns s shows.carrier in (
-        x.0,
-        (x.1.0, x.1.1, (λ given. all-may IsCarriers carriers-may x.1.0 s x.1.2), x.1.2),
-        record {
-          workers = ap (λ (t : System C J). t.workers) x.3 ∙ shows.workers;
-          carrier = x.2;
-          cluster = ap (λ (t : System C J). t.cluster) x.3 ∙ shows.cluster;
-          nodes = ap (λ (t : System C J). t.nodes) x.3 ∙ shows.nodes;
-        },
-      )
+  -- the same engine is shown where workers and carrier are the same
+  pub same-engine : {P : Type 0} (wired : P → Wire → Type 0) (engine : EngineModel C J P) (s t : System C J) → ShowsEngine wired engine s → t.workers ≡ s.workers → t.carrier ≡ s.carrier → ShowsEngine wired engine t
+  same-engine wired engine s t shows workers carrier = record {
+    less = shows.less;
+    knows = shows.knows;
+    in_order = shows.in_order;
+    first = shows.first;
+    workers = workers ∙ shows.workers;
+    carrier = (shows.carrier.0, shows.carrier.1, carrier ∙ shows.carrier.2);
+  }
 
   -- a step of a move
   pub moved : (old : PlayModel C J) (event : Event) (k : ClusterModel) → ClusterMoves old.cluster event k → PlaysWhere (λ s. MayMoveNow s event) (λ e. e ≡ Moved event) old (record old { cluster = k })
   moved old event k x s shows =
       let next : System C J = record s { cluster = k } in (
         next,
-        (record { event = Moved event; next = next } ∷ [], ((subst (λ (c : ClusterModel). ClusterMoves c event k) (sym shows.cluster) x, refl), refl), (λ given. (given, tt)), one-is (λ e. e ≡ Moved event) (record { event = Moved event; next = next }) refl),
-        record { workers = shows.workers; carrier = shows.carrier; cluster = refl; nodes = shows.nodes },
+        (record { event = Moved event; next = next } ∷ [], ((subst (λ (c : ClusterModel). ClusterMoves c event k) (sym shows.cluster) x, refl), refl), (λ given. ((λ lists. given), tt)), one-is (λ e. e ≡ Moved event) (record { event = Moved event; next = next }) refl),
+        record { engine = same-engine IsEnd old.engine s next shows.engine refl refl; cluster = refl; nodes = shows.nodes },
       )
 
   -- ---- a port that is changed
@@ -263,80 +242,136 @@ module _ {C J : Type 0} where
           ∙ sym ((λ i. over_wires (x.6 i) (slice_set shows.0 node wire')) ∙ (λ i. record (over_wires old shows.0) { backends = set-over IsEnd old.backends shows.0 shows.1 node (with_port x.0 x.1 port') wire' i })),
     )
 
+  -- the carrier of an engine whose ends know less has the same connections
+  swap-less : (less old new : CarrierModel (Newcomer C J) PortModel) (node : ℕ) (port port' : PortModel) → old ≡ record less { lanes = old.lanes } → SwapOutcome node old port' (Ok port) new → SwapOutcome node less port' (Ok port) (record less { backends = new.backends })
+  swap-less less old new node port port' e x = (
+    x.0,
+    x.1,
+    ap (λ (c : CarrierModel (Newcomer C J) PortModel). slice_get c.backends node) (sym e) ∙ x.2,
+    x.3,
+    x.4,
+    x.5,
+    λ i. record less { backends = (ap (λ (c : CarrierModel (Newcomer C J) PortModel). c.backends) x.6 ∙ ap (λ (c : CarrierModel (Newcomer C J) PortModel). slice_set c.backends node (with_port x.0 x.1 port')) e) i },
+  )
+
+  -- the backends alone have changed
+  backends-alone : (old new : CarrierModel (Newcomer C J) PortModel) (node : ℕ) (port port' : PortModel) → SwapOutcome node old port' (Ok port) new → new ≡ record old { backends = new.backends }
+  backends-alone old new node port port' x = x.6 ∙ (λ i. record old { backends = sym (ap (λ (c : CarrierModel (Newcomer C J) PortModel). c.backends) x.6) i })
+
+  shows-backends : (old : EngineModel C J PortModel) (new : CarrierModel (Newcomer C J) PortModel) → new ≡ record old.carrier { backends = new.backends } → (s t : System C J) (shows : ShowsEngine IsEnd old s) → t.workers ≡ s.workers
+      → ShowsCarrier IsEnd (record (shows.less.carrier) { backends = new.backends }) t → ShowsEngine IsEnd (record old { carrier = new }) t
+  shows-backends old new only s t shows workers carrier =
+      let less = shows.less in
+      let lanes : new.lanes ≡ old.carrier.lanes = ap (λ (c : CarrierModel (Newcomer C J) PortModel). c.lanes) only in
+      let known : new ≡ record less.carrier { backends = new.backends; lanes = new.lanes } =
+      only ∙ (λ i. record (shows.knows.1.1 i) { backends = new.backends }) ∙ (λ i. record less.carrier { backends = new.backends; lanes = sym lanes i }) in
+      record {
+        less = record less { carrier = record less.carrier { backends = new.backends } };
+        knows = (shows.knows.0, (subst (λ ls. LanesKnow less.carrier.lanes ls) (sym lanes) shows.knows.1.0, known));
+        in_order = record { up = shows.in_order.up; down = shows.in_order.down; door = shows.in_order.door; view = shows.in_order.view };
+        first = shows.first;
+        workers = workers ∙ shows.workers;
+        carrier = carrier;
+      }
+
+  -- an engine with this carrier
+  abbrev pub with_carrier : PlayModel C J → CarrierModel (Newcomer C J) PortModel → PlayModel C J
+  with_carrier old new = record old { engine = record old.engine { carrier = new } }
+
+  module _ (old : PlayModel C J) (node : ℕ) (new : CarrierModel (Newcomer C J) PortModel) (port port' : PortModel) (x : SwapOutcome node old.engine.carrier port' (Ok port) new) (s : System C J) (shows : Shows old s) where
+    abbrev carried : CarrierModel (Newcomer C J) PortModel
+    carried = shows.engine.less.carrier
+
+    abbrev carries : CarrierModel (Newcomer C J) PortModel
+    carries = record carried { backends = new.backends }
+
+    swapped : SwapOutcome node carried port' (Ok port) carries
+    swapped = swap-less carried old.engine.carrier new node port port' shows.engine.knows.1.1 x
+
+    abbrev wire : WireAt IsEnd carried.backends shows.engine.carrier.0 node swapped.0
+    wire = at-end carried carries node port port' swapped s shows.engine.carrier
+
+    its-wire : IsEnd port wire.0
+    its-wire = its-end carried carries node port port' swapped s shows.engine.carrier
+
+    wired-there : slice_get s.carrier.backends node ≡ Some (over_backend swapped.0 wire.0)
+    wired-there = there carried carries node port port' swapped s shows.engine.carrier
+
+    -- the carrier over the wires after it, and the engine that is shown then
+    abbrev wired-after : Wire → CarrierModel (Newcomer C J) Wire
+    wired-after = after carried carries node port port' swapped s shows.engine.carrier
+
+    engine-after : (wire' : Wire) → IsEnd port' wire' → (t : System C J) → t.workers ≡ s.workers → t.carrier ≡ wired-after wire' → ShowsEngine IsEnd (record old.engine { carrier = new }) t
+    engine-after wire' on t workers e =
+        shows-backends old.engine new (backends-alone old.engine.carrier new node port port' x) s t shows.engine workers
+        (shows-after carried carries node port port' swapped s shows.engine.carrier wire' on t e)
+
+    -- the system is as it was, where the wire is
+    as-it-was : IsEnd port' wire.0 → ShowsEngine IsEnd (record old.engine { carrier = new }) s
+    as-it-was on =
+        let same : record (over_backend swapped.0 wire.0) { link = Some (record (over_link swapped.1 wire.0) { port = wire.0 }) } ≡ over_backend swapped.0 wire.0 = λ i. over_backend (record (swapped.0) { link = sym swapped.3 i }) wire.0 in
+        engine-after wire.0 on s refl (sym ((λ i. record s.carrier { backends = slice_set s.carrier.backends node (same i) }) ∙ (λ i. record s.carrier { backends = set-itself s.carrier.backends node (over_backend swapped.0 wire.0) wired-there i })))
+
   -- it is broken
-  pub broke : (old : PlayModel C J) (node : ℕ) (new : CarrierModel (Newcomer C J) PortModel) → BreaksAt node old.carrier new → PlaysWhere Any (λ e. ⊥) old (record old { carrier = new })
-  broke old node new (inl same) s shows = (s, ([], refl, (λ given. tt), none-is (λ e. ⊥)), record { workers = shows.workers; carrier = subst (λ (c : CarrierModel (Newcomer C J) PortModel). ShowsCarrier IsEnd c s) (sym same.1) shows.carrier; cluster = shows.cluster; nodes = shows.nodes })
-  broke old node new (inr x) s shows =
-      let end = at-end old.carrier new node x.0 (record x.0 { broken = true }) x.1 s shows.carrier in
-      let its = its-end old.carrier new node x.0 (record x.0 { broken = true }) x.1 s shows.carrier in
-      let here = there old.carrier new node x.0 (record x.0 { broken = true }) x.1 s shows.carrier in
-      let same : record (over_backend x.1.0 end.0) { link = Some (record (over_link x.1.1 end.0) { port = end.0 }) } ≡ over_backend x.1.0 end.0 = λ i. over_backend (record x.1.0 { link = sym x.1.3 i }) end.0 in (
-        s,
-        ([], refl, (λ given. tt), none-is (λ e. ⊥)),
-        record {
-          workers = shows.workers;
-          carrier = shows-after old.carrier new node x.0 (record x.0 { broken = true }) x.1 s shows.carrier end.0 its s
-              (sym ((λ i. record s.carrier { backends = slice_set s.carrier.backends node (same i) }) ∙ (λ i. record s.carrier { backends = set-itself s.carrier.backends node (over_backend x.1.0 end.0) here i })));
-          cluster = shows.cluster;
-          nodes = shows.nodes;
-        },
-      )
+  pub broke : (old : PlayModel C J) (node : ℕ) (new : CarrierModel (Newcomer C J) PortModel) → BreaksAt node old.engine.carrier new → PlaysWhere Any (λ e. ⊥) old (with_carrier old new)
+  broke old node new (inl same) s shows =
+      (s, ([], refl, (λ given. tt), none-is (λ e. ⊥)), record { engine = subst (λ (c : CarrierModel (Newcomer C J) PortModel). ShowsEngine IsEnd (record old.engine { carrier = c }) s) (sym same.1) shows.engine; cluster = shows.cluster; nodes = shows.nodes })
+  broke old node new (inr x) s shows = (
+    s,
+    ([], refl, (λ given. tt), none-is (λ e. ⊥)),
+    record {
+      engine = as-it-was old node new x.0 (record x.0 { broken = true }) x.1 s shows (its-wire old node new x.0 (record x.0 { broken = true }) x.1 s shows);
+      cluster = shows.cluster;
+      nodes = shows.nodes;
+    },
+  )
 
   -- what waits first is served
-  served-at : (old : PlayModel C J) (node : ℕ) (verdict : Verdict) (k : ClusterModel) (new : CarrierModel (Newcomer C J) PortModel) (port port' : PortModel) → SwapOutcome node old.carrier port' (Ok port) new → PortServes old.nodes old.cluster node port verdict k port'
-      → PlaysWhere Any (IsServed node verdict) old (record old { carrier = new; cluster = k })
+  served-at : (old : PlayModel C J) (node : ℕ) (verdict : Verdict) (k : ClusterModel) (new : CarrierModel (Newcomer C J) PortModel) (port port' : PortModel) → SwapOutcome node old.engine.carrier port' (Ok port) new → PortServes old.nodes old.cluster node port verdict k port'
+      → PlaysWhere Any (IsServed node verdict) old (record (with_carrier old new) { cluster = k })
   served-at old node verdict k new port port' x y s shows =
-      let end = at-end old.carrier new node port port' x s shows.carrier in
-      let its = its-end old.carrier new node port port' x s shows.carrier in
-      let here = there old.carrier new node port port' x s shows.carrier in
-      let r = served old.nodes old.cluster node port end.0 its verdict k port' y in
-      let carrier : CarrierModel (Newcomer C J) Wire = after old.carrier new node port port' x s shows.carrier r.0 in
-      let next : System C J = record s { cluster = k; carrier = carrier; log = s.log ++ log_of r.2 } in
+      let swap = swapped old node new port port' x s shows in
+      let end = wire old node new port port' x s shows in
+      let here = wired-there old node new port port' x s shows in
+      let r = served old.nodes old.cluster node port end.0 (its-wire old node new port port' x s shows) verdict k port' y in
+      let next : System C J = record s { cluster = k; carrier = wired-after old node new port port' x s shows r.0; log = s.log ++ log_of r.2 } in
       let nodes-so = subst (λ (ns : List Endpoint). MayServeNext ns old.cluster node end.0 verdict k r.0 r.1 r.2) (sym shows.nodes) r.3 in
       let serves = subst (λ (c : ClusterModel). MayServeNext s.nodes c node end.0 verdict k r.0 r.1 r.2) (sym shows.cluster) nodes-so in (
         next,
         (
           record { event = AtNode node verdict; next = next } ∷ [],
-          ((over_backend x.0 end.0, over_link x.1 end.0, r.0, r.1, r.2, here, ap (λ o. link_over o end.0) x.3, x.4, serves, r.4, refl), refl),
-          (λ given. (tt, tt)),
+          ((over_backend swap.0 end.0, over_link swap.1 end.0, r.0, r.1, r.2, here, ap (λ o. link_over o end.0) swap.3, swap.4, serves, r.4, refl), refl),
+          (λ given. ((λ lists. tt), tt)),
           one-is (IsServed node verdict) (record { event = AtNode node verdict; next = next }) refl,
         ),
-        record {
-          workers = shows.workers;
-          carrier = shows-after old.carrier new node port port' x s shows.carrier r.0 r.5 next refl;
-          cluster = refl;
-          nodes = shows.nodes;
-        },
+        record { engine = engine-after old node new port port' x s shows r.0 r.5 next refl refl; cluster = refl; nodes = shows.nodes },
       )
 
   -- nothing waited, so the port is as it was
-  idle-at : (old : PlayModel C J) (node : ℕ) (verdict : Verdict) (k : ClusterModel) (new : CarrierModel (Newcomer C J) PortModel) (port port' : PortModel) → SwapOutcome node old.carrier port' (Ok port) new → k ≡ old.cluster → port' ≡ port → PlaysWhere Any (IsServed node verdict) old (record old { carrier = new; cluster = k })
+  idle-at : (old : PlayModel C J) (node : ℕ) (verdict : Verdict) (k : ClusterModel) (new : CarrierModel (Newcomer C J) PortModel) (port port' : PortModel) → SwapOutcome node old.engine.carrier port' (Ok port) new → k ≡ old.cluster → port' ≡ port
+      → PlaysWhere Any (IsServed node verdict) old (record (with_carrier old new) { cluster = k })
   idle-at old node verdict k new port port' x same-cluster same-port s shows =
-      let end = at-end old.carrier new node port port' x s shows.carrier in
-      let its = its-end old.carrier new node port port' x s shows.carrier in
-      let here = there old.carrier new node port port' x s shows.carrier in
-      let same : record (over_backend x.0 end.0) { link = Some (record (over_link x.1 end.0) { port = end.0 }) } ≡ over_backend x.0 end.0 = λ i. over_backend (record x.0 { link = sym x.3 i }) end.0 in (
+      let end = wire old node new port port' x s shows in (
         s,
         ([], refl, (λ given. tt), none-is (IsServed node verdict)),
         record {
-          workers = shows.workers;
-          carrier = shows-after old.carrier new node port port' x s shows.carrier end.0 (subst (λ (p : PortModel). IsEnd p end.0) (sym same-port) its) s
-              (sym ((λ i. record s.carrier { backends = slice_set s.carrier.backends node (same i) }) ∙ (λ i. record s.carrier { backends = set-itself s.carrier.backends node (over_backend x.0 end.0) here i })));
+          engine = as-it-was old node new port port' x s shows (subst (λ (p : PortModel). IsEnd p end.0) (sym same-port) (its-wire old node new port port' x s shows));
           cluster = shows.cluster ∙ sym same-cluster;
           nodes = shows.nodes;
         },
       )
 
-  did-serve : (old : PlayModel C J) (node : ℕ) (verdict : Verdict) (k : ClusterModel) (new : CarrierModel (Newcomer C J) PortModel) (port port' : PortModel) (moved : Bool) → SwapOutcome node old.carrier port' (Ok port) new → ServeOutcome old.nodes old.cluster node port verdict (Ok moved) k port'
-      → PlaysWhere Any (IsServed node verdict) old (record old { carrier = new; cluster = k })
+  did-serve : (old : PlayModel C J) (node : ℕ) (verdict : Verdict) (k : ClusterModel) (new : CarrierModel (Newcomer C J) PortModel) (port port' : PortModel) (moved : Bool) → SwapOutcome node old.engine.carrier port' (Ok port) new → ServeOutcome old.nodes old.cluster node port verdict (Ok moved) k port'
+      → PlaysWhere Any (IsServed node verdict) old (record (with_carrier old new) { cluster = k })
   did-serve old node verdict k new port port' true x y = served-at old node verdict k new port port' x y
   did-serve old node verdict k new port port' false x y = idle-at old node verdict k new port port' x y.1 y.2
 
   -- nothing has changed
-  stays : (Is : SystemEvent → Type 0) (old : PlayModel C J) (k : ClusterModel) (new : CarrierModel (Newcomer C J) PortModel) → k ≡ old.cluster → new ≡ old.carrier → PlaysWhere Any Is old (record old { carrier = new; cluster = k })
-  stays Is old k new same same-carrier s shows = (s, ([], refl, (λ given. tt), none-is Is), record { workers = shows.workers; carrier = subst (λ (c : CarrierModel (Newcomer C J) PortModel). ShowsCarrier IsEnd c s) (sym same-carrier) shows.carrier; cluster = shows.cluster ∙ sym same; nodes = shows.nodes })
+  stays : (Is : SystemEvent → Type 0) (old : PlayModel C J) (k : ClusterModel) (new : CarrierModel (Newcomer C J) PortModel) → k ≡ old.cluster → new ≡ old.engine.carrier → PlaysWhere Any Is old (record (with_carrier old new) { cluster = k })
+  stays Is old k new same same-carrier s shows =
+      (s, ([], refl, (λ given. tt), none-is Is), record { engine = subst (λ (c : CarrierModel (Newcomer C J) PortModel). ShowsEngine IsEnd (record old.engine { carrier = c }) s) (sym same-carrier) shows.engine; cluster = shows.cluster ∙ sym same; nodes = shows.nodes })
 
-  pub serves : (old : PlayModel C J) (node : ℕ) (verdict : Verdict) (result : Result (Unit {0}) PlayFault) (k : ClusterModel) (new : CarrierModel (Newcomer C J) PortModel) → ServesAt old.nodes old.cluster node old.carrier verdict result k new → PlaysWhere Any (IsServed node verdict) old (record old { carrier = new; cluster = k })
+  pub serves : (old : PlayModel C J) (node : ℕ) (verdict : Verdict) (result : Result (Unit {0}) PlayFault) (k : ClusterModel) (new : CarrierModel (Newcomer C J) PortModel) → ServesAt old.nodes old.cluster node old.engine.carrier verdict result k new → PlaysWhere Any (IsServed node verdict) old (record (with_carrier old new) { cluster = k })
   serves old node verdict (Ok u) k new (inl x) = stays (IsServed node verdict) old k new x.1 x.2
   serves old node verdict (Ok u) k new (inr x) = did-serve old node verdict k new x.0 x.1 x.2 x.3 x.4
   serves old node verdict (Err why) k new x = stays (IsServed node verdict) old k new x.3 x.4

@@ -5,13 +5,10 @@ use Rattle.std.specs.List.{FoldsTo}
 use mathlib.Core.List.{IsPrefix}
 use Rattle.slot_map.specs.Table.{Endpoint}
 use Rattle.node_link.specs.LinkModel.{LinkModel}
-use Rattle.proxy_turns.specs.declared.newcomer.Newcomer.{Newcomer}
-use Rattle.proxy_turns.specs.CarrierModel.{CarrierModel}
 use Rattle.proxy_turns.specs.WorkerModel.{WorkerEvent}
 use Rattle.world_laws.specs.State.{WorldModel}
 use Rattle.world_laws.specs.declared.event.Event.{Event}
 use Rattle.world_laws.specs.declared.event.Event.TheVariants as core
-use Rattle.world_laws.proofs.Recorded.{set-same}
 use Rattle.node_model.specs.Nodes.{ClusterModel}
 use Rattle.node_model.specs.declared.role.Verdict.{Verdict}
 use Rattle.node_model.specs.Runs.{deed_for, DoesRun}
@@ -25,8 +22,8 @@ use Rattle.turn_laws.specs.Naming.{NamesNodes}
 use Rattle.turn_laws.specs.Refines.{NamesStay, Refines, StartsRefine, IsStart}
 use Rattle.turn_laws.specs.LogHeadline.{HeadlineOfLogs, LogsAreHeld}
 use Rattle.turn_laws.specs.Writing.{AreEndpointsOf, CanBeNamed, SlotsStay, StandsAtItsNodes, WrittenIsHeard}
-use Rattle.turn_play.specs.May.{MayStep, WorkerMay, ServesMay, MayServeNext, ClusterMoves, HearsItsNodes, MayMoveNow, MayNow, IsInOrder}
-use Rattle.turn_play.specs.Played.{Step, events_of, Leads, AreInOrder, PlaysRefine}
+use Rattle.turn_play.specs.May.{MayStep, WorkerMay, ServesMay, MayServeNext, ClusterMoves, HearsItsNodes, MayMoveNow, MayNow}
+use Rattle.turn_play.specs.Played.{Step, events_of, Leads, AreGiven, PlaysRefine}
 
 -- a list as long as another has an item at each of its places
 beside : {X Y : Type 0} (xs : List X) (ys : List Y) (i : ℕ) (y : Y) → length xs ≡ length ys → slice_get ys i ≡ Some y → (x : X) × (slice_get xs i ≡ Some x)
@@ -59,11 +56,9 @@ module _ {C J : Type 0} where
   folds-on [] a b event c f x = (c, subst (λ s. SystemStep s event c) (sym f) x, refl)
   folds-on (e ∷ events) a b event c f x = (f.0, f.1, folds-on events f.0 b event c f.2 x)
 
-  worker-holds : (s s' : System C J) (w : WorldModel) → IsShadow s w → (k : ℕ) (event : WorkerEvent) → WorkerMay s k event s' → IsInOrder s' → WorkerStep s k event s'
-  worker-holds s s' w h k event x order =
+  worker-holds : (s s' : System C J) (w : WorldModel) → IsShadow s w → (k : ℕ) (event : WorkerEvent) → WorkerMay s k event s' → WorkerStep s k event s'
+  worker-holds s s' w h k event x =
       let lane = beside s.carrier.lanes s.workers k x.old (sym h.sides) x.at in
-      let carrier : s'.carrier ≡ s.carrier = ap (λ (t : System C J). t.carrier) x.leaves in
-      let there : slice_get s'.workers k ≡ Some x.new = ap (λ (t : System C J). slice_get t.workers k) x.leaves ∙ set-same s.workers k x.old x.new x.at in
       record {
         old = x.old;
         new = x.new;
@@ -74,8 +69,8 @@ module _ {C J : Type 0} where
         does = x.does;
         seen = x.seen;
         leaves = x.leaves;
-        in_step = order.downs k x.new lane.0 there (ap (λ (c : CarrierModel (Newcomer C J) Wire). slice_get c.lanes k) carrier ∙ lane.1);
-        shown = subst (λ (c : CarrierModel (Newcomer C J) Wire). IsPrefix x.new.view.known c.published) carrier (order.views k x.new there);
+        in_step = x.in_step lane.0 lane.1;
+        shown = x.shown;
       }
 
   -- of a system that stands for a world, the connection at a backend leads to its node
@@ -113,14 +108,14 @@ module _ {C J : Type 0} where
   moves-hold s (core.Discard link) k x now = x
   moves-hold s (core.Answer client) k x now = x
 
-  pub step-holds : WrittenIsHeard → (s s' : System C J) (w : WorldModel) → IsShadow s w → NamesNodes s → HearsItsNodes s → (event : SystemEvent) → MayStep s event s' → MayNow s event → IsInOrder s' → SystemStep s event s'
-  step-holds heard s s' w h names hears (AtWorker k event) x now order = worker-holds s s' w h k event x order
-  step-holds heard s s' w h names hears (AtCarrier event) x now order = record { longest = x.longest; does = x.does; breaks = x.breaks; leaves = x.leaves; in_step = order.ups; table = subst (λ (nodes : List Endpoint). IsPrefix s'.carrier.nodes nodes) (ap (λ (t : System C J). t.nodes) x.leaves) order.table }
-  step-holds heard s s' w h names hears (Handed k number) x now order = x
-  step-holds heard s s' w h names hears (AtNode k verdict) x now order = serves-holds heard s s' w h names hears k verdict x
-  step-holds heard s s' w h names hears (AtBroken j verdict) x now order = x
-  step-holds heard s s' w h names hears (Thrown j) x now order = x
-  step-holds heard s s' w h names hears (Moved event) x now order = (moves-hold s event s'.cluster x.0 now, x.1)
+  pub step-holds : WrittenIsHeard → (s s' : System C J) (w : WorldModel) → IsShadow s w → NamesNodes s → HearsItsNodes s → (event : SystemEvent) → MayStep s event s' → MayNow s event s' → SystemStep s event s'
+  step-holds heard s s' w h names hears (AtWorker k event) x now = worker-holds s s' w h k event x
+  step-holds heard s s' w h names hears (AtCarrier event) x now = record { longest = x.longest; does = x.does; breaks = x.breaks; leaves = x.leaves; in_step = x.in_step; table = subst (λ (nodes : List Endpoint). IsPrefix s'.carrier.nodes nodes) (ap (λ (t : System C J). t.nodes) x.leaves) now }
+  step-holds heard s s' w h names hears (Handed k number) x now = x
+  step-holds heard s s' w h names hears (AtNode k verdict) x now = serves-holds heard s s' w h names hears k verdict x
+  step-holds heard s s' w h names hears (AtBroken j verdict) x now = x
+  step-holds heard s s' w h names hears (Thrown j) x now = x
+  step-holds heard s s' w h names hears (Moved event) x now = (moves-hold s event s'.cluster x.0 now, x.1)
 
   -- no step changes the nodes' endpoints
   same-nodes : (s s' : System C J) (event : SystemEvent) → MayStep s event s' → s'.nodes ≡ s.nodes
@@ -146,18 +141,18 @@ module _ (C J : Type 0) (laws : Laws C J) (start : System C J) (fresh : IsStart 
   hears-on s s' event may x hears = record { named = subst (λ (nodes : List Endpoint). All CanBeNamed nodes) (sym (same-nodes s s' event may)) hears.named; stands = laws.slots event s s' x hears.stands }
 
   -- the steps after some that the system made
-  along : (before : List SystemEvent) (s s' : System C J) (steps : List (Step C J)) → FoldsTo SystemStep start before s → NamesNodes s → HearsItsNodes s → Leads s steps s' → AreInOrder s steps → FoldsTo SystemStep s (events_of steps) s'
-  along before s s' [] f names hears go order = go
-  along before s s' (step ∷ steps) f names hears go order =
+  along : (before : List SystemEvent) (s s' : System C J) (steps : List (Step C J)) → FoldsTo SystemStep start before s → NamesNodes s → HearsItsNodes s → Leads s steps s' → AreGiven s steps → FoldsTo SystemStep s (events_of steps) s'
+  along before s s' [] f names hears go given = go
+  along before s s' (step ∷ steps) f names hears go given =
       let r = laws.refines start s before fresh f in
-      let x = step-holds laws.heard s step.next r.0 r.2 names hears step.event go.0 order.0 order.1 in
+      let x = step-holds laws.heard s step.next r.0 r.2 names hears step.event go.0 given.0 in
       let named = laws.names step.event s step.next r.0 r.2 names x in
-      let later = along (before ++ step.event ∷ []) step.next s' steps (folds-on before start s step.event step.next f x) named (hears-on s step.next step.event go.0 x hears) go.1 order.2 in
+      let later = along (before ++ step.event ∷ []) step.next s' steps (folds-on before start s step.event step.next f x) named (hears-on s step.next step.event go.0 x hears) go.1 given.1 in
       (step.next, x, later)
 
 module _ (C J : Type 0) (laws : Laws C J) (headline : HeadlineOfLogs C J) (held : LogsAreHeld C J) where
   pub plays-refine : PlaysRefine C J
-  plays-refine start s' steps fresh hears go order =
-      let f = along C J laws start fresh [] start s' steps refl (laws.starts start fresh).3 hears go order in
+  plays-refine start s' steps fresh hears go given =
+      let f = along C J laws start fresh [] start s' steps refl (laws.starts start fresh).3 hears go given in
       let events = events_of steps in
       (f, headline start s' events fresh f, held start s' events fresh f, laws.refines start s' events fresh f)

@@ -99,6 +99,7 @@ module _ (table : List Endpoint) (k : ClusterModel) (node : ℕ) (asking : Bool)
       → (k' ≡ k) × CannotServeRun table k node asking cs verdict why
   by-deed Executes e before told after x r why cannot = absurd (replies-none before told after cs _ x.0 r)
   by-deed (Says said) e before told after x r fault.NoMemory cannot = (x.1, tt)
+  by-deed (Says said) e before told after x r fault.OutOfOrder cannot = absurd cannot
   by-deed (Says said) e before told after x r fault.NotServed cannot = (x.1, inr (inr (said, e, subst (λ t. CanBeWritten t table → ⊥) (told-so said before told after cs x.0) cannot)))
 
   -- what a node did whose call succeeded

@@ -25,8 +25,9 @@ use Rattle.turn_laws.specs.Steps.{log_of}
 use Rattle.turn_play.specs.Beside.{OthersMay, StepBeside, parts_of}
 use Rattle.turn_play.specs.Others.{AreServed}
 use Rattle.turn_play.specs.Playing.{PlayModel}
+use Rattle.turn_play.specs.Port.{IsEnd}
 use Rattle.turn_play.specs.Deeds.{IsEventOfOthers}
-use Rattle.turn_play.proofs.Playing.{PlaysWhereBeside}
+use Rattle.turn_play.proofs.Playing.{PlaysWhereBeside, same-engine}
 
 -- ---- keys
 
@@ -160,10 +161,10 @@ module _ {C J : Type 0} (old : PlayModel C J) (node : ℕ) (asking : Bool) (cs :
         leaves = λ i. record s { cluster = (x.1 ∙ (λ j. with_store (same j) node (store_after_all (store_at (same j) node) (sym run.1 j)))) i; log = s.log ++ log_of run.0 };
       } in (
         next,
-        (record { event = SharedEvent.Theirs node asking run.0; next = next } ∷ [], (may, refl), (λ given. (each-asks s.cluster node asking run.0 (subst (λ parts. All (λ (part : PartModel). AskIsTrue s.cluster node asking part) parts) (sym run.1) given), tt)), All-cons (λ (step : StepBeside C J). Comes step.event) (record { event = SharedEvent.Theirs node asking run.0; next = next }) [] (refl, refl, run.1) (All-nil (λ (step : StepBeside C J). Comes step.event))),
-        record { workers = shows.workers; carrier = shows.carrier; cluster = refl; nodes = shows.nodes },
+        (record { event = SharedEvent.Theirs node asking run.0; next = next } ∷ [], (may, refl), (λ given. ((λ lists. each-asks s.cluster node asking run.0 (subst (λ parts. All (λ (part : PartModel). AskIsTrue s.cluster node asking part) parts) (sym run.1) given)), tt)), All-cons (λ (step : StepBeside C J). Comes step.event) (record { event = SharedEvent.Theirs node asking run.0; next = next }) [] (refl, refl, run.1) (All-nil (λ (step : StepBeside C J). Comes step.event))),
+        record { engine = same-engine IsEnd old.engine s next shows.engine refl refl; cluster = refl; nodes = shows.nodes },
       )
-  by-deed (Says said) is there one x s shows = (s, ([], refl, (λ given. tt), All-nil (λ (step : StepBeside C J). Comes step.event)), record { workers = shows.workers; carrier = shows.carrier; cluster = shows.cluster ∙ sym x.1; nodes = shows.nodes })
+  by-deed (Says said) is there one x s shows = (s, ([], refl, (λ given. tt), All-nil (λ (step : StepBeside C J). Comes step.event)), record { engine = shows.engine; cluster = shows.cluster ∙ sym x.1; nodes = shows.nodes })
 
   -- they came to a node
   pub others-came : AreServed old.cluster node asking cs told k → PlaysWhereBeside Asks Comes old (record old { cluster = k; told = told })

@@ -20,7 +20,7 @@ use Rattle.turn_laws.specs.Sharing.{SharedEvent, SharedSystemStep}
 use Rattle.turn_laws.specs.Refines.{IsStart}
 use Rattle.turn_laws.specs.LogHeadline.{IsHeld}
 use Rattle.turn_laws.specs.SharedLog.{SharedLogHeadline}
-use Rattle.turn_play.specs.May.{MayStep, HearsItsNodes, MayNow, IsInOrder}
+use Rattle.turn_play.specs.May.{MayStep, HearsItsNodes, MayNow}
 
 abbrev pub parts_of : List Execution → List PartModel
 parts_of done = map (λ (e : Execution). e.part) done
@@ -59,14 +59,14 @@ module _ {C J : Type 0} where
   LeadsBeside s (step ∷ steps) s' = MayStepBeside s step.event step.next × LeadsBeside step.next steps s'
 
   -- a premise of a step of others: an ASK that they followed is true
-  abbrev pub MayNowBeside : System C J → SharedEvent → Type 0
-  MayNowBeside s (SharedEvent.Ours event) = MayNow s event
-  MayNowBeside s (SharedEvent.Theirs node asking done) = All (λ (e : Execution). AskIsTrue s.cluster node asking e.part) done
+  abbrev pub MayNowBeside : System C J → SharedEvent → System C J → Type 0
+  MayNowBeside s (SharedEvent.Ours event) s' = MayNow s event s'
+  MayNowBeside s (SharedEvent.Theirs node asking done) s' = All (λ (e : Execution). AskIsTrue s.cluster node asking e.part) done
 
   -- the premises hold at each of them
-  abbrev pub AreInOrderBeside : System C J → List (StepBeside C J) → Type 0
-  AreInOrderBeside s [] = Unit {0}
-  AreInOrderBeside s (step ∷ steps) = MayNowBeside s step.event × IsInOrder step.next × AreInOrderBeside step.next steps
+  abbrev pub AreGivenBeside : System C J → List (StepBeside C J) → Type 0
+  AreGivenBeside s [] = Unit {0}
+  AreGivenBeside s (step ∷ steps) = MayNowBeside s step.event step.next × AreGivenBeside step.next steps
 
   -- some steps lead there
   abbrev pub PlaysBeside : System C J → System C J → Type 0
@@ -83,5 +83,5 @@ module _ (C J : Type 0) where
   -- From a start that hears its nodes, where the premises hold along them, such steps are steps of the system and of others: so the
   -- headline holds.
   abbrev pub PlaysRefineBeside : Type 0
-  PlaysRefineBeside = (start s' : System C J) (steps : List (StepBeside C J)) → IsStart start → HearsItsNodes start → LeadsBeside start steps s' → AreInOrderBeside start steps
+  PlaysRefineBeside = (start s' : System C J) (steps : List (StepBeside C J)) → IsStart start → HearsItsNodes start → LeadsBeside start steps s' → AreGivenBeside start steps
       → HoldsBeside start steps s'

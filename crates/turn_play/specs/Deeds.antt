@@ -12,12 +12,12 @@ use Rattle.turn_laws.specs.LogHeadline.{IsHeld, LogHeadline}
 use Rattle.turn_play.specs.declared.fault.PlayFault.{PlayFault}
 use Rattle.turn_play.specs.declared.order.Order.{Order}
 use Rattle.turn_play.specs.declared.order.Order.TheVariants as order
-use Rattle.turn_play.specs.May.{HearsItsNodes, IsInOrder, MayMoveNow}
+use Rattle.turn_play.specs.May.{HearsItsNodes, ListsItsNodes, MayMoveNow}
 use Rattle.turn_play.specs.Moving.{event_of}
-use Rattle.turn_play.specs.Turns.{IsWorkers, IsCarriers}
-use Rattle.turn_play.specs.Beside.{AreInOrderBeside, HoldsBeside, LeadsBeside, StepBeside, parts_of}
+use Rattle.turn_play.specs.Turns.{IsTurns}
+use Rattle.turn_play.specs.Beside.{AreGivenBeside, HoldsBeside, LeadsBeside, StepBeside, parts_of}
 use Rattle.turn_play.specs.Playing.{PlayModel, Shows}
-use Rattle.turn_play.specs.Obeying.{Obeys, ObeysAll}
+use Rattle.turn_play.specs.Obeying.{Obeys, ObeysAll, StaysInOrder}
 
 -- an order, the steps that it made, and the system to which they led
 pub record Deed (C J : Type 0) : Type 0 where
@@ -32,8 +32,7 @@ IsEventOfOthers node asking parts (SharedEvent.Theirs n a done) = (n ≡ node) �
 
 -- the event is one of those that the order makes
 abbrev pub IsEventOf : Order → SharedEvent → Type 0
-IsEventOf (order.Worker k) (SharedEvent.Ours event) = IsWorkers k event
-IsEventOf order.Carrier (SharedEvent.Ours event) = IsCarriers event
+IsEventOf order.Turn (SharedEvent.Ours event) = IsTurns event
 IsEventOf (order.Serve node verdict) (SharedEvent.Ours event) = event ≡ AtNode node verdict
 IsEventOf (order.Break node) (SharedEvent.Ours event) = ⊥
 IsEventOf (order.Move step) (SharedEvent.Ours event) = event ≡ Moved (event_of step)
@@ -72,24 +71,23 @@ module _ {C J : Type 0} where
 
   -- what an order asks of the system that it finds: an import waits, and an ASK that others follow is true
   abbrev pub IsGranted : System C J → Order → Type 0
-  IsGranted s (order.Worker k) = Unit {0}
-  IsGranted s order.Carrier = Unit {0}
+  IsGranted s order.Turn = Unit {0}
   IsGranted s (order.Serve node verdict) = Unit {0}
   IsGranted s (order.Break node) = Unit {0}
   IsGranted s (order.Move step) = MayMoveNow s (event_of step)
   IsGranted s (order.Others node asking parts) = All (λ (part : PartModel). AskIsTrue s.cluster node asking part) parts.items
 
-  -- each order finds what it asks, and what two threads would share is in order behind each step
+  -- each order finds what it asks, and behind each step the carrier's table lists nodes of the cluster
   abbrev pub AreGranted : System C J → List (Deed C J) → Type 0
   AreGranted s [] = Unit {0}
-  AreGranted s (deed ∷ deeds) = IsGranted s deed.order × All (λ (step : StepBeside C J). IsInOrder step.next) deed.steps × AreGranted deed.next deeds
+  AreGranted s (deed ∷ deeds) = IsGranted s deed.order × All (λ (step : StepBeside C J). ListsItsNodes step.next) deed.steps × AreGranted deed.next deeds
 
   -- these steps led there from a start that hears its nodes, with the premises along them
   pub record IsReached (start : System C J) (steps : List (StepBeside C J)) (s : System C J) : Type 0 where
     pub starts : IsStart start
     pub hears : HearsItsNodes start
     pub leads : LeadsBeside start steps s
-    pub ordered : AreInOrderBeside start steps
+    pub given : AreGivenBeside start steps
 
   -- The system is reached so, and the headline holds of it.
   abbrev pub Reaches : System C J → List (StepBeside C J) → System C J → Type 0
@@ -110,4 +108,4 @@ module _ (C J : Type 0) where
 module _ (C J : Type 0) (moves : Moves C) (gives_none takes_none : C → Type 0) where
   -- whatever orders were obeyed, the play goes on so
   abbrev pub ObeyedPlaysOn : Type 0
-  ObeyedPlaysOn = (old new : PlayModel C J) (orders : List Order) (result : Result (Unit {0}) PlayFault) → ObeysAll moves gives_none takes_none old orders result new → PlaysOn moves gives_none takes_none old orders result new
+  ObeyedPlaysOn = (old new : PlayModel C J) (orders : List Order) (result : Result (Unit {0}) PlayFault) → ObeysAll moves gives_none takes_none old orders result new → StaysInOrder result → PlaysOn moves gives_none takes_none old orders result new

@@ -10,10 +10,10 @@ use Rattle.turn_laws.specs.Fleet.{Fleet, FleetEvent, FleetRun, IsFleetStart}
 use Rattle.turn_play.specs.declared.fault.PlayFault.{PlayFault}
 use Rattle.turn_play.specs.declared.order.Order.{Order}
 use Rattle.turn_play.specs.declared.order.Order.TheVariants as order
-use Rattle.turn_play.specs.May.{HearsItsNodes, IsInOrder, MayMoveNow}
+use Rattle.turn_play.specs.May.{HearsItsNodes, MayMoveNow}
 use Rattle.turn_play.specs.Moving.{event_of}
 use Rattle.turn_play.specs.Playing.{PlayModel, Shows}
-use Rattle.turn_play.specs.Obeying.{IsOurs, ObeysAll}
+use Rattle.turn_play.specs.Obeying.{IsOurs, ObeysAll, StaysInOrder}
 use Rattle.turn_play.specs.Beside.{LeadsBeside, StepBeside}
 use Rattle.turn_play.specs.Deeds.{AreDeeds, AreGranted, Deed}
 use Rattle.turn_play.specs.Handing.{HandsClient}
@@ -47,12 +47,11 @@ module _ {C J : Type 0} where
   FleetGoes plays p new start before =
       (events : List SystemEvent) × (f : Fleet C J) × IsFleetReached start (before ++ map (FleetEvent.By p) events) f × ShowsAll (after_call plays p new) f × HoldsOfAll f
 
-  -- Of each fleet that shows the plays there are steps by which a client is handed to a worker of play p. Where the fleet was reached, and what
-  -- two threads would share is in order behind them, the fleet goes on.
+  -- Of each fleet that shows the plays there are steps by which a client is handed to play p. Where the fleet was reached, it goes on.
   abbrev pub FleetHandsOn : (ℕ → PlayModel C J) → ℕ → PlayModel C J → Type 0
   FleetHandsOn plays p new = (f : Fleet C J) → ShowsAll plays f
       → (s : System C J) × (steps : List (StepBeside C J)) × LeadsBeside (f p) steps s × Shows new s
-      × ((start : Fleet C J) (before : List FleetEvent) → IsFleetReached start before f → All (λ (step : StepBeside C J). IsInOrder step.next) steps → FleetGoes plays p new start before)
+      × ((start : Fleet C J) (before : List FleetEvent) → IsFleetReached start before f → FleetGoes plays p new start before)
 
   module _ (moves : Moves C) (gives_none takes_none : C → Type 0) where
     -- Of each fleet that shows the plays there are such deeds of play p. Where the fleet was reached, they are granted what they ask, and the
@@ -66,9 +65,9 @@ module _ (C J : Type 0) (moves : Moves C) (gives_none takes_none : C → Type 0)
   -- whatever orders play p obeyed that let nobody else act, the fleet goes on so
   abbrev pub PlaysAreFleets : Type 0
   PlaysAreFleets = (plays : ℕ → PlayModel C J) (p : ℕ) (orders : List Order) (result : Result (Unit {0}) PlayFault) (new : PlayModel C J) → All IsOurs orders
-      → ObeysAll moves gives_none takes_none (plays p) orders result new → FleetPlaysOn moves gives_none takes_none plays p orders result new
+      → ObeysAll moves gives_none takes_none (plays p) orders result new → StaysInOrder result → FleetPlaysOn moves gives_none takes_none plays p orders result new
 
 module _ (C J : Type 0) where
-  -- and whoever is handed to a worker of play p
+  -- and whoever is handed to play p
   abbrev pub HandedInFleets : Type 0
-  HandedInFleets = (plays : ℕ → PlayModel C J) (p k : ℕ) (client : Newcomer C J) (handed : Result (Unit {0}) (Newcomer C J)) (new : PlayModel C J) → HandsClient (plays p) k client handed new → FleetHandsOn plays p new
+  HandedInFleets = (plays : ℕ → PlayModel C J) (p : ℕ) (client : Newcomer C J) (handed : Result (Unit {0}) (Newcomer C J)) (new : PlayModel C J) → HandsClient (plays p) client handed new → FleetHandsOn plays p new

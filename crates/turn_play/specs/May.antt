@@ -1,6 +1,5 @@
 -- What the turns of the code, the serving of its nodes and the steps of its moves do to a system: `SystemStep`, without what no contract
--- of the code says. What is left out is said apart, as premises: `HearsItsNodes` of the start, `IsInOrder` of each system, `MayNow` of
--- each step.
+-- of the code says. What is left out is said apart, as premises: `HearsItsNodes` of the start, `MayNow` of each step.
 use Rattle.std.specs.Prelude.{◌≡◌, ◌⊎◌, ◌++◌, ◌∷◌, [], ℕ, List, All, true, false, Some, None, slice_get, slice_set}
 use mathlib.Core.List.{IsPrefix}
 use Rattle.resp_wire.specs.declared.value.Value.{Value}
@@ -61,6 +60,10 @@ module _ {C J : Type 0} where
     pub does : WorkerDoes any_moves old event new
     pub seen : IsSeen old event new marks
     pub leaves : s' ≡ record s { workers = slice_set s.workers k new; log = s.log ++ marks }
+    -- what it took was put into its lane, in that order
+    pub in_step : (lane : LaneEnds (Newcomer C J)) → slice_get s.carrier.lanes k ≡ Some lane → DownInStep lane new
+    -- what it sees of the slot map is a front of what was published
+    pub shown : IsPrefix new.view.known s.carrier.published
 
   -- an event of the carrier's turn
   pub record CarrierMay (s : System C J) (event : CarrierEvent) (s' : System C J) : Type 0 where
@@ -68,6 +71,8 @@ module _ {C J : Type 0} where
     pub does : CarrierDoes any_failures any_garbled Exchanges any_none (Opens s) longest s.carrier event s'.carrier
     pub breaks : Breaks s s'
     pub leaves : s' ≡ record s { carrier = s'.carrier; closed = s'.closed; opened = opened_by event s.opened }
+    -- what it took was posted, in that order
+    pub in_step : UpsInStep s'
 
   -- Node k serves what is next of the open connection at its backend. That this connection leads to node k is no premise: of a system
   -- that stands for a world of the machine it holds.
@@ -100,25 +105,20 @@ module _ {C J : Type 0} where
     pub named : All CanBeNamed s.nodes
     pub stands : StandsAtItsNodes s.cluster
 
-  -- What two threads would share is in order: a lane gives what was put in, in that order, a worker sees a front of what was published of
-  -- the slot map, and the carrier's table, as far as it has grown, lists nodes of the cluster, in their order.
-  pub record IsInOrder (s : System C J) : Type 0 where
-    pub ups : UpsInStep s
-    pub downs : (k : ℕ) (model : WorkerModel C J) (lane : LaneEnds (Newcomer C J)) → slice_get s.workers k ≡ Some model → slice_get s.carrier.lanes k ≡ Some lane
-        → DownInStep lane model
-    pub views : (k : ℕ) (model : WorkerModel C J) → slice_get s.workers k ≡ Some model → IsPrefix model.view.known s.carrier.published
-    pub table : IsPrefix s.carrier.nodes s.nodes
+  -- the carrier's table, as far as it has grown, lists nodes of the cluster, in their order
+  abbrev pub ListsItsNodes : System C J → Type 0
+  ListsItsNodes s = IsPrefix s.carrier.nodes s.nodes
 
   -- a slot is imported only where no command for it is under way that an ASK sent to the node
   abbrev pub MayMoveNow : System C J → Event → Type 0
   MayMoveNow s (core.Import slot target) = NoneAsksIn s slot target
   MayMoveNow s event = Unit {0}
 
-  abbrev pub MayNow : System C J → SystemEvent → Type 0
-  MayNow s (AtWorker k event) = Unit {0}
-  MayNow s (AtCarrier event) = Unit {0}
-  MayNow s (Handed k number) = Unit {0}
-  MayNow s (AtNode k verdict) = Unit {0}
-  MayNow s (AtBroken j verdict) = Unit {0}
-  MayNow s (Thrown j) = Unit {0}
-  MayNow s (Moved event) = MayMoveNow s event
+  abbrev pub MayNow : System C J → SystemEvent → System C J → Type 0
+  MayNow s (AtWorker k event) s' = Unit {0}
+  MayNow s (AtCarrier event) s' = ListsItsNodes s'
+  MayNow s (Handed k number) s' = Unit {0}
+  MayNow s (AtNode k verdict) s' = Unit {0}
+  MayNow s (AtBroken j verdict) s' = Unit {0}
+  MayNow s (Thrown j) s' = Unit {0}
+  MayNow s (Moved event) s' = MayMoveNow s event

@@ -7,7 +7,7 @@ use Rattle.node_model.specs.declared.standing.MoveFault.TheVariants as fault
 use Rattle.world_laws.specs.declared.event.Event.{Event}
 use Rattle.world_laws.specs.declared.event.Event.TheVariants as core
 use Rattle.turn_play.specs.declared.fault.PlayFault.{PlayFault}
-use Rattle.turn_play.specs.declared.fault.PlayFault.TheVariants.{NoMemory, NotServed}
+use Rattle.turn_play.specs.declared.fault.PlayFault.TheVariants.{NoMemory, NotServed, OutOfOrder}
 use Rattle.turn_play.specs.declared.moves.Move.{Move}
 use Rattle.turn_play.specs.declared.moves.Move.TheVariants as step
 
@@ -36,3 +36,4 @@ abbrev pub MovesOrNot : ClusterModel → Move → Result (Unit {0}) PlayFault �
 MovesOrNot k move (Ok _) k' = MoveOutcome k move (Ok tt) k' ⊎ MoveOutcome k move (Err fault.NotNow) k'
 MovesOrNot k move (Err NoMemory) k' = MoveOutcome k move (Err fault.NoMemory) k'
 MovesOrNot k move (Err NotServed) k' = ⊥
+MovesOrNot k move (Err OutOfOrder) k' = ⊥

@@ -1,20 +1,20 @@
 -- What each order does to a play, and where a fault ends it.
--- A worker's or the carrier's turn that moved nothing has nothing left to do: that is why a turn can't be left out.
-use Rattle.std.specs.Prelude.{◌≡◌, ◌≤◌, ◌⊎◌, ℕ, Bool, List, All, [], ◌∷◌, Some, Result, Ok, Err, length, slice_get, slice_set}
-use Rattle.resp_wire.specs.declared.fault.NoMemory.{NoMemory}
+-- A turn that moved nothing has left nothing to do: that is why a turn can't be left out.
+use Rattle.std.specs.Prelude.{◌≡◌, ◌⊎◌, ℕ, Bool, List, All, [], ◌∷◌, Result, Ok, Err}
 use Rattle.key_split.specs.PartModel.{PartModel}
 use Rattle.node_model.specs.declared.role.Verdict.{Verdict}
 use Rattle.proxy_turns.specs.Port.{Moves}
 use Rattle.proxy_turns.specs.Backend.{GaveNone}
-use Rattle.proxy_turns.specs.ClientRest.{IfStill}
-use Rattle.proxy_turns.specs.WorkerRest.{IsWorkerAtRest}
-use Rattle.proxy_turns.specs.WorkerModel.{WorkerModel, WorkerTurns}
-use Rattle.proxy_turns.specs.CarrierModel.{CarrierTurns, RestsAfter}
+use Rattle.proxy_turns.specs.CarrierModel.{CarrierGoes}
+use Rattle.proxy_engine.specs.declared.turned.Turned.{Turned}
+use Rattle.proxy_engine.specs.declared.turned.EngineFault.{EngineFault}
+use Rattle.proxy_engine.specs.EngineModel.{EngineRests, EngineTurns}
 use Rattle.turn_play.specs.declared.fault.PlayFault.{PlayFault}
 use Rattle.turn_play.specs.declared.fault.PlayFault.TheVariants as fault
 use Rattle.turn_play.specs.declared.moves.Move.{Move}
 use Rattle.turn_play.specs.declared.order.Order.{Order}
 use Rattle.turn_play.specs.declared.order.Order.TheVariants as order
+use Rattle.turn_play.specs.Faults.{of_turn}
 use Rattle.turn_play.specs.Moving.{MovesOrNot}
 use Rattle.turn_play.specs.Port.{IsFresh, IsRead, PortExchanges, any_bytes, longest_run, no_count}
 use Rattle.turn_play.specs.Serving.{BreaksAt, ServesAt}
@@ -23,37 +23,26 @@ use Rattle.turn_play.specs.Playing.{PlayModel, PlaysSoundly, PlaysSoundlyBeside}
 
 module _ {C J : Type 0} where
   module _ (moves : Moves C) (gives_none takes_none : C → Type 0) where
-    -- the worker at place k had its turn
-    abbrev pub IsTurned : PlayModel C J → ℕ → Result Bool NoMemory → PlayModel C J → Type 0
-    IsTurned old k result new =
-        (worker : WorkerModel C J) × (worker' : WorkerModel C J)
-        × (slice_get old.workers k ≡ Some worker) × WorkerTurns moves worker result worker' × IfStill result (IsWorkerAtRest gives_none takes_none worker')
-        × (new ≡ record old { workers = slice_set old.workers k worker' })
+    -- the engine had its turn: its worker and then its carrier, and it rests where nothing moved
+    abbrev pub IsTurned : PlayModel C J → Result Turned EngineFault → PlayModel C J → Type 0
+    IsTurned old result new =
+        EngineTurns moves (CarrierGoes no_count any_bytes PortExchanges IsRead IsFresh longest_run) old.engine result new.engine
+        × EngineRests gives_none takes_none (GaveNone no_count any_bytes PortExchanges IsRead) result new.engine
+        × (new ≡ record old { engine = new.engine })
 
-    -- the same, where there is a worker k
-    abbrev pub TurnsWorker : PlayModel C J → ℕ → Result (Unit {0}) PlayFault → PlayModel C J → Type 0
-    TurnsWorker old k (Ok _) new = ((length old.workers ≤ k) × (new ≡ old)) ⊎ ((moved : Bool) × IsTurned old k (Ok moved) new)
-    TurnsWorker old k (Err why) new = (why ≡ fault.NoMemory) × ((refused : NoMemory) × IsTurned old k (Err refused) new)
-
-  -- the carrier had its turn
-  abbrev pub CarrierIsTurned : PlayModel C J → Result Bool NoMemory → PlayModel C J → Type 0
-  CarrierIsTurned old result new =
-      CarrierTurns no_count any_bytes PortExchanges IsRead IsFresh longest_run old.carrier result new.carrier
-      × RestsAfter (GaveNone no_count any_bytes PortExchanges IsRead) result new.carrier
-      × (new ≡ record old { carrier = new.carrier })
-
-  abbrev pub TurnsCarrier : PlayModel C J → Result (Unit {0}) PlayFault → PlayModel C J → Type 0
-  TurnsCarrier old (Ok _) new = (moved : Bool) × CarrierIsTurned old (Ok moved) new
-  TurnsCarrier old (Err why) new = (why ≡ fault.NoMemory) × ((refused : NoMemory) × CarrierIsTurned old (Err refused) new)
+    abbrev pub TurnsEngine : PlayModel C J → Result (Unit {0}) PlayFault → PlayModel C J → Type 0
+    TurnsEngine old (Ok _) new = (turned : Turned) × IsTurned old (Ok turned) new
+    TurnsEngine old (Err why) new = (cause : EngineFault) × (why ≡ of_turn cause) × IsTurned old (Err cause) new
 
   -- a node served what waits first at the open connection to it
   abbrev pub ServesNode : PlayModel C J → ℕ → Verdict → Result (Unit {0}) PlayFault → PlayModel C J → Type 0
   ServesNode old node verdict result new =
-      ServesAt old.nodes old.cluster node old.carrier verdict result new.cluster new.carrier × (new ≡ record old { cluster = new.cluster; carrier = new.carrier })
+      ServesAt old.nodes old.cluster node old.engine.carrier verdict result new.cluster new.engine.carrier
+      × (new ≡ record old { cluster = new.cluster; engine = record old.engine { carrier = new.engine.carrier } })
 
   -- the open connection to a node broke
   abbrev pub BreaksLink : PlayModel C J → ℕ → PlayModel C J → Type 0
-  BreaksLink old node new = BreaksAt node old.carrier new.carrier × (new ≡ record old { carrier = new.carrier })
+  BreaksLink old node new = BreaksAt node old.engine.carrier new.engine.carrier × (new ≡ record old { engine = record old.engine { carrier = new.engine.carrier } })
 
   -- a step of a move was made, or may not be made now
   abbrev pub MovesSlot : PlayModel C J → Move → Result (Unit {0}) PlayFault → PlayModel C J → Type 0
@@ -67,8 +56,7 @@ module _ {C J : Type 0} where
   module _ (moves : Moves C) (gives_none takes_none : C → Type 0) where
     -- what an order did
     abbrev pub Obeys : PlayModel C J → Order → Result (Unit {0}) PlayFault → PlayModel C J → Type 0
-    Obeys old (order.Worker k) result new = TurnsWorker moves gives_none takes_none old k result new
-    Obeys old order.Carrier result new = TurnsCarrier old result new
+    Obeys old order.Turn result new = TurnsEngine moves gives_none takes_none old result new
     Obeys old (order.Serve node verdict) result new = ServesNode old node verdict result new
     Obeys old (order.Break node) result new = (result ≡ Ok tt) × BreaksLink old node new
     Obeys old (order.Move step) result new = MovesSlot old step result new
@@ -83,18 +71,24 @@ module _ {C J : Type 0} where
 
 -- it lets nobody else act
 abbrev pub IsOurs : Order → Type 0
-IsOurs (order.Worker k) = Unit {0}
-IsOurs order.Carrier = Unit {0}
+IsOurs order.Turn = Unit {0}
 IsOurs (order.Serve node verdict) = Unit {0}
 IsOurs (order.Break node) = Unit {0}
 IsOurs (order.Move step) = Unit {0}
 IsOurs (order.Others node asking parts) = ⊥
 
+-- no turn found the worker to see of the slot map what was not published
+abbrev pub StaysInOrder : Result (Unit {0}) PlayFault → Type 0
+StaysInOrder (Ok _) = Unit {0}
+StaysInOrder (Err fault.NoMemory) = Unit {0}
+StaysInOrder (Err fault.NotServed) = Unit {0}
+StaysInOrder (Err fault.OutOfOrder) = ⊥
+
 module _ (C J : Type 0) (moves : Moves C) (gives_none takes_none : C → Type 0) where
   -- whatever orders were obeyed that let nobody else act, what was done is sound
   abbrev pub ObeyedIsSound : Type 0
-  ObeyedIsSound = (old new : PlayModel C J) (orders : List Order) (result : Result (Unit {0}) PlayFault) → ObeysAll moves gives_none takes_none old orders result new → All IsOurs orders → PlaysSoundly old new
+  ObeyedIsSound = (old new : PlayModel C J) (orders : List Order) (result : Result (Unit {0}) PlayFault) → ObeysAll moves gives_none takes_none old orders result new → StaysInOrder result → All IsOurs orders → PlaysSoundly old new
 
   -- and whatever orders were obeyed, what was done is sound beside others
   abbrev pub ObeyedIsSoundBeside : Type 0
-  ObeyedIsSoundBeside = (old new : PlayModel C J) (orders : List Order) (result : Result (Unit {0}) PlayFault) → ObeysAll moves gives_none takes_none old orders result new → PlaysSoundlyBeside old new
+  ObeyedIsSoundBeside = (old new : PlayModel C J) (orders : List Order) (result : Result (Unit {0}) PlayFault) → ObeysAll moves gives_none takes_none old orders result new → StaysInOrder result → PlaysSoundlyBeside old new

@@ -7,7 +7,7 @@ use Rattle.node_model.specs.Runs.{deed_for, DoesRun, HaveOneSlot}
 use Rattle.node_model.specs.declared.role.Verdict.TheVariants.{Plain}
 use Rattle.world_laws.specs.World.{IsNode}
 use Rattle.turn_play.specs.declared.fault.PlayFault.{PlayFault}
-use Rattle.turn_play.specs.declared.fault.PlayFault.TheVariants.{NoMemory, NotServed}
+use Rattle.turn_play.specs.declared.fault.PlayFault.TheVariants.{NoMemory, NotServed, OutOfOrder}
 
 -- the node executed all of them or refused all of them, and told them this
 abbrev pub AreServed : ClusterModel → ℕ → Bool → List PartModel → List Told → ClusterModel → Type 0
@@ -17,3 +17,4 @@ AreServed k node asking cs tolds k' = IsNode k node × HaveOneSlot cs × DoesRun
 abbrev pub CannotCome : ClusterModel → ℕ → List PartModel → PlayFault → Type 0
 CannotCome k node cs NoMemory = Unit {0}
 CannotCome k node cs NotServed = (HaveOneSlot cs → ⊥) ⊎ (IsNode k node → ⊥)
+CannotCome k node cs OutOfOrder = ⊥

@@ -9,7 +9,7 @@ use Rattle.turn_laws.specs.Shadow.{IsShadow}
 use Rattle.turn_laws.specs.Steps.{SystemEvent, SystemStep}
 use Rattle.turn_laws.specs.Refines.{IsStart}
 use Rattle.turn_laws.specs.LogHeadline.{LogHeadline, IsHeld}
-use Rattle.turn_play.specs.May.{MayStep, HearsItsNodes, MayNow, IsInOrder}
+use Rattle.turn_play.specs.May.{MayStep, HearsItsNodes, MayNow}
 
 -- an event, and the system that it led to
 pub record Step (C J : Type 0) : Type 0 where
@@ -27,9 +27,9 @@ module _ {C J : Type 0} where
   Leads s (step ∷ steps) s' = MayStep s step.event step.next × Leads step.next steps s'
 
   -- the premises hold at each of them
-  abbrev pub AreInOrder : System C J → List (Step C J) → Type 0
-  AreInOrder s [] = Unit {0}
-  AreInOrder s (step ∷ steps) = MayNow s step.event × IsInOrder step.next × AreInOrder step.next steps
+  abbrev pub AreGiven : System C J → List (Step C J) → Type 0
+  AreGiven s [] = Unit {0}
+  AreGiven s (step ∷ steps) = MayNow s step.event step.next × AreGiven step.next steps
 
   -- some steps lead there
   abbrev pub Plays : System C J → System C J → Type 0
@@ -46,4 +46,4 @@ module _ (C J : Type 0) where
   -- From a start that hears its nodes, where the premises hold along them, steps that the code made are steps of the system: so the
   -- headline holds.
   abbrev pub PlaysRefine : Type 0
-  PlaysRefine = (start s' : System C J) (steps : List (Step C J)) → IsStart start → HearsItsNodes start → Leads start steps s' → AreInOrder start steps → Holds start steps s'
+  PlaysRefine = (start s' : System C J) (steps : List (Step C J)) → IsStart start → HearsItsNodes start → Leads start steps s' → AreGiven start steps → Holds start steps s'

@@ -3,20 +3,17 @@ use Rattle.std.specs.Prelude.{◌≡◌, ◌++◌, List}
 use Rattle.key_split.specs.declared.travel.Told.{Told}
 use Rattle.slot_map.specs.Table.{Endpoint}
 use Rattle.node_model.specs.Nodes.{ClusterModel}
-use Rattle.proxy_turns.specs.declared.newcomer.Newcomer.{Newcomer}
-use Rattle.proxy_turns.specs.WorkerModel.{WorkerModel}
-use Rattle.proxy_turns.specs.CarrierModel.{CarrierModel}
+use Rattle.proxy_engine.specs.EngineModel.{EngineModel}
 use Rattle.turn_laws.specs.System.{System}
 use Rattle.turn_laws.specs.Refines.{IsStart}
 use Rattle.turn_play.specs.Port.{PortModel, IsEnd}
 use Rattle.turn_play.specs.May.{HearsItsNodes}
-use Rattle.turn_play.specs.Turns.{ShowsCarrier}
-use Rattle.turn_play.specs.Played.{Step, Leads, Plays, AreInOrder, Holds}
-use Rattle.turn_play.specs.Beside.{StepBeside, LeadsBeside, PlaysBeside, AreInOrderBeside, HoldsBeside}
+use Rattle.turn_play.specs.Turns.{ShowsEngine}
+use Rattle.turn_play.specs.Played.{Step, Leads, Plays, AreGiven, Holds}
+use Rattle.turn_play.specs.Beside.{StepBeside, LeadsBeside, PlaysBeside, AreGivenBeside, HoldsBeside}
 
 pub record PlayModel (C J : Type 0) : Type 0 where
-  pub workers : List (WorkerModel C J)
-  pub carrier : CarrierModel (Newcomer C J) PortModel
+  pub engine : EngineModel C J PortModel
   pub cluster : ClusterModel
   -- where each node listens
   pub nodes : List Endpoint
@@ -24,11 +21,10 @@ pub record PlayModel (C J : Type 0) : Type 0 where
   pub told : List Told
 
 module _ {C J : Type 0} where
-  -- A system has these workers, this carrier, over wires whose ends are its ports, and these nodes. How many connections were opened, which
-  -- broke, and what was seen, is not held in a play: a system has it besides.
+  -- A system has this engine, over wires whose ends are its ports, and these nodes. How many connections were opened, which broke, and what
+  -- was seen, is not held in a play: a system has it besides.
   pub record Shows (play : PlayModel C J) (s : System C J) : Type 0 where
-    pub workers : s.workers ≡ play.workers
-    pub carrier : ShowsCarrier IsEnd play.carrier s
+    pub engine : ShowsEngine IsEnd play.engine s
     pub cluster : s.cluster ≡ play.cluster
     pub nodes : s.nodes ≡ play.nodes
 
@@ -40,7 +36,7 @@ module _ {C J : Type 0} where
   -- along these steps, the headline holds of them all.
   abbrev pub PlaysSoundly : PlayModel C J → PlayModel C J → Type 0
   PlaysSoundly old new = (s : System C J) → Shows old s → (s' : System C J) × (steps : List (Step C J)) × Leads s steps s' × Shows new s'
-      × ((start : System C J) (before : List (Step C J)) → IsStart start → HearsItsNodes start → Leads start before s → AreInOrder start (before ++ steps) → Holds start (before ++ steps) s')
+      × ((start : System C J) (before : List (Step C J)) → IsStart start → HearsItsNodes start → Leads start before s → AreGiven start (before ++ steps) → Holds start (before ++ steps) s')
 
   -- ---- the same where others act
 
@@ -49,4 +45,4 @@ module _ {C J : Type 0} where
 
   abbrev pub PlaysSoundlyBeside : PlayModel C J → PlayModel C J → Type 0
   PlaysSoundlyBeside old new = (s : System C J) → Shows old s → (s' : System C J) × (steps : List (StepBeside C J)) × LeadsBeside s steps s' × Shows new s'
-      × ((start : System C J) (before : List (StepBeside C J)) → IsStart start → HearsItsNodes start → LeadsBeside start before s → AreInOrderBeside start (before ++ steps) → HoldsBeside start (before ++ steps) s')
+      × ((start : System C J) (before : List (StepBeside C J)) → IsStart start → HearsItsNodes start → LeadsBeside start before s → AreGivenBeside start (before ++ steps) → HoldsBeside start (before ++ steps) s')

@@ -22,7 +22,7 @@ use Rattle.world_laws.specs.World.{NamesNode}
 use Rattle.turn_laws.specs.Wire.{Item, Asks, Runs, Lists, parts_in}
 use Rattle.turn_laws.specs.Writing.{AreWritten}
 use Rattle.turn_play.specs.declared.fault.PlayFault.{PlayFault}
-use Rattle.turn_play.specs.declared.fault.PlayFault.TheVariants.{NoMemory, NotServed}
+use Rattle.turn_play.specs.declared.fault.PlayFault.TheVariants.{NoMemory, NotServed, OutOfOrder}
 use Rattle.turn_play.specs.Waiting.{asking_after}
 use Rattle.turn_play.specs.Port.{PortModel}
 
@@ -47,6 +47,7 @@ ReplyOutcome told (Err back) = (back ≡ told) × IsRefusal told
 abbrev pub CannotWrite : List Endpoint → Told → PlayFault → Type 0
 CannotWrite table told NoMemory = Unit {0}
 CannotWrite table told NotServed = CanBeWritten told table → ⊥
+CannotWrite table told OutOfOrder = ⊥
 
 abbrev pub WriteOutcome : List Endpoint → Told → Result Value PlayFault → Type 0
 WriteOutcome table told (Ok value) = IsWritten told table value
@@ -82,6 +83,7 @@ CannotServeRun table k node asking cs verdict NotServed =
     (HaveOneSlot cs → ⊥)
     ⊎ IsSome (refusal_of k node verdict)
     ⊎ ((told : Told) × (deed_for k node asking cs verdict ≡ Says told) × (CanBeWritten told table → ⊥))
+CannotServeRun table k node asking cs verdict OutOfOrder = ⊥
 
 -- why what waits first was not served
 abbrev pub CannotServe : List Endpoint → ClusterModel → ℕ → Bool → Item → Verdict → PlayFault → Type 0

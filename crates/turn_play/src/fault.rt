@@ -1,6 +1,7 @@
 //! Why a play stopped.
 
 use node_model::ServeFault;
+use proxy_engine::EngineFault;
 use resp_wire::NoMemory;
 use std::alloc::AllocError;
 use thiserror::Error;
@@ -12,6 +13,9 @@ pub enum PlayFault {
     NoMemory,
     #[error("a node was to say what it cannot")]
     NotServed,
+    /// The worker's view of the slot map is not a front of what was published. It can't be.
+    #[error("the slot map is out of order")]
+    OutOfOrder,
 }
 
 impl From<NoMemory> for PlayFault {
@@ -33,6 +37,20 @@ impl From<AllocError> for PlayFault {
 
     fn from(_: AllocError) -> Self {
         PlayFault::NoMemory
+    }
+}
+
+impl From<EngineFault> for PlayFault {
+    ghost use Rattle.std.specs.Prelude.{◌≡◌};
+    ghost use Rattle.turn_play.specs.Faults.{of_turn};
+
+    ghost from_gives = { λ fault given. given ≡ of_turn fault };
+
+    fn from(fault: EngineFault) -> Self {
+        match fault {
+            EngineFault::NoMemory => PlayFault::NoMemory,
+            EngineFault::OutOfOrder => PlayFault::OutOfOrder,
+        }
     }
 }
 

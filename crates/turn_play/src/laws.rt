@@ -6,11 +6,12 @@ ghost use Rattle.turn_play.specs.Fleets.{HandedInFleets, PlaysAreFleets};
 ghost use Rattle.turn_play.specs.Handing.{HandedIsSound};
 ghost use Rattle.turn_play.specs.Obeying.{ObeyedIsSound, ObeyedIsSoundBeside};
 ghost use Rattle.turn_play.specs.Played.{PlaysRefine};
-ghost use Rattle.turn_play.specs.Starting.{HandingKeeps, LanesAreOpen, PlaysStart};
-ghost use Rattle.turn_play.specs.Turns.{CarriersPlay, WorkersPlay};
+ghost use Rattle.turn_play.specs.Starting.{PlaysStart};
+ghost use Rattle.turn_play.specs.Turns.{EnginesPlay};
 
 use crate::dial::PlayDial;
 use crate::port::PlayPort;
+use proxy_engine::laws::turns_are_events;
 use proxy_lanes::Naming;
 use proxy_turns::{ClientPort, Dial, Newcomer};
 use turn_laws::WiredPort;
@@ -45,35 +46,30 @@ pub fn plays_refine_beside<C: Drop, J: Naming>()
     headline_beside_others::<C, J>();
 }
 
-/// A worker's turn is steps of a system.
-pub fn workers_play<C: ClientPort + Drop, J: Naming>()
-    ensures { WorkersPlay C J C.moves }
+/// An engine's turn, over ports that stand for wires, is steps of a system that shows it: of its worker and then of its carrier. It
+/// shows the engine after the turn, and nothing is asked of the lanes and the slot map.
+pub fn engines_play<C: ClientPort + Drop, J: Naming, P: WiredPort + Drop, D: Dial<Port = P>>()
+    ensures { EnginesPlay C J C.moves P.wired P.failures P.is_garbled P.exchange P.gives_none D.opens P.longest }
 {
     any_client::<C, J>();
-}
-
-/// A carrier's turn over ports that stand for wires is steps of a system.
-pub fn carriers_play<C: Drop, J: Naming, P: WiredPort, D: Dial<Port = P>>()
-    ensures { CarriersPlay C J P.wired P.failures P.is_garbled P.exchange P.gives_none D.opens P.longest }
-{
     any_port::<Newcomer<C, J>, P, D>();
+    turns_are_events::<C, J, P, D>();
 }
 
 /// Whatever orders a play obeyed, it made steps of a system, where others came to its nodes beside others. From a start that hears its
 /// nodes, where the premises hold along them and along those before, the headline holds of them. Order by order too: where each finds what
-/// it asks, and what two threads would share is in order, the system that is left was reached as the first was.
+/// it asks, and the carrier's table lists nodes of the cluster, the system that is left was reached as the first was.
 pub fn obeyed_is_sound<C: ClientPort + Drop, J: Naming>()
     ensures alone { ObeyedIsSound C J C.moves C.gives_none C.takes_none }
     ensures beside { ObeyedIsSoundBeside C J C.moves C.gives_none C.takes_none }
     ensures plays_on { ObeyedPlaysOn C J C.moves C.gives_none C.takes_none }
 {
-    workers_play::<C, J>();
-    carriers_play::<C, J, PlayPort, PlayDial>();
+    engines_play::<C, J, PlayPort, PlayDial>();
     plays_refine::<C, J>();
     plays_refine_beside::<C, J>();
 }
 
-/// A client that is handed to a worker of a play is a step of a system, or none where it comes back from a worker that there is not.
+/// A client that is handed to a play is a step of a system.
 pub fn handed_is_sound<C: Drop, J: Naming>()
     ensures { HandedIsSound C J }
 {
@@ -89,24 +85,17 @@ pub fn reached_alone<C: Drop, J: Naming>()
 
 /// Several plays before one cluster are a fleet: each is what one proxy of it shows. A call of one of them in which nobody else acts is
 /// steps of its proxy, to a fleet that shows all plays after it, and the headline holds of each proxy's commands. So is a client that is
-/// handed to a worker of one of them.
+/// handed to one of them.
 pub fn plays_are_fleets<C: ClientPort + Drop, J: Naming>()
     ensures plays { PlaysAreFleets C J C.moves C.gives_none C.takes_none }
     ensures handed { HandedInFleets C J }
 {
-    workers_play::<C, J>();
-    carriers_play::<C, J, PlayPort, PlayDial>();
+    engines_play::<C, J, PlayPort, PlayDial>();
     written_is_heard();
     headline_of_fleets::<C, J>();
 }
 
-/// A play over new lanes, with a new cluster whose nodes can be named, shows a start that hears its nodes.
+/// A play of a new engine, with a sound cluster whose nodes can be named, shows a start that hears its nodes.
 pub fn plays_start<C: Drop, J: Naming>()
     ensures { PlaysStart C J }
-{}
-
-/// Lanes are new where they were made, and still after clients were handed over.
-pub fn lanes_are_open<H: Drop, J: Naming>()
-    ensures made { LanesAreOpen H J }
-    ensures handed { HandingKeeps H J }
 {}

@@ -1,8 +1,10 @@
-//! Workers, a carrier and the nodes of a cluster in one thread, whose turns come in an order that is handed in. Others act at the nodes too.
+//! The engine that `serve` turns and the nodes of a cluster in one thread, whose turns come in an order that is handed in. Others act at
+//! the nodes too.
 //!
 //! ```text
-//! let mut play = Play::new(alloc, &gate, None, worker_ends, carrier_ends, seeds, nodes)?;
-//! play.play(&mut cluster, &[Order::Worker(0), Order::Carrier, Order::Serve(node, Verdict::Plain), Order::Carrier, Order::Worker(0)])?;
+//! let mut play = Play::new(alloc, rt, opened, &gate, None, seeds, nodes)?;
+//! play.hand(client);
+//! play.play(&mut cluster, &[Order::Turn, Order::Serve(node, Verdict::Plain), Order::Turn])?;
 //! ```
 //!
 //! The cluster is handed to each call, so several plays can have one, and others can act at it between two calls.
@@ -18,7 +20,6 @@
 mod connection;
 mod dial;
 mod fault;
-mod handing;
 pub mod laws;
 mod moves;
 mod order;

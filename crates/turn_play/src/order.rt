@@ -8,10 +8,8 @@ use slot_map::NodeId;
 /// What is done next.
 #[derive(Drop)]
 pub enum Order {
-    /// One turn of the worker at that place, where there is one.
-    Worker(usize),
-    /// One turn of the carrier.
-    Carrier,
+    /// One turn of the engine: its worker's, and then its carrier's.
+    Turn,
     /// The node serves what waits first at the carrier's open connection to it, as the verdict says. Nothing happens where
     /// nothing waits, or no connection is open.
     Serve(NodeId, Verdict),

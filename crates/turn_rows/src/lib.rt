@@ -5,7 +5,7 @@
 //! which runs a worker over it to its end. The carrier's table has the seed alone, 127.0.0.1:7001. Of the three nodes, which
 //! listen at the ports 7001 to 7003, the last one owns all slots at first.
 //!
-//! A play above has its ends, its clients and its nodes from here.
+//! A play above has its clients and its nodes from here.
 #![tactic(auto)]
 
 mod client;
@@ -30,7 +30,7 @@ mod turns;
 
 pub use client::SharedClient;
 pub use clients::Clients;
-pub use memory::{MemoryCarrierEnds, MemoryEnds, newcomer_to};
+pub use memory::MemoryEnds;
 pub use nodes::cluster_of_three;
 pub use open::Open;
 pub use row::answer_row;

@@ -1,4 +1,4 @@
-//! `play` and `second`: clients of a proxy that come, its play's beginning, and orders.
+//! `play` and `second`: the beginning of a proxy's play, its clients that come, and orders.
 
 use crate::play::orders::add_next;
 use crate::play::others;
@@ -14,31 +14,33 @@ pub trait Proxy {
     fn call(&mut self, cluster: &mut Held<Cluster>, line: &mut Line);
 }
 
-/// A play, or the ends that it will have, with its clients.
+/// A play, or its opening, with its clients.
 #[derive(Drop)]
 pub struct Stage<'g, E, P> {
     gate: &'g Open,
-    ends: Held<E>,
+    opening: Held<E>,
     play: Held<P>,
     clients: Clients,
 }
 
-impl<'g, E: Entrance + Drop, P: Plays + Begins<'g, E> + Drop> Stage<'g, E, P> {
-    /// Where a play over these ends is to begin.
-    pub fn new(alloc: Global, gate: &'g Open, ends: E) -> Stage<'g, E, P> {
+impl<'g, E: Drop, P: Plays + Entrance + Begins<'g, E> + Drop> Stage<'g, E, P> {
+    /// Where a play is to begin.
+    pub fn new(alloc: Global, gate: &'g Open, opening: E) -> Stage<'g, E, P> {
         Stage {
             gate,
-            ends: Held { value: Some(ends) },
+            opening: Held {
+                value: Some(opening),
+            },
             play: Held::none(),
             clients: Clients::new(alloc),
         }
     }
 
-    /// A client comes, where the play has not begun.
+    /// A client comes, where the play has begun.
     fn come(&mut self, line: &mut Line) {
-        match &mut self.ends.value {
-            Some(ends) => self.clients.come(ends, line),
-            None => line.refuse(CallFault::NotNow),
+        match &mut self.play.value {
+            Some(play) => self.clients.come(play, line),
+            None => line.refuse(CallFault::NotMade),
         }
     }
 
@@ -49,10 +51,10 @@ impl<'g, E: Entrance + Drop, P: Plays + Begins<'g, E> + Drop> Stage<'g, E, P> {
         let Some(outside) = line.made(PlayOutside::new(line.alloc)) else {
             return;
         };
-        match self.ends.value.take() {
-            Some(ends) => self
+        match self.opening.value.take() {
+            Some(opening) => self
                 .play
-                .hold(P::begin(line.alloc, self.gate, ends, outside), line),
+                .hold(P::begin(line.alloc, self.gate, opening, outside), line),
             None => line.refuse(CallFault::NotNow),
         }
     }
@@ -69,7 +71,7 @@ impl<'g, E: Entrance + Drop, P: Plays + Begins<'g, E> + Drop> Stage<'g, E, P> {
     }
 }
 
-impl<'g, E: Entrance + Drop, P: Plays + Begins<'g, E> + Drop> Proxy for Stage<'g, E, P> {
+impl<'g, E: Drop, P: Plays + Entrance + Begins<'g, E> + Drop> Proxy for Stage<'g, E, P> {
     fn call(&mut self, cluster: &mut Held<Cluster>, line: &mut Line) {
         match line.call() {
             "client" => self.come(line),

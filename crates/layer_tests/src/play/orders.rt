@@ -36,8 +36,7 @@ fn add_one(orders: &mut Vec<Order>, name: &str, line: &mut Line) -> Result<(), C
 
 fn order_of(name: &str, line: &mut Line) -> Option<Order> {
     match name {
-        "carrier" => Some(Order::Carrier),
-        "worker" => Some(Order::Worker(usize::from(line.read::<u16>()?))),
+        "turn" => Some(Order::Turn),
         "break" => Some(Order::Break(line.read()?)),
         "serve" | "tryagain" | "down" | "moved" => {
             let node = line.read()?;
@@ -68,15 +67,13 @@ fn step_of(name: &str, line: &mut Line) -> Option<Move> {
     }
 }
 
-/// A turn of each worker, one of the carrier, and a request served by each node, as often as the line says.
+/// A turn, and a request served by each node, as often as the line says.
 fn add_rounds(orders: &mut Vec<Order>, line: &mut Line) -> Result<(), CallFault> {
     let Some(count) = line.read::<u16>() else {
         return Err(CallFault::MissingWord);
     };
     for _ in 0..count {
-        orders.push(Order::Worker(0))?;
-        orders.push(Order::Worker(1))?;
-        orders.push(Order::Carrier)?;
+        orders.push(Order::Turn)?;
         add_serving(orders)?;
     }
     Ok(())

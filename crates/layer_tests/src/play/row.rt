@@ -3,18 +3,14 @@
 ghost use Rattle.std.specs.Prelude.{◌≡◌};
 ghost use Rattle.proxy_lanes.specs.Opened.{book_of};
 
-use crate::play::objects::{PlayObjects, Proxy, Stage};
-use crate::play::stage::{Begins, Ends, MemoryPlay, Plays};
+use crate::play::objects::{PlayObjects, Stage};
+use crate::play::stage::{Begins, MemoryPlay, Opening, Plays};
 use crate::report::ReportObject;
 use layer_rows::{AnswersRow, Held, Object, RowHost, Rows};
-use proxy_lanes::{Naming, Opened, lanes};
-use proxy_turns::Newcomer;
+use proxy_lanes::{Naming, Opened};
 use std::io::{self, BufRead, Write};
 use std::marker::Brand;
-use turn_rows::{Entrance, Open, SharedClient, answer_row};
-
-/// How many workers there are in a play.
-const WORKERS: u16 = 2;
+use turn_rows::{Entrance, Open, answer_row};
 
 /// What answers rows over two new plays and a new proxy.
 pub struct PlayRow;
@@ -66,75 +62,27 @@ where
     requires first { book_of opened ≡ J.book }
     requires second { book_of second ≡ K.book }
 {
-    match lanes::<Newcomer<SharedClient, J>, J, R>(rt.alloc(), rt, opened, WORKERS) {
-        Ok((workers, carrier)) => {
-            let gate = Open;
-            let ends = Ends { workers, carrier };
-            first_over::<K, R, B, W, O, Ends<J, R>, MemoryPlay<'_, J, R>>(
-                rt, &gate, second, ends, others, rows,
-            )
-        }
-        Err(_) => Ok(false),
-    }
+    let gate = Open;
+    let first = Opening::<J, R>::new(rt, opened);
+    let second = Opening::<K, R>::new(rt, second);
+    both_open::<
+        R,
+        B,
+        W,
+        O,
+        Opening<J, R>,
+        MemoryPlay<'_, J, R>,
+        Opening<K, R>,
+        MemoryPlay<'_, K, R>,
+    >(rt, &gate, first, second, others, rows)
 }
 
-// The types of ends and plays are parameters here, since a value of such a type is dropped by one call.
-fn first_over<'g, K, R, B, W, O, E, P>(
+// The types of plays are parameters here, since a value of such a type is dropped by one call.
+fn both_open<'g, R, B, W, O, E, P, F, Q>(
     rt: R,
     gate: &'g Open,
-    second: Opened,
-    ends: E,
-    others: O,
-    rows: &mut Rows<B, W>,
-) -> io::Result<bool>
-where
-    K: Naming,
-    R: RowHost,
-    B: BufRead,
-    W: Write,
-    O: Object + Drop,
-    E: Entrance + Drop,
-    P: Plays + Begins<'g, E> + Drop,
-    requires { book_of second ≡ K.book }
-{
-    let first = Stage::<'g, E, P>::new(rt.alloc(), gate, ends);
-    second_named::<K, R, B, W, Stage<'g, E, P>, O>(rt, second, first, others, rows)
-}
-
-/// Rows over a first play and a second one.
-fn second_named<J, R, B, W, A, O>(
-    rt: R,
-    opened: Opened,
-    first: A,
-    others: O,
-    rows: &mut Rows<B, W>,
-) -> io::Result<bool>
-where
-    J: Naming,
-    R: RowHost,
-    B: BufRead,
-    W: Write,
-    A: Proxy + Drop,
-    O: Object + Drop,
-    requires { book_of opened ≡ J.book }
-{
-    match lanes::<Newcomer<SharedClient, J>, J, R>(rt.alloc(), rt, opened, WORKERS) {
-        Ok((workers, carrier)) => {
-            let gate = Open;
-            let ends = Ends { workers, carrier };
-            second_over::<R, B, W, A, O, Ends<J, R>, MemoryPlay<'_, J, R>>(
-                rt, &gate, ends, first, others, rows,
-            )
-        }
-        Err(_) => Ok(false),
-    }
-}
-
-fn second_over<'g, R, B, W, A, O, E, P>(
-    rt: R,
-    gate: &'g Open,
-    ends: E,
-    first: A,
+    first: E,
+    second: F,
     others: O,
     rows: &mut Rows<B, W>,
 ) -> io::Result<bool>
@@ -142,15 +90,16 @@ where
     R: RowHost,
     B: BufRead,
     W: Write,
-    A: Proxy + Drop,
     O: Object + Drop,
-    E: Entrance + Drop,
-    P: Plays + Begins<'g, E> + Drop,
+    E: Drop,
+    P: Plays + Entrance + Begins<'g, E> + Drop,
+    F: Drop,
+    Q: Plays + Entrance + Begins<'g, F> + Drop,
 {
     let objects = PlayObjects {
         cluster: Held::none(),
-        first,
-        second: Stage::<'g, E, P>::new(rt.alloc(), gate, ends),
+        first: Stage::<'g, E, P>::new(rt.alloc(), gate, first),
+        second: Stage::<'g, F, Q>::new(rt.alloc(), gate, second),
         others,
     };
     answer_row(rt, objects, rows)

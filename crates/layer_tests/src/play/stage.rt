@@ -1,17 +1,20 @@
 //! A play, and what it will be made of.
 
+ghost use Rattle.std.specs.Prelude.{◌≡◌};
+ghost use Rattle.proxy_lanes.specs.Opened.{book_of};
+
 use key_split::Told;
-use layer_rows::CallFault;
+use layer_rows::{CallFault, is_done};
 use node_model::Cluster;
-use proxy_lanes::Naming;
+use proxy_lanes::{Naming, Opened};
+use proxy_turns::Newcomer;
 use resp_wire::NoMemory;
 use slot_map::NodeTable;
 use std::alloc::Global;
+use std::marker::PhantomData;
 use std::sync::Wait;
 use turn_play::{Order, Play, PlayFault};
-use turn_rows::{
-    Entrance, MemoryCarrierEnds, MemoryEnds, Open, PORTS, SharedClient, newcomer_to, table_at,
-};
+use turn_rows::{Entrance, Open, PORTS, SharedClient, table_at};
 
 /// What does as it is told.
 pub trait Plays {
@@ -22,26 +25,34 @@ pub trait Plays {
     fn told(&self) -> &[Told];
 }
 
-/// What begins over such ends.
+/// What begins with such an opening.
 pub trait Begins<'g, E>: Sized {
     fn begin(
         alloc: Global,
         gate: &'g Open,
-        ends: E,
+        opening: E,
         outside: PlayOutside,
     ) -> Result<Self, NoMemory>;
 }
 
-/// The ends of the lanes of a play that has not begun.
+/// What the engine of a play is made of that has not begun: a right to wait, and a history that was just opened.
 #[derive(Drop)]
-pub struct Ends<J: Naming, R: Wait + Drop> {
-    pub workers: Vec<MemoryEnds<J>>,
-    pub carrier: MemoryCarrierEnds<J, R>,
+pub struct Opening<J: Naming, R: Wait + Drop> {
+    rt: R,
+    opened: Opened,
+    of: PhantomData<J>,
+    ghost named: { book_of opened ≡ J.book },
 }
 
-impl<J: Naming, R: Wait + Drop> Entrance for Ends<J, R> {
-    fn hand(&mut self, worker: u16, number: u32, port: SharedClient) -> Result<bool, CallFault> {
-        newcomer_to(&mut self.carrier, worker, number, port)
+impl<J: Naming, R: Wait + Drop> Opening<J, R> {
+    pub fn new(rt: R, opened: Opened) -> Opening<J, R>
+        requires { book_of opened ≡ J.book }
+    {
+        Opening {
+            rt,
+            opened,
+            of: PhantomData,
+        }
     }
 }
 
@@ -61,22 +72,22 @@ impl PlayOutside {
     }
 }
 
-/// A play over ends in memory.
+/// A play with clients in memory.
 pub type MemoryPlay<'g, J, R> = Play<'g, SharedClient, J, R, Open>;
 
-impl<'g, J: Naming, R: Wait + Drop> Begins<'g, Ends<J, R>> for MemoryPlay<'g, J, R> {
+impl<'g, J: Naming, R: Wait + Drop> Begins<'g, Opening<J, R>> for MemoryPlay<'g, J, R> {
     fn begin(
         alloc: Global,
         gate: &'g Open,
-        ends: Ends<J, R>,
+        opening: Opening<J, R>,
         outside: PlayOutside,
     ) -> Result<MemoryPlay<'g, J, R>, NoMemory> {
         Play::new(
             alloc,
+            opening.rt,
+            opening.opened,
             gate,
             None,
-            ends.workers,
-            ends.carrier,
             outside.seeds,
             outside.nodes,
         )
@@ -90,5 +101,20 @@ impl<'g, J: Naming, R: Wait + Drop> Plays for MemoryPlay<'g, J, R> {
 
     fn told(&self) -> &[Told] {
         self.told()
+    }
+}
+
+impl<'g, J: Naming, R: Wait + Drop> Entrance for MemoryPlay<'g, J, R> {
+    // The only worker has the number 0.
+    fn hand(&mut self, worker: u16, number: u32, port: SharedClient) -> Result<bool, CallFault> {
+        if worker != 0 {
+            return Err(CallFault::BadNumber);
+        }
+        let newcomer = Newcomer {
+            number,
+            port,
+            front: None,
+        };
+        Ok(is_done(self.hand(newcomer)))
     }
 }

@@ -5,7 +5,7 @@ pub returns-clause-plays : goal.returns-clause-plays
 returns-clause-plays g c =
     let m = g.C.ClientPort in
     let f = c.headline_of_fleets.ensures in
-    plays-are-fleets g.row.C.Denot g.row.J.Denot c.written_is_heard.ensures.heard f.stands f.follows f.headline m.moves m.gives_none m.takes_none c.workers_play.ensures c.carriers_play.ensures
+    plays-are-fleets g.row.C.Denot g.row.J.Denot c.written_is_heard.ensures.heard f.stands f.follows f.headline m.moves m.gives_none m.takes_none c.engines_play.ensures
 
 pub returns-clause-handed : goal.returns-clause-handed
 returns-clause-handed g c =

@@ -1,6 +1,5 @@
 use Rattle.std.proofs.Common.{◌≡◌, Ok, Err, rules, subst, sym}
 use Rattle.turn_play.specs.Obeying.{ObeysAll}
-use Rattle.turn_play.specs.Deeds.{PlaysOn}
 use Rattle.turn_play.specs.Play.{play_model}
 use Rattle.turn_play.proofs.Obeyed.{all-obeyed, ends-here, goes-on}
 use Rattle.turn_play.proofs.play.Play.play.Goals as goal
@@ -25,18 +24,16 @@ returns-in_err-obey-clause-obeys g c =
     c.in-len1-up.len_at_least c.order-item.is c.loop-rest.invariant c.in_err-obey.ensures)
 
 pub returns-in_err-obey-clause-sound : goal.returns-in_err-obey-clause-sound
-returns-in_err-obey-clause-sound g c =
-    let m = g.C.ClientPort in
-    c.obeyed_is_sound.ensures.alone (play_model c.args.self.now c.args.cluster.now) (play_model c.obey.new.self c.obey.new.cluster) c.args.orders.now (Err c.in_err-obey.field-0.0)
-    (ends-here m.moves m.gives_none m.takes_none (play_model c.args.self.now c.args.cluster.now) c.args.orders.now (play_model c.loop-rest.self c.loop-rest.cluster) c.loop-rest.rest.now c.order-item.result c.in_err-obey.field-0.0 (play_model c.obey.new.self c.obey.new.cluster)
-    c.in-len1-up.len_at_least c.order-item.is c.loop-rest.invariant c.in_err-obey.ensures)
+returns-in_err-obey-clause-sound g c = λ stays.
+    c.obeyed_is_sound.ensures.alone (play_model c.args.self.now c.args.cluster.now) (play_model c.obey.new.self c.obey.new.cluster) c.args.orders.now c.from_residual.result (returns-in_err-obey-clause-obeys g c) stays
 
 pub returns-in_err-obey-clause-beside : goal.returns-in_err-obey-clause-beside
-returns-in_err-obey-clause-beside g c =
-    let m = g.C.ClientPort in
-    c.obeyed_is_sound.ensures.beside (play_model c.args.self.now c.args.cluster.now) (play_model c.obey.new.self c.obey.new.cluster) c.args.orders.now (Err c.in_err-obey.field-0.0)
-    (ends-here m.moves m.gives_none m.takes_none (play_model c.args.self.now c.args.cluster.now) c.args.orders.now (play_model c.loop-rest.self c.loop-rest.cluster) c.loop-rest.rest.now c.order-item.result c.in_err-obey.field-0.0 (play_model c.obey.new.self c.obey.new.cluster)
-    c.in-len1-up.len_at_least c.order-item.is c.loop-rest.invariant c.in_err-obey.ensures)
+returns-in_err-obey-clause-beside g c = λ stays.
+    c.obeyed_is_sound.ensures.beside (play_model c.args.self.now c.args.cluster.now) (play_model c.obey.new.self c.obey.new.cluster) c.args.orders.now c.from_residual.result (returns-in_err-obey-clause-obeys g c) stays
+
+pub returns-in_err-obey-clause-plays_on : goal.returns-in_err-obey-clause-plays_on
+returns-in_err-obey-clause-plays_on g c = λ stays.
+    c.obeyed_is_sound.ensures.plays_on (play_model c.args.self.now c.args.cluster.now) (play_model c.obey.new.self c.obey.new.cluster) c.args.orders.now c.from_residual.result (returns-in_err-obey-clause-obeys g c) stays
 
 pub returns-clause-obeys : goal.returns-clause-obeys
 returns-clause-obeys g c =
@@ -45,29 +42,12 @@ returns-clause-obeys g c =
 
 pub returns-clause-sound : goal.returns-clause-sound
 returns-clause-sound g c =
-    let m = g.C.ClientPort in
-    c.obeyed_is_sound.ensures.alone (play_model c.args.self.now c.args.cluster.now) (play_model c.loop-rest.self c.loop-rest.cluster) c.args.orders.now (Ok tt)
-    (all-obeyed m.moves m.gives_none m.takes_none (play_model c.args.self.now c.args.cluster.now) c.args.orders.now (play_model c.loop-rest.self c.loop-rest.cluster) c.loop-rest.rest.now c.in_default.len_below c.loop-rest.invariant)
+    c.obeyed_is_sound.ensures.alone (play_model c.args.self.now c.args.cluster.now) (play_model c.loop-rest.self c.loop-rest.cluster) c.args.orders.now (Ok tt) (returns-clause-obeys g c)
 
 pub returns-clause-beside : goal.returns-clause-beside
 returns-clause-beside g c =
-    let m = g.C.ClientPort in
-    c.obeyed_is_sound.ensures.beside (play_model c.args.self.now c.args.cluster.now) (play_model c.loop-rest.self c.loop-rest.cluster) c.args.orders.now (Ok tt)
-    (all-obeyed m.moves m.gives_none m.takes_none (play_model c.args.self.now c.args.cluster.now) c.args.orders.now (play_model c.loop-rest.self c.loop-rest.cluster) c.loop-rest.rest.now c.in_default.len_below c.loop-rest.invariant)
-
-pub returns-in_err-obey-clause-plays_on : goal.returns-in_err-obey-clause-plays_on
-returns-in_err-obey-clause-plays_on g c =
-    let m = g.C.ClientPort in
-    let is : c.from_residual.result ≡ Err c.in_err-obey.field-0.0 = search rules in
-    subst
-    (λ r. PlaysOn m.moves m.gives_none m.takes_none (play_model c.args.self.now c.args.cluster.now) c.args.orders.now r (play_model c.obey.new.self c.obey.new.cluster))
-    (sym is)
-    (c.obeyed_is_sound.ensures.plays_on (play_model c.args.self.now c.args.cluster.now) (play_model c.obey.new.self c.obey.new.cluster) c.args.orders.now (Err c.in_err-obey.field-0.0)
-    (ends-here m.moves m.gives_none m.takes_none (play_model c.args.self.now c.args.cluster.now) c.args.orders.now (play_model c.loop-rest.self c.loop-rest.cluster) c.loop-rest.rest.now c.order-item.result c.in_err-obey.field-0.0 (play_model c.obey.new.self c.obey.new.cluster)
-    c.in-len1-up.len_at_least c.order-item.is c.loop-rest.invariant c.in_err-obey.ensures))
+    c.obeyed_is_sound.ensures.beside (play_model c.args.self.now c.args.cluster.now) (play_model c.loop-rest.self c.loop-rest.cluster) c.args.orders.now (Ok tt) (returns-clause-obeys g c)
 
 pub returns-clause-plays_on : goal.returns-clause-plays_on
 returns-clause-plays_on g c =
-    let m = g.C.ClientPort in
-    c.obeyed_is_sound.ensures.plays_on (play_model c.args.self.now c.args.cluster.now) (play_model c.loop-rest.self c.loop-rest.cluster) c.args.orders.now (Ok tt)
-    (all-obeyed m.moves m.gives_none m.takes_none (play_model c.args.self.now c.args.cluster.now) c.args.orders.now (play_model c.loop-rest.self c.loop-rest.cluster) c.loop-rest.rest.now c.in_default.len_below c.loop-rest.invariant)
+    c.obeyed_is_sound.ensures.plays_on (play_model c.args.self.now c.args.cluster.now) (play_model c.loop-rest.self c.loop-rest.cluster) c.args.orders.now (Ok tt) (returns-clause-obeys g c)
