@@ -12,9 +12,10 @@
 //! Promise: each order does what `Obeys` of `specs/Obeying.antt` says of it, and the headline holds of the turns that ran: what
 //! `Play::play` did is a list of steps of a system and of others (`PlaysSoundlyBeside` of `specs/Playing.antt`); behind the steps
 //! before, from a start that hears its nodes, which `Play::new` gives, where the premises of `specs/May.antt` and `specs/Beside.antt`
-//! hold along all of them, it is a run of the machine beside others. Where nobody else acts it is one of the machine alone
-//! (`PlaysSoundly`). It is said order by order too, so that one call goes on from what another left (`PlaysOn` of `specs/Deeds.antt`), and
-//! of several plays before one cluster (`specs/Fleets.antt`).
+//! hold along all of them, it is a run of the machine beside others. Of the lanes and the slot map no premise is left: an engine's turn is
+//! steps of a system in which they are in order (`EnginesPlay` of `specs/Turns.antt`). Where nobody else acts it is one of the machine
+//! alone (`PlaysSoundly`). It is said order by order too, so that one call goes on from what another left (`PlaysOn` of
+//! `specs/Deeds.antt`), and of several plays before one cluster (`specs/Fleets.antt`).
 #![tactic(auto)]
 
 mod connection;
