@@ -80,8 +80,8 @@ one-list [] (w ∷ ws) e = absurd (omega (arith, ap length e))
 one-list (v ∷ vs) [] e = absurd (omega (arith, ap length e))
 one-list (v ∷ vs) (w ∷ ws) e =
     both-same v w vs ws
-      (one-value v w (first-same (data_of v) (data_of w) (map data_of vs) (map data_of ws) e))
-      (one-list vs ws (later-same (data_of v) (data_of w) (map data_of vs) (map data_of ws) e))
+    (one-value v w (first-same (data_of v) (data_of w) (map data_of vs) (map data_of ws) e))
+    (one-list vs ws (later-same (data_of v) (data_of w) (map data_of vs) (map data_of ws) e))
 
 -- ---- the values that bytes spell
 
@@ -197,8 +197,7 @@ tells-front (s ∷ ss) pending A B given given1 left rest ans (inl t) =
     (s ∷ ss, given, t.1, ap (λ g. g ++ given) (sym t.0), subst (λ r. AreAnswers (s ∷ ss) (r ++ B) given) (sym t.2) ans)
 tells-front (s ∷ ss) pending A B given given1 left rest (own, more, told, further, is, by, gives, last) (inr (own1, more1, told1, further1, is1, by1, gives1, last1)) =
     let same = own-same s own own1 more more1 B told told1 (sym is ∙ ap (λ a. a ++ B) is1) by by1 in
-    let next = tells-front ss pending more1 B further further1 left rest (subst (λ m. AreAnswers ss m further) same.1 last) last1 in
-    (
+    let next = tells-front ss pending more1 B further further1 left rest (subst (λ m. AreAnswers ss m further) same.1 last) last1 in (
       next.0,
       next.1,
       next.2,

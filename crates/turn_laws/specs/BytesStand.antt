@@ -78,13 +78,12 @@ module _ {S : Type 0} (moved : S → List ℕ → List ℕ → S → Type 0) (fa
       let after = far new.bytes.stream in
       let flow = flows old.bytes.stream new.bytes.stream written read went in
       let cut = split-front old.bytes.input.bounds (old.bytes.input.unread ++ read) after.unread came w.coming new.bytes.input.unread spells
-          (read-first old.bytes.input.bounds old.bytes.input.unread before.unread read after.unread w.coming flow.0 w.comes) in
+      (read-first old.bytes.input.bounds old.bytes.input.unread before.unread read after.unread w.coming flow.0 w.comes) in
       let pending = map awaited_by (map sent_as wire.items) in
       let sent = map awaited_by (sent_for requests) in
       let ahead = tells-front w.served (pending ++ sent) (old.replies.came ++ came) cut.0 w.given given1 new.replies.awaited new.replies.came
-          (answers-now w.served old.replies.came came w.coming cut.0 w.given cut.1 w.answers)
-          (tells-all old.replies.awaited w.served pending sent (old.replies.came ++ came) given1 new.replies.awaited new.replies.came w.awaits tells) in
-      (
+      (answers-now w.served old.replies.came came w.coming cut.0 w.given cut.1 w.answers)
+      (tells-all old.replies.awaited w.served pending sent (old.replies.came ++ came) given1 new.replies.awaited new.replies.came w.awaits tells) in (
         record wire { items = wire.items ++ items_of requests; values = new.replies.told ++ ahead.1 },
         (values-left wire.values old.replies.told w.given given1 ahead.1 values new.replies.told w.values ahead.3 told, refl),
         record {
@@ -94,7 +93,7 @@ module _ {S : Type 0} (moved : S → List ℕ → List ℕ → S → Type 0) (fa
           leads = w.leads ∙ sym (ap (λ (e : FarEnd). e.node) flow.1);
           asks = w.asks ∙ sym (ap (λ (e : FarEnd). e.asking) flow.1);
           goes = goes-on before.unserved after.unserved old.bytes.unsent new.bytes.unsent (flat_map written_as (sent_for requests)) written (flat_map written_as (map sent_as wire.items))
-                (ap (λ (e : FarEnd). e.unserved) flow.1) left w.goes
+              (ap (λ (e : FarEnd). e.unserved) flow.1) left w.goes
               ∙ spelled-behind wire.items requests;
           awaits = ahead.2 ∙ ap (λ xs. ahead.0 ++ xs) (awaited-behind wire.items requests);
           comes = subst (λ b. Splits b (new.bytes.input.unread ++ after.unread) cut.0 []) (sym bounds) cut.2;

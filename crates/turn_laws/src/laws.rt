@@ -17,8 +17,8 @@ ghost use Rattle.turn_laws.specs.Fleet.{EveryFleet, FleetFollows, FleetsStand};
 ghost use Rattle.turn_laws.specs.Unclear.{HeardAlike, UnclearIsRefusal};
 ghost use Rattle.turn_laws.specs.Writing.{NamedIsReadBack, NewSlotsStand, SlotsStay, WrittenIsHeard};
 
-use crate::node_stream::NodeStream;
 use crate::wired_port::WiredPort;
+use crate::wired_stream::WiredStream;
 use key_split::laws::parts_of_plans_are_plain;
 use proxy_lanes::Naming;
 use proxy_turns::{ClientPort, Dial};
@@ -91,7 +91,7 @@ pub fn any_port<H: Drop, P: WiredPort, D: Dial<Port = P>>()
 
 /// A port over bytes stands for a wire (`BlockPort` is a `WiredPort`), from its beginning on, and still does when the node at the other
 /// end has read one item of the wire in its bytes, and has written bytes that spell its replies.
-pub fn nodes_serve_bytes<S: NodeStream>()
+pub fn nodes_serve_bytes<S: WiredStream>()
     ensures begins { BeginsWire S.far }
     ensures serves { ServesWire S.far }
 {}

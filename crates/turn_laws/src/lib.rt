@@ -13,9 +13,9 @@
 #![tactic(auto)]
 
 pub mod laws;
-mod node_stream;
 pub mod parts;
 mod wired_port;
+mod wired_stream;
 
-pub use node_stream::NodeStream;
 pub use wired_port::WiredPort;
+pub use wired_stream::WiredStream;

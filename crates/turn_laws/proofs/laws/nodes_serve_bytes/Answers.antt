@@ -2,7 +2,7 @@ use Rattle.turn_laws.proofs.ByteServing.{begins-bytes, serves-bytes}
 use Rattle.turn_laws.proofs.laws.nodes_serve_bytes.Goals as goal
 
 pub returns-clause-begins : goal.returns-clause-begins
-returns-clause-begins g c = begins-bytes g.S.NodeStream.far
+returns-clause-begins g c = begins-bytes g.S.WiredStream.far
 
 pub returns-clause-serves : goal.returns-clause-serves
-returns-clause-serves g c = serves-bytes g.S.NodeStream.far
+returns-clause-serves g c = serves-bytes g.S.WiredStream.far

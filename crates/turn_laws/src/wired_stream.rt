@@ -8,7 +8,7 @@ use node_link::{BlockPort, Stream};
 
 /// A stream with a node at its other end. That a socket is one is what a reader has to believe of the network: bytes come in order, and
 /// none is lost while the connection stands.
-pub trait NodeStream: Stream {
+pub trait WiredStream: Stream {
     /// The other end.
     ghost far: { Self → FarEnd };
 
@@ -16,7 +16,7 @@ pub trait NodeStream: Stream {
     ghost flows: { FlowsTo Self.moved far };
 }
 
-impl<S: NodeStream> WiredPort for BlockPort<S> {
+impl<S: WiredStream> WiredPort for BlockPort<S> {
     ghost wired = { IsWiredTo S.far };
 
     ghost stands = { block-stands S.moved S.far S.flows };
