@@ -85,14 +85,6 @@ impl<H: Drop, M: Drop> CarrierEnds<H, M> {
         self.lanes[usize::from(worker)].hand(client)
     }
 
-    /// A number that grows with each item that is given or handed to this worker, while its lane is open.
-    pub fn given(&self, worker: u16) -> u64 {
-        match self.lanes.get(usize::from(worker)) {
-            Some(lane) => lane.given(),
-            None => 0,
-        }
-    }
-
     /// Nothing more is given to this worker. `None` the second time, or where the worker's end is gone.
     pub fn finish_down(&mut self, worker: u16) -> Option<Note<(Ticket, Told)>>
         requires { worker < length (lanes_of self.old) }

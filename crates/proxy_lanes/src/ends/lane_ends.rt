@@ -62,15 +62,6 @@ impl<H: Drop> LaneEnds<H> {
         }
     }
 
-    /// How many items were put into the lanes to the worker, as far as they can be counted.
-    pub(crate) fn given(&self) -> u64 {
-        let told = match &self.down {
-            Some(outlet) => outlet.posted(),
-            None => 0,
-        };
-        told.saturating_add(self.door.posted())
-    }
-
     pub(crate) fn finish_down(&mut self) -> Option<Note<(Ticket, Told)>>
         ensures { FinishesDown self.old self.new result }
     {
