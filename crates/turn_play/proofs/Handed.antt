@@ -8,7 +8,6 @@ use Rattle.proxy_turns.specs.declared.newcomer.Newcomer.{Newcomer}
 use Rattle.proxy_turns.specs.CarrierModel.{CarrierModel}
 use Rattle.proxy_engine.specs.EngineModel as engine
 use Rattle.proxy_engine.specs.EngineModel.{EngineModel}
-use Rattle.proxy_engine.specs.Events.{EngineKnows}
 use Rattle.proxy_engine.proofs.Beginning.{handed-in-order}
 use Rattle.turn_laws.specs.Wire.{Wire}
 use Rattle.turn_laws.specs.System.{System}
@@ -19,7 +18,7 @@ use Rattle.turn_play.specs.Port.{PortModel, IsEnd}
 use Rattle.turn_play.specs.Turns.{ShowsCarrier, ShowsEngine}
 use Rattle.turn_play.specs.Beside.{AreGivenBeside, MayNowBeside, PlaysRefineBeside, StepBeside}
 use Rattle.turn_play.specs.Playing.{PlayModel}
-use Rattle.turn_play.specs.Handing.{HandsClient, HandsOn, HandedIsSound}
+use Rattle.turn_play.specs.Handing.{HandsClient, HandedIsSound}
 use Rattle.turn_play.proofs.Knowing.{handed-unseen}
 use Rattle.turn_play.proofs.Playing.{Any, PlaysWhere, PlaysWhereBeside, one-is}
 use Rattle.turn_play.proofs.Beside.{beside, reach}

@@ -1,16 +1,12 @@
 -- Engines whose ends know less of each other than those of a play's engine.
-use Rattle.std.proofs.Common.{◌≡◌, ◌∙◌, ℕ, zero, suc, List, [], ◌∷◌, Option, Some, None, Result, refl, sym, ap, subst}
+use Rattle.std.proofs.Common.{◌≡◌, ℕ, zero, suc, List, [], ◌∷◌, Some, Result, refl, sym, subst}
 use Rattle.std.specs.Prelude.{slice_get, slice_set}
-use Rattle.key_split.specs.declared.travel.Ticket.{Ticket}
-use Rattle.key_split.specs.declared.travel.Told.{Told}
-use Rattle.proxy_lanes.specs.declared.ring.Outlet.{Outlet}
 use Rattle.proxy_lanes.specs.declared.ends.lane_ends.LaneEnds.{LaneEnds}
 use Rattle.proxy_lanes.specs.Ends.{ChangesAt, HandsOver}
 use Rattle.proxy_turns.specs.declared.newcomer.Newcomer.{Newcomer}
-use Rattle.proxy_turns.specs.CarrierModel.{CarrierModel}
 use Rattle.proxy_engine.specs.EngineModel.{EngineModel, HandsClient}
 use Rattle.proxy_engine.specs.Events.{EngineKnows}
-use Rattle.proxy_engine.specs.Unseen.{DownKnows, LaneKnows, LanesKnow}
+use Rattle.proxy_engine.specs.Unseen.{LaneKnows, LanesKnow}
 use Rattle.proxy_engine.proofs.Pairs.{nothing-there, some-same}
 use Rattle.proxy_engine.proofs.Unseen.{items-themselves, places-themselves, posts-unseen}
 use Rattle.proxy_engine.proofs.UnseenCarrier.{lane-themselves}

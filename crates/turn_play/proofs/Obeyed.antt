@@ -1,5 +1,5 @@
 -- What each order does is steps of a system.
-use Rattle.std.proofs.Common.{◌≡◌, ◌≤◌, ◌<◌, ◌-◌, inl, inr, ℕ, zero, suc, Bool, List, [], ◌∷◌, Ok, Err, length, take, drop, get_or, refl, sym, ap, subst, arith}
+use Rattle.std.proofs.Common.{◌≡◌, ◌≤◌, ◌<◌, ◌-◌, inl, inr, ℕ, zero, suc, List, [], ◌∷◌, Ok, Err, length, take, drop, get_or, refl, sym, ap, subst, arith}
 use Rattle.std.specs.Prelude.{All, Result}
 use Rattle.std.proofs.lemmas.List.Elements.{All-head, All-tail}
 use Rattle.node_model.specs.Nodes.{ClusterModel}
@@ -30,7 +30,7 @@ use Rattle.turn_play.specs.Port.{IsEnd, IsFresh, IsRead, PortExchanges, any_byte
 use Rattle.turn_play.specs.Turns.{EnginesPlay, IsTurns}
 use Rattle.turn_play.proofs.Beside.{beside, goes-beside, plainly-beside, soundly-beside}
 use Rattle.turn_play.proofs.Theirs.{others-came}
-use Rattle.turn_play.proofs.Playing.{Any, IsServed, PlaysWhere, PlaysWhereBeside, broke, engine-turned, moved, plainly, plays-none, plays-on, plays-soundly, serves, with_carrier}
+use Rattle.turn_play.proofs.Playing.{Any, IsServed, PlaysWhere, PlaysWhereBeside, broke, engine-turned, moved, plainly, plays-none, plays-on, plays-soundly, serves}
 
 -- ---- a step of a move
 

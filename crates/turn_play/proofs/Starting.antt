@@ -19,7 +19,7 @@ use Rattle.proxy_turns.specs.Worker.{new_worker}
 use Rattle.proxy_turns.specs.CarrierModel.{new_carrier}
 use Rattle.proxy_engine.specs.EngineModel.{EngineModel, IsNewEngine}
 use Rattle.proxy_engine.proofs.Beginning.{new-in-order}
-use Rattle.turn_laws.specs.System.{System, between, IsInStep, seat_of}
+use Rattle.turn_laws.specs.System.{between, IsInStep, seat_of}
 use Rattle.turn_laws.specs.Underway.{down_in, DownInStep}
 use Rattle.turn_laws.specs.Refines.{IsStart}
 use Rattle.turn_play.specs.Port.{PortModel}

@@ -1,6 +1,6 @@
 -- An engine's turn is steps of a system that shows it.
 use Rattle.std.proofs.Common.{◌≡◌, ℕ, zero, suc, List, [], ◌∷◌, ◌++◌, Some, refl, sym, ap, ◌∙◌, subst, cond}
-use Rattle.std.specs.Prelude.{All, Option, Result, slice_get, slice_set}
+use Rattle.std.specs.Prelude.{All, Option, slice_get, slice_set}
 use Rattle.std.specs.List.{FoldsTo}
 use Rattle.std.proofs.lemmas.List.Elements.{All-append, All-cons, All-nil}
 use Rattle.std.specs.Ordering.{nat_cmp}
@@ -15,23 +15,20 @@ use Rattle.proxy_lanes.specs.declared.ends.lane_ends.LaneEnds.{LaneEnds}
 use Rattle.proxy_turns.specs.declared.newcomer.Newcomer.{Newcomer}
 use Rattle.proxy_turns.specs.Port.{Moves}
 use Rattle.proxy_turns.specs.WorkerModel.{WorkerModel, WorkerEvent, Did, Finished, Took, FoundNone, Came, TurnedAway, FoundNobody, Left, WorkerDoes}
-use Rattle.proxy_turns.specs.CarrierModel.{CarrierModel, CarrierEvent, CarrierDoes, CarrierGoes}
+use Rattle.proxy_turns.specs.CarrierModel.{CarrierModel, CarrierEvent, CarrierDoes}
 use Rattle.proxy_engine.specs.Along.{HoldsAlong}
-use Rattle.proxy_engine.specs.EngineModel.{EngineModel, EngineTurns, IsInOrder}
-use Rattle.proxy_engine.specs.Events.{IsEventsTo, IsSound, TurnsAreEvents}
-use Rattle.proxy_engine.specs.declared.turned.Turned.{Turned}
-use Rattle.proxy_engine.specs.declared.turned.EngineFault.{EngineFault}
+use Rattle.proxy_engine.specs.EngineModel.{EngineModel, IsInOrder}
+use Rattle.proxy_engine.specs.Events.{IsEventsTo, TurnsAreEvents}
 use Rattle.proxy_engine.proofs.Working.{worker-event}
-use Rattle.world_laws.proofs.Recorded.{set-same}
 use Rattle.turn_laws.specs.Wire.{Wire, Exchanges, Dials}
 use Rattle.turn_laws.specs.System.{System, Mark, IsInStep}
 use Rattle.turn_laws.specs.Underway.{DownInStep}
 use Rattle.turn_laws.specs.Steps.{AtWorker, AtCarrier, IsSeen, UpsInStep, opened_by, seen_at}
 use Rattle.turn_laws.specs.PortsMay.{any_moves, any_failures, any_garbled, any_none}
-use Rattle.turn_laws.specs.AnyPort.{AnyClients, AnyPorts, AreWired, OpensWires, over_wires}
+use Rattle.turn_laws.specs.AnyPort.{AnyClients, AnyPorts, OpensWires, over_wires}
 use Rattle.turn_play.specs.May.{WorkerMay, CarrierMay}
 use Rattle.turn_play.specs.Played.{Step, Leads}
-use Rattle.turn_play.specs.Turns.{EnginesPlay, IsTurns, PlaysBy, PlaysEngine, ShowsCarrier, ShowsEngine}
+use Rattle.turn_play.specs.Turns.{EnginesPlay, IsTurns, PlaysBy, ShowsCarrier}
 use Rattle.turn_play.proofs.Breaking.{broken}
 use Rattle.turn_play.proofs.Numbers.{itself}
 
