@@ -1,4 +1,5 @@
 -- What the calls of a session keep of the parts that are out.
+use Rattle.std.proofs.Common.{refl}
 use Rattle.session_order.specs.Turn.{blocks, waits_for}
 use Rattle.session_order.specs.Kept.{CallsKeep}
 use Rattle.session_order.proofs.Keeping.{blocks_eases, waits_eases, drain_keeps, ended_keeps, ended_over, feed_keeps, follower_keeps, follower_out, read_keeps, ready_keeps, ready_out}
@@ -48,5 +49,10 @@ calls_keep = record {
     out = hung_keeps old new does;
     order = hung_orders old new does;
     parts = hangs_parts old new does;
+  };
+  stop = λ held. record {
+    out = λ ticket out. out;
+    order = λ ticket out. out;
+    parts = record { owner = (refl, refl); out = λ slot number out. out; none_opens = λ slot number less opens. opens };
   };
 }

@@ -9,6 +9,7 @@ pub mod Keeping
 pub mod Told
 pub mod Fewer
 pub mod Quitting
+pub mod Stopping
 pub mod Lifelong
 pub mod Opening
 pub mod Linking

@@ -60,13 +60,13 @@ added_open old new (Ok planned.Close) adds opened =
 quits_same : (r : List (List (List ℕ))) (old new : SessionModel) → (new.closing ≡ Open → old.closing ≡ Open) → Quits r old → Quits (r ++ []) new
 quits_same r old new back (last, none) = rw (append-nil r) (last, λ opened. none (back opened))
 
-said_open : (b : Bool) (closing : Closing) → cond b (said closing) closing ≡ Open → closing ≡ Open
+pub said_open : (b : Bool) (closing : Closing) → cond b (said closing) closing ≡ Open → closing ≡ Open
 said_open true Open is = is
 said_open true Quit is = is
 said_open true (Faulted why owed) is = cc
 said_open false closing is = is
 
-fed_back : (piece : List ℕ) (old : SessionModel) (result : Result ℕ SessionFault) (new : SessionModel) → FeedOutcome old piece result new → new.closing ≡ old.closing
+pub fed_back : (piece : List ℕ) (old : SessionModel) (result : Result ℕ SessionFault) (new : SessionModel) → FeedOutcome old piece result new → new.closing ≡ old.closing
 fed_back piece old (Ok n) new (inl (full, none, is, opened)) = rw is refl
 fed_back piece old (Ok n) new (inr (few, all, inl (opened, is))) = rw is refl
 fed_back piece old (Ok n) new (inr (few, all, inr (quit, is))) = rw is refl
@@ -82,11 +82,11 @@ err_back old NotRequest new (inl (faulted, is)) opened = rw is at opened
 err_back old NotRequest new (inr (inl (may, takes, is))) opened = may.0
 err_back old NotRequest new (inr (inr (may, words, rest, reads, is))) opened = may.0
 
-handed_back : (old : SessionModel) (given : Option (Ticket × PartModel)) (new : SessionModel) → ReadyOutcome old given new → new.closing ≡ old.closing
+pub handed_back : (old : SessionModel) (given : Option (Ticket × PartModel)) (new : SessionModel) → ReadyOutcome old given new → new.closing ≡ old.closing
 handed_back old None new (none, is) = rw is refl
 handed_back old (Some given) new (i, next, numbered, is) = rw is refl
 
-followed_back : (old : SessionModel) (ticket : Ticket) (given : Option (Ticket × PartModel)) (new : SessionModel) → FollowerOutcome old ticket given new → new.closing ≡ old.closing
+pub followed_back : (old : SessionModel) (ticket : Ticket) (given : Option (Ticket × PartModel)) (new : SessionModel) → FollowerOutcome old ticket given new → new.closing ≡ old.closing
 followed_back old ticket None new (none, is) = rw is refl
 followed_back old ticket (Some given) new (j, follows, numbered, is) = rw is refl
 

@@ -11,6 +11,7 @@ use Rattle.session_order.specs.Replies.{DrainOutcome}
 use Rattle.session_order.specs.Steps.{FeedOutcome, ReadOutcome, ReadyOutcome, FollowerOutcome, EndOutcome, IsHandedOut, IsOut, IsOutInOrder, KeepsOut, KeepsOrder}
 use Rattle.session_order.specs.Behind.{IsOutBehind, KeepsParts}
 use Rattle.session_order.specs.HangingUp.{HangsUp}
+use Rattle.session_order.specs.Stopping.{without_reading}
 
 -- What is out stays so, in its order, behind the same parts.
 pub record Keeps (old new : SessionModel) : Type 0 where
@@ -38,3 +39,4 @@ pub record CallsKeep : Type 0 where
   pub drain : (most : ℕ) (old : SessionModel) (before : List ℕ) (result : Result ℕ NoMemory) (new : SessionModel) (after : List ℕ)
       → DrainOutcome most old before result new after → Keeps old new
   pub hang_up : (old new : SessionModel) → HangsUp old new → Keeps old new
+  pub stop : (held : SessionModel) → Keeps held (without_reading held)

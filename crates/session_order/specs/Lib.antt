@@ -17,4 +17,5 @@ pub mod Life
 pub mod DoneParts
 pub mod LettingGo
 pub mod HangingUp
+pub mod Stopping
 pub mod Kept

@@ -21,6 +21,7 @@ pub enum Closing {
 impl Closing {
     ghost use Rattle.std.specs.Prelude.{◌≡◌, if◌then◌else◌};
     ghost use Rattle.session_order.specs.Replies.{last_line, said, lines_owed};
+    ghost use Rattle.session_order.specs.Stopping.{closed};
 
     pub fn owes_line(self) -> bool
         ensures { last_line self ≡ lines_owed result }
@@ -39,6 +40,18 @@ impl Closing {
         match self {
             Closing::Faulted(why, _) if all => Closing::Faulted(why, false),
             other => other,
+        }
+    }
+
+    /// What becomes of it where no more is read.
+    pub fn closed(self) -> Closing
+        ensures closed { result ≡ closed self }
+        ensures open { result ≡ Closing.Open → self ≡ Closing.Open }
+    {
+        match self {
+            Closing::Open => Closing::Quit,
+            Closing::Quit => Closing::Quit,
+            Closing::Faulted(why, owed) => Closing::Faulted(why, owed),
         }
     }
 }

@@ -2,6 +2,7 @@
 
 ghost use Rattle.session_order.specs.Kept.{CallsKeep};
 ghost use Rattle.session_order.specs.Life.{DrainsOutput};
+ghost use Rattle.session_order.specs.Stopping.{StaysClosed};
 
 /// Whatever the calls: what was drained is a front of the output of the requests that were read and the ends that were
 /// told, and all of it after a drain that answered Ok.
@@ -13,4 +14,9 @@ pub fn drains_output()
 /// it tells.
 pub fn calls_keep()
     ensures { CallsKeep }
+{}
+
+/// A session that was told to read no more owes what it owed, and reads no more whatever is called.
+pub fn stays_closed()
+    ensures { StaysClosed }
 {}

@@ -27,7 +27,7 @@ mod texts;
 
 pub use drained::Drained;
 pub use fault::SessionFault;
-pub use laws::{calls_keep, drains_output};
+pub use laws::{calls_keep, drains_output, stays_closed};
 pub use request_kind::{RequestKind, kind_of};
 pub use session::Session;
 pub use texts::{goodbye, protocol_error};

@@ -90,6 +90,7 @@ impl Session {
     ghost use Rattle.session_order.specs.Steps.{FeedOutcome, ReadOutcome, ReadyOutcome, FollowerOutcome, IsHandedOut, EndOutcome, IsFinished, IsOut};
     ghost use Rattle.session_order.specs.Behind.{FollowerPlace, NextInTurn};
     ghost use Rattle.session_order.specs.HangingUp.{HangsUp};
+    ghost use Rattle.session_order.specs.Stopping.{without_reading};
 
     /// A session to which nothing was fed.
     pub fn new(alloc: Global, worker: u16, client: u32, limits: Limits) -> Session
@@ -303,6 +304,13 @@ impl Session {
         let count = self.queue.len();
         keep_one(&mut self.requests, count);
         keep_lost(&mut self.ends, count);
+    }
+
+    /// Reads no more requests, as after QUIT: what was read is answered, and then the session is finished.
+    pub fn stop_reading(&mut self)
+        ensures { self.new ≡ without_reading self.old }
+    {
+        self.closing = self.closing.closed();
     }
 
     /// Whether the session is closed and nothing is left to drain.
