@@ -57,7 +57,7 @@ module _ {X : Type 0} where
   put_by true q k x y other same is = inl (eqb→eq q k (subst T (sym (unsigned_ties q k ∙ same)) tt), sym (some_same x y is))
   put_by false q k x y other same is = inr is
 
-  put_or : (m : FinMap nat_cmp X) (q k : ℕ) (x y : X) → get (insert m k x) q ≡ Some y → ((q ≡ k) × (y ≡ x)) ⊎ (get m q ≡ Some y)
+  pub put_or : (m : FinMap nat_cmp X) (q k : ℕ) (x y : X) → get (insert m k x) q ≡ Some y → ((q ≡ k) × (y ≡ x)) ⊎ (get m q ≡ Some y)
   put_or m q k x y at = put_by (eq_by_cmp nat_cmp q k) q k x y (get m q) refl (sym (get-insert nat_cmp_total m k x q) ∙ at)
 
   left_by : (b : Bool) (y : X) (other : Option X) → cond b None other ≡ Some y → other ≡ Some y
@@ -67,7 +67,7 @@ module _ {X : Type 0} where
   get_none : (m : FinMap nat_cmp X) (k : ℕ) → get (remove m k) k ≡ None
   get_none m k = get-remove nat_cmp_total m k k ∙ ap (λ b. cond b None (get m k)) ((eq_by_cmp_equiv nat_cmp_total).refl k)
 
-  left_of : (m : FinMap nat_cmp X) (q k : ℕ) (y : X) → get (remove m k) q ≡ Some y → get m q ≡ Some y
+  pub left_of : (m : FinMap nat_cmp X) (q k : ℕ) (y : X) → get (remove m k) q ≡ Some y → get m q ≡ Some y
   left_of m q k y at = left_by (eq_by_cmp nat_cmp q k) y (get m q) (sym (get-remove nat_cmp_total m k q) ∙ at)
 
 -- ---- what a step leaves of its command

@@ -6,6 +6,7 @@ pub mod ClientTurn
 pub mod ClientRest
 pub mod ClientState
 pub mod WorkerModel
+pub mod WorkerDrain
 pub mod ClientTable
 pub mod Waiting
 pub mod DueCommands

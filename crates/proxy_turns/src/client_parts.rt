@@ -2,6 +2,7 @@
 
 mod sending;
 mod settling;
+mod stopping;
 mod writing;
 
 ghost use Rattle.std.specs.Prelude.{◌≡◌, ◌↔◌, [], Result, Ok, false, true, IsTrue};

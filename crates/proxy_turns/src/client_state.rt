@@ -58,6 +58,7 @@ impl<C: ClientPort + Drop> ClientState<C> {
     ghost use Rattle.proxy_turns.specs.ClientModel.{IsDone, new_client};
     ghost use Rattle.proxy_turns.specs.ClientRest.{HasNoneToPull, IfStill, IfTurnedStill, IsAsleep, IsClientAtRest};
     ghost use Rattle.proxy_turns.specs.ClientTurn.{at, ClientTurns, FinishOutcome, SettleOutcome, TurnOutcome};
+    ghost use Rattle.proxy_turns.specs.WorkerDrain.{stopped};
 
     pub(crate) fn new(
         alloc: Global,
@@ -188,6 +189,14 @@ impl<C: ClientPort + Drop> ClientState<C> {
         ensures { IsTrue result ↔ IsDone self.now }
     {
         self.parts.is_done()
+    }
+
+    /// Reads no further request of the client. What was read is answered.
+    pub(crate) fn stop_reading(&mut self)
+        ensures { self.new ≡ stopped self.old }
+    {
+        self.rest = Rest::Awake;
+        self.parts.stop_reading();
     }
 
     pub(crate) fn into_port(self) -> C

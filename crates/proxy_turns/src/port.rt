@@ -30,6 +30,9 @@ pub trait ClientPort {
     /// Told after each turn that read requests: how many.
     fn requests_read(&self, _count: usize) {}
 
+    /// Told after each drain of replies: how many requests that were read have none yet, and how many bytes wait to be pushed.
+    fn replies_drained(&self, _unanswered: usize, _bytes: usize) {}
+
     /// Told why what the client sent is no request, at each try to read on.
     fn faulted(&self, _fault: SessionFault) {}
 

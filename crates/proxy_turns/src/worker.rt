@@ -11,6 +11,7 @@ ghost use Rattle.proxy_turns.specs.Waiting.{AreAllLater, IsFirstDue};
 ghost use Rattle.proxy_turns.specs.WorkerModel.{AreAllServed, WorkerTurns};
 ghost use Rattle.proxy_turns.specs.ClientRest.{IfStill};
 ghost use Rattle.proxy_turns.specs.WorkerRest.{IsWorkerAtRest};
+ghost use Rattle.proxy_turns.specs.WorkerDrain.{Drains};
 ghost use Rattle.proxy_turns.specs.Worker.{Gives, HandsBack, IsRunning, PollOutcome, StepOutcome, TellsDue, new_worker, paused_in, worker_model};
 
 use crate::gate::Gate;
@@ -71,6 +72,16 @@ impl<'g, C: ClientPort + Drop, J: Naming, G: Gate> Worker<'g, C, J, G> {
         ensures pauses { IfStill result (AreAllLater (G.tells self.old.gate.now) (paused_in self.new)) }
     {
         self.state.turn(self.gate)
+    }
+
+    /// Takes no further client, and reads no further request of those that it has. What was read is answered, and the worker is
+    /// served once each client is gone.
+    pub fn drain(&mut self)
+        ensures drains { Drains (worker_model self.old) (worker_model self.new) }
+        ensures paused { paused_in self.new ≡ paused_in self.old }
+        ensures runs { IsRunning self.old → IsRunning self.new }
+    {
+        self.state.drain();
     }
 
     /// When the first of the commands that wait is to be posted again, by the gate's time.

@@ -13,6 +13,7 @@ ghost use Rattle.proxy_turns.specs.Waiting.{AreAllLater, IsFirstDue};
 ghost use mathlib.Core.List.{IsPrefix};
 ghost use Rattle.proxy_lanes.specs.Carrier.{lanes_of};
 ghost use Rattle.proxy_turns.specs.Beside.{HasLanes, IsLeft, LookOutcome};
+ghost use Rattle.proxy_turns.specs.WorkerDrain.{Drains};
 
 use crate::client_state::ClientState;
 use crate::client_table::{
@@ -27,6 +28,7 @@ use crate::newcomer::{
 use crate::port::ClientPort;
 use crate::round::Round;
 use crate::shared_room::SharedRoom;
+use crate::stopping::stop_all;
 use crate::turned::{Finish, NextStep, Settled, Turned};
 use crate::uplink::Uplink;
 use crate::worker_end::{WorkerEnd, WorkerOutcome};
@@ -117,6 +119,15 @@ impl<C: ClientPort + Drop, J: Naming> WorkerState<C, J> {
         let settled = self.settle_due(gate)?;
         let served = self.serve_clients(gate)?;
         Ok(came | told | settled | served)
+    }
+
+    /// Takes no further client, and reads no further request of those that it has.
+    pub(crate) fn drain(&mut self)
+        ensures drains { Drains (state_model self.old) (state_model self.new) }
+        ensures due { self.new.due ≡ self.old.due }
+    {
+        self.left = Some(0);
+        stop_all(&mut self.clients);
     }
 
     /// Whether all clients that were to come came, and none is left.

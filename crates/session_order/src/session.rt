@@ -213,6 +213,13 @@ impl Session {
         self.queue.next_place()
     }
 
+    /// How many requests were read whose replies were not drained.
+    pub fn unanswered(&self) -> usize
+        ensures { result ≡ length self.now.requests }
+    {
+        self.requests.len()
+    }
+
     /// How many parts the oldest request has whose reply was not drained.
     pub fn parts_of_oldest(&self) -> usize
         ensures { result ≡ parts_of (take 1 self.now.requests) }

@@ -18,8 +18,17 @@ impl<C: ClientPort + Drop> ClientParts<C> {
         ensures none { IfStill result (WritesNone C.takes_none self.old self.new) }
     {
         let drained = self.drain()?;
+        self.note_drained(drained);
         let pushed = self.push()?;
         Ok(drained | pushed)
+    }
+
+    // Tells the port which replies were drained, where any were.
+    fn note_drained(&self, drained: bool) {
+        if drained {
+            self.port
+                .replies_drained(self.session.unanswered(), self.unpushed.len());
+        }
     }
 
     // Whether the client is there, and takes its bytes. A client that does not read is asked for no more.
