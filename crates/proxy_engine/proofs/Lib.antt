@@ -11,3 +11,4 @@ pub mod Unseen
 pub mod UnseenCarrier
 pub mod Knowing
 pub mod Events
+mod Draining

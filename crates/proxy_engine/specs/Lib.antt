@@ -4,3 +4,4 @@ pub mod Engine
 pub mod Along
 pub mod Unseen
 pub mod Events
+pub mod EngineDrain

@@ -49,6 +49,7 @@ where
     ghost use Rattle.proxy_turns.specs.Swapping.{SwapOutcome};
     ghost use Rattle.proxy_turns.specs.Waiting.{AreAllLater, IsFirstDue};
     ghost use Rattle.proxy_turns.specs.Worker.{HandsBack};
+    ghost use Rattle.proxy_turns.specs.WorkerDrain.{Drains};
     ghost use Rattle.proxy_turns.specs.WorkerModel.{AreAllServed};
     ghost use Rattle.proxy_engine.specs.Engine.{dial_in, engine_model, waiting_in};
     ghost use Rattle.proxy_engine.specs.EngineModel.{CarrierPart, CarrierRests, EngineRests, EngineTurns, HandsClient, IsDrainedOf, IsInOrder, IsNewEngine, LookAfter, Looks, PartEnds, PartRests, WorkerPart, WorkerRests};
@@ -102,6 +103,17 @@ where
             next_due: self.worker.next_due(),
             served: self.worker.is_served(),
         })
+    }
+
+    /// Takes no further client, and reads no further request of those that it has. What was read is answered, and a turn says that all
+    /// clients were served once each of them is gone.
+    pub fn drain(&mut self)
+        ensures worker { Drains (engine_model D.failures self.old).worker (engine_model D.failures self.new).worker }
+        ensures carrier { (engine_model D.failures self.new).carrier ≡ (engine_model D.failures self.old).carrier }
+        ensures in_order { IsInOrder (engine_model D.failures self.old) → IsInOrder (engine_model D.failures self.new) }
+        ensures waiting { waiting_in self.new ≡ waiting_in self.old }
+    {
+        self.worker.drain();
     }
 
     /// Puts another port in place of that of the open link to a node, and gives that one back. Where no link to it is open, the

@@ -1,7 +1,9 @@
 //! What follows of a turn's events. Each law is the contract of a function that does nothing.
 
 ghost use Rattle.proxy_turns.specs.declared.newcomer.Newcomer.{Newcomer};
+ghost use Rattle.proxy_turns.specs.CarrierModel.{CarrierGoes};
 ghost use Rattle.proxy_engine.specs.Along.{CarrierStaysInOrder, WorkerStaysInOrder};
+ghost use Rattle.proxy_engine.specs.EngineDrain.{TurnsStayDraining};
 ghost use Rattle.proxy_engine.specs.Events.{TurnsAreEvents};
 ghost use Rattle.proxy_engine.specs.Unseen.{CarrierDoesUnseen, WorkerDoesUnseen};
 
@@ -25,4 +27,9 @@ pub fn looks_are_unseen<C: ClientPort + Drop, J: Naming, P: RunPort + Drop, D: D
 /// after each of them.
 pub fn turns_are_events<C: ClientPort + Drop, J: Naming, P: RunPort + Drop, D: Dial<Port = P>>()
     ensures { TurnsAreEvents C J C.moves P.failures P.is_garbled P.exchange P.gives_none D.opens P.longest }
+{}
+
+/// An engine that was drained takes no client and reads no request, however often it turns.
+pub fn turns_stay_draining<C: ClientPort + Drop, J: Naming, P: RunPort + Drop, D: Dial<Port = P>>()
+    ensures { TurnsStayDraining {J = J} C.moves (CarrierGoes P.failures P.is_garbled P.exchange P.gives_none D.opens P.longest) }
 {}
