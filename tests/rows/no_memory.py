@@ -9,6 +9,7 @@ REPOSITORY = Path(__file__).resolve().parents[2]
 
 BY_ROWS = {
     "Reader::feed": ("resp_wire", "a_fault_is_answered_from_then_on", "reader feed"),
+    "Reader::feed_from": ("session_order", "mset_then_mget_as_bytes", "session feed"),
     "Reader::next": ("resp_wire", "signs_and_leading_zeros_are_read", "reader next"),
     "write_value": ("resp_wire", "what_is_written_is_canonical", "value write"),
     "NodeTable::intern": ("slot_map", "a_full_table", "table intern"),

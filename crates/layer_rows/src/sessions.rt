@@ -4,7 +4,7 @@ use crate::held::put;
 use crate::notation::{CallFault, Line, Object};
 use key_split::{Ended, Ticket};
 use resp_wire::{Bytes, Limits};
-use session_order::Session;
+use session_order::{Session, SessionFault};
 use std::alloc::Global;
 
 impl Object for Session {
@@ -31,10 +31,21 @@ fn renew(session: &mut Session, line: &mut Line) {
 }
 
 fn feed(session: &mut Session, line: &mut Line) {
+    let alloc = line.alloc;
     if let Some(bytes) = line.bytes() {
-        let fed = session.feed(bytes);
+        let fed = feed_bytes(alloc, session, bytes);
         line.show(fed);
     }
+}
+
+/// Feeds a buffer of these bytes.
+fn feed_bytes(alloc: Global, session: &mut Session, bytes: &[u8]) -> Result<usize, SessionFault> {
+    let mut buffer = Vec::new(alloc);
+    if buffer.extend_from_slice(bytes).is_err() {
+        return Err(SessionFault::NoMemory);
+    }
+    let count = buffer.len();
+    session.feed(&mut buffer, count)
 }
 
 /// Reads requests until none can be read now. Answers `no`, or the fault.

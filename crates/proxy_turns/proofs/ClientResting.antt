@@ -340,10 +340,14 @@ module _ {C : Type 0} (t : ClientModel C) where
         fed = subst (λ u. (u ≡ []) ⊎ TakesNoMore session) (sym same) was.1;
       })
 
-  pub feed_fault : (session : SessionModel) (why : _) → FaultedBy why t.session.closing → session ≡ t.session → FeedsNone t (record t { session = session })
-  feed_fault session why faulted same =
+  pub feed_fault : (session : SessionModel) (unfed : List ℕ) (why : _) → FaultedBy why t.session.closing → session ≡ t.session → unfed ≡ t.unfed
+      → FeedsNone t (record t { session = session; unfed = unfed })
+  feed_fault session unfed why faulted same left =
       let was = fed_fault t.session session t.unfed why faulted same in
-      record { kept = λ i. record t { session = same i }; fed = was.1 }
+      record {
+        kept = λ i. record t { session = same i; unfed = left i };
+        fed = subst (λ u. (u ≡ []) ⊎ TakesNoMore session) (sym left) was.1;
+      }
 
   feed_on : (session : SessionModel) → (TakesNoMore t.session → TakesNoMore session) → HasNoneToFeed t → HasNoneToFeed (record t { session = session })
   feed_on session on (inl none) = inl none

@@ -1,12 +1,13 @@
-//! The bytes of a client on their way: from its port into a buffer, and off the front of it.
+//! The bytes of a client on their way from its port to its session.
 
-ghost use Rattle.std.specs.Prelude.{◌≡◌, ◌≤◌, [], drop, length};
-ghost use Rattle.proxy_turns.specs.ClientModel.{Takings};
-ghost use Rattle.proxy_turns.specs.Port.{MovesNone};
+ghost use Rattle.std.specs.Prelude.{◌≡◌, ◌↔◌, [], IsTrue};
 
 use crate::port::ClientPort;
-use node_link::{Flow, drop_front, free_large};
+use node_link::{Flow, free_large};
 use resp_wire::NoMemory;
+use session_order::{Session, SessionFault};
+use std::alloc::Global;
+use std::marker::Model;
 use std::mem;
 
 /// The fewest bytes that a call asks for.
@@ -22,37 +23,91 @@ pub(crate) fn piece_after(piece: usize, count: usize) -> usize {
     piece.saturating_mul(2).min(LARGEST_PIECE)
 }
 
-/// Asks for `least` bytes or more. The buffer changes hands with them.
-pub(crate) fn pull_into<C: ClientPort>(
-    port: &mut C,
-    unfed: &mut Vec<u8>,
-    piece: &mut Vec<u8>,
-    least: usize,
-) -> Result<Flow, NoMemory>
-    requires { unfed.old.items ≡ [] }
-    ensures takes { Takings C.moves port.old result port.new unfed.new.items }
-    ensures none { MovesNone result → C.gives_none port.new }
-{
-    if piece.len() < least {
-        piece.resize(least, 0)?;
-    }
-    let flow = port.pull(piece.as_mut_slice())?;
-    if let Flow::Bytes(count) = flow {
-        piece.truncate(count);
-        mem::swap(unfed, piece);
-    }
-    Ok(flow)
+/// What was pulled and not fed: the front of a buffer, whose rest is room.
+#[derive(Drop)]
+pub(crate) struct Unfed {
+    buffer: Vec<u8>,
+    count: usize,
 }
 
-/// Drops the first bytes. Where none are left, the buffer goes back.
-pub(crate) fn take_off(unfed: &mut Vec<u8>, count: usize, piece: &mut Vec<u8>)
-    requires { count ≤ length unfed.old.items }
-    ensures { unfed.new.items ≡ drop count unfed.old.items }
-{
-    drop_front(unfed, count);
-    if unfed.is_empty() {
-        piece.clear();
-        mem::swap(unfed, piece);
+impl Model for Unfed {
+    ghost use Rattle.std.specs.Prelude.{List, ℕ, ◌≤◌, length, take};
+
+    ghost Value = { List ℕ };
+
+    ghost view = { λ a. take a.count a.buffer.items };
+
+    ghost invariant = { λ a. a.count ≤ length a.buffer.items };
+}
+
+impl Unfed {
+    ghost use Rattle.session_order.specs.Steps.{FeedOutcome};
+    ghost use Rattle.proxy_turns.specs.ClientModel.{Takings};
+    ghost use Rattle.proxy_turns.specs.ClientTurn.{left_of};
+    ghost use Rattle.proxy_turns.specs.Port.{MovesNone};
+
+    pub(crate) fn new(alloc: Global) -> Unfed
+        ensures { result ≡ [] }
+    {
+        Unfed {
+            buffer: Vec::new(alloc),
+            count: 0,
+        }
+    }
+
+    pub(crate) fn is_empty(&self) -> bool
+        ensures { IsTrue result ↔ (self.now ≡ []) }
+    {
+        self.count == 0
+    }
+
+    /// Asks for `least` bytes or more. The piece changes hands with them.
+    pub(crate) fn pull<C: ClientPort>(
+        &mut self,
+        port: &mut C,
+        piece: &mut Vec<u8>,
+        least: usize,
+    ) -> Result<Flow, NoMemory>
+        requires { self.old ≡ [] }
+        ensures takes { Takings C.moves port.old result port.new self.new }
+        ensures none { MovesNone result → C.gives_none port.new }
+    {
+        if piece.len() < least {
+            piece.resize(least, 0)?;
+        }
+        let flow = port.pull(piece.as_mut_slice())?;
+        if let Flow::Bytes(count) = flow {
+            mem::swap(&mut self.buffer, piece);
+            self.count = count;
+        }
+        Ok(flow)
+    }
+
+    /// Feeds them to the session.
+    pub(crate) fn feed(&mut self, session: &mut Session) -> Result<usize, SessionFault>
+        ensures does { FeedOutcome session.old self.old result session.new }
+        ensures left { self.new ≡ left_of self.old result }
+    {
+        let taken = session.feed(&mut self.buffer, self.count)?;
+        self.count -= taken;
+        Ok(taken)
+    }
+
+    /// Gives the buffer back, where nothing is left in it.
+    pub(crate) fn give_room(&mut self, piece: &mut Vec<u8>)
+        ensures { self.new ≡ self.old }
+    {
+        if self.count == 0 {
+            mem::swap(&mut self.buffer, piece);
+        }
+    }
+
+    /// Drops them, and gives the buffer back.
+    pub(crate) fn let_go(&mut self)
+        ensures { self.new ≡ [] }
+    {
+        self.count = 0;
+        let_go(&mut self.buffer);
     }
 }
 

@@ -7,7 +7,7 @@ mod writing;
 
 ghost use Rattle.std.specs.Prelude.{◌≡◌, ◌↔◌, [], Result, Ok, false, true, IsTrue};
 
-use crate::client_bytes::{SMALLEST_PIECE, let_go, piece_after, pull_into, take_off};
+use crate::client_bytes::{SMALLEST_PIECE, Unfed, piece_after};
 use crate::client_limits::{MAX_ASKED, MAX_READS};
 use crate::commands::Commands;
 use crate::held_replies::HeldReplies;
@@ -30,7 +30,7 @@ pub(crate) struct ClientParts<C: ClientPort + Drop> {
     session: Session,
     commands: Commands,
     // Pulled and not fed to the session.
-    unfed: Vec<u8>,
+    unfed: Unfed,
     // Drained from the session and not pushed.
     unpushed: Unpushed,
     port: C,
@@ -58,7 +58,7 @@ impl<C: ClientPort + Drop> Model for ClientParts<C> {
       port = c.port;
       session = c.session;
       commands = c.commands;
-      unfed = c.unfed.items;
+      unfed = c.unfed;
       unpushed = c.unpushed;
       gone = c.gone;
     } };
@@ -82,7 +82,7 @@ impl<C: ClientPort + Drop> ClientParts<C> {
         ClientParts {
             session: Session::new(alloc, worker, number, limits),
             commands: Commands::new(alloc),
-            unfed: Vec::new(alloc),
+            unfed: Unfed::new(alloc),
             unpushed: Unpushed::new(alloc),
             port,
             gone: false,
@@ -170,6 +170,7 @@ impl<C: ClientPort + Drop> ClientParts<C> {
     {
         let fed = self.feed(&mut room.piece)?;
         let read = self.read_all()?;
+        self.give_room(&mut room.piece);
         let sent = self.send(uplink, room.is_crowded())?;
         let written = self.write()?;
         Ok(fed | read | sent | written)
@@ -235,7 +236,7 @@ impl<C: ClientPort + Drop> ClientParts<C> {
             return Ok(false);
         }
         self.port.owes(!is_idle || !self.commands.is_empty());
-        match pull_into(&mut self.port, &mut self.unfed, piece, self.piece)? {
+        match self.unfed.pull(&mut self.port, piece, self.piece)? {
             Flow::Bytes(count) => {
                 self.piece = piece_after(self.piece, count);
                 self.asked = self.asked.saturating_add(count);
@@ -256,7 +257,7 @@ impl<C: ClientPort + Drop> ClientParts<C> {
     {
         self.gone = true;
         self.session.hang_up();
-        let_go(&mut self.unfed);
+        self.unfed.let_go();
         self.unpushed.let_go();
     }
 
@@ -275,9 +276,9 @@ impl<C: ClientPort + Drop> ClientParts<C> {
         if self.unfed.is_empty() {
             return Ok(false);
         }
-        match self.session.feed(self.unfed.as_slice()) {
+        match self.unfed.feed(&mut self.session) {
             Ok(count) => {
-                take_off(&mut self.unfed, count, piece);
+                self.unfed.give_room(piece);
                 Ok(count > 0)
             }
             Err(SessionFault::NoMemory) => Err(NoMemory),
@@ -306,6 +307,13 @@ impl<C: ClientPort + Drop> ClientParts<C> {
         note_read(&self.port, MAX_READS);
         self.reads_on = true;
         Ok(true)
+    }
+
+    // Gives the room of the requests that were read back.
+    fn give_room(&mut self, piece: &mut Vec<u8>)
+        ensures { self.new ≡ self.old }
+    {
+        self.session.give_room(piece);
     }
 
     fn read(&mut self) -> Result<bool, NoMemory>
