@@ -25,13 +25,13 @@ returns-then-is_empty-clause-none g c = rw (← c.self.view_is) (unfed_none _ (s
 pub returns-in-Err-Wire-clause-none : goal.returns-in-Err-Wire-clause-none
 returns-in-Err-Wire-clause-none g c =
     let done = rw c.in-Err-Wire.field-0-is at c.in-Err-Wire.ensures.does in
-    let left = rw c.in-Err-Wire.field-0-is at c.in-Err-Wire.ensures.left in
+    let left = c.in-Err-Wire.ensures.left in
     rw (← c.self.view_is) (feed_fault _ _ _ _ done.0 done.1 left)
 
 pub returns-in-Err-NotRequest-clause-none : goal.returns-in-Err-NotRequest-clause-none
 returns-in-Err-NotRequest-clause-none g c =
     let done = rw c.in-Err-NotRequest.field-0-is at c.in-Err-NotRequest.ensures.does in
-    let left = rw c.in-Err-NotRequest.field-0-is at c.in-Err-NotRequest.ensures.left in
+    let left = c.in-Err-NotRequest.ensures.left in
     rw (← c.self.view_is) (feed_fault _ _ _ _ done.0 done.1 left)
 
 pub returns-then-is_empty-clause-feeds : goal.returns-then-is_empty-clause-feeds
@@ -45,7 +45,7 @@ invariant_of-self-in-Err-NoMemory g c =
 pub returns-in-Err-NoMemory-clause-feeds : goal.returns-in-Err-NoMemory-clause-feeds
 returns-in-Err-NoMemory-clause-feeds g c = λ outlet view.
     let done = rw c.in-Err-NoMemory.field-0-is at c.in-Err-NoMemory.ensures.does in
-    let left = rw c.in-Err-NoMemory.field-0-is at c.in-Err-NoMemory.ensures.left in
+    let left = c.in-Err-NoMemory.ensures.left in
     rw (← c.self.view_is) (false, fed g.C.ClientPort.moves is_feed _ outlet view (λ result. refl) _ (Err fault.NoMemory) _ _ done left refl)
 
 pub invariant_of-self-in-Err-Wire : goal.invariant_of-self-in-Err-Wire
@@ -56,7 +56,7 @@ invariant_of-self-in-Err-Wire g c =
 pub returns-in-Err-Wire-clause-feeds : goal.returns-in-Err-Wire-clause-feeds
 returns-in-Err-Wire-clause-feeds g c = λ outlet view.
     let done = rw c.in-Err-Wire.field-0-is at c.in-Err-Wire.ensures.does in
-    let left = rw c.in-Err-Wire.field-0-is at c.in-Err-Wire.ensures.left in
+    let left = c.in-Err-Wire.ensures.left in
     rw (← c.self.view_is) (fed g.C.ClientPort.moves is_feed _ outlet view (λ result. refl) _ (Err (fault.Wire _)) _ _ done left refl)
 
 pub invariant_of-self-in-Err-NotRequest : goal.invariant_of-self-in-Err-NotRequest
@@ -67,5 +67,5 @@ invariant_of-self-in-Err-NotRequest g c =
 pub returns-in-Err-NotRequest-clause-feeds : goal.returns-in-Err-NotRequest-clause-feeds
 returns-in-Err-NotRequest-clause-feeds g c = λ outlet view.
     let done = rw c.in-Err-NotRequest.field-0-is at c.in-Err-NotRequest.ensures.does in
-    let left = rw c.in-Err-NotRequest.field-0-is at c.in-Err-NotRequest.ensures.left in
+    let left = c.in-Err-NotRequest.ensures.left in
     rw (← c.self.view_is) (fed g.C.ClientPort.moves is_feed _ outlet view (λ result. refl) _ (Err fault.NotRequest) _ _ done left refl)
