@@ -73,7 +73,10 @@ impl PlayOutside {
 }
 
 /// A play with clients in memory.
-pub type MemoryPlay<'g, J, R> = Play<'g, SharedClient, J, R, Open>;
+#[derive(Drop)]
+pub struct MemoryPlay<'g, J: Naming, R: Wait + Drop> {
+    play: Play<'g, SharedClient, J, R, Open>,
+}
 
 impl<'g, J: Naming, R: Wait + Drop> Begins<'g, Opening<J, R>> for MemoryPlay<'g, J, R> {
     fn begin(
@@ -82,7 +85,7 @@ impl<'g, J: Naming, R: Wait + Drop> Begins<'g, Opening<J, R>> for MemoryPlay<'g,
         opening: Opening<J, R>,
         outside: PlayOutside,
     ) -> Result<MemoryPlay<'g, J, R>, NoMemory> {
-        Play::new(
+        let play = Play::new(
             alloc,
             opening.rt,
             opening.opened,
@@ -90,17 +93,18 @@ impl<'g, J: Naming, R: Wait + Drop> Begins<'g, Opening<J, R>> for MemoryPlay<'g,
             None,
             outside.seeds,
             outside.nodes,
-        )
+        )?;
+        Ok(MemoryPlay { play })
     }
 }
 
 impl<'g, J: Naming, R: Wait + Drop> Plays for MemoryPlay<'g, J, R> {
     fn play(&mut self, cluster: &mut Cluster, orders: &[Order]) -> Result<(), PlayFault> {
-        self.play(cluster, orders)
+        self.play.play(cluster, orders)
     }
 
     fn told(&self) -> &[Told] {
-        self.told()
+        self.play.told()
     }
 }
 
@@ -115,6 +119,6 @@ impl<'g, J: Naming, R: Wait + Drop> Entrance for MemoryPlay<'g, J, R> {
             port,
             front: None,
         };
-        Ok(is_done(self.hand(newcomer)))
+        Ok(is_done(self.play.hand(newcomer)))
     }
 }
