@@ -2,6 +2,7 @@
 
 import contextlib
 import re
+import socket
 import time
 import unittest
 from concurrent.futures import ThreadPoolExecutor
@@ -73,7 +74,7 @@ class Answers(unittest.TestCase):
         self.assertEqual((status, body), (503, b"no slot map was read\n"))
 
     def test_other_paths_and_methods(self):
-        for path in ["/", "/metrics/", "/metric", "/healthz/x", "/drain"]:
+        for path in ["/", "/metrics/", "/metric", "/healthz/x", "/drain/", "/drains"]:
             self.assertEqual(get(self.page, path)[0], 404, path)
             self.assertEqual(get(self.page, path, "POST")[0], 404, path)
         for path in ["/metrics", "/healthz"]:
@@ -158,6 +159,53 @@ class Answers(unittest.TestCase):
             self.assertEqual(get(self.page, "/healthz")[0], 503)
 
 
+class Drains(unittest.TestCase):
+    """An end of the run that the page is asked for."""
+
+    def ended(self, server):
+        """Its status."""
+        return server.wait(PATIENCE)
+
+    def test_what_asks_for_none(self):
+        """Another method than POST, and a number that can't be read."""
+        with paged(free_ports(1)[0]) as (client, page):
+            for method in ["GET", "HEAD", "PUT", "DELETE"]:
+                status, fields, _ = get(page, "/drain", method)
+                self.assertEqual((status, fields["allow"]), (405, "POST"), method)
+            for query in ["?", "?seconds", "?seconds=", "?seconds=x", "?seconds=-1", "?seconds=65536", "?second=1", "?seconds=1&x=y"]:
+                status, _, body = get(page, f"/drain{query}", "POST")
+                self.assertEqual((status, body), (400, b"seconds takes a number from 0 to 65535\n"), query)
+            self.assertEqual(get(page, "/healthz")[2], b"no slot map was read\n")
+            self.assertEqual(heard(client, request("QUIT")), b"+OK\r\n")
+
+    def test_nobody_is_there(self):
+        """It ends at once, with status 0, whatever the time."""
+        for query in ["", "?seconds=0", "?seconds=65535"]:
+            with paged(free_ports(1)[0]) as (_, page):
+                status, _, body = get(page, f"/drain{query}", "POST")
+                self.assertEqual((status, body, self.ended(page[1])), (202, b"draining\n", 0), query)
+
+    def test_clients_are_let_go(self):
+        """A client that is owed nothing sees the end, and none is accepted; health says so until the last one has left."""
+        with nodes() as [(seed, _), *_], paged(seed) as (client, page):
+            with connection(*client) as plain:
+                plain.sendall(request("SET", "a", "1"))
+                self.assertEqual(plain.recv(64), b"+OK\r\n")
+                self.assertEqual(get(page, "/drain", "POST")[0], 202)
+                self.assertEqual(plain.recv(64), b"")
+                self.assertEqual(get(page, "/healthz")[::2], (503, b"draining\n"))
+                with self.assertRaises(ConnectionRefusedError):
+                    socket.create_connection(("127.0.0.1", client[0]), PATIENCE)
+            self.assertEqual(self.ended(page[1]), 0)
+
+    def test_what_does_not_leave_is_cut(self):
+        with paged(free_ports(1)[0]) as (client, page), connection(*client) as plain:
+            plain.sendall(request("PING"))
+            self.assertEqual(plain.recv(64), b"+PONG\r\n")
+            self.assertEqual(get(page, "/drain?seconds=0", "POST")[0], 202)
+            self.assertEqual(self.ended(page[1]), 0)
+
+
 class Figures(unittest.TestCase):
     def test_figures_are_what_clients_counted(self):
         sent = request("SET", "a", "1") + request("MGET", "a", "b", "c") + request("QUIT")
@@ -188,13 +236,16 @@ class Figures(unittest.TestCase):
             until(lambda: get(page, "/healthz")[::2] == (200, b"ok\n"))
 
     def test_times(self):
-        """Each request of a client that waits for each reply is counted, and the buckets rise."""
+        """Each request is counted, of a client that waits for each reply and of one that does not, and the buckets rise."""
         with nodes() as [(seed, _), *_], paged(seed, 1) as (client, page):
             with connection(*client) as plain:
                 for _ in range(20):
                     plain.sendall(request("PING"))
                     self.assertEqual(plain.recv(64), b"+PONG\r\n")
-            until(lambda: samples(page)["cluster_proxy_request_duration_seconds_count"] >= 20)
+                until(lambda: samples(page)["cluster_proxy_request_duration_seconds_count"] == 20)
+                # the last of them has come in part
+                plain.sendall((request("GET", "a") * 100 + request("PING"))[:-1])
+                until(lambda: samples(page)["cluster_proxy_request_duration_seconds_count"] == 120)
             figures = samples(page)
             name = "cluster_proxy_request_duration_seconds"
             buckets = [value for sample, value in figures.items() if sample.startswith(f"{name}_bucket")]

@@ -11,7 +11,7 @@ HINT = b"\n\nUsage: cluster_proxy <COMMAND>\n\nFor more information, try '--help
 
 LOCAL_TAKES = b"error: --workers takes a number from 1 to 64" + HINT
 NODES_TAKES = b"error: --ports takes three ports from 1 to 65535, with a comma between them" + HINT
-SERVE_TAKES = b"error: --listen, --seed and --admin take HOST:PORT with a port from 1 to 65535, and --workers 1 to 64" + HINT
+SERVE_TAKES = b"error: --listen, --seed (up to 16 times) and --admin take HOST:PORT with a port from 1 to 65535, and --workers 1 to 64" + HINT
 
 # What the system says of a port that another program listens on.
 TAKEN = b"Address already in use (os error 98)"
@@ -69,6 +69,13 @@ class Refused(Runs):
             self.check_refused(serving(listen=address), SERVE_TAKES)
             self.check_refused(serving(seed=address), SERVE_TAKES)
             self.check_refused([*serving(), "--admin", address], SERVE_TAKES)
+            self.check_refused([*serving(), "--seed", address], SERVE_TAKES)
+
+    def test_too_many_seeds(self):
+        """Seventeen; and each other option once."""
+        self.check_refused([*serving(), *["--seed", "h:3"] * 16], SERVE_TAKES)
+        for more in [["--listen", "h:3"], ["--workers", "2"], ["--admin", "h:4", "--admin", "h:5"]]:
+            self.check_refused([*serving(), *more])
 
     def test_a_user_without_a_password(self):
         """`serve` alone reads the environment."""
@@ -97,6 +104,14 @@ class Taken(Runs):
         example = written.decode().split("Example:\n")[1].splitlines()[0].split()
         self.assertEqual(example[:2], ["cluster_proxy", "serve"])
         self.assertEqual([it for it in example if it.startswith("--")], ["--listen", "--seed", "--workers"])
+
+    def test_help_has_groups(self):
+        """Each option stands in one of them."""
+        _, written, _ = run(["serve", "--help"])
+        groups = dict(re.findall(r"(?m)^(\w+):\n((?:  .+\n?)+)", written.decode()))
+        options = {name: re.findall(r"(?m)^ {6}(--\w+)", text) for name, text in groups.items()}
+        found = {name: sorted(names) for name, names in options.items() if names}
+        self.assertEqual(found, {"Clients": ["--listen", "--workers"], "Cluster": ["--seed"], "Operation": ["--admin"]})
 
     def test_version(self):
         """The version, and the line of the kit, which the README has too."""
@@ -138,6 +153,13 @@ class Taken(Runs):
             said = b"cluster_proxy: cannot listen on 127.0.0.1:%d: %s\n" % (port, TAKEN)
             self.check_complaint(serving(listen=f"127.0.0.1:{port}"), said)
             self.check_complaint(["nodes", "--ports", f"{port},{port},{port}"], said)
+
+    def test_sixteen_seeds(self):
+        """As many are taken, whatever they are: it goes on to listen."""
+        with socket.create_server(("127.0.0.1", 0)) as taken:
+            port = taken.getsockname()[1]
+            said = b"cluster_proxy: cannot listen on 127.0.0.1:%d: %s\n" % (port, TAKEN)
+            self.check_complaint([*serving(listen=f"127.0.0.1:{port}"), *["--seed", "h:2"] * 15], said)
 
     def test_an_address_of_the_page_that_is_taken(self):
         """It is said before any client is accepted."""

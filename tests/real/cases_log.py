@@ -18,8 +18,8 @@ ASKING, FAILING, FIRST, SECONDS = 50, 200, 10, 8
 class Logged(OwnProxy):
     """A proxy of its own, and the lines that it wrote."""
 
-    def __init__(self, world, seed_port, name, variables=None, workers=2):
-        super().__init__(Proxy(world.room, world.program, seed_port, workers=workers, name=name, variables=variables))
+    def __init__(self, world, seed_port, name, variables=None, workers=2, more_seeds=()):
+        super().__init__(Proxy(world.room, world.program, seed_port, workers=workers, name=name, variables=variables, more_seeds=more_seeds))
         self.path = f"{world.room.folder}/{self.proxy.name}.log"
 
     def lines(self, event=""):

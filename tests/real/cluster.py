@@ -291,19 +291,22 @@ class Cluster:
 
 
 class Proxy:
-    """The program before a seed."""
+    """The program before a seed, or more of them."""
 
-    def __init__(self, room, program, seed_port, workers=2, name="proxy", variables=None, descriptors=None, paged=False):
-        self.room, self.program, self.seed_port, self.workers, self.name = room, program, seed_port, workers, room.name(name)
+    def __init__(self, room, program, seed_port, workers=2, name="proxy", variables=None, descriptors=None, paged=False, more_seeds=()):
+        self.room, self.program, self.seeds, self.workers, self.name = room, program, [seed_port, *more_seeds], workers, room.name(name)
         self.variables, self.limit, self.paged = variables, descriptors, paged
         self.start()
 
-    def start(self):
-        self.port = free_ports(1)[0]
-        words = [self.program, "serve", "--listen", f"127.0.0.1:{self.port}", "--seed", f"127.0.0.1:{self.seed_port}"]
+    def start(self, again=False):
+        """Starts it, at another port than before but where it is the same one `again`."""
+        if not again:
+            self.port, self.admin = free_ports(1)[0], free_ports(1)[0] if self.paged else None
+        words = [self.program, "serve", "--listen", f"127.0.0.1:{self.port}"]
+        for it in self.seeds:
+            words += ["--seed", f"127.0.0.1:{it}"]
         limited = ["sh", "-c", f'ulimit -n {self.limit}; exec "$@"', "sh"] if self.limit else []
         if self.paged:
-            self.admin = free_ports(1)[0]
             words += ["--admin", f"127.0.0.1:{self.admin}"]
         self.process = self.room.start([*limited, *words, "--workers", str(self.workers)], f"{self.name}.log", self.variables)
         wait_until(lambda: self.has_ended() or does_answer(self.port), f"{self.name} to answer")

@@ -21,6 +21,8 @@ import cases_faults
 import cases_orders
 import cases_others
 import cases_starts
+import cases_ends
+import cases_seeds
 import cases_scripted
 import cases_blocks
 import cases_idle

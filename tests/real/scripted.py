@@ -110,12 +110,13 @@ class ScriptedNode:
             return [words for _, words in self.seen]
 
     def close(self):
-        self.listener.close()
-        for connection in self.open:
+        # a listener that is only closed takes one more connection, since a thread waits at it
+        for it in [self.listener, *self.open]:
             try:
-                connection.shutdown(socket.SHUT_RDWR)
+                it.shutdown(socket.SHUT_RDWR)
             except OSError:
                 pass
+        self.listener.close()
 
 
 class DeafNode:

@@ -1,2 +1,3 @@
 mod Ended
 mod Texts
+mod Seconds

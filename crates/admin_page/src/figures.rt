@@ -98,4 +98,6 @@ pub struct Figures<'a> {
     pub times: &'a Times,
     /// A slot map was read.
     pub has_map: bool,
+    /// The run comes to its end: no client is taken any more.
+    pub is_draining: bool,
 }

@@ -2,7 +2,7 @@
 
 ghost use Rattle.std.specs.Prelude.{◌≡◌, ◌++◌, IfOk, OnOk};
 ghost use Rattle.std.specs.List.{flat_map, list_any};
-ghost use Rattle.admin_page.specs.Health.{health_text, is_healthy, is_missing, missing_line};
+ghost use Rattle.admin_page.specs.Health.{cluster_text, health_text, is_healthy, is_missing, is_ready, missing_line};
 
 use crate::figures::{Figures, NodeFigures};
 use std::alloc::{AllocError, Global};
@@ -23,6 +23,13 @@ impl Figures<'_> {
     {
         self.has_map && !is_any_missing(self.nodes)
     }
+
+    /// Whether that is so, and the run does not come to its end.
+    pub fn is_ready(&self) -> bool
+        ensures { result ≡ is_ready self.now.is_draining self.now.has_map self.now.nodes.now }
+    {
+        !self.is_draining && self.is_healthy()
+    }
 }
 
 fn is_any_missing(nodes: &[NodeFigures]) -> bool
@@ -31,9 +38,9 @@ fn is_any_missing(nodes: &[NodeFigures]) -> bool
     nodes.iter().any(|node| node.is_missing())
 }
 
-/// What the health page says: that all is well, or a line for each thing that is not.
+/// What the health page says: that the run comes to its end, that all is well, or a line for each thing that is not.
 pub fn health_text(alloc: Global, figures: &Figures<'_>) -> Result<Vec<u8>, AllocError>
-    ensures { IfOk result (λ text. text.items ≡ health_text figures.now.has_map figures.now.nodes.now) }
+    ensures { IfOk result (λ text. text.items ≡ health_text figures.now.is_draining figures.now.has_map figures.now.nodes.now) }
 {
     let mut text = Vec::new(alloc);
     push_health(&mut text, figures)?;
@@ -41,7 +48,16 @@ pub fn health_text(alloc: Global, figures: &Figures<'_>) -> Result<Vec<u8>, Allo
 }
 
 fn push_health(text: &mut Vec<u8>, figures: &Figures<'_>) -> Result<(), AllocError>
-    ensures { OnOk result (text.new.items ≡ text.old.items ++ health_text figures.now.has_map figures.now.nodes.now) }
+    ensures { OnOk result (text.new.items ≡ text.old.items ++ health_text figures.now.is_draining figures.now.has_map figures.now.nodes.now) }
+{
+    if figures.is_draining {
+        return text.extend_from_slice(b"draining\n");
+    }
+    push_cluster(text, figures)
+}
+
+fn push_cluster(text: &mut Vec<u8>, figures: &Figures<'_>) -> Result<(), AllocError>
+    ensures { OnOk result (text.new.items ≡ text.old.items ++ cluster_text figures.now.has_map figures.now.nodes.now) }
 {
     if figures.is_healthy() {
         return text.extend_from_slice(b"ok\n");

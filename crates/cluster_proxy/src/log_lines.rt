@@ -2,36 +2,44 @@
 
 use crate::descriptors::descriptor_limit;
 use event_log::{ErrorStream, Line, utc_text};
-use program_words::{Serving, VERSION};
+use program_words::{Address, Serving, VERSION};
 use proxy_runtime::WireRunFault;
 use std::alloc::{AllocError, Global};
 use std::fmt::Display;
 use std::time::Clock;
 
 /// Logs that clients are served, and with what.
-pub fn log_start<R: Clock>(rt: &R, alloc: Global, serving: Serving<'_>, log: &ErrorStream) {
+pub fn log_start<R: Clock>(rt: &R, alloc: Global, serving: &Serving<'_>, log: &ErrorStream) {
     if let Ok(line) = start_line(rt, alloc, serving) {
         log.write_line(line);
     }
 }
 
-fn start_line<R: Clock>(rt: &R, alloc: Global, serving: Serving<'_>) -> Result<Line, AllocError> {
-    let Serving {
-        listen,
-        seed,
-        workers,
-        admin,
-    } = serving;
+fn start_line<R: Clock>(rt: &R, alloc: Global, serving: &Serving<'_>) -> Result<Line, AllocError> {
     let line = new_line(rt, alloc, "info", "started")?;
     let line = line.pair("version", VERSION.as_bytes())?;
-    let line = with_pair(alloc, line, "listen", &listen)?;
-    let line = with_pair(alloc, line, "seed", &seed)?;
-    let line = with_pair(alloc, line, "workers", &workers)?;
+    let line = with_pair(alloc, line, "listen", &serving.listen)?;
+    let seeds = seeds_text(alloc, serving.seeds.as_slice())?;
+    let line = line.pair("seed", seeds.as_bytes())?;
+    let line = with_pair(alloc, line, "workers", &serving.workers)?;
     let line = with_pair(alloc, line, "descriptors", &descriptor_limit().unwrap_or(0))?;
-    match admin {
-        Some(at) => with_pair(alloc, line, "admin", &at),
+    match &serving.admin {
+        Some(at) => with_pair(alloc, line, "admin", at),
         None => Ok(line),
     }
+}
+
+/// The seeds, with commas between them.
+fn seeds_text(alloc: Global, seeds: &[Address<'_>]) -> Result<String, AllocError> {
+    let mut text = String::new(alloc);
+    for seed in seeds {
+        if !text.is_empty() {
+            text.push_str(",")?;
+        }
+        let shown = format!(in alloc; "{seed}")?;
+        text.push_str(shown.as_str())?;
+    }
+    Ok(text)
 }
 
 /// A line of this moment.

@@ -6,8 +6,10 @@ use event_log::ErrorStream;
 use node_dial::Credentials;
 use program_words::{Address, Serving, VERSION};
 use proxy_runtime::WireRunFault;
+use resp_wire::NoMemory;
+use slot_map::NodeTable;
 use socket_proxy::{Admin, Proxy, listen, run_wire};
-use std::alloc::AllocGlobal;
+use std::alloc::{AllocGlobal, Global};
 use std::fs::File;
 use std::net::{Net, TcpListener, TcpStream};
 use std::random::RandomSource;
@@ -32,7 +34,7 @@ pub enum ServeFault<'a> {
     Run(WireRunFault),
 }
 
-/// Runs the proxy, without end, which names itself to the nodes so, and logs to this stream.
+/// Runs the proxy until it is drained, which names itself to the nodes so, and logs to this stream.
 pub fn serve_clients<'a, R>(
     rt: &R,
     serving: Serving<'a>,
@@ -52,23 +54,20 @@ where
         + Sync
         + 'static,
 {
-    let Serving {
-        listen: at,
-        seed,
-        workers,
-        admin,
-    } = serving;
+    let at = serving.listen;
     let listener = match listen(rt, at.host, at.port) {
         Ok(listener) => listener,
         Err(error) => return Err(ServeFault::Listen(at, error)),
     };
-    let admin = listen_admin(rt, admin)?;
-    log_start(rt, rt.alloc(), serving, log);
+    let admin = listen_admin(rt, serving.admin)?;
+    let Ok(seeds) = seed_table(rt.alloc(), serving.seeds.as_slice()) else {
+        return Err(ServeFault::Run(WireRunFault::NoMemory));
+    };
+    log_start(rt, rt.alloc(), &serving, log);
     let proxy = Proxy {
         listener,
-        host: seed.host.as_bytes(),
-        port: seed.port,
-        workers,
+        seeds: &seeds,
+        workers: serving.workers,
         clients: None,
         descriptors: descriptor_limit(),
         credentials,
@@ -80,6 +79,17 @@ where
         Ok(()) => Ok(()),
         Err(fault) => Err(ServeFault::Run(fault)),
     }
+}
+
+/// The table of these seeds.
+fn seed_table(alloc: Global, seeds: &[Address<'_>]) -> Result<NodeTable, NoMemory> {
+    let mut table = NodeTable::new(alloc);
+    for seed in seeds {
+        if table.intern(seed.host.as_bytes(), seed.port).is_err() {
+            return Err(NoMemory);
+        }
+    }
+    Ok(table)
 }
 
 /// Where the page is asked for, at this address, where there is one.

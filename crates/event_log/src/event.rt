@@ -96,6 +96,11 @@ pub enum Event {
     ProtocolError(SocketAddr, SessionFault),
     /// A client was closed whose unfinished request had this number of bytes.
     UnfinishedRequest(SocketAddr, u64),
+    /// No client is taken any more, and no further request is read, while so many clients are there. They are cut after this number
+    /// of seconds.
+    DrainBegun(u64, u64),
+    /// All clients are gone, or so many were cut.
+    Drained(u64),
 }
 
 impl Drop for Event {
@@ -108,7 +113,9 @@ impl Drop for Event {
             Event::ClientRefused(_)
             | Event::ClientsFull(_)
             | Event::ProtocolError(_, _)
-            | Event::UnfinishedRequest(_, _) => {}
+            | Event::UnfinishedRequest(_, _)
+            | Event::DrainBegun(_, _)
+            | Event::Drained(_) => {}
         }
     }
 }
@@ -134,7 +141,11 @@ const UNFINISHED_REQUESTS: usize = 2;
 
 const CLIENTS_FULL: usize = 3;
 
-const LINKS_OPENED: usize = 4;
+const DRAIN_BEGUN: usize = 4;
+
+const DRAINED: usize = 5;
+
+const LINKS_OPENED: usize = 6;
 
 const LINKS_LOST: usize = LINKS_OPENED + NODES;
 
@@ -155,7 +166,9 @@ impl Event {
             Event::ClientRefused(_)
             | Event::ClientsFull(_)
             | Event::ProtocolError(..)
-            | Event::UnfinishedRequest(..) => None,
+            | Event::UnfinishedRequest(..)
+            | Event::DrainBegun(..)
+            | Event::Drained(_) => None,
         }
     }
 
@@ -166,6 +179,8 @@ impl Event {
             Event::ProtocolError(..) => PROTOCOL_ERRORS,
             Event::UnfinishedRequest(..) => UNFINISHED_REQUESTS,
             Event::ClientsFull(_) => CLIENTS_FULL,
+            Event::DrainBegun(..) => DRAIN_BEGUN,
+            Event::Drained(_) => DRAINED,
             Event::LinkOpened(_) => LINKS_OPENED.saturating_add(node),
             Event::LinkLost(..) => LINKS_LOST.saturating_add(node),
             Event::DialFailed(..) => DIALS_FAILED.saturating_add(node),
@@ -173,30 +188,34 @@ impl Event {
         }
     }
 
-    fn name(&self) -> &'static str {
+    /// The name of its kind, where the nodes of the numbers below `seeds` are the seeds.
+    fn name(&self, seeds: usize) -> &'static str {
         match self {
             Event::LinkOpened(_) => "link_opened",
             Event::LinkLost(..) => "link_lost",
-            Event::DialFailed(node, _) if node.number == 0 => "seed_unreachable",
+            Event::DialFailed(node, _) if usize::from(node.number) < seeds => "seed_unreachable",
             Event::DialFailed(..) => "dial_failed",
             Event::SlotsTold(..) => "slot_map_renewed",
             Event::ClientRefused(_) => "client_refused",
             Event::ClientsFull(_) => "clients_full",
             Event::ProtocolError(..) => "protocol_error",
             Event::UnfinishedRequest(..) => "unfinished_request",
+            Event::DrainBegun(..) => "drain_begun",
+            Event::Drained(_) => "drained",
         }
     }
 
     fn level(&self) -> &'static str {
         match self {
-            Event::LinkOpened(_) | Event::SlotsTold(..) => "info",
+            Event::LinkOpened(_) | Event::SlotsTold(..) | Event::DrainBegun(..) => "info",
+            Event::Drained(0) => "info",
             _ => "warn",
         }
     }
 
     /// The event's line, without the count of those that were left out.
-    pub(crate) fn line(&self, alloc: Global, time: &str) -> Result<Line, AllocError> {
-        let line = Line::new(alloc, time.as_bytes(), self.level(), self.name())?;
+    pub(crate) fn line(&self, alloc: Global, time: &str, seeds: usize) -> Result<Line, AllocError> {
+        let line = Line::new(alloc, time.as_bytes(), self.level(), self.name(seeds))?;
         match self {
             Event::LinkOpened(node) => line.pair("node", node.address.as_bytes()),
             Event::LinkLost(node, reason) | Event::DialFailed(node, reason) => {
@@ -217,6 +236,11 @@ impl Event {
                 let line = pair_shown(alloc, line, "client", client)?;
                 pair_shown(alloc, line, "bytes", bytes)
             }
+            Event::DrainBegun(clients, seconds) => {
+                let line = pair_shown(alloc, line, "clients", clients)?;
+                pair_shown(alloc, line, "seconds", seconds)
+            }
+            Event::Drained(clients) => pair_shown(alloc, line, "clients_cut", clients),
         }
     }
 }

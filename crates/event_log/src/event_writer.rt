@@ -22,10 +22,16 @@ pub(crate) struct EventWriter<'a> {
     stream: &'a ErrorStream,
     limits: Vec<RateLimit>,
     nodes: NodePlaces,
+    /// The nodes of the numbers below it are the seeds.
+    seeds: usize,
 }
 
 impl<'a> EventWriter<'a> {
-    pub(crate) fn new(alloc: Global, stream: &'a ErrorStream) -> Result<EventWriter<'a>, NoMemory> {
+    pub(crate) fn new(
+        alloc: Global,
+        stream: &'a ErrorStream,
+        seeds: usize,
+    ) -> Result<EventWriter<'a>, NoMemory> {
         let mut limits = Vec::with_capacity(alloc, EVENT_LIMITS)?;
         for _ in 0..EVENT_LIMITS {
             limits.push(RateLimit::new())?;
@@ -35,6 +41,7 @@ impl<'a> EventWriter<'a> {
             stream,
             limits,
             nodes: NodePlaces::new(alloc)?,
+            seeds,
         })
     }
 
@@ -77,7 +84,7 @@ impl<'a> EventWriter<'a> {
         left_out: u64,
     ) -> Result<Line, AllocError> {
         let time = utc_text(rt, self.alloc)?;
-        let line = event.line(self.alloc, &time)?;
+        let line = event.line(self.alloc, &time, self.seeds)?;
         if left_out == 0 {
             return Ok(line);
         }

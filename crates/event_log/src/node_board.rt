@@ -68,7 +68,9 @@ impl NodeBoard {
             Event::ClientRefused(_)
             | Event::ClientsFull(_)
             | Event::ProtocolError(_, _)
-            | Event::UnfinishedRequest(_, _) => {}
+            | Event::UnfinishedRequest(_, _)
+            | Event::DrainBegun(_, _)
+            | Event::Drained(_) => {}
         }
     }
 

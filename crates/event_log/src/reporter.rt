@@ -43,17 +43,18 @@ impl Drop for Reporter<'_> {
 }
 
 impl<'a> Reporter<'a> {
-    /// Writes what these threads report to the stream.
+    /// Writes what these threads report to the stream. The nodes of the numbers below `seeds` are named as seeds.
     pub fn new(
         alloc: Global,
         stream: &'a ErrorStream,
         threads: Vec<Arc<ThreadReport, Global>>,
+        seeds: usize,
     ) -> Result<Reporter<'a>, NoMemory> {
         Ok(Reporter {
             alloc,
             stream,
             threads,
-            events: EventWriter::new(alloc, stream)?,
+            events: EventWriter::new(alloc, stream, seeds)?,
             figures_due: 0,
             written: [0; FIGURES],
         })

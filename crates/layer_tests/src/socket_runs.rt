@@ -2,13 +2,13 @@
 //!
 //! In one of them the nodes run in a thread of their own, and the proxy before them in that of the test.
 
-ghost use Rattle.std.specs.Prelude.{◌≡◌, IsTrue};
-ghost use Rattle.resp_wire.specs.Text.{is_one_line};
+ghost use Rattle.std.specs.Prelude.{◌≡◌};
 
 use event_log::ErrorStream;
 use local_cluster::{LocalState, three_nodes};
 use mio::net;
 use node_server::run_nodes;
+use slot_map::NodeTable;
 use socket_proxy::{Proxy, listen, run_wire};
 use std::alloc::{AllocGlobal, Global};
 use std::io::{Read, Write};
@@ -47,20 +47,18 @@ fn hears(alloc: Global, stream: &mut TcpStream, wanted: &[u8]) -> bool {
 }
 
 /// A proxy with so many workers that ends once `clients` clients have come and gone.
-fn proxy(
+fn proxy<'a>(
     listener: net::TcpListener,
-    seed: u16,
+    seeds: &'a NodeTable,
     workers: u16,
     clients: u32,
-    log: &ErrorStream,
-) -> Proxy<'_>
-    ensures workers { result.workers ≡ workers }
-    ensures host { IsTrue (is_one_line result.host.now) }
+    log: &'a ErrorStream,
+) -> Proxy<'a>
+    ensures { result.workers ≡ workers }
 {
     Proxy {
         listener,
-        host: b"127.0.0.1",
-        port: seed,
+        seeds,
         workers,
         clients: Some(clients),
         descriptors: None,
@@ -72,10 +70,11 @@ fn proxy(
 #[test]
 fn a_run_for_no_client_ends_at_once(rt: HostRuntime) -> Result<(), Fail> {
     let listener = listen(&rt, "127.0.0.1", 0)?;
+    let seeds = table_at(rt.alloc(), &[1])?;
     run_wire(
         &rt,
         rt.alloc(),
-        proxy(listener, 1, 2, 0, &ErrorStream::new(None)),
+        proxy(listener, &seeds, 2, 0, &ErrorStream::new(None)),
         None,
     )?;
     Ok(())
@@ -96,10 +95,11 @@ fn clients_that_leave_early_are_counted(rt: HostRuntime) -> Result<(), Fail> {
     drop(client(&rt, port, CUT).ok_or("a client")?);
     let mut staying = client(&rt, port, GET).ok_or("a client")?;
     drop(client(&rt, port, CUT).ok_or("a client")?);
+    let seeds = table_at(rt.alloc(), &[seed])?;
     run_wire(
         &rt,
         rt.alloc(),
-        proxy(listener, seed, 4, 3, &ErrorStream::new(None)),
+        proxy(listener, &seeds, 4, 3, &ErrorStream::new(None)),
         None,
     )?;
     let wanted = b"-ERR proxy: gave up, not executed\r\n+OK\r\n";
@@ -208,10 +208,11 @@ fn nodes_and_a_proxy_in_one_process(rt: HostRuntime) -> Result<(), Fail> {
     let nodes = start_nodes(&rt, listeners, ports)?;
     let listener = listen(&rt, "127.0.0.1", 0)?;
     let mut asking = client(&rt, listener.local_addr()?.port(), SET_GET).ok_or("a client")?;
+    let seeds = table_at(rt.alloc(), &[seed])?;
     run_wire(
         &rt,
         rt.alloc(),
-        proxy(listener, seed, 1, 1, &ErrorStream::new(None)),
+        proxy(listener, &seeds, 1, 1, &ErrorStream::new(None)),
         None,
     )?;
     assert!(rt; nodes.join(&rt));

@@ -1,2 +1,3 @@
 mod Colon
 mod Comma
+mod Addresses

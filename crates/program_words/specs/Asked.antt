@@ -38,19 +38,28 @@ abbrev pub optional_address : Option (List ℕ) → Option (Option Endpoint)
 optional_address None = Some None
 optional_address (Some text) = option_map Some (address_in text)
 
--- where the proxy listens, a node of its cluster, how many workers it has, and where its page is, if it has one
+-- the addresses that texts name, where each names one
+abbrev pub addresses_in : List (List ℕ) → Option (List Endpoint)
+addresses_in [] = Some []
+addresses_in (text ∷ texts) = option_and_then (λ at. option_map (λ others. at ∷ others) (addresses_in texts)) (address_in text)
+
+-- one to sixteen of them
+abbrev pub seeds_in : List (List ℕ) → Option (List Endpoint)
+seeds_in texts = if nat_le 1 (length texts) && nat_le (length texts) 16 then addresses_in texts else None
+
+-- where the proxy listens, nodes of its cluster, how many workers it has, and where its page is, if it has one
 pub record Asked : Type 0 where
   pub listen : Endpoint
-  pub seed : Endpoint
+  pub seeds : List Endpoint
   pub workers : ℕ
   pub admin : Option Endpoint
 
-abbrev pub asked : Option Endpoint → Option Endpoint → Option ℕ → Option (Option Endpoint) → Option Asked
-asked (Some listen) (Some seed) (Some workers) (Some admin) = Some (record { listen = listen; seed = seed; workers = workers; admin = admin })
+abbrev pub asked : Option Endpoint → Option (List Endpoint) → Option ℕ → Option (Option Endpoint) → Option Asked
+asked (Some listen) (Some seeds) (Some workers) (Some admin) = Some (record { listen = listen; seeds = seeds; workers = workers; admin = admin })
 asked _ _ _ _ = None
 
--- the words of `serve`, each by its name: 1 to 64 workers
-abbrev pub serving_in : (List ℕ → Option (List ℕ)) → Option Asked
-serving_in word =
-    asked (option_and_then address_in (word (codes "listen"))) (option_and_then address_in (word (codes "seed")))
+-- the words of `serve`, each by its name, of which the seeds are more than one: 1 to 64 workers
+abbrev pub serving_in : (List ℕ → Option (List ℕ)) → (List ℕ → Option (List (List ℕ))) → Option Asked
+serving_in word words =
+    asked (option_and_then address_in (word (codes "listen"))) (option_and_then seeds_in (words (codes "seed")))
     (option_and_then (number_within 1 64) (word (codes "workers"))) (optional_address (word (codes "admin")))

@@ -9,7 +9,7 @@ use clap::{ArgMatches, Command, Error};
 use std::alloc::{AllocError, Global};
 
 /// One run of the program.
-#[derive(Clone, Copy)]
+#[derive(Drop)]
 pub enum Choice<'a> {
     /// Answers the first request of standard input from an empty store.
     One,
@@ -32,7 +32,7 @@ const WORKERS_WANTED: &str = "--workers takes a number from 1 to 64";
 const PORTS_WANTED: &str = "--ports takes three ports from 1 to 65535, with a comma between them";
 /// What `serve` takes.
 const SERVING_WANTED: &str =
-    "--listen, --seed and --admin take HOST:PORT with a port from 1 to 65535, and --workers 1 to 64";
+    "--listen, --seed (up to 16 times) and --admin take HOST:PORT with a port from 1 to 65535, and --workers 1 to 64";
 
 /// What follows the program's name. (clap refuses words without a subcommand by itself.)
 const SUBCOMMAND_WANTED: &str = "a subcommand is asked for";
@@ -78,18 +78,21 @@ fn program<'a>(alloc: Global) -> Command<'a> {
 /// help that was asked for.
 pub fn choose<'a>(alloc: Global, words: &'a [String]) -> Result<Choice<'a>, Error> {
     let matches = command(alloc)?.try_get_matches_from(words)?;
-    or_refuse(alloc, chosen(&matches))
+    or_refuse(alloc, chosen(alloc, &matches)?)
 }
 
 /// The run that the words of a subcommand ask for, or what is taken in their place.
-fn chosen<'a>(matches: &ArgMatches<'a>) -> Result<Choice<'a>, &'static str> {
+fn chosen<'a>(
+    alloc: Global,
+    matches: &ArgMatches<'a>,
+) -> Result<Result<Choice<'a>, &'static str>, AllocError> {
     match matches.subcommand() {
-        Some(("one", _)) => Ok(Choice::One),
-        Some(("simulate", _)) => Ok(Choice::Simulate),
-        Some(("local", words)) => local_in(words),
-        Some(("nodes", words)) => nodes_in(words),
-        Some(("serve", words)) => serve_in(words),
-        _ => Err(SUBCOMMAND_WANTED),
+        Some(("one", _)) => Ok(Ok(Choice::One)),
+        Some(("simulate", _)) => Ok(Ok(Choice::Simulate)),
+        Some(("local", words)) => Ok(local_in(words)),
+        Some(("nodes", words)) => Ok(nodes_in(words)),
+        Some(("serve", words)) => serve_in(alloc, words),
+        _ => Ok(Err(SUBCOMMAND_WANTED)),
     }
 }
 
@@ -107,10 +110,13 @@ fn nodes_in<'a>(words: &ArgMatches<'_>) -> Result<Choice<'a>, &'static str> {
     }
 }
 
-fn serve_in<'a>(words: &ArgMatches<'a>) -> Result<Choice<'a>, &'static str> {
-    match serving_of(words) {
-        Some(serving) => Ok(Choice::Serve(serving)),
-        None => Err(SERVING_WANTED),
+fn serve_in<'a>(
+    alloc: Global,
+    words: &ArgMatches<'a>,
+) -> Result<Result<Choice<'a>, &'static str>, AllocError> {
+    match serving_of(alloc, words)? {
+        Some(serving) => Ok(Ok(Choice::Serve(serving))),
+        None => Ok(Err(SERVING_WANTED)),
     }
 }
 

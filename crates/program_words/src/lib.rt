@@ -16,6 +16,7 @@ mod choice;
 mod local;
 mod number;
 mod ports;
+mod seeds;
 mod serving;
 mod subcommand;
 

@@ -25,7 +25,9 @@ pub(crate) const LOCAL: Subcommand = Subcommand {
         name: "workers",
         value_name: "N",
         help: "Threads that serve clients, 1 to 64",
+        heading: None,
         required: true,
+        repeats: false,
     }],
 };
 

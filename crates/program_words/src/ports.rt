@@ -20,7 +20,9 @@ pub(crate) const NODES: Subcommand = Subcommand {
         name: "ports",
         value_name: "A,B,C",
         help: "Ports of the three nodes",
+        heading: None,
         required: true,
+        repeats: false,
     }],
 };
 

@@ -1,20 +1,24 @@
-//! `serve`: an address, a node of the cluster, a number of workers, and an address for the page of figures.
+//! `serve`: an address, nodes of the cluster, a number of workers, and an address for the page of figures.
 
-ghost use Rattle.std.specs.Prelude.{◌≡◌, ◌<◌, ◌≤◌, None, Some, MatchOption, codes, option_and_then};
+ghost use Rattle.std.specs.Prelude.{◌≡◌, ◌<◌, ◌≤◌, IfOk, None, Some, MatchOption, codes, option_and_then};
 ghost use Rattle.std.specs.Option.{option_map};
-ghost use Rattle.clap.specs.Matches.{first_value, found_of};
-ghost use Rattle.program_words.specs.Asked.{address_in, optional_address, serving_in};
+ghost use Rattle.clap.specs.Matches.{first_value, found_of, matched_of, raw_values};
+ghost use Rattle.node_link.specs.Line.{number_within};
+ghost use Rattle.program_words.specs.Asked.{address_in, asked, optional_address, serving_in};
+ghost use Rattle.program_words.specs.Endpoints.{endpoints_of};
 
 use crate::address::{Address, address_of};
 use crate::number::workers_in;
+use crate::seeds::seeds_in;
 use crate::subcommand::{Setting, Subcommand};
 use clap::ArgMatches;
+use std::alloc::{AllocError, Global};
 
-/// Where the proxy listens, a node of its cluster, how many workers it has, and where its page is, if it has one.
-#[derive(Clone, Copy)]
+/// Where the proxy listens, nodes of its cluster, how many workers it has, and where its page is, if it has one.
+#[derive(Drop)]
 pub struct Serving<'a> {
     pub listen: Address<'a>,
-    pub seed: Address<'a>,
+    pub seeds: Vec<Address<'a>>,
     pub workers: u16,
     pub admin: Option<Address<'a>>,
     pub ghost in_range: { (0 < workers) × (workers ≤ 64) },
@@ -36,44 +40,75 @@ pub(crate) const SERVE: Subcommand = Subcommand {
             name: "listen",
             value_name: "HOST:PORT",
             help: "Address to accept clients on",
+            heading: Some("Clients"),
             required: true,
+            repeats: false,
         },
         Setting {
             name: "seed",
             value_name: "HOST:PORT",
-            help: "Address of any primary of the cluster",
+            help: "Address of any primary of the cluster; up to 16 times, the first that answers is asked",
+            heading: Some("Cluster"),
             required: true,
+            repeats: true,
         },
         Setting {
             name: "workers",
             value_name: "N",
             help: "Threads that serve clients, 1 to 64; one more accepts them",
+            heading: Some("Clients"),
             required: true,
+            repeats: false,
         },
         Setting {
             name: "admin",
             value_name: "HOST:PORT",
-            help: "Address to answer for /metrics and /healthz on, over HTTP; without it there is no page",
+            help: "Address to answer for /metrics, /healthz and /drain on, over HTTP; without it there is no page",
+            heading: Some("Operation"),
             required: false,
+            repeats: false,
         },
     ],
 };
 
 /// What the words of `serve` ask for, where they can be read.
-pub fn serving_of<'a>(words: &ArgMatches<'a>) -> Option<Serving<'a>>
-    ensures { MatchOption result (serving_in (first_value (found_of words.now)) ≡ None)
-        (λ s. serving_in (first_value (found_of words.now)) ≡ Some (record {
+pub fn serving_of<'a>(
+    alloc: Global,
+    words: &ArgMatches<'a>,
+) -> Result<Option<Serving<'a>>, AllocError>
+    ensures { IfOk result (λ found. MatchOption found (serving_in (first_value (found_of words.now)) (λ id. option_map raw_values (matched_of (found_of words.now) id)) ≡ None)
+        (λ s. serving_in (first_value (found_of words.now)) (λ id. option_map raw_values (matched_of (found_of words.now) id)) ≡ Some (record {
           listen = record { host = s.listen.host.now; port = s.listen.port };
-          seed = record { host = s.seed.host.now; port = s.seed.port };
+          seeds = endpoints_of s.seeds.items;
+          workers = s.workers;
+          admin = option_map (λ a. record { host = a.host.now; port = a.port }) s.admin;
+        }))) }
+{
+    let seeds = seeds_in(alloc, words)?;
+    Ok(serving_from(words, seeds))
+}
+
+/// What the words ask for beside these seeds.
+fn serving_from<'a>(words: &ArgMatches<'a>, seeds: Option<Vec<Address<'a>>>) -> Option<Serving<'a>>
+    ensures { MatchOption result
+        (asked (option_and_then address_in (first_value (found_of words.now) (codes "listen"))) (option_map (λ seeds. endpoints_of seeds.items) seeds.entry)
+        (option_and_then (number_within 1 64) (first_value (found_of words.now) (codes "workers"))) (optional_address (first_value (found_of words.now) (codes "admin"))) ≡ None)
+        (λ s. asked (option_and_then address_in (first_value (found_of words.now) (codes "listen"))) (option_map (λ seeds. endpoints_of seeds.items) seeds.entry)
+        (option_and_then (number_within 1 64) (first_value (found_of words.now) (codes "workers"))) (optional_address (first_value (found_of words.now) (codes "admin"))) ≡ Some (record {
+          listen = record { host = s.listen.host.now; port = s.listen.port };
+          seeds = endpoints_of s.seeds.items;
           workers = s.workers;
           admin = option_map (λ a. record { host = a.host.now; port = a.port }) s.admin;
         })) }
 {
+    let listen = address_in(words, "listen")?;
+    let workers = workers_in(words)?;
+    let admin = admin_in(words)?;
     Some(Serving {
-        listen: address_in(words, "listen")?,
-        seed: address_in(words, "seed")?,
-        workers: workers_in(words)?,
-        admin: admin_in(words)?,
+        listen,
+        seeds: seeds?,
+        workers,
+        admin,
     })
 }
 

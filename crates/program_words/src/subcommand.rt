@@ -19,8 +19,12 @@ pub(crate) struct Setting {
     pub name: &'static str,
     pub value_name: &'static str,
     pub help: &'static str,
+    /// Under which it stands in the help, where that has groups.
+    pub heading: Option<&'static str>,
     /// The words have to give it.
     pub required: bool,
+    /// The words may give it more than once.
+    pub repeats: bool,
 }
 
 impl Subcommand {
@@ -44,11 +48,23 @@ impl Subcommand {
 
 impl Setting {
     fn arg<'a>(&self, alloc: Global) -> Arg<'a> {
-        Arg::new(alloc, self.name)
+        let arg = Arg::new(alloc, self.name)
             .long(self.name)
             .value_name(self.value_name)
             .help(self.help)
             .required(self.required)
-            .action(ArgAction::Set)
+            .action(self.action());
+        match self.heading {
+            Some(heading) => arg.help_heading(heading),
+            None => arg,
+        }
+    }
+
+    fn action(&self) -> ArgAction {
+        if self.repeats {
+            ArgAction::Append
+        } else {
+            ArgAction::Set
+        }
     }
 }

@@ -86,6 +86,11 @@ impl PolledSocket {
         self.registration.tell(event);
     }
 
+    /// Sends no more: the other end reads what was written, and then an end.
+    pub fn end_sending(&self) {
+        self.socket.end_sending();
+    }
+
     /// Ends the connection both ways.
     pub fn shut(&self) {
         self.socket.shut();

@@ -60,6 +60,11 @@ impl Socket {
         self.reason
     }
 
+    /// Sends no more: the other end reads what was written, and then an end.
+    pub fn end_sending(&self) {
+        let _ = self.stream.shutdown(Shutdown::Write);
+    }
+
     /// Ends the connection both ways, as far as the system goes along.
     pub fn shut(&self) {
         let _ = self.stream.shutdown(Shutdown::Both);

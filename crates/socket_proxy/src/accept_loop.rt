@@ -3,7 +3,7 @@
 use crate::acceptor::{Acceptor, RETRY_MILLIS};
 use crate::dealer::{Arrival, Dealer};
 use crate::shared::Shared;
-use event_log::Reporter;
+use event_log::{Event, Reporter};
 use proxy_runtime::Poller;
 use std::sync::Wait;
 use std::time::Clock;
@@ -20,6 +20,8 @@ pub(crate) struct Desk<'a> {
     /// A client that was accepted, and has no place at its worker yet.
     waiting: Option<Arrival>,
     reporter: Reporter<'a>,
+    /// When the drain began, in milliseconds.
+    drain_began: Option<u64>,
 }
 
 impl Drop for Desk<'_> {
@@ -29,6 +31,7 @@ impl Drop for Desk<'_> {
             dealer,
             waiting,
             reporter,
+            drain_began: _,
         } = self;
         drop(acceptor);
         drop(dealer);
@@ -45,6 +48,7 @@ impl<'a> Desk<'a> {
             dealer,
             waiting: None,
             reporter,
+            drain_began: None,
         }
     }
 
@@ -86,9 +90,40 @@ impl<'a> Desk<'a> {
         }
     }
 
-    /// Whether all clients that were to come came, and are gone.
-    fn is_over(&self, shared: &Shared) -> bool {
-        self.acceptor.is_done() && shared.clients() == 0
+    /// Whether all clients that were to come came, and are gone, or the time of the drain is over.
+    fn is_over(&self, shared: &Shared, now: u64) -> bool {
+        (self.acceptor.is_done() && shared.clients() == 0) || self.is_cut(shared, now)
+    }
+
+    /// Whether the run is drained, and what is left is to be cut at this time.
+    fn is_cut(&self, shared: &Shared, now: u64) -> bool {
+        match (self.drain_began, shared.drain_seconds()) {
+            (Some(began), Some(seconds)) => now.saturating_sub(began)
+                >= seconds.saturating_mul(1000),
+            _ => false,
+        }
+    }
+
+    /// Accepts no client any more, where that is asked for.
+    fn begin_drain(&mut self, shared: &Shared, now: u64) {
+        if self.drain_began.is_some() {
+            return;
+        }
+        let Some(seconds) = shared.drain_seconds() else {
+            return;
+        };
+        self.drain_began = Some(now);
+        self.acceptor.close();
+        self.acceptor
+            .tell(Event::DrainBegun(shared.clients(), seconds));
+    }
+
+    /// Logs how the drain ended, where the run was drained.
+    fn end_drain<R: Clock>(&mut self, rt: &R, shared: &Shared, now: u64) {
+        if self.drain_began.is_some() {
+            self.acceptor.tell(Event::Drained(shared.clients()));
+            self.reporter.report(rt, now);
+        }
     }
 }
 
@@ -106,8 +141,10 @@ pub(crate) fn run_desk<R: Wait + Clock>(
     let ready = &shared.acceptor.ready;
     for _ in rt.forever() {
         ready.update_time(rt);
+        desk.begin_drain(shared, ready.time());
         desk.reporter.report(rt, ready.time());
-        if shared.is_stopped() || desk.is_over(shared) {
+        if shared.is_stopped() || desk.is_over(shared, ready.time()) {
+            desk.end_drain(rt, shared, ready.time());
             shared.stop();
             return;
         }

@@ -15,7 +15,8 @@ pub(crate) const RETRY_MILLIS: u64 = 20;
 
 /// The listener with its registration, and how many clients may still be accepted.
 pub(crate) struct Acceptor {
-    listener: TcpListener,
+    /// `None` once no client is accepted any more.
+    listener: Option<TcpListener>,
     registration: Registration,
     /// How many are still accepted; `None` without end.
     left: Option<u32>,
@@ -56,7 +57,7 @@ impl Acceptor {
     ) -> io::Result<Acceptor> {
         registry.register(&mut listener, registration.token(), Interest::READABLE)?;
         Ok(Acceptor {
-            listener,
+            listener: Some(listener),
             registration,
             left: clients,
             room,
@@ -78,7 +79,7 @@ impl Acceptor {
             return None;
         }
         for _ in 0..u64::MAX {
-            match self.listener.accept() {
+            match self.accept_next() {
                 Ok(accepted) => {
                     self.note_descriptor(&accepted.0, clients);
                     return Some(accepted);
@@ -93,6 +94,13 @@ impl Acceptor {
         }
         self.registration.clear_readable();
         None
+    }
+
+    fn accept_next(&self) -> io::Result<(TcpStream, SocketAddr)> {
+        match &self.listener {
+            Some(listener) => listener.accept(),
+            None => Err(ErrorKind::WouldBlock.into()),
+        }
     }
 
     /// Whether there is no room beside the clients. It is reported once.
@@ -136,6 +144,17 @@ impl Acceptor {
             self.starves = false;
             self.registration.set_readable();
         }
+    }
+
+    /// Accepts no client any more: who comes is refused.
+    pub(crate) fn close(&mut self) {
+        self.left = Some(0);
+        drop(self.listener.take());
+    }
+
+    /// Keeps an event for the log.
+    pub(crate) fn tell(&self, event: Event) {
+        self.registration.tell(event);
     }
 
     /// A client was accepted.

@@ -2,12 +2,15 @@
 
 use crate::client::SocketClient;
 use crate::dealer::Arrival;
+use crate::lingering::SharedLingering;
 use crate::shared::ThreadHandle;
 use crate::unfinished::{SharedUnfinished, UnfinishedRequest};
 use event_log::{Event, Figure};
 use mio::Registry;
 use proxy_lanes::Inlet;
 use proxy_runtime::{Peer, PolledSocket, Registration};
+use proxy_turns::ClientPort;
+use std::alloc::Global;
 use std::io;
 use std::io::ErrorKind;
 use std::sync::Arc;
@@ -17,6 +20,16 @@ use std::sync::Arc;
 pub(crate) struct NumberedClient {
     pub(crate) number: u32,
     pub(crate) port: SocketClient,
+}
+
+impl NumberedClient {
+    /// Lets the client go, of which nothing was read.
+    fn leave(self) {
+        let NumberedClient { number: _, port } = self;
+        let mut port = port;
+        port.close();
+        drop(port);
+    }
 }
 
 /// What came of looking for a client.
@@ -30,11 +43,13 @@ pub(crate) enum Arrived {
 
 /// What makes clients of the connections that are dealt to a worker.
 pub(crate) struct Arrivals<'b> {
+    alloc: Global,
     inlet: Inlet<Arrival>,
     handle: &'b ThreadHandle,
     /// What the thread's poll watches.
     registry: Registry,
     unfinished: SharedUnfinished,
+    lingering: SharedLingering,
     /// The number of the next client; `None` once all are given.
     next: Option<u32>,
     /// A client that was taken and put back.
@@ -44,32 +59,39 @@ pub(crate) struct Arrivals<'b> {
 impl Drop for Arrivals<'_> {
     fn drop(self) {
         let Arrivals {
+            alloc: _,
             inlet,
             handle: _,
             registry,
             unfinished,
+            lingering,
             next: _,
             waiting,
         } = self;
         drop(inlet);
         drop(registry);
         drop(unfinished);
+        drop(lingering);
         drop(waiting);
     }
 }
 
 impl<'b> Arrivals<'b> {
     pub(crate) fn new(
+        alloc: Global,
         inlet: Inlet<Arrival>,
         handle: &'b ThreadHandle,
         registry: Registry,
         unfinished: SharedUnfinished,
+        lingering: SharedLingering,
     ) -> Arrivals<'b> {
         Arrivals {
+            alloc,
             inlet,
             handle,
             registry,
             unfinished,
+            lingering,
             next: Some(0),
             waiting: None,
         }
@@ -99,6 +121,18 @@ impl<'b> Arrivals<'b> {
         }
     }
 
+    /// Lets the next clients go, this number at most. True where there was one.
+    pub(crate) fn turn_away(&mut self, most: u32) -> bool {
+        for came in 0..most {
+            match self.take() {
+                Arrived::Client(client) => client.leave(),
+                Arrived::Refused => {}
+                Arrived::Nobody => return came > 0,
+            }
+        }
+        true
+    }
+
     fn client_over(&mut self, arrival: Arrival) -> io::Result<NumberedClient> {
         let Arrival { stream, address } = arrival;
         let Some(number) = self.next else {
@@ -111,12 +145,15 @@ impl<'b> Arrivals<'b> {
         let Ok(unfinished) = self.unfinished.clone() else {
             return Err(ErrorKind::OutOfMemory.into());
         };
+        let Ok(lingering) = self.lingering.clone() else {
+            return Err(ErrorKind::OutOfMemory.into());
+        };
         let request = UnfinishedRequest::new(unfinished);
         let socket = PolledSocket::new(stream, registration, &self.registry)?;
         self.next = number.checked_add(1);
         Ok(NumberedClient {
             number,
-            port: SocketClient::new(socket, address, report, request),
+            port: SocketClient::new(self.alloc, socket, address, report, request, lingering),
         })
     }
 }

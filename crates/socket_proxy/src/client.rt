@@ -2,6 +2,7 @@
 
 ghost use Rattle.std.specs.Prelude.{◌≡◌, None};
 
+use crate::lingering::SharedLingering;
 use crate::request_times::RequestTimes;
 use crate::unfinished::UnfinishedRequest;
 use admin_page::bucket_of;
@@ -25,6 +26,7 @@ pub(crate) struct SocketClient {
     report: Arc<ThreadReport, Global>,
     address: SocketAddr,
     request: UnfinishedRequest,
+    lingering: SharedLingering,
     times: RequestTimes,
     is_owed: Cell<bool>,
     /// Its protocol error was reported.
@@ -38,30 +40,36 @@ impl Drop for SocketClient {
             report,
             address: _,
             request,
-            times: _,
+            lingering,
+            times,
             is_owed: _,
             is_faulted: _,
         } = self;
         drop(socket);
         drop(report);
         drop(request);
+        drop(lingering);
+        drop(times);
     }
 }
 
 impl SocketClient {
     /// The client at this address, of a worker that reports so.
     pub(crate) fn new(
+        alloc: Global,
         socket: PolledSocket,
         address: SocketAddr,
         report: Arc<ThreadReport, Global>,
         request: UnfinishedRequest,
+        lingering: SharedLingering,
     ) -> SocketClient {
         SocketClient {
             socket: Some(socket),
             report,
             address,
             request,
-            times: RequestTimes::new(),
+            lingering,
+            times: RequestTimes::new(alloc),
             is_owed: Cell::new(false),
             is_faulted: Cell::new(false),
         }
@@ -85,9 +93,14 @@ impl SocketClient {
         }
     }
 
-    /// Counts how long the requests took whose replies are all written now.
-    fn note_answered(&self) {
-        if let Some((requests, micros)) = self.times.end(self.micros()) {
+    /// Counts how long the requests took whose replies are written now.
+    fn note_written(&self, bytes: usize) {
+        self.times.write(bytes as u64);
+        for _ in 0..u64::MAX {
+            let Some((requests, began)) = self.times.next() else {
+                return;
+            };
+            let micros = self.micros().saturating_sub(began);
             self.report.count_times(bucket_of(micros), requests, micros);
         }
     }
@@ -101,16 +114,15 @@ impl SocketClient {
         self.leave();
     }
 
-    /// Gives the socket back, which is closed. A command of it may be under way.
+    /// Gives the connection back, which is closed. A command of it may be under way.
     fn leave(&mut self)
         ensures { self.new.socket ≡ None }
     {
         let Some(socket) = self.socket.take() else {
             return;
         };
-        self.report.count(Figure::ClientsGone, 1);
         self.request.leave();
-        socket.shut();
+        self.lingering.take(socket);
     }
 }
 
@@ -127,15 +139,16 @@ impl ClientPort for SocketClient {
 
     fn owes(&self, more: bool) {
         self.is_owed.set(more);
-        if !more {
-            self.note_answered();
-        }
     }
 
     fn requests_read(&self, count: usize) {
         self.report.count(Figure::Requests, count as u64);
-        self.times.begin(count as u64, self.micros());
+        self.times.read(count as u64, self.micros());
         self.request.finish();
+    }
+
+    fn replies_drained(&self, unanswered: usize, bytes: usize) {
+        self.times.drain(unanswered as u64, bytes as u64);
     }
 
     fn faulted(&self, fault: SessionFault) {
@@ -174,6 +187,9 @@ impl ClientPort for SocketClient {
             return Ok(Flow::Gone);
         };
         let flow = socket.write(first, second);
+        if let Flow::Bytes(count) = flow {
+            self.note_written(count);
+        }
         if flow == Flow::Gone {
             self.leave();
         }

@@ -22,6 +22,7 @@ mod client;
 mod client_room;
 mod dealer;
 mod emptiest;
+mod lingering;
 mod pace;
 mod page_client;
 mod page_figures;

@@ -1,5 +1,6 @@
 //! A connection for the page.
 
+use crate::shared::Shared;
 use admin_page::{Figures, PageConnection, PageService};
 use node_link::{Flow, Stream};
 use proxy_runtime::{PolledSocket, ReadySet};
@@ -32,11 +33,6 @@ impl PageClient {
         PageClient { socket, connection }
     }
 
-    /// When it is closed at the latest, in milliseconds.
-    pub(crate) fn deadline(&self) -> u64 {
-        self.connection.deadline()
-    }
-
     /// Whether there may be something to read of it, or to write.
     pub(crate) fn has_work(&self, ready: &ReadySet) -> bool {
         !self.connection.output().is_empty()
@@ -66,15 +62,24 @@ impl PageClient {
         }
     }
 
-    /// One read, what it asks for, and one write. False where nothing moved.
+    /// One read, what it asks for, and one write. An end of the run that it asks for begins. False where nothing moved.
     pub(crate) fn step(
         &mut self,
         alloc: Global,
         figures: &Figures<'_>,
+        shared: &Shared,
         now: u64,
     ) -> Result<bool, NoMemory> {
         let read = self.read()?;
-        self.connection.answer(&mut PageService { alloc, figures });
+        let mut service = PageService {
+            alloc,
+            figures,
+            drain: None,
+        };
+        self.connection.answer(&mut service);
+        if let Some(seconds) = service.drain {
+            shared.drain(seconds);
+        }
         let wrote = self.write(now)?;
         Ok(read | wrote)
     }

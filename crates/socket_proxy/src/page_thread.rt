@@ -261,21 +261,28 @@ impl Page<'_> {
             nodes: threads.nodes.as_slice(),
             times: &threads.times,
             has_map: threads.has_map,
+            is_draining: shared.is_draining(),
         };
         let mut moved = false;
         for place in self.clients.iter_mut() {
-            moved = step(place, alloc, &figures, now) | moved;
+            moved = step(place, alloc, &figures, shared, now) | moved;
         }
         moved
     }
 }
 
 /// A step of the connection in this place. It is closed where that fails.
-fn step(place: &mut Option<PageClient>, alloc: Global, figures: &Figures<'_>, now: u64) -> bool {
+fn step(
+    place: &mut Option<PageClient>,
+    alloc: Global,
+    figures: &Figures<'_>,
+    shared: &Shared,
+    now: u64,
+) -> bool {
     let Some(client) = place else {
         return false;
     };
-    match client.step(alloc, figures, now) {
+    match client.step(alloc, figures, shared, now) {
         Ok(moved) => moved,
         Err(NoMemory) => {
             drop(place.take());

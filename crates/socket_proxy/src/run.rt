@@ -1,7 +1,6 @@
 //! The proxy over sockets, whole.
 
-ghost use Rattle.std.specs.Prelude.{◌<◌, ◌≤◌, IsTrue};
-ghost use Rattle.resp_wire.specs.Text.{is_one_line};
+ghost use Rattle.std.specs.Prelude.{◌<◌, ◌≤◌};
 
 use crate::accept_loop::{Desk, run_desk};
 use crate::acceptor::Acceptor;
@@ -18,6 +17,7 @@ use node_dial::Credentials;
 use proxy_lanes::Inlet;
 use proxy_runtime::{Peer, Poller, Registration, ThreadsFault, WireRunFault, run_threads};
 use resp_wire::NoMemory;
+use slot_map::NodeTable;
 use std::alloc::{AllocGlobal, Global};
 use std::fs::File;
 use std::net::{self, Net};
@@ -31,10 +31,8 @@ use std::time::Clock;
 pub struct Proxy<'a> {
     /// Where clients come to.
     pub listener: TcpListener,
-    /// The host of the seed, a node of the cluster.
-    pub host: &'a [u8],
-    /// The port of the seed.
-    pub port: u16,
+    /// The seeds, nodes of the cluster: they are dialled in their order, and the first that answers is asked.
+    pub seeds: &'a NodeTable,
     /// How many threads serve clients.
     pub workers: u16,
     /// How many clients come and go before the run ends; `None` without end.
@@ -57,9 +55,9 @@ pub struct Admin<'a> {
     pub status: Option<File>,
 }
 
-/// Serves clients that come to the listener before the cluster that the seed belongs to. Each worker does so in a thread of its
+/// Serves clients that come to the listener before the cluster that the seeds belong to. Each worker does so in a thread of its
 /// own, by a proxy of its own; this thread accepts the clients and writes the log. Where there is an `admin`, one more thread
-/// answers for the page. After a fault all threads have ended.
+/// answers for the page, which may ask for the end of the run. After a fault all threads have ended.
 pub fn run_wire<R>(
     rt: &R,
     alloc: Global,
@@ -78,12 +76,10 @@ where
         + Sync
         + 'static,
     requires workers { (0 < proxy.workers) × (proxy.workers ≤ 64) }
-    requires host { IsTrue (is_one_line proxy.host.now) }
 {
     let Proxy {
         listener,
-        host,
-        port,
+        seeds,
         workers,
         clients,
         descriptors,
@@ -96,12 +92,12 @@ where
         pollers,
         poller,
     } = setup_threads(rt, alloc, workers)?;
-    let upstream = Upstream::new(alloc, host, port, credentials)?;
+    let upstream = Upstream::new(alloc, seeds, credentials)?;
     let (dealer, inlets) = Dealer::new(alloc, shared.workers.len())?;
     let tasks = worker_tasks(alloc, pollers, inlets)?;
     let room = ClientRoom::new(descriptors, workers);
     let acceptor = acceptor(listener, &shared, &poller, clients, room)?;
-    let reporter = Reporter::new(alloc, log, shared.reports(alloc)?)?;
+    let reporter = Reporter::new(alloc, log, shared.reports(alloc)?, upstream.seed_count())?;
     let desk = Desk::new(acceptor, dealer, reporter);
     run_beside_page(rt, alloc, pages, &shared, || -> Option<WireRunFault> {
         run_workers(

@@ -6,7 +6,10 @@ use proxy_runtime::ReadySet;
 use resp_wire::NoMemory;
 use std::alloc::Global;
 use std::sync::Arc;
-use std::sync::atomic::{AtomicBool, Ordering};
+use std::sync::atomic::{AtomicBool, AtomicU64, Ordering};
+
+/// Of a run that is not drained.
+const NO_DRAIN: u64 = u64::MAX;
 
 /// What the others see of a thread: the ready set of its sockets, and what wakes it.
 pub(crate) struct ThreadHandle {
@@ -55,6 +58,8 @@ pub(crate) struct Shared {
     /// The thread that accepts clients and writes the log.
     pub(crate) acceptor: ThreadHandle,
     stopped: AtomicBool,
+    /// After how many seconds of the drain what is left is cut.
+    drain_seconds: AtomicU64,
 }
 
 impl Drop for Shared {
@@ -63,6 +68,7 @@ impl Drop for Shared {
             workers,
             acceptor,
             stopped: _,
+            drain_seconds: _,
         } = self;
         drop(workers);
         drop(acceptor);
@@ -75,6 +81,7 @@ impl Shared {
             workers,
             acceptor,
             stopped: AtomicBool::new(false),
+            drain_seconds: AtomicU64::new(NO_DRAIN),
         }
     }
 
@@ -113,6 +120,30 @@ impl Shared {
     /// Tells all threads to stop, and wakes those that sleep.
     pub(crate) fn stop(&self) {
         self.stopped.store(true, Ordering::SeqCst);
+        self.wake_all();
+    }
+
+    /// After how many seconds of the drain what is left is cut, where the run is drained.
+    pub(crate) fn drain_seconds(&self) -> Option<u64> {
+        match self.drain_seconds.load(Ordering::SeqCst) {
+            NO_DRAIN => None,
+            seconds => Some(seconds),
+        }
+    }
+
+    /// Whether no client is to be taken any more, and no further request read.
+    pub(crate) fn is_draining(&self) -> bool {
+        self.drain_seconds().is_some()
+    }
+
+    /// Has all threads take no client any more, and read no further request. What is left after this number of seconds is cut.
+    pub(crate) fn drain(&self, seconds: u16) {
+        self.drain_seconds
+            .store(u64::from(seconds), Ordering::SeqCst);
+        self.wake_all();
+    }
+
+    fn wake_all(&self) {
         self.acceptor.wake();
         for worker in &self.workers {
             worker.wake();

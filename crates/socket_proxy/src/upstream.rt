@@ -3,33 +3,36 @@
 ghost use Rattle.std.specs.Prelude.{IsTrue};
 ghost use Rattle.resp_wire.specs.Text.{is_one_line};
 
-use crate::setup::clone_registry;
+use crate::setup::{clone_registry, push};
 use crate::shared::ThreadHandle;
 use node_dial::{Connector, Credentials, SharedLookUps, SocketDial};
 use proxy_runtime::{Poller, WireRunFault};
 use resp_wire::NoMemory;
-use slot_map::NodeTable;
+use slot_map::{NODE_LIMIT, NodeId, NodeTable};
 use std::alloc::Global;
 use std::net::{self, Net};
 use std::sync::Arc;
 use std::time::Clock;
 
-/// A node of the cluster, the seed, and what each node is told first.
+/// A node of the cluster that is known at the start.
+#[derive(Clone, Copy)]
+struct Seed<'a> {
+    host: &'a [u8],
+    port: u16,
+    ghost one_line: { IsTrue (is_one_line host.now) },
+}
+
+/// The seeds, and what each node is told first.
 pub(crate) struct Upstream<'a> {
-    pub(crate) host: &'a [u8],
-    pub(crate) port: u16,
+    seeds: Vec<Seed<'a>>,
     /// `None` for nothing.
     pub(crate) credentials: Option<Arc<Credentials, Global>>,
-    ghost one_line: { IsTrue (is_one_line host.now) },
 }
 
 impl Drop for Upstream<'_> {
     fn drop(self) {
-        let Upstream {
-            host: _,
-            port: _,
-            credentials,
-        } = self;
+        let Upstream { seeds, credentials } = self;
+        drop(seeds);
         drop(credentials);
     }
 }
@@ -37,30 +40,33 @@ impl Drop for Upstream<'_> {
 impl<'a> Upstream<'a> {
     pub(crate) fn new(
         alloc: Global,
-        host: &'a [u8],
-        port: u16,
+        seeds: &'a NodeTable,
         credentials: Option<Credentials>,
-    ) -> Result<Upstream<'a>, NoMemory>
-        requires host { IsTrue (is_one_line host.now) }
-    {
+    ) -> Result<Upstream<'a>, NoMemory> {
         let credentials = match credentials {
             Some(credentials) => Some(Arc::new(alloc, credentials)?),
             None => None,
         };
         Ok(Upstream {
-            host,
-            port,
+            seeds: seeds_in(alloc, seeds)?,
             credentials,
         })
     }
 
-    /// The table of the nodes that are known at the start: the seed.
+    /// A table of the nodes that are known at the start: the seeds.
     pub(crate) fn seed_table(&self, alloc: Global) -> Result<NodeTable, NoMemory> {
         let mut nodes = NodeTable::new(alloc);
-        match nodes.intern(self.host, self.port) {
-            Ok(_) => Ok(nodes),
-            Err(_) => Err(NoMemory),
+        for seed in &self.seeds {
+            if nodes.intern(seed.host, seed.port).is_err() {
+                return Err(NoMemory);
+            }
         }
+        Ok(nodes)
+    }
+
+    /// How many seeds there are.
+    pub(crate) fn seed_count(&self) -> usize {
+        self.seeds.len()
     }
 
     /// A dial of the thread that has this handle and poll.
@@ -91,4 +97,22 @@ impl<'a> Upstream<'a> {
             None => Ok(None),
         }
     }
+}
+
+/// The nodes of the table.
+fn seeds_in<'a>(alloc: Global, nodes: &'a NodeTable) -> Result<Vec<Seed<'a>>, NoMemory> {
+    let mut seeds = Vec::new(alloc);
+    for number in 0..NODE_LIMIT {
+        if let Some(seed) = seed_at(nodes, number) {
+            push(&mut seeds, seed)?;
+        }
+    }
+    Ok(seeds)
+}
+
+/// The node of this number, where there is one.
+fn seed_at<'a>(nodes: &'a NodeTable, number: usize) -> Option<Seed<'a>> {
+    let number = u8::try_from(number).ok()?;
+    let (host, port) = nodes.endpoint(NodeId::new(number)?)?;
+    Some(Seed { host, port })
 }

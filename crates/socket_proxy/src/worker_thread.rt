@@ -6,6 +6,7 @@ ghost use Rattle.proxy_lanes.specs.Opened.{book_of};
 use crate::arrivals::{Arrivals, Arrived, NumberedClient};
 use crate::client::SocketClient;
 use crate::dealer::Arrival;
+use crate::lingering::{Lingering, SharedLingering};
 use crate::pace::{Next, Pace};
 use crate::setup::clone_registry;
 use crate::shared::{Shared, ThreadHandle};
@@ -17,6 +18,7 @@ use proxy_engine::{Engine, EngineFault};
 use proxy_lanes::{Inlet, Naming, Opened};
 use proxy_runtime::{Poller, ReadySet, WireRunFault};
 use proxy_turns::Newcomer;
+use resp_wire::NoMemory;
 use std::alloc::Global;
 use std::marker::Brand;
 use std::net::{Net, TcpListener, TcpStream};
@@ -116,7 +118,16 @@ where
 {
     let look_ups = LookUps::new(alloc, clone_registry(&poller)?)?;
     let unfinished = Unfinished::new(alloc, shared.workers.len())?;
-    let mut arrivals = Arrivals::new(inlet, handle, clone_registry(&poller)?, unfinished);
+    let lingering = Lingering::new(alloc)?;
+    let shared_lingering = share(&lingering)?;
+    let mut arrivals = Arrivals::new(
+        alloc,
+        inlet,
+        handle,
+        clone_registry(&poller)?,
+        unfinished,
+        shared_lingering,
+    );
     let gate = SocketGate::new(&handle.ready);
     let dial = upstream.dial(rt, alloc, handle, &poller, &look_ups)?;
     let seeds = upstream.seed_table(alloc)?;
@@ -127,6 +138,7 @@ where
         rt,
         &mut engine,
         &mut arrivals,
+        &lingering,
         &look_ups,
         shared,
         &handle.ready,
@@ -143,6 +155,7 @@ fn serve_until_stopped<'g, 'r, 'b, J, R>(
     rt: &R,
     engine: &mut SocketEngine<'g, 'r, 'b, J, R>,
     arrivals: &mut Arrivals<'_>,
+    lingering: &Lingering,
     look_ups: &SharedLookUps,
     shared: &Shared,
     ready: &ReadySet,
@@ -164,9 +177,16 @@ where
             return Ok(());
         }
         ready.begin_turn(rt);
-        let came = hand_over(engine, arrivals);
+        let came = if shared.is_draining() {
+            drain(engine, arrivals, lingering)
+        } else {
+            hand_over(engine, arrivals)
+        };
         let looked_up = advance_look_ups(rt, look_ups);
         let turned = engine.turn()?;
+        if let Some(until) = lingering.advance(ready.micros()) {
+            ready.wake_at(until.div_ceil(1000));
+        }
         match pace.after(came | looked_up | turned.moved | ready.had_traffic()) {
             Next::Turn => {}
             Next::Poll => poller.poll_now(ready),
@@ -177,6 +197,25 @@ where
         }
     }
     unreachable!()
+}
+
+/// Takes no client any more, and reads no further request. Those that were dealt to the worker are let go. True where there was one.
+fn drain<'g, 'r, 'b, J: Naming, R: Wait + Clock + Net<Listener = TcpListener, Stream = TcpStream>>(
+    engine: &mut SocketEngine<'g, 'r, 'b, J, R>,
+    arrivals: &mut Arrivals<'_>,
+    lingering: &Lingering,
+) -> bool {
+    if lingering.begin() {
+        engine.drain();
+    }
+    arrivals.turn_away(ARRIVALS_PER_TURN)
+}
+
+fn share(lingering: &SharedLingering) -> Result<SharedLingering, NoMemory> {
+    match lingering.clone() {
+        Ok(lingering) => Ok(lingering),
+        Err(_) => Err(NoMemory),
+    }
 }
 
 /// Hands the clients over that were dealt to the worker. True where there was one.
