@@ -113,6 +113,9 @@ struct Connections {
 
 impl Connections {
     fn advance(&mut self, micros: u64) -> Option<u64> {
+        if self.open.is_empty() {
+            return None;
+        }
         let mut piece = [0u8; PIECE];
         for place in (0..self.open.len()).rev() {
             self.close_over(place, &mut piece, micros);
