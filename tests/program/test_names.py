@@ -26,7 +26,10 @@ class Names(unittest.TestCase):
         The end of the proxy does not wait for the look-up."""
         node = Node(lambda words: (self.listing(node) if words == [b"CLUSTER", b"SLOTS"] else b"$1\r\n1\r\n", False))
         with node, proxy(node.port, 2) as at, Neighbour(at, request("GET", "b"), b"$1\r\n1\r\n") as neighbour:
-            # b's slot is 3300, and a's 15495
+            # b's slot is 3300, and a's 15495. Before a worker has read the slot map, its clients' commands go to the seed.
+            until = time.monotonic() + 2
+            while time.monotonic() < until and heard_to_the_end(at, request("GET", "a")) != GAVE_UP:
+                pass
             until = time.monotonic() + 2
             while time.monotonic() < until:
                 self.assertEqual(heard_to_the_end(at, request("GET", "a")), GAVE_UP)
