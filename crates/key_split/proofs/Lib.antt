@@ -8,3 +8,4 @@ pub mod OneLine
 pub mod RoundTrip
 mod Joinable
 mod Plain
+mod Values

@@ -4,7 +4,7 @@ use Rattle.std.specs.Prelude.{nat_eq, All, IsTrue, if◌then◌else◌}
 use Rattle.std.specs.Fmt.{signed_decimal}
 use Rattle.std.specs.Str.{bytes_eq}
 use Rattle.std.specs.Str.Parse.{signed_digits_value}
-use Rattle.std.proofs.lemmas.Bool.{eqb-true, cond_both}
+use Rattle.std.proofs.lemmas.Bool.{eqb-true, cond_both, false≢true}
 use Rattle.std.proofs.lemmas.List.Elements.{All-nil, All-cons, All-map, All-weaker, All-filter, filter_passes}
 use Rattle.resp_wire.specs.declared.value.Value.{Value}
 use Rattle.slot_hash.specs.Slot.{slot_of}
@@ -15,9 +15,9 @@ use Rattle.key_split.specs.declared.name.Name.{Name}
 use Rattle.key_split.specs.declared.name.Name.TheVariants.{Get, Set, SetNx, GetSet, GetDel, Append, StrLen, Incr, Decr, IncrBy, Del, Exists, MGet, MSet, Ping, Echo, Select, Quit}
 use Rattle.key_split.specs.declared.planned.Planned.TheVariants.{Local, Parts, Close}
 use Rattle.key_split.specs.declared.planned.PlanFault.TheVariants.{WrongCount}
-use Rattle.key_split.specs.PartModel.{Pair, pairs_in, takes_group}
+use Rattle.key_split.specs.PartModel.{PartModel, Pair, pairs_in, puts_value, takes_group, HasFitKeys, IsValueFor}
 use Rattle.key_split.specs.Groups.{slot_at, slots, of_slot, groups, on_group, parts_of, alone, pairs_of}
-use Rattle.key_split.specs.Laws.{IsPlain, PlansArePlain, puts_value}
+use Rattle.key_split.specs.Laws.{IsPlain, PlansArePlain}
 use Rattle.key_split.specs.Names.{allows, name_of}
 use Rattle.key_split.specs.Number.{in_range, number_of}
 use Rattle.key_split.specs.Plan.{PlanAnswer, Words, word_at, with_value, mode_of, set_with, increase, plan_as, plan_named}
@@ -123,3 +123,23 @@ plan_named-plain (Some name) args =
 
 pub plans-plain : PlansArePlain
 plans-plain words joining parts e = subst ArePlain e (plan_named-plain (name_of (word_at words 0)) (drop 1 words))
+
+-- a part that keeps what each part keeps is plain
+no-values : (b : Bool) (k v : List ℕ) (ps : List Pair) → IsTrue b ⊎ (v ≡ []) → All (λ (pair : Pair). IsTrue b ⊎ (pair.1 ≡ [])) ps → IsTrue b ⊎ All (λ (pair : Pair). pair.1 ≡ []) ((k, v) ∷ ps)
+no-values true k v ps first rest = inl refl
+no-values false k v ps first rest =
+    inr (All-cons (λ pair. pair.1 ≡ []) (k, v) ps (empty v first) (All-weaker (λ pair. IsTrue false ⊎ (pair.1 ≡ [])) (λ pair. pair.1 ≡ []) (λ pair fit. empty pair.1 fit) ps rest))
+  where
+    empty : (w : List ℕ) → IsTrue false ⊎ (w ≡ []) → w ≡ []
+    empty w (inl e) = absurd (false≢true e)
+    empty w (inr e) = e
+
+pub part-plain : (c : PartModel) → All (λ pair. slot_of pair.0 ≡ slot_of c.key) c.rest → HasFitKeys c → IsValueFor c.op c.arg → All (λ pair. IsValueFor c.op pair.1) c.rest → ((n : ℤ) → c.op ≡ op.IncrBy n → IsTrue (in_range n)) → IsPlain c
+part-plain c slots fit first rest amount =
+    record {
+      one_slot =
+          All-cons (λ key. slot_of key ≡ slot_of c.key) c.key _ refl (All-map (λ key. slot_of key ≡ slot_of c.key) (λ pair. pair.0) c.rest slots);
+      fit_keys = fit;
+      values = no-values (puts_value c.op) c.key c.arg c.rest first rest;
+      amount = amount;
+    }

@@ -1,13 +1,13 @@
 -- What holds of plans and of the words for a node.
 -- Statements alone; the functions of src/laws.rt prove them. No key is lost or doubled, two keys share a part exactly
 -- where they share a slot, and a part's words are planned as that part.
-use Rattle.std.specs.Prelude.{◌≡◌, ◌⊎◌, ◌↔◌, ℤ, List, [], ◌∷◌, map, All, Contains, IsTrue, Bool, true, false, Some, Ok}
+use Rattle.std.specs.Prelude.{◌≡◌, ◌⊎◌, ◌↔◌, ℤ, List, [], ◌∷◌, map, All, Contains, IsTrue, Some, Ok}
 use Rattle.key_split.specs.declared.part.Op.{Op}
 use Rattle.key_split.specs.declared.part.Op.TheVariants.{Get, Set, SetNx, GetSet, GetDel, Append, StrLen, Incr, Decr, IncrBy, Del, Exists, MGet, MSet}
 use Rattle.key_split.specs.declared.planned.Joining.{Joining}
 use Rattle.key_split.specs.declared.planned.Joining.TheVariants.{One, Array, AllOk, Sum}
 use Rattle.key_split.specs.declared.planned.Planned.TheVariants.{Parts}
-use Rattle.key_split.specs.PartModel.{PartModel, Pair, pairs_in, HasOneSlot, HasFitKeys}
+use Rattle.key_split.specs.PartModel.{PartModel, Pair, pairs_in, puts_value, HasOneSlot, HasFitKeys}
 use Rattle.key_split.specs.Groups.{slot_at, group_numbers, parts_of}
 use Rattle.key_split.specs.Number.{in_range}
 use Rattle.key_split.specs.Plan.{Words, plan_of}
@@ -25,23 +25,6 @@ SharePart parts a b = (part : PartModel) × Contains parts part × Contains (pai
 -- two keys of a request are in one part exactly where they have one slot
 abbrev pub TogetherBySlot : Type 0
 TogetherBySlot = (o : Op) (pairs : List Pair) (a b : Pair) → Contains pairs a → Contains pairs b → SharePart (parts_of o pairs) a b ↔ (slot_at a ≡ slot_at b)
-
--- the operation puts the value behind each key
-abbrev pub puts_value : Op → Bool
-puts_value Get = false
-puts_value (Set mode) = true
-puts_value SetNx = true
-puts_value GetSet = true
-puts_value GetDel = false
-puts_value Append = true
-puts_value StrLen = false
-puts_value Incr = false
-puts_value Decr = false
-puts_value (IncrBy n) = false
-puts_value Del = false
-puts_value Exists = false
-puts_value MGet = false
-puts_value MSet = true
 
 -- the operation is written whole by the words for a node
 pub record IsPlain (c : PartModel) : Type 0 where

@@ -1,7 +1,7 @@
 -- An operation on keys of one slot, as contracts see a part: Redis Cluster specification, "Implemented subset".
 -- `arg` is the first key's value, empty where the operation takes none. INCRBY's number stands in the operation.
 -- Keys of several slots never stand in one part, since a node refuses them (CROSSSLOT).
-use Rattle.std.specs.Prelude.{◌≡◌, ◌⊎◌, ℕ, List, [], ◌∷◌, map, All, IsTrue, Bool, true, false}
+use Rattle.std.specs.Prelude.{◌≡◌, ◌⊎◌, ℕ, List, [], ◌∷◌, map, if◌then◌else◌, All, IsTrue, Bool, true, false}
 use Rattle.slot_hash.specs.Slot.{slot_of}
 use Rattle.key_split.specs.declared.part.Op.{Op}
 use Rattle.key_split.specs.declared.part.Op.TheVariants.{Get, Set, SetNx, GetSet, GetDel, Append, StrLen, Incr, Decr, IncrBy, Del, Exists, MGet, MSet}
@@ -50,6 +50,31 @@ takes_value Del = false
 takes_value Exists = false
 takes_value MGet = false
 takes_value MSet = false
+
+-- the operation puts the value behind each key
+abbrev pub puts_value : Op → Bool
+puts_value Get = false
+puts_value (Set mode) = true
+puts_value SetNx = true
+puts_value GetSet = true
+puts_value GetDel = false
+puts_value Append = true
+puts_value StrLen = false
+puts_value Incr = false
+puts_value Decr = false
+puts_value (IncrBy n) = false
+puts_value Del = false
+puts_value Exists = false
+puts_value MGet = false
+puts_value MSet = true
+
+-- a value as a part has it
+abbrev pub value_for : Op → List ℕ → List ℕ
+value_for o value = if puts_value o then value else []
+
+-- it is empty where the operation puts none
+abbrev pub IsValueFor : Op → List ℕ → Type 0
+IsValueFor o value = IsTrue (puts_value o) ⊎ (value ≡ [])
 
 -- all the keys, with their values
 abbrev pub pairs_in : PartModel → List Pair

@@ -1,8 +1,8 @@
 //! The groups that the keys of a request make: those of one slot together.
 
-ghost use Rattle.std.specs.Prelude.{◌≡◌, IsTrue, IfOk, map};
+ghost use Rattle.std.specs.Prelude.{◌≡◌, All, IsTrue, IfOk, map};
 ghost use Rattle.slot_hash.specs.Slot.{slot_of};
-ghost use Rattle.key_split.specs.PartModel.{takes_group};
+ghost use Rattle.key_split.specs.PartModel.{takes_group, IsValueFor};
 ghost use Rattle.key_split.specs.Groups.{alone, group_numbers, pairs_of, parts_of};
 
 use crate::part::{Op, Pair, Part, Parts};
@@ -39,7 +39,8 @@ pub fn pairs_of(alloc: Global, words: &[Bytes]) -> Result<Vec<Pair>, NoMemory>
 /// The operation on the keys: a part for each slot, and for each key the number of its part.
 /// A key costs one look-up among the slots seen so far; keys and values are moved.
 pub fn grouped(alloc: Global, op: Op, pairs: Vec<Pair>) -> Result<(Parts, Places), NoMemory>
-    requires { IsTrue (takes_group op) }
+    requires group { IsTrue (takes_group op) }
+    requires values { All (λ pair. IsValueFor op pair.1) pairs.items }
     ensures parts { IfOk result (λ made. made.0 ≡ parts_of op pairs.items) }
     ensures places { IfOk result (λ made. made.1 ≡ group_numbers pairs.items) }
 {

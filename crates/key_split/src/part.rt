@@ -1,9 +1,11 @@
 //! An operation on keys of one slot.
 
-ghost use Rattle.std.specs.Prelude.{◌≡◌, ◌⊎◌, ◌↔◌, ◌<◌, All, IsTrue, IfOk, OnOk, OnErr, [], ◌∷◌, ◌++◌, length, slice_set};
+ghost use Rattle.std.specs.Prelude.{◌≡◌, ◌⊎◌, ◌↔◌, ◌<◌, All, IsTrue, IfOk, OnOk, OnErr, [], ◌∷◌, ◌++◌, length, slice_set, ℤ};
 ghost use Rattle.slot_hash.specs.Slot.{slot_of};
-ghost use Rattle.key_split.specs.PartModel.{takes_group, takes_value, HasFitKeys, HasOneSlot};
+ghost use Rattle.key_split.specs.PartModel.{puts_value, takes_group, takes_value, value_for, HasFitKeys, HasOneSlot, IsValueFor};
 ghost use Rattle.key_split.specs.Plan.{word_at};
+ghost use Rattle.key_split.specs.Laws.{IsPlain};
+ghost use Rattle.key_split.specs.Number.{in_range};
 ghost use Rattle.key_split.specs.OneKey.{HasArgs, one_at};
 ghost use Rattle.key_split.specs.Same.{same_part};
 
@@ -56,6 +58,21 @@ impl Op {
     {
         matches!(self, Op::Set(_) | Op::SetNx | Op::GetSet | Op::Append)
     }
+
+    /// INCRBY's number is that of an `i64`.
+    fn number_is_in_range(self)
+        ensures { (number : ℤ) → self ≡ Op.IncrBy number → IsTrue (in_range number) }
+    {}
+
+    /// Whether it puts a value behind each key.
+    fn puts_value(self) -> bool
+        ensures { result ≡ puts_value self }
+    {
+        matches!(
+            self,
+            Op::Set(_) | Op::SetNx | Op::GetSet | Op::Append | Op::MSet
+        )
+    }
 }
 
 /// A key with its value, empty where it has none.
@@ -96,24 +113,27 @@ impl Model for Part {
 
     ghost use Rattle.std.specs.Prelude.{◌≡◌, ◌⊎◌, All, IsTrue, []};
     ghost use Rattle.slot_hash.specs.Slot.{slot_of};
-    ghost use Rattle.key_split.specs.PartModel.{takes_group};
+    ghost use Rattle.key_split.specs.PartModel.{takes_group, IsValueFor};
 
     ghost invariant = { λ part.
         (part.slot ≡ slot_of part.key)
         × All (λ pair. slot_of pair.0 ≡ slot_of part.key) part.rest.items
-        × (IsTrue (takes_group part.op) ⊎ (part.rest.items ≡ [])) };
+        × (IsTrue (takes_group part.op) ⊎ (part.rest.items ≡ []))
+        × IsValueFor part.op part.arg
+        × All (λ pair. IsValueFor part.op pair.1) part.rest.items };
 }
 
 impl Part {
-    /// The operation on one key; `arg` is its value, empty where it has none. Takes no memory: `alloc` is for further keys.
+    /// The operation on one key; `arg` is its value, which is let go where the operation puts none. Takes no memory: `alloc` is for
+    /// further keys.
     pub fn new(alloc: Global, op: Op, key: Bytes, arg: Bytes) -> Part
-        ensures { result ≡ record { op = op; key = key; arg = arg; rest = [] } }
+        ensures { result ≡ record { op = op; key = key; arg = value_for op arg; rest = [] } }
     {
         let slot = slot_hash::slot_of(key.as_slice());
         Part {
             op,
             key,
-            arg,
+            arg: value_for(alloc, op, arg),
             rest: Vec::new(alloc),
             slot,
         }
@@ -133,13 +153,14 @@ impl Part {
         Part::new(alloc, op, key, Bytes::new(Vec::new(alloc)))
     }
 
-    /// Adds a further key with its value.
+    /// Adds a further key with its value, which is let go where the operation puts none.
     pub fn push(&mut self, key: Bytes, arg: Bytes) -> Result<(), NoMemory>
         requires group { IsTrue (takes_group self.old.op) }
         requires same_slot { slot_of key ≡ slot_of self.old.key }
-        ensures ok { OnOk result (self.new ≡ record self.old { rest = self.old.rest ++ (key, arg) ∷ [] }) }
+        ensures ok { OnOk result (self.new ≡ record self.old { rest = self.old.rest ++ (key, value_for self.old.op arg) ∷ [] }) }
         ensures err { OnErr result (self.new ≡ self.old) }
     {
+        let arg = value_for(*self.rest.allocator(), self.op, arg);
         self.rest.push((key, arg))?;
         Ok(())
     }
@@ -169,7 +190,9 @@ impl Part {
         ensures value { result.now ≡ self.now.rest }
         ensures same_slot { All (λ pair. slot_of pair.0 ≡ slot_of self.now.key) self.now.rest }
         ensures fit { HasFitKeys self.now }
+        ensures plain { IsPlain self.now }
     {
+        self.op.number_is_in_range();
         self.rest.as_slice()
     }
 
@@ -202,6 +225,17 @@ fn taken_word(alloc: Global, words: &mut [Bytes], place: usize) -> Bytes
     ensures others { words.new ≡ slice_set words.old place [] }
 {
     mem::replace(&mut words[place], Bytes::new(Vec::new(alloc)))
+}
+
+/// The value, or an empty one where the operation puts none.
+fn value_for(alloc: Global, op: Op, value: Bytes) -> Bytes
+    ensures value { result ≡ value_for op value }
+    ensures fits { IsValueFor op result }
+{
+    if op.puts_value() {
+        return value;
+    }
+    Bytes::new(Vec::new(alloc))
 }
 
 /// The same keys and values in memory of their own.

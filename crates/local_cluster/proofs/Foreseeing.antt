@@ -1,20 +1,23 @@
 -- A reply that was foreseen is the reply.
-use Rattle.std.proofs.Common.{◌≡◌, ◌≢◌, ◌⊎◌, inl, inr, ⊎_elim, ℕ, zero, suc, Bool, true, false, List, [], ◌∷◌, map, Some, None, Option, Ok, refl, sym, ap, ◌∙◌, subst}
+use Rattle.std.proofs.Common.{◌≡◌, ◌≢◌, ◌⊎◌, inl, inr, ⊎_elim, ℕ, zero, suc, Bool, true, false, ◌&&◌, List, [], ◌∷◌, map, Some, None, Option, Ok, refl, sym, ap, ◌∙◌, subst}
 use Rattle.std.specs.Prelude.{slice_index_or, slice_set}
 use Rattle.std.specs.FinMap.{empty, get, get-empty}
 use Rattle.std.specs.Ordering.{nat_cmp}
 use Rattle.std.specs.Cmp.Lexicographic.{slice_cmp}
+use Rattle.std.specs.List.{list_all}
 use Rattle.std.specs.Str.{bytes_eq}
 use Rattle.resp_wire.specs.Data.{Data, array, items_of, list_of}
 use Rattle.resp_wire.specs.Seen.{data_of}
 use Rattle.resp_wire.specs.declared.value.Value.{Value}
 use Rattle.resp_wire.specs.declared.value.Value.TheVariants as value
+use Rattle.slot_hash.specs.Slot.{slot_of}
+use Rattle.key_split.specs.Groups.{alone}
 use Rattle.key_split.specs.PartModel.{PartModel, Pair, keys_of, pairs_in}
 use Rattle.key_split.specs.declared.travel.Told.{Told}
 use Rattle.key_split.specs.declared.travel.Told.TheVariants.{Reply, Moved, Ask, TryAgain, ClusterDown, Unclear, Unsent}
 use Rattle.node_model.specs.Store.{StoreModel, bulk_of, put, reply_to}
-use Rattle.node_model.specs.Nodes.{ClusterModel, store_at, with_store}
-use Rattle.node_model.specs.Serving.{Serves, deed_at}
+use Rattle.node_model.specs.Nodes.{ClusterModel, role_of, store_at, with_store}
+use Rattle.node_model.specs.Serving.{Serves, deed_at, deed_of, has_one_key, held_of}
 use Rattle.node_model.specs.Laws.{Among, MGetReads}
 use Rattle.node_model.specs.declared.role.Deed.TheVariants.{Executes, Says}
 use Rattle.node_model.specs.declared.role.Verdict.TheVariants.{Plain}
@@ -89,14 +92,39 @@ items-of-array value.NullBulk ds e = absurd (cc)
 items-of-array (value.Array es) ds e = let same : items_of es ≡ items_of ds = cc in ap Some (sym (list_of-items_of es) ∙ ap list_of same ∙ list_of-items_of ds)
 items-of-array value.NullArray ds e = absurd (cc)
 
+-- the keys of the command that reads them
+read-keys : (keys : List (List ℕ)) → map (λ (pair : Pair). pair.0) (alone keys) ≡ keys
+read-keys [] = refl
+read-keys (key ∷ keys) = ap (λ ks. key ∷ ks) (read-keys keys)
+
+same-keys : (c : PartModel) → keys_of (reading c) ≡ keys_of c
+same-keys c = read-keys (keys_of c)
+
+same-ones : (key : List ℕ) (ps : List Pair) → list_all (λ pair. bytes_eq pair.0 key) (alone (map (λ pair. pair.0) ps)) ≡ list_all (λ pair. bytes_eq pair.0 key) ps
+same-ones key [] = refl
+same-ones key (p ∷ ps) = ap (λ b. bytes_eq p.0 key && b) (same-ones key ps)
+
+-- a node does the same with it
+same-deed : (k : ClusterModel) (node : ℕ) (asking : Bool) (c : PartModel) → deed_at k node asking (reading c) Plain ≡ deed_at k node asking c Plain
+same-deed k node asking c =
+    let role = role_of k node (slot_of c.key) in
+    ap (λ keys. deed_of Plain role asking (held_of (store_at k node) keys) (has_one_key (reading c)) (slot_of c.key)) (same-keys c)
+    ∙ ap (λ one. deed_of Plain role asking (held_of (store_at k node) (keys_of c)) one (slot_of c.key)) (same-ones c.key c.rest)
+
 -- reading the keys finds what the node holds, where the node would execute the command, and leaves the nodes
 pub read-first : MGetReads → (k k' : ClusterModel) (node : ℕ) (asking : Bool) (c : PartModel) (found : Told) → Serves k node asking (reading c) Plain (Ok found) k'
     → (k' ≡ k) × (((deed_at k node asking c Plain ≡ Executes) × (items_told found ≡ Some (map (λ key. bulk_of (get (store_at k node) key)) (keys_of c)))) ⊎ ((deed_at k node asking c Plain ≡ Executes) → ⊥))
 read-first reads k k' node asking c found s = ⊎_elim
     (λ (x : (deed_at k node asking (reading c) Plain ≡ Executes) × Executed k node (reading c) found k').
-    let read = reads (store_at k node) (reading c) refl in
-    (x.1.3 ∙ ap (with_store k node) read.1 ∙ with-its-store k node, inl (x.0, ap items_told x.1.1 ∙ items-of-array x.1.0 (map (λ key. bulk_of (get (store_at k node) key)) (keys_of c)) (x.1.2 ∙ read.0))))
-    (λ (x : (deed_at k node asking (reading c) Plain ≡ Says found) × (k' ≡ k)). (x.1, inr (λ e. (let bad : Says found ≡ Executes = sym x.0 ∙ e in absurd (cc)))))
+    let read = reads (store_at k node) (reading c) refl in (
+      x.1.3 ∙ ap (with_store k node) read.1 ∙ with-its-store k node,
+      inl (
+        sym (same-deed k node asking c) ∙ x.0,
+        ap items_told x.1.1 ∙ items-of-array x.1.0 (map (λ key. bulk_of (get (store_at k node) key)) (keys_of c))
+            (x.1.2 ∙ read.0 ∙ ap (λ keys. array (items_of (map (λ key. bulk_of (get (store_at k node) key)) keys))) (same-keys c)),
+      ),
+    ))
+    (λ (x : (deed_at k node asking (reading c) Plain ≡ Says found) × (k' ≡ k)). (x.1, inr (λ e. (let bad : Says found ≡ Executes = sym x.0 ∙ same-deed k node asking c ∙ e in absurd (cc)))))
     (serves k k' node (reading c) (deed_at k node asking (reading c) Plain) found (serves-plain k k' node asking (reading c) found s).1)
 
 -- the copy is the reply

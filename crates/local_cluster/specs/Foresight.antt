@@ -7,7 +7,8 @@ use Rattle.resp_wire.specs.Data.{Data, simple, error, integer, bulk, null_bulk, 
 use Rattle.resp_wire.specs.Seen.{data_of}
 use Rattle.resp_wire.specs.declared.value.Value.{Value}
 use Rattle.resp_wire.specs.declared.value.Value.TheVariants as value
-use Rattle.key_split.specs.PartModel.{PartModel, Pair, pairs_in}
+use Rattle.key_split.specs.PartModel.{PartModel, Pair, keys_of, pairs_in}
+use Rattle.key_split.specs.Groups.{alone, on_group}
 use Rattle.key_split.specs.declared.part.Op.TheVariants.{MGet}
 use Rattle.key_split.specs.declared.travel.Batch.{Batch}
 use Rattle.key_split.specs.declared.travel.Told.{Told}
@@ -21,7 +22,7 @@ use Rattle.local_cluster.specs.Local.{unserved}
 
 -- the same keys, read
 abbrev pub reading : PartModel → PartModel
-reading c = record { op = MGet; key = c.key; arg = c.arg; rest = c.rest }
+reading c = on_group MGet (alone (keys_of c))
 
 -- a key with the value that was read there
 abbrev pub put_read : StoreModel → List ℕ → Data → StoreModel

@@ -34,14 +34,10 @@ pub(crate) fn serve_twice(
 fn reading_of(alloc: Global, part: &Part) -> Result<Part, NoMemory>
     ensures { IfOk result (λ made. made ≡ reading part.now) }
 {
-    let mut made = Part::new(
-        alloc,
-        Op::MGet,
-        part.key().copy(alloc)?,
-        part.arg().copy(alloc)?,
-    );
-    for (key, arg) in part.rest() {
-        made.push(key.copy(alloc)?, arg.copy(alloc)?)?;
+    let none = Bytes::new(Vec::new(alloc));
+    let mut made = Part::new(alloc, Op::MGet, part.key().copy(alloc)?, none);
+    for (key, _) in part.rest() {
+        made.push(key.copy(alloc)?, Bytes::new(Vec::new(alloc)))?;
     }
     Ok(made)
 }
