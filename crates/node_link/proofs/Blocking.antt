@@ -4,7 +4,7 @@ use Rattle.std.specs.Prelude.{Option, Some, None, Result, Ok, Err, Bool, false, 
 use Rattle.std.specs.List.{flat_map}
 use Rattle.std.proofs.lemmas.Bool.Decides.{nat_tests}
 use Rattle.std.proofs.lemmas.List.{append-nil}
-use Rattle.std.proofs.lemmas.List.Elements.{All-tail}
+use Rattle.std.proofs.lemmas.List.Elements.{All-nil, All-tail}
 use Rattle.resp_wire.specs.ReaderModel.{ReaderModel}
 use Rattle.resp_wire.specs.declared.value.Value.{Value}
 use Rattle.key_split.specs.declared.travel.Batch.{Batch}
@@ -17,7 +17,7 @@ use Rattle.node_link.specs.declared.replies.Awaited.TheVariants as awaited
 use Rattle.node_link.specs.declared.stream.Gone.{Gone}
 use Rattle.node_link.specs.Bytes.{FlushOutcome, OutboxModel, UnsentModel, spelled}
 use Rattle.node_link.specs.Waiting.{GaveNone, IsWaiting}
-use Rattle.node_link.specs.Blocks.{BlockExchanges, BlockPortModel, blocked, GoesAs, IsBlockGarbled, IsShort, Item, Plain, Block, RepliesModel, Settles, awaited_by, items_for, items_of, sent_for, spelled_block, still_settles, tells-nothing, written_as}
+use Rattle.node_link.specs.Blocks.{BlockExchanges, BlockPortModel, blocked, GoesAs, IsBlockGarbled, IsPlainRequest, IsShort, Item, Plain, Block, RepliesModel, Settles, awaited_by, items_for, items_of, sent_for, spelled_block, still_settles, tells-nothing, written_as}
 use Rattle.node_link.specs.Collecting.{Collects, ValueOutcome, await_each}
 use Rattle.node_link.specs.Port.{NextOutcome}
 use Rattle.node_link.proofs.Moves.{appended, flushed}
@@ -149,6 +149,7 @@ module _ {S : Type 0} (failures : S → ℕ) (moved : S → List ℕ → List �
         (f.0, [], f.1, f.2, append-nil old.bytes.input.unread ∙ sym (ap (λ (i : ReaderModel). i.unread) input), ap (λ (i : ReaderModel). i.bounds) input),
         subst (λ (r : RepliesModel). Settles [] old.replies [] [] r) (sym replies) (still_settles old.replies),
         blocks,
+        All-nil IsPlainRequest,
       )
 
   -- things were sent behind what waits
@@ -170,11 +171,11 @@ module _ {S : Type 0} (failures : S → ℕ) (moved : S → List ℕ → List �
     blocks,
   )
 
-  exchanged : (old new : BlockPortModel S) (requests : List Request) (items : List Item) → sent_for requests ≡ items → GoesAs moved old items new → BlockExchanges moved old requests [] new
-  exchanged old new requests items is goes =
+  exchanged : (old new : BlockPortModel S) (requests : List Request) (items : List Item) → sent_for requests ≡ items → All IsPlainRequest requests → GoesAs moved old items new → BlockExchanges moved old requests [] new
+  exchanged old new requests items is plain goes =
       let sent = subst (λ (sent : List Item). GoesAs moved old sent new) (sym is) goes in
       let awaited = map awaited_by (sent_for requests) in
-      ([], sent.0, subst (λ (r : RepliesModel). Settles awaited old.replies [] [] r) (sym sent.1) (settles_sent awaited old.replies), sent.2)
+      ([], sent.0, subst (λ (r : RepliesModel). Settles awaited old.replies [] [] r) (sym sent.1) (settles_sent awaited old.replies), sent.2, plain)
 
   pub goes_plain : (old new : BlockPortModel S) (requests : List Request) (rest : List ℕ)
       → ((written : List ℕ) × moved old.bytes.stream written [] new.bytes.stream × (old.bytes.unsent ≡ written ++ rest))
@@ -186,13 +187,13 @@ module _ {S : Type 0} (failures : S → ℕ) (moved : S → List ℕ → List �
       let waits = subst (λ (ws : List Awaited). new.replies ≡ record old.replies { awaited = old.replies.awaited ++ ws }) (sym (plain_awaited requests)) replies in
       goes_as old new (map Plain requests) rest flush unsent input waits blocks
 
-  pub sends_plain : (old new : BlockPortModel S) (requests : List Request) (rest : List ℕ) → sent_for requests ≡ map Plain requests
+  pub sends_plain : (old new : BlockPortModel S) (requests : List Request) (rest : List ℕ) → sent_for requests ≡ map Plain requests → All IsPlainRequest requests
       → ((written : List ℕ) × moved old.bytes.stream written [] new.bytes.stream × (old.bytes.unsent ≡ written ++ rest))
       → new.bytes.unsent ≡ rest ++ spelled requests → new.bytes.input ≡ old.bytes.input
       → new.replies ≡ record old.replies { awaited = old.replies.awaited ++ await_each requests } → new.takes_blocks ≡ old.takes_blocks
       → BlockExchanges moved old requests [] new
-  sends_plain old new requests rest sent flush is input replies blocks =
-      exchanged old new requests (map Plain requests) sent (goes_plain old new requests rest flush is input replies blocks)
+  sends_plain old new requests rest sent plain flush is input replies blocks =
+      exchanged old new requests (map Plain requests) sent plain (goes_plain old new requests rest flush is input replies blocks)
 
   pub goes_block : (old new : BlockPortModel S) (run : RunModel) (rest : List ℕ) → IsTogether run → 0 < length run.later
       → ((written : List ℕ) × moved old.bytes.stream written [] new.bytes.stream × (old.bytes.unsent ≡ written ++ rest))
@@ -205,13 +206,13 @@ module _ {S : Type 0} (failures : S → ℕ) (moved : S → List ℕ → List �
       let waits = subst (λ n. new.replies ≡ record old.replies { awaited = old.replies.awaited ++ awaited.Block n ∷ [] }) (sym (run_requests run together more)) replies in
       goes_as old new (Block requests ∷ []) rest flush unsent input waits blocks
 
-  pub sends_block : (old new : BlockPortModel S) (run : RunModel) (rest : List ℕ) → IsTogether run → 0 < length run.later
+  pub sends_block : (old new : BlockPortModel S) (run : RunModel) (rest : List ℕ) → IsTogether run → 0 < length run.later → All IsPlainRequest (requests_of_run run)
       → ((written : List ℕ) × moved old.bytes.stream written [] new.bytes.stream × (old.bytes.unsent ≡ written ++ rest))
       → new.bytes.unsent ≡ rest ++ spelled_block (requests_of_run run) → new.bytes.input ≡ old.bytes.input
       → new.replies ≡ record old.replies { awaited = old.replies.awaited ++ awaited.Block (count_in run) ∷ [] } → new.takes_blocks ≡ old.takes_blocks
       → BlockExchanges moved old (requests_of_run run) [] new
-  sends_block old new run rest together more flush is input replies blocks =
-      exchanged old new (requests_of_run run) (Block (requests_of_run run) ∷ []) (run_block run together more) (goes_block old new run rest together more flush is input replies blocks)
+  sends_block old new run rest together more plain flush is input replies blocks =
+      exchanged old new (requests_of_run run) (Block (requests_of_run run) ∷ []) (run_block run together more) plain (goes_block old new run rest together more flush is input replies blocks)
 
   collects : (old new : BlockPortModel S) (written read : List ℕ) → moved old.bytes.stream written read new.bytes.stream → old.bytes.unsent ++ [] ≡ written ++ new.bytes.unsent
       → Collects (record old.bytes.input { unread = old.bytes.input.unread ++ read }) old.replies new.bytes.input new.replies → new.takes_blocks ≡ old.takes_blocks
@@ -221,6 +222,7 @@ module _ {S : Type 0} (failures : S → ℕ) (moved : S → List ℕ → List �
     (written, read, m, u, c.1, c.2),
     subst (λ (r : RepliesModel). Settles [] old.replies c.0 [] r) (sym c.3) (settles_collected old.replies c.0),
     blocks,
+    All-nil IsPlainRequest,
   )
 
   -- what a port gives after these bytes were moved, by what the replies gave
@@ -228,9 +230,9 @@ module _ {S : Type 0} (failures : S → ℕ) (moved : S → List ℕ → List �
       → old.bytes.unsent ++ [] ≡ written ++ new.bytes.unsent
       → ValueOutcome (record old.bytes.input { unread = old.bytes.input.unread ++ read }) old.replies result new.bytes.input new.replies → new.takes_blocks ≡ old.takes_blocks
       → NextOutcome (λ (p : BlockPortModel S). failures p.bytes.stream) IsBlockGarbled (BlockExchanges moved) old result new
-  next_from old new written read (Ok (Some value)) m u v blocks = (v.0, (written, read, m, u, v.1, v.2), v.3, blocks)
+  next_from old new written read (Ok (Some value)) m u v blocks = (v.0, (written, read, m, u, v.1, v.2), v.3, blocks, All-nil IsPlainRequest)
   next_from old new written read (Ok None) m u v blocks = collects old new written read m u v.0 blocks
-  next_from old new written read (Err NoMemory) m u v blocks = (v.0, (written, read, m, u, v.1, v.2), v.3, blocks)
+  next_from old new written read (Err NoMemory) m u v blocks = (v.0, (written, read, m, u, v.1, v.2), v.3, blocks, All-nil IsPlainRequest)
   next_from old new written read (Err BadWire) m u v blocks = (v.1, collects old new written read m u v.0 blocks)
   next_from old new written read (Err Failed) m u v blocks = absurd v
 

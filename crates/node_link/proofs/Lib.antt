@@ -9,3 +9,4 @@ pub mod Words
 pub mod Answering
 pub mod Replying
 pub mod Blocking
+pub mod PlainRequests

@@ -2,12 +2,13 @@
 -- What comes back is matched by place. A plain request has one reply, which is its value. A block has two replies more than
 -- commands, and once the last of them has come, they tell each command its value (Runs.antt).
 -- Redis documentation, "Transactions".
-use Rattle.std.specs.Prelude.{◌≡◌, ◌⊎◌, ◌<◌, ◌+◌, ◌++◌, ◌∷◌, List, [], ℕ, Bool, Option, Some, None, codes, length, map, false, true, if◌then◌else◌, refl}
+use Rattle.std.specs.Prelude.{◌≡◌, ◌⊎◌, ◌<◌, ◌+◌, ◌++◌, ◌∷◌, All, List, [], ℕ, Bool, Option, Some, None, codes, length, map, false, true, if◌then◌else◌, refl}
 use Rattle.std.specs.List.{flat_map}
 use Rattle.std.proofs.Common.{inl}
 use Rattle.std.proofs.lemmas.List.{append-nil}
 use Rattle.resp_wire.specs.declared.value.Value.{Value}
 use Rattle.key_split.specs.declared.travel.Batch.{Batch}
+use Rattle.key_split.specs.Laws.{IsPlain}
 use Rattle.key_split.specs.Requests.{Request, Asking, Command, Slots, requests_of}
 use Rattle.key_split.specs.Runs.{RunModel}
 use Rattle.node_link.specs.declared.replies.Awaited.{Awaited}
@@ -21,6 +22,12 @@ use Rattle.node_link.specs.Waiting.{GivesNone}
 pub data Item : Type 0 where
   Plain : Request → Item
   Block : List Request → Item
+
+-- its part is written whole by its words
+abbrev pub IsPlainRequest : Request → Type 0
+IsPlainRequest Asking = Unit {0}
+IsPlainRequest (Command ticket part) = IsPlain part
+IsPlainRequest Slots = Unit {0}
 
 -- a command before these: it is of their block, where commands stand first
 abbrev pub blocked : Request → List Item → List Item
@@ -122,11 +129,11 @@ module _ {S : Type 0} (moved : S → List ℕ → List ℕ → S → Type 0) whe
       Carries moved old.bytes (flat_map written_as items) [] new.bytes
       × (new.replies ≡ record old.replies { awaited = old.replies.awaited ++ map awaited_by items }) × (new.takes_blocks ≡ old.takes_blocks)
 
-  -- the requests went out, a run of several in a block, and the values are what the replies tell that came
+  -- the requests went out, a run of several in a block, and the values are what the replies tell that came; each command was plain
   abbrev pub BlockExchanges : BlockPortModel S → List Request → List Value → BlockPortModel S → Type 0
   BlockExchanges old requests values new =
       (came : List Value) × Carries moved old.bytes (flat_map written_as (sent_for requests)) came new.bytes
-      × Settles (map awaited_by (sent_for requests)) old.replies came values new.replies × (new.takes_blocks ≡ old.takes_blocks)
+      × Settles (map awaited_by (sent_for requests)) old.replies came values new.replies × (new.takes_blocks ≡ old.takes_blocks) × All IsPlainRequest requests
 
 -- the bytes that came are no values, or the values no replies to a block
 abbrev pub IsBlockGarbled : {S : Type 0} → BlockPortModel S → Type 0

@@ -1,10 +1,10 @@
 //! A port over a stream of bytes.
 
-ghost use Rattle.std.specs.Prelude.{◌≡◌, ◌≤◌, ◌<◌, ◌∷◌, [], None, OnOk, length, map};
+ghost use Rattle.std.specs.Prelude.{◌≡◌, ◌≤◌, ◌<◌, ◌∷◌, [], All, None, OnOk, length, map};
 ghost use Rattle.std.specs.List.{list_any};
 ghost use Rattle.key_split.specs.Requests.{Slots, requests_of};
 ghost use Rattle.key_split.specs.Runs.{IsTogether, count_in, requests_of_run};
-ghost use Rattle.node_link.specs.Blocks.{Block, BlockExchanges, BlockGivesNone, GoesAs, IsBlockGarbled, Plain, is_block, items_of, longest_at, spelled_block};
+ghost use Rattle.node_link.specs.Blocks.{Block, BlockExchanges, BlockGivesNone, GoesAs, IsBlockGarbled, IsPlainRequest, Plain, is_block, items_of, longest_at, spelled_block};
 ghost use Rattle.node_link.specs.Bytes.{OffersFirst, OffersThenReads, spelled};
 ghost use Rattle.node_link.specs.Collecting.{DraftOutcome, await_each};
 ghost use Rattle.node_link.specs.Port.{SendOutcome, NextOutcome};
@@ -22,6 +22,7 @@ use key_split::{Batch, Run};
 use resp_wire::{Limits, NoMemory, Value};
 use std::alloc::Global;
 use std::marker::Model;
+use std::mem;
 
 /// Commands of a block at most.
 const LONGEST_BLOCK: usize = 64;
@@ -93,12 +94,21 @@ impl<S> BlockPort<S> {
     {
         self.replies.awaits_block()
     }
+
+    /// Puts another stream in place of the port's, and gives that one back.
+    pub fn swap_stream(&mut self, stream: S) -> S
+        ensures taken { result ≡ self.old.bytes.stream }
+        ensures put { self.new ≡ record self.old { bytes = record self.old.bytes { stream = stream } } }
+    {
+        mem::replace(&mut self.stream, stream)
+    }
 }
 
 impl<S: Stream> NodePort for BlockPort<S> {
     ghost use Rattle.std.proofs.lemmas.List.{append-nil};
+    ghost use Rattle.std.proofs.lemmas.List.Elements.{All-nil};
     ghost use Rattle.std.specs.Prelude.{refl};
-    ghost use Rattle.node_link.specs.Blocks.{BlockPortModel, still_settles};
+    ghost use Rattle.node_link.specs.Blocks.{BlockPortModel, IsPlainRequest, still_settles};
 
     ghost failures = { λ p. S.failures p.bytes.stream };
 
@@ -108,7 +118,7 @@ impl<S: Stream> NodePort for BlockPort<S> {
 
     ghost gives_none = { BlockGivesNone S.asked S.offered };
 
-    ghost still = { λ p. ([], ([], [], S.still p.bytes.stream, append-nil p.bytes.unsent, append-nil p.bytes.input.unread, refl), still_settles p.replies, refl) };
+    ghost still = { λ p. ([], ([], [], S.still p.bytes.stream, append-nil p.bytes.unsent, append-nil p.bytes.input.unread, refl), still_settles p.replies, refl, All-nil IsPlainRequest) };
 
     fn send(&mut self, batch: &Batch) -> Result<(), PortFault>
         ensures does { SendOutcome (λ (p : BlockPortModel S). S.failures p.bytes.stream) IsBlockGarbled (BlockExchanges S.moved) self.old (requests_of batch.now) result self.new }
@@ -246,7 +256,8 @@ fn urgency_behind(replies: &Replies) -> Urgency {
 }
 
 fn draft_batch(out: &mut Outbox, replies: &mut Replies, batch: &Batch) -> Result<(), NoMemory>
-    ensures { DraftOutcome (spelled (requests_of batch.now)) (await_each (requests_of batch.now)) out.old replies.old result out.new replies.new }
+    ensures drafts { DraftOutcome (spelled (requests_of batch.now)) (await_each (requests_of batch.now)) out.old replies.old result out.new replies.new }
+    ensures plain { OnOk result (All IsPlainRequest (requests_of batch.now)) }
 {
     push_batch(out, batch)?;
     replies.expect_batch(batch)
@@ -261,7 +272,8 @@ fn draft_slots(out: &mut Outbox, replies: &mut Replies) -> Result<(), NoMemory>
 
 fn draft_block(out: &mut Outbox, replies: &mut Replies, run: &Run) -> Result<(), NoMemory>
     requires { count_in run.now ≤ 64 }
-    ensures { DraftOutcome (spelled_block (requests_of_run run.now)) (awaited.Block (count_in run.now) ∷ []) out.old replies.old result out.new replies.new }
+    ensures drafts { DraftOutcome (spelled_block (requests_of_run run.now)) (awaited.Block (count_in run.now) ∷ []) out.old replies.old result out.new replies.new }
+    ensures plain { OnOk result (All IsPlainRequest (requests_of_run run.now)) }
 {
     push_block(out, run)?;
     replies.expect(Awaited::Block(run.len() as u8))

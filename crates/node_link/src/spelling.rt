@@ -1,12 +1,13 @@
 //! Requests as bytes: each is spelled where it will be written from, with no value and no list of words in between.
 
-ghost use Rattle.std.specs.Prelude.{◌≡◌, ◌<◌, ◌≤◌, ◌+◌, ◌*◌, ◌++◌, ◌∷◌, [], List, ℕ, OnOk, length, decimal, codes};
+ghost use Rattle.std.specs.Prelude.{◌≡◌, ◌<◌, ◌≤◌, ◌+◌, ◌*◌, ◌++◌, ◌∷◌, [], All, List, ℕ, OnOk, length, decimal, codes};
 ghost use Rattle.std.specs.List.{flat_map};
+ghost use Rattle.key_split.specs.Laws.{IsPlain};
 ghost use Rattle.key_split.specs.PartModel.{Pair};
 ghost use Rattle.key_split.specs.Requests.{Slots, requests_of};
 ghost use Rattle.key_split.specs.Words.{behind_key, pair_words, words_of};
 ghost use Rattle.key_split.specs.Runs.{requests_of_run};
-ghost use Rattle.node_link.specs.Blocks.{spelled_block};
+ghost use Rattle.node_link.specs.Blocks.{IsPlainRequest, spelled_block};
 ghost use Rattle.node_link.specs.Bytes.{spelled, spelled_words};
 ghost use Rattle.node_link.specs.Spelling.{head, spelled_bulk, spelled_bulks};
 
@@ -19,6 +20,7 @@ use resp_wire::{Bytes, NoMemory};
 pub fn push_batch(out: &mut Outbox, batch: &Batch) -> Result<(), NoMemory>
     ensures ok { OnOk result (out.new.draft ≡ out.old.draft ++ spelled (requests_of batch.now)) }
     ensures kept { out.new.unsent ≡ out.old.unsent }
+    ensures plain { OnOk result (All IsPlainRequest (requests_of batch.now)) }
 {
     if batch.asking {
         push_word(out, b"ASKING")?;
@@ -40,6 +42,7 @@ pub fn push_slots(out: &mut Outbox) -> Result<(), NoMemory>
 pub fn push_block(out: &mut Outbox, run: &Run) -> Result<(), NoMemory>
     ensures ok { OnOk result (out.new.draft ≡ out.old.draft ++ spelled_block (requests_of_run run.now)) }
     ensures kept { out.new.unsent ≡ out.old.unsent }
+    ensures plain { OnOk result (All IsPlainRequest (requests_of_run run.now)) }
 {
     push_word(out, b"MULTI")?;
     push_batch(out, run.first())?;
@@ -50,6 +53,7 @@ pub fn push_block(out: &mut Outbox, run: &Run) -> Result<(), NoMemory>
 fn push_batches(out: &mut Outbox, batches: &[Batch]) -> Result<(), NoMemory>
     ensures ok { OnOk result (out.new.draft ≡ out.old.draft ++ spelled (flat_map requests_of batches.now)) }
     ensures kept { out.new.unsent ≡ out.old.unsent }
+    ensures plain { OnOk result (All IsPlainRequest (flat_map requests_of batches.now)) }
 {
     let mut rest = batches;
     while let [batch, further @ ..] = rest {
@@ -71,6 +75,7 @@ fn push_word(out: &mut Outbox, word: &[u8]) -> Result<(), NoMemory>
 fn push_part(out: &mut Outbox, part: &Part) -> Result<(), NoMemory>
     ensures ok { OnOk result (out.new.draft ≡ out.old.draft ++ spelled_words (words_of part.now)) }
     ensures kept { out.new.unsent ≡ out.old.unsent }
+    ensures plain { OnOk result (IsPlain part.now) }
 {
     let op = part.op();
     push_head(out, b'*', word_count(part))?;

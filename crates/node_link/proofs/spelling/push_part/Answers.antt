@@ -10,3 +10,6 @@ returns-clause-ok c =
     on_ok c.push_pairs.result
     (λ last. part_pieces c.args.part.now c.word_count.result _ _ _ _ _ _ c.word_count.ensures head name key behind (rw (c.rest.ensures.value, c.op-op.ensures) at last))
     c.push_pairs.ensures.ok
+
+pub returns-clause-plain : goal.returns-clause-plain
+returns-clause-plain c = on_ok c.push_pairs.result (λ last. c.rest.ensures.plain) c.push_pairs.ensures.ok

@@ -3,6 +3,7 @@ use Rattle.key_split.specs.Requests.{Slots}
 use Rattle.std.specs.Prelude.{⊤}
 use Rattle.node_link.specs.Bytes.{FlushOutcome, Offers, UnsentModel, input_of}
 use Rattle.node_link.proofs.Blocking.{finished, forgotten, goes_quiet, sends_plain}
+use Rattle.node_link.proofs.PlainRequests.{slots_plain}
 use Rattle.node_link.proofs.block_port.BlockPortNodePort.ask_slots.Goals as goal
 
 pub returns-in-Err-clause-does : goal.returns-in-Err-clause-does
@@ -27,7 +28,7 @@ returns-in-Ok-clause-does g c =
     (sends_plain g.S.Stream.failures g.S.Stream.moved
     (record { bytes = record { stream = inside.stream; unsent = inside.outbox.unsent.bytes; refused = inside.outbox.unsent.refused; quiet_reads = inside.outbox.unsent.quiet_reads; input = input_of inside.inbox }; replies = inside.replies; takes_blocks = inside.takes_blocks })
     (record { bytes = record { stream = c.flush_before_send.new.stream; unsent = c.finish.new.self.unsent.bytes; refused = c.finish.new.self.unsent.refused; quiet_reads = c.finish.new.self.unsent.quiet_reads; input = input_of inside.inbox }; replies = c.draft_slots.new.replies; takes_blocks = inside.takes_blocks })
-    (Slots ∷ []) c.flush_before_send.new.self.unsent.bytes refl c.in_default.ensures.written unsent refl drafted.2 refl)
+    (Slots ∷ []) c.flush_before_send.new.self.unsent.bytes refl slots_plain c.in_default.ensures.written unsent refl drafted.2 refl)
 
 pub returns-in-Err-draft_slots-clause-does : goal.returns-in-Err-draft_slots-clause-does
 returns-in-Err-draft_slots-clause-does g c =
