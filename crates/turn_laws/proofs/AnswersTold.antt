@@ -1,5 +1,5 @@
 -- What the log says was answered is what the client was told.
-use Rattle.std.proofs.Common.{◌≡◌, ◌⊎◌, inl, inr, ⊎_elim, ◌++◌, ◌∷◌, [], ◌+◌, ◌-◌, ◌&&◌, List, ℕ, zero, suc, refl, ap, sym, subst, ◌∙◌, Option, Some, None, Ok, Bool, true, false, cond, append_assoc, arith, take, drop, length}
+use Rattle.std.proofs.Common.{◌≡◌, ◌⊎◌, inl, inr, ⊎_elim, ◌++◌, ◌∷◌, [], ◌+◌, ◌-◌, ◌&&◌, List, ℕ, zero, suc, refl, ap, sym, subst, ◌∙◌, Option, Some, None, Ok, Bool, true, false, cond, append_assoc, arith, take, drop, length, map}
 use Rattle.std.specs.Prelude.{nat_eq, slice_get}
 use Rattle.std.specs.List.{FoldsTo, flat_map, list_all}
 use Rattle.std.specs.FinMap.{FinMap, get, get-empty}
@@ -25,20 +25,22 @@ use Rattle.proxy_turns.specs.ClientTurn.{Pulled, Fed, Read, HandedOut, Followed,
 use Rattle.proxy_turns.specs.WorkerModel.{WorkerModel, WorkerEvent, Did, Finished, Took, FoundNone, Came, TurnedAway, FoundNobody, Left}
 use Rattle.turn_laws.specs.Wire.{Execution}
 use Rattle.turn_laws.specs.System.{System, Mark, Answered}
-use Rattle.turn_laws.specs.Steps.{SystemEvent, AtWorker, AtCarrier, Handed, AtNode, AtBroken, Thrown, Moved, SystemStep, WorkerStep, answers, arrivals, log_of, ticket_at}
+use Rattle.turn_laws.specs.Sharing.{SharedEvent, SharedSystemStep}
+use Rattle.turn_laws.specs.Steps.{AtWorker, AtCarrier, Handed, AtNode, AtBroken, Thrown, Moved, WorkerStep, answers, arrivals, log_of, ticket_at}
 use Rattle.turn_laws.specs.PortsMay.{any_moves}
 use Rattle.turn_laws.specs.Refines.{IsStart}
-use Rattle.turn_laws.specs.LogOutput.{AnswersWereTold}
+use Rattle.turn_laws.specs.LogOutput.{AnswersWereTold, SharedAnswersWereTold}
 use Rattle.turn_laws.specs.ClientSees.{bytes_from, bytes_to, ends_for}
-use Rattle.turn_laws.specs.ClientOutput.{events_at}
+use Rattle.turn_laws.specs.Arrivals.{own_events_at}
 use Rattle.turn_laws.proofs.Elements.{nothing-there}
 use Rattle.turn_laws.proofs.Tables.{put-same}
 use Rattle.turn_laws.proofs.Ending.{one-of}
-use Rattle.turn_laws.proofs.Refines.{refines}
+use Rattle.turn_laws.proofs.OwnEvents.{ours, same-events}
+use Rattle.turn_laws.proofs.Sharing.{shared-refines}
 use Rattle.turn_laws.proofs.SessionLives.{Lived, flat-push, folds-push}
 use Rattle.turn_laws.proofs.SessionTells.{HasTold}
 use Rattle.turn_laws.proofs.ClientLives.{LivesOn}
-use Rattle.turn_laws.proofs.WrittenClients.{all-events, all-steps, here-is}
+use Rattle.turn_laws.proofs.WrittenClients.{all-events, here-is, shared-steps}
 
 -- an end that was told stays
 pick : (b : Bool) (x e : Ended) (r r' : Option Ended) → (r ≡ Some e → r' ≡ Some e) → cond b (Some x) r ≡ Some e → cond b (Some x) r' ≡ Some e
@@ -120,34 +122,34 @@ there-lived came ends went client here (inr (gone, none, front)) = absurd (false
 -- ---- the log
 
 -- the ends that the client of this ticket was told so far
-abbrev so_far : List SystemEvent → Ticket → List (Ticket × Ended)
-so_far done ticket = flat_map (ends_for ticket.client) (flat_map (events_at ticket.worker) done)
+abbrev so_far : List SharedEvent → Ticket → List (Ticket × Ended)
+so_far done ticket = flat_map (ends_for ticket.client) (flat_map (own_events_at ticket.worker) done)
 
 -- each answer among these marks was told
-abbrev WereTold : List SystemEvent → List Mark → Type 0
+abbrev WereTold : List SharedEvent → List Mark → Type 0
 WereTold done marks = (i : ℕ) (ticket : Ticket) (end : Ended) → slice_get marks i ≡ Some (Answered ticket end) → end_of (so_far done ticket) ticket.part ≡ Some end
 
-none-told : (done : List SystemEvent) → WereTold done []
+none-told : (done : List SharedEvent) → WereTold done []
 none-told done i ticket end at = absurd (nothing-there i (Answered ticket end) at)
 
 -- nodes do not answer
-executed-told : (done : List SystemEvent) (all : List Execution) → WereTold done (log_of all)
+executed-told : (done : List SharedEvent) (all : List Execution) → WereTold done (log_of all)
 executed-told done [] i ticket end at = absurd (nothing-there i (Answered ticket end) at)
 executed-told done (one ∷ all) zero ticket end at = absurd (cc)
 executed-told done (one ∷ all) (suc i) ticket end at = absurd (nothing-there i (Answered ticket end) at)
 
 -- one more step, and what it shows
-then-told : (done : List SystemEvent) (event : SystemEvent) (log marks : List Mark) → WereTold done log → WereTold done marks → WereTold (done ++ event ∷ []) (log ++ marks)
+then-told : (done : List SharedEvent) (event : SharedEvent) (log marks : List Mark) → WereTold done log → WereTold done marks → WereTold (done ++ event ∷ []) (log ++ marks)
 then-told done event log marks before now i ticket end at =
     let was : end_of (so_far done ticket) ticket.part ≡ Some end = ⊎_elim
     (λ (z : slice_get log i ≡ Some (Answered ticket end)). before i ticket end z)
     (λ (z : (j : ℕ) × (slice_get marks j ≡ Some (Answered ticket end))). now z.0 ticket end z.1)
     (either log marks i (Answered ticket end) at) in
-    let more : so_far (done ++ event ∷ []) ticket ≡ so_far done ticket ++ flat_map (ends_for ticket.client) (events_at ticket.worker event) =
-    ap (flat_map (ends_for ticket.client)) (flat-push (events_at ticket.worker) done event) ∙ flat_map-append (ends_for ticket.client) (flat_map (events_at ticket.worker) done) (events_at ticket.worker event) in
-    ap (λ ends. end_of ends ticket.part) more ∙ end-more (so_far done ticket) (flat_map (ends_for ticket.client) (events_at ticket.worker event)) ticket.part end was
+    let more : so_far (done ++ event ∷ []) ticket ≡ so_far done ticket ++ flat_map (ends_for ticket.client) (own_events_at ticket.worker event) =
+    ap (flat_map (ends_for ticket.client)) (flat-push (own_events_at ticket.worker) done event) ∙ flat_map-append (ends_for ticket.client) (flat_map (own_events_at ticket.worker) done) (own_events_at ticket.worker event) in
+    ap (λ ends. end_of ends ticket.part) more ∙ end-more (so_far done ticket) (flat_map (ends_for ticket.client) (own_events_at ticket.worker event)) ticket.part end was
 
-same-log : (done : List SystemEvent) (event : SystemEvent) (log : List Mark) → WereTold done log → WereTold (done ++ event ∷ []) log
+same-log : (done : List SharedEvent) (event : SharedEvent) (log : List Mark) → WereTold done log → WereTold (done ++ event ∷ []) log
 same-log done event log before = subst (WereTold (done ++ event ∷ [])) (append-nil log) (then-told done event log [] before (none-told done))
 
 -- the log of a system
@@ -155,25 +157,25 @@ abbrev log_in : {C J : Type 0} → System C J → List Mark
 log_in s = s.log
 
 module _ (C J : Type 0) (law : DrainsOutput) (whole : FrontIsWhole) (faulty : FrontIsFaulty) (plain : PlansArePlain) (s0 : System C J) (start : IsStart s0) where
-  pub lives-at : (done : List SystemEvent) (s : System C J) → FoldsTo SystemStep s0 done s → (k number : ℕ) (model : WorkerModel C J) (client : ClientModel C) → slice_get s.workers k ≡ Some model
+  pub lives-at : (done : List SharedEvent) (s : System C J) → FoldsTo SharedSystemStep s0 done s → (k number : ℕ) (model : WorkerModel C J) (client : ClientModel C) → slice_get s.workers k ≡ Some model
       → get model.clients number ≡ Some client
-      → LivesOn (flat_map (bytes_from number) (flat_map (events_at k) done)) (flat_map (ends_for number) (flat_map (events_at k) done)) (flat_map (bytes_to number) (flat_map (events_at k) done)) client
+      → LivesOn (flat_map (bytes_from number) (flat_map (own_events_at k) done)) (flat_map (ends_for number) (flat_map (own_events_at k) done)) (flat_map (bytes_to number) (flat_map (own_events_at k) done)) client
   lives-at done s steps k number model client at got =
-      let (old, was, does) = all-steps k model done s0 s steps at in
-      let stands = all-events number any_moves law whole faulty (flat_map (events_at k) done) [] [] [] old model does
+      let (old, was, does) = shared-steps k model done s0 s steps at in
+      let stands = all-events number any_moves law whole faulty (flat_map (own_events_at k) done) [] [] [] old model does
       (inl (ap (λ (m : FinMap nat_cmp (ClientModel C)). get m number) (start.idle k old was).1 ∙ get-empty nat_cmp number, refl, refl, refl)) in
       (here-is number _ _ _ model client got stands).1
 
   -- the life of a client that is there
-  pub lived-at : (done : List SystemEvent) (s : System C J) → FoldsTo SystemStep s0 done s → (k number : ℕ) (model : WorkerModel C J) (client : ClientModel C) → slice_get s.workers k ≡ Some model
+  pub lived-at : (done : List SharedEvent) (s : System C J) → FoldsTo SharedSystemStep s0 done s → (k number : ℕ) (model : WorkerModel C J) (client : ClientModel C) → slice_get s.workers k ≡ Some model
       → get model.clients number ≡ Some client → client.gone ≡ false
-      → Lived (flat_map (bytes_from number) (flat_map (events_at k) done)) (flat_map (ends_for number) (flat_map (events_at k) done)) (flat_map (bytes_to number) (flat_map (events_at k) done))
+      → Lived (flat_map (bytes_from number) (flat_map (own_events_at k) done)) (flat_map (ends_for number) (flat_map (own_events_at k) done)) (flat_map (bytes_to number) (flat_map (own_events_at k) done))
       client.session client.unfed client.unpushed
   lived-at done s steps k number model client at got here = there-lived _ _ _ client here (lives-at done s steps k number model client at got)
 
-  pub whose : (done : List SystemEvent) (s : System C J) → FoldsTo SystemStep s0 done s → (k number : ℕ) (model : WorkerModel C J) (client : ClientModel C) → slice_get s.workers k ≡ Some model
+  pub whose : (done : List SharedEvent) (s : System C J) → FoldsTo SharedSystemStep s0 done s → (k number : ℕ) (model : WorkerModel C J) (client : ClientModel C) → slice_get s.workers k ≡ Some model
       → get model.clients number ≡ Some client → (client.session.worker ≡ k) × (client.session.client ≡ number)
-  whose done s steps k number model client at got = let shadow = ((refines C J plain s0 s done start steps).2.clients k model number client at got).1 in (shadow.housed, shadow.numbered)
+  whose done s steps k number model client at got = let shadow = ((shared-refines C J plain s0 s done start steps).2.clients k model number client at got).1 in (shadow.housed, shadow.numbered)
 
   -- the marks of a drain
   pub marks-drained : (s s' : System C J) (k number n : ℕ) (step : WorkerStep s k (Did number (Drained n)) s') → let d = step.does in
@@ -185,7 +187,7 @@ module _ (C J : Type 0) (law : DrainsOutput) (whole : FrontIsWhole) (faulty : Fr
       step.seen.4 ∙ (λ i. answers (was i).session (was i).session.first (take ((becomes i).session.first - (was i).session.first) (was i).session.ends))
 
   -- what a worker's event shows
-  drained-marks : (done : List SystemEvent) (s s' : System C J) → FoldsTo SystemStep s0 done s → (k number n : ℕ) (step : WorkerStep s k (Did number (Drained n)) s') → WereTold done step.marks
+  drained-marks : (done : List SharedEvent) (s s' : System C J) → FoldsTo SharedSystemStep s0 done s → (k number n : ℕ) (step : WorkerStep s k (Did number (Drained n)) s') → WereTold done step.marks
   drained-marks done s s' steps k number n step =
       let d = step.does in
       let client : ClientModel C = d.0 in
@@ -193,12 +195,12 @@ module _ (C J : Type 0) (law : DrainsOutput) (whole : FrontIsWhole) (faulty : Fr
       let told = (lived-at done s steps k number step.old client step.at d.2 d.3.0).held in
       let of = whose done s steps k number step.old client step.at d.2 in
       subst (WereTold done) (sym (marks-drained s s' k number n step)) (λ i ticket end at.
-      let t = drained-told (flat_map (ends_for number) (flat_map (events_at k) done)) n client.session client'.session client.unpushed client'.unpushed told d.3.1 i ticket end at in
+      let t = drained-told (flat_map (ends_for number) (flat_map (own_events_at k) done)) n client.session client'.session client.unpushed client'.unpushed told d.3.1 i ticket end at in
       let worker : ticket.worker ≡ k = t.1 ∙ of.0 in
       let own : ticket.client ≡ number = t.2 ∙ of.1 in
-      ap (λ ends. end_of ends ticket.part) (λ j. flat_map (ends_for (own j)) (flat_map (events_at (worker j)) done)) ∙ t.0)
+      ap (λ ends. end_of ends ticket.part) (λ j. flat_map (ends_for (own j)) (flat_map (own_events_at (worker j)) done)) ∙ t.0)
 
-  worker-marks : (done : List SystemEvent) (s s' : System C J) → FoldsTo SystemStep s0 done s → (k : ℕ) (event : WorkerEvent) (step : WorkerStep s k event s') → WereTold done step.marks
+  worker-marks : (done : List SharedEvent) (s s' : System C J) → FoldsTo SharedSystemStep s0 done s → (k : ℕ) (event : WorkerEvent) (step : WorkerStep s k event s') → WereTold done step.marks
   worker-marks done s s' steps k (Did number (Drained n)) step = drained-marks done s s' steps k number n step
   worker-marks done s s' steps k (Did number (Read result)) step =
       subst (WereTold done) (sym step.seen.4) (λ i ticket end at.
@@ -224,25 +226,32 @@ module _ (C J : Type 0) (law : DrainsOutput) (whole : FrontIsWhole) (faulty : Fr
   worker-marks done s s' steps k FoundNobody step = subst (WereTold done) (sym step.seen) (none-told done)
   worker-marks done s s' steps k (Left number) step = subst (WereTold done) (sym step.seen) (none-told done)
 
-  one-step : (done : List SystemEvent) (s s' : System C J) → FoldsTo SystemStep s0 done s → (event : SystemEvent) → SystemStep s event s' → WereTold done s.log → WereTold (done ++ event ∷ []) s'.log
-  one-step done s s' steps (AtWorker k event) step before =
-      subst (WereTold (done ++ AtWorker k event ∷ [])) (sym (ap log_in step.leaves)) (then-told done (AtWorker k event) s.log step.marks before (worker-marks done s s' steps k event step))
-  one-step done s s' steps (AtCarrier event) step before = subst (WereTold (done ++ AtCarrier event ∷ [])) (sym (ap log_in step.leaves)) (same-log done (AtCarrier event) s.log before)
-  one-step done s s' steps (Handed k number) step before = subst (WereTold (done ++ Handed k number ∷ [])) (sym (ap log_in step.4)) (same-log done (Handed k number) s.log before)
-  one-step done s s' steps (AtNode k verdict) step before =
-      subst (WereTold (done ++ AtNode k verdict ∷ [])) (sym (ap log_in step.10)) (then-told done (AtNode k verdict) s.log (log_of step.4) before (executed-told done step.4))
-  one-step done s s' steps (AtBroken j verdict) step before =
-      subst (WereTold (done ++ AtBroken j verdict ∷ [])) (sym (ap log_in step.7)) (then-told done (AtBroken j verdict) s.log (log_of step.3) before (executed-told done step.3))
-  one-step done s s' steps (Thrown j) step before = subst (WereTold (done ++ Thrown j ∷ [])) (sym (ap log_in step.2)) (same-log done (Thrown j) s.log before)
-  one-step done s s' steps (Moved event) step before = subst (WereTold (done ++ Moved event ∷ [])) (sym (ap log_in step.1)) (same-log done (Moved event) s.log before)
+  one-step : (done : List SharedEvent) (s s' : System C J) → FoldsTo SharedSystemStep s0 done s → (event : SharedEvent) → SharedSystemStep s event s' → WereTold done s.log → WereTold (done ++ event ∷ []) s'.log
+  one-step done s s' steps (SharedEvent.Ours (AtWorker k event)) step before =
+      subst (WereTold (done ++ SharedEvent.Ours (AtWorker k event) ∷ [])) (sym (ap log_in step.leaves)) (then-told done (SharedEvent.Ours (AtWorker k event)) s.log step.marks before (worker-marks done s s' steps k event step))
+  one-step done s s' steps (SharedEvent.Ours (AtCarrier event)) step before = subst (WereTold (done ++ SharedEvent.Ours (AtCarrier event) ∷ [])) (sym (ap log_in step.leaves)) (same-log done (SharedEvent.Ours (AtCarrier event)) s.log before)
+  one-step done s s' steps (SharedEvent.Ours (Handed k number)) step before = subst (WereTold (done ++ SharedEvent.Ours (Handed k number) ∷ [])) (sym (ap log_in step.4)) (same-log done (SharedEvent.Ours (Handed k number)) s.log before)
+  one-step done s s' steps (SharedEvent.Ours (AtNode k verdict)) step before =
+      subst (WereTold (done ++ SharedEvent.Ours (AtNode k verdict) ∷ [])) (sym (ap log_in step.10)) (then-told done (SharedEvent.Ours (AtNode k verdict)) s.log (log_of step.4) before (executed-told done step.4))
+  one-step done s s' steps (SharedEvent.Ours (AtBroken j verdict)) step before =
+      subst (WereTold (done ++ SharedEvent.Ours (AtBroken j verdict) ∷ [])) (sym (ap log_in step.7)) (then-told done (SharedEvent.Ours (AtBroken j verdict)) s.log (log_of step.3) before (executed-told done step.3))
+  one-step done s s' steps (SharedEvent.Ours (Thrown j)) step before = subst (WereTold (done ++ SharedEvent.Ours (Thrown j) ∷ [])) (sym (ap log_in step.2)) (same-log done (SharedEvent.Ours (Thrown j)) s.log before)
+  one-step done s s' steps (SharedEvent.Ours (Moved event)) step before = subst (WereTold (done ++ SharedEvent.Ours (Moved event) ∷ [])) (sym (ap log_in step.1)) (same-log done (SharedEvent.Ours (Moved event)) s.log before)
+  one-step done s s' steps (SharedEvent.Theirs node asking theirs) step before =
+      subst (WereTold (done ++ SharedEvent.Theirs node asking theirs ∷ [])) (sym (ap log_in step.1)) (then-told done (SharedEvent.Theirs node asking theirs) s.log (log_of theirs) before (executed-told done theirs))
 
-  every-step : (events done : List SystemEvent) (s s' : System C J) → FoldsTo SystemStep s0 done s → FoldsTo SystemStep s events s' → WereTold done s.log → WereTold (done ++ events) s'.log
+  every-step : (events done : List SharedEvent) (s s' : System C J) → FoldsTo SharedSystemStep s0 done s → FoldsTo SharedSystemStep s events s' → WereTold done s.log → WereTold (done ++ events) s'.log
   every-step [] done s s' steps same before = subst (λ es. WereTold es s'.log) (sym (append-nil done)) (subst (λ (x : System C J). WereTold done x.log) same before)
   every-step (event ∷ events) done s s' steps (mid, step, more) before =
       subst (λ es. WereTold es s'.log) (append_assoc done (event ∷ []) events)
-      (every-step events (done ++ event ∷ []) mid s' (folds-push SystemStep done event s0 s mid steps step) more (one-step done s mid steps event step before))
+      (every-step events (done ++ event ∷ []) mid s' (folds-push SharedSystemStep done event s0 s mid steps step) more (one-step done s mid steps event step before))
 
-module _ (C J : Type 0) where
-  pub answers-were-told : DrainsOutput → FrontIsWhole → FrontIsFaulty → PlansArePlain → AnswersWereTold C J
-  answers-were-told law whole faulty plain s s' events start steps =
+module _ (C J : Type 0) (law : DrainsOutput) (whole : FrontIsWhole) (faulty : FrontIsFaulty) (plain : PlansArePlain) where
+  pub shared-answers-were-told : SharedAnswersWereTold C J
+  shared-answers-were-told s s' events start steps =
       every-step C J law whole faulty plain s start events [] s s' refl steps (subst (WereTold []) (sym start.log) (none-told []))
+
+  pub answers-were-told : AnswersWereTold C J
+  answers-were-told s s' events start steps i ticket end at =
+      subst (λ es. end_of (flat_map (ends_for ticket.client) es) ticket.part ≡ Some end) (same-events ticket.worker events)
+      (shared-answers-were-told s s' (map SharedEvent.Ours events) start (ours events s s' steps) i ticket end at)

@@ -37,7 +37,7 @@ use Rattle.turn_laws.proofs.Arrivals.{IsAnothers, IsIts, Reading, answers-hidden
 use Rattle.turn_laws.proofs.ClientSees.{own, not-own}
 use Rattle.turn_laws.proofs.CommandsOut.{none-of, still-there}
 use Rattle.turn_laws.proofs.Ending.{none-some, one-of, removed-other}
-use Rattle.turn_laws.proofs.ScriptSharing.{ours}
+use Rattle.turn_laws.proofs.OwnEvents.{ours, same-events}
 use Rattle.turn_laws.proofs.Sharing.{all as all-shadows}
 use Rattle.turn_laws.proofs.Starts.{start-shadow}
 use Rattle.turn_laws.proofs.Tables.{put-other, put-same}
@@ -387,11 +387,6 @@ module _ (C J : Type 0) (law : DrainsOutput) (whole : FrontIsWhole) (faulty : Fr
   shared-arrivals-are-sent s s' events start steps k number =
       let b = start-shadow C J s start in
       (every-step k number events [] s s' b.0 b.2 b.3 (alone-walked b.0 b.1) steps (at-start k number s start)).0
-
-  -- the events of a worker, where nobody else acts
-  same-events : (k : ℕ) (events : List SystemEvent) → flat_map (own_events_at k) (map SharedEvent.Ours events) ≡ flat_map (events_at k) events
-  same-events k [] = refl
-  same-events k (event ∷ events) = ap (λ es. events_at k event ++ es) (same-events k events)
 
   pub arrivals-are-sent : ArrivalsAreSent C J
   arrivals-are-sent s s' events start steps k number =

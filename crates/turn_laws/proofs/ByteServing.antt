@@ -1,6 +1,7 @@
 -- What a node answers in bytes goes behind what it answered before.
 use Rattle.std.proofs.Common.{◌≡◌, ℕ, List, [], ◌∷◌, ◌++◌, map, refl, sym, ap, ◌∙◌, subst}
 use Rattle.std.proofs.lemmas.List.{append-nil, append_assoc}
+use Rattle.std.proofs.lemmas.List.Elements.{All-nil, All-rest}
 use Rattle.std.specs.List.{flat_map}
 use Rattle.resp_wire.specs.LimitsModel.{LimitsModel}
 use Rattle.resp_wire.specs.Seen.{data_of}
@@ -9,7 +10,7 @@ use Rattle.resp_wire.proofs.KeepLaws.{front_keeps_value}
 use Rattle.node_link.specs.declared.replies.Awaited.{Awaited}
 use Rattle.node_link.specs.Blocks.{IsToldBy, awaited_by, written_as}
 use Rattle.node_link.specs.Bytes.{Splits}
-use Rattle.turn_laws.specs.ByteWires.{AreAnswers, BeginsWire, FarEnd, ServesWire, asking_after, sent_as}
+use Rattle.turn_laws.specs.ByteWires.{AreAnswers, BeginsWire, FarEnd, IsPlainItem, ServesWire, asking_after, sent_as}
 use Rattle.turn_laws.specs.ByteFronts.{cut-same}
 
 -- values that more bytes spell go behind
@@ -41,8 +42,9 @@ module _ {S : Type 0} (far : S → FarEnd) where
         served = w.served ++ awaited_by sent ∷ [];
         coming = w.coming ++ a.replies;
         given = w.given ++ values;
-        leads = w.leads ∙ sym (ap (λ (e : FarEnd). e.node) a.leaves);
         asks = ap (asking_after item) w.asks ∙ sym (ap (λ (e : FarEnd). e.asking) a.leaves);
+        plain = All-rest IsPlainItem item rest wire.items first w.plain;
+        bounds = w.bounds;
         goes = goes-less before.unserved after.unserved port.bytes.unsent (written_as sent) (flat_map written_as (map sent_as rest)) a.takes
             (w.goes ∙ ap (λ items. flat_map written_as (map sent_as items)) first);
         awaits = w.awaits ∙ ap (λ items. w.served ++ map awaited_by (map sent_as items)) first ∙ sym (append_assoc w.served (awaited_by sent ∷ []) pending);
@@ -56,12 +58,13 @@ module _ {S : Type 0} (far : S → FarEnd) where
 
   -- nothing is on its way at a beginning
   pub begins-bytes : BeginsWire far
-  begins-bytes stream bounds takes_blocks id node is = record {
+  begins-bytes stream takes_blocks id node is = record {
     served = [];
     coming = [];
     given = [];
-    leads = sym (ap (λ (e : FarEnd). e.node) is);
     asks = sym (ap (λ (e : FarEnd). e.asking) is);
+    plain = All-nil IsPlainItem;
+    bounds = refl;
     goes = ap (λ (e : FarEnd). e.unserved ++ []) is;
     awaits = refl;
     comes = ap (λ (e : FarEnd). e.unread) is;

@@ -1,5 +1,5 @@
 -- Each client is written a front of the output of its requests and of the answers that the log shows.
-use Rattle.std.proofs.Common.{◌≡◌, ◌≢◌, ◌⊎◌, inl, inr, ⊎_elim, ◌++◌, ◌∷◌, [], ◌+◌, ◌-◌, ◌<◌, ◌≤◌, List, ℕ, zero, suc, refl, ap, sym, subst, ◌∙◌, Some, None, Result, Ok, Err, Bool, true, false, cond, append_assoc, arith, take, length}
+use Rattle.std.proofs.Common.{◌≡◌, ◌≢◌, ◌⊎◌, inl, inr, ⊎_elim, ◌++◌, ◌∷◌, [], ◌+◌, ◌-◌, ◌<◌, ◌≤◌, List, ℕ, zero, suc, refl, ap, sym, subst, ◌∙◌, Some, None, Result, Ok, Err, Bool, true, false, cond, append_assoc, arith, take, length, map}
 use Rattle.std.specs.Prelude.{nat_eq, slice_get, slice_set}
 use Rattle.std.specs.List.{FoldsTo, flat_map}
 use Rattle.std.specs.FinMap.{FinMap, get, insert, get-empty}
@@ -33,15 +33,17 @@ use Rattle.proxy_turns.specs.ClientModel.{ClientModel, new_client}
 use Rattle.proxy_turns.specs.ClientTurn.{ClientContext, ClientEvent, Pulled, Fed, Read, HandedOut, Followed, Looked, CameBack, Posted, Drained, Pushed, Tried, Parted, Dropped, ClientDoes}
 use Rattle.proxy_turns.specs.WorkerModel.{WorkerModel, WorkerEvent, Did, Finished, Took, FoundNone, Came, TurnedAway, FoundNobody, Left, WorkerDoes, Tells}
 use Rattle.turn_laws.specs.Refines.{IsStart}
-use Rattle.turn_laws.specs.Steps.{SystemEvent, AtWorker, AtCarrier, Handed, AtNode, AtBroken, Thrown, Moved, SystemStep, WorkerStep, answers, log_of, ticket_at}
+use Rattle.turn_laws.specs.Sharing.{SharedEvent, SharedSystemStep}
+use Rattle.turn_laws.specs.Steps.{AtWorker, AtCarrier, Handed, AtNode, AtBroken, Thrown, Moved, WorkerStep, answers, log_of, ticket_at}
 use Rattle.turn_laws.specs.PortsMay.{any_moves}
 use Rattle.turn_laws.proofs.Tables.{put-apart, put-same}
 use Rattle.world_laws.proofs.Recorded.{set-same}
-use Rattle.turn_laws.proofs.AnswersTold.{answers-were-told, lived-at, lives-at, marks-drained, whose}
+use Rattle.turn_laws.proofs.AnswersTold.{lived-at, lives-at, marks-drained, shared-answers-were-told, whose}
+use Rattle.turn_laws.proofs.OwnEvents.{ours, same-events}
 use Rattle.turn_laws.proofs.CommandsOut.{still-there}
-use Rattle.turn_laws.specs.LogOutput.{LogIsWritten, answers_to}
+use Rattle.turn_laws.specs.LogOutput.{LogIsWritten, SharedLogIsWritten, answers_to}
 use Rattle.turn_laws.specs.ClientSees.{bytes_from, bytes_to, ends_for, if_own}
-use Rattle.turn_laws.specs.ClientOutput.{events_at}
+use Rattle.turn_laws.specs.Arrivals.{own_events_at}
 use Rattle.turn_laws.proofs.OutputFronts.{IsFront, written-on}
 use Rattle.turn_laws.proofs.SessionLives.{flat-push, folds-push, other-front}
 use Rattle.turn_laws.proofs.ClientLives.{LivesOn, front-none}
@@ -231,6 +233,10 @@ module _ {C J : Type 0} (number : ℕ) (client' : ClientModel C) (old new : Work
 
 -- ---- a system
 
+-- an event of a worker of ours
+abbrev of_worker : ℕ → WorkerEvent → SharedEvent
+of_worker k event = SharedEvent.Ours (AtWorker k event)
+
 module _ {C J : Type 0} where
   -- a client of worker k that is there
   abbrev Here : System C J → ℕ → ℕ → ClientModel C → Type 0
@@ -240,25 +246,26 @@ module _ {C J : Type 0} where
   abbrev AllShown : System C J → Type 0
   AllShown s = (k number : ℕ) (client : ClientModel C) → Here s k number client → (part : ℕ) → part < client.session.first → IsShown s.log k number part
 
-  log-more : (event : SystemEvent) (s s' : System C J) → SystemStep s event s' → (more : List Mark) × (s'.log ≡ s.log ++ more)
-  log-more (AtWorker k event) s s' step = (step.marks, ap (λ (x : System C J). x.log) step.leaves)
-  log-more (AtCarrier event) s s' step = ([], ap (λ (x : System C J). x.log) step.leaves ∙ sym (append-nil s.log))
-  log-more (Handed k number) s s' step = ([], ap (λ (x : System C J). x.log) step.4 ∙ sym (append-nil s.log))
-  log-more (AtNode k verdict) s s' step = (log_of step.4, ap (λ (x : System C J). x.log) step.10)
-  log-more (AtBroken j verdict) s s' step = (log_of step.3, ap (λ (x : System C J). x.log) step.7)
-  log-more (Thrown j) s s' step = ([], ap (λ (x : System C J). x.log) step.2 ∙ sym (append-nil s.log))
-  log-more (Moved event) s s' step = ([], ap (λ (x : System C J). x.log) step.1 ∙ sym (append-nil s.log))
+  log-more : (event : SharedEvent) (s s' : System C J) → SharedSystemStep s event s' → (more : List Mark) × (s'.log ≡ s.log ++ more)
+  log-more (SharedEvent.Ours (AtWorker k event)) s s' step = (step.marks, ap (λ (x : System C J). x.log) step.leaves)
+  log-more (SharedEvent.Ours (AtCarrier event)) s s' step = ([], ap (λ (x : System C J). x.log) step.leaves ∙ sym (append-nil s.log))
+  log-more (SharedEvent.Ours (Handed k number)) s s' step = ([], ap (λ (x : System C J). x.log) step.4 ∙ sym (append-nil s.log))
+  log-more (SharedEvent.Ours (AtNode k verdict)) s s' step = (log_of step.4, ap (λ (x : System C J). x.log) step.10)
+  log-more (SharedEvent.Ours (AtBroken j verdict)) s s' step = (log_of step.3, ap (λ (x : System C J). x.log) step.7)
+  log-more (SharedEvent.Ours (Thrown j)) s s' step = ([], ap (λ (x : System C J). x.log) step.2 ∙ sym (append-nil s.log))
+  log-more (SharedEvent.Ours (Moved event)) s s' step = ([], ap (λ (x : System C J). x.log) step.1 ∙ sym (append-nil s.log))
+  log-more (SharedEvent.Theirs node asking theirs) s s' step = (log_of theirs, ap (λ (x : System C J). x.log) step.1)
 
-  still-shown : (event : SystemEvent) (s s' : System C J) → SystemStep s event s' → (k number part : ℕ) → IsShown s.log k number part → IsShown s'.log k number part
+  still-shown : (event : SharedEvent) (s s' : System C J) → SharedSystemStep s event s' → (k number part : ℕ) → IsShown s.log k number part → IsShown s'.log k number part
   still-shown event s s' step k number part shown =
       let more = log-more event s s' step in subst (λ log. IsShown log k number part) (sym more.1) (shown-more s.log more.0 k number part shown)
 
-  workers-same : (event : SystemEvent) (s s' : System C J) → SystemStep s event s' → AllShown s → s'.workers ≡ s.workers → AllShown s'
+  workers-same : (event : SharedEvent) (s s' : System C J) → SharedSystemStep s event s' → AllShown s → s'.workers ≡ s.workers → AllShown s'
   workers-same event s s' step shown same k number client here part less =
       still-shown event s s' step k number part (shown k number client (here.0, ap (λ (ws : List (WorkerModel C J)). slice_get ws k) (sym same) ∙ here.1, here.2, here.3) part less)
 
 module _ (C J : Type 0) (law : DrainsOutput) (whole : FrontIsWhole) (faulty : FrontIsFaulty) (plain : PlansArePlain) (s0 : System C J) (start : IsStart s0) where
-  module _ (done : List SystemEvent) (s s' : System C J) (steps : FoldsTo SystemStep s0 done s) (shown : AllShown s) where
+  module _ (done : List SharedEvent) (s s' : System C J) (steps : FoldsTo SharedSystemStep s0 done s) (shown : AllShown s) where
     drained-shown : (k number n : ℕ) (step : WorkerStep s k (Did number (Drained n)) s') (client' : ClientModel C) → get (step.new).clients number ≡ Some client' → (part : ℕ) → part < client'.session.first → IsShown s'.log k number part
     drained-shown k number n step client' got part less =
         let d = step.does in
@@ -274,7 +281,7 @@ module _ (C J : Type 0) (law : DrainsOutput) (whole : FrontIsWhole) (faulty : Fr
         let many : (d.1).session.first - held.first ≡ m = omega (arith, now) in
         let last : client'.session.first ≡ held.first + m = ap (λ (x : ClientModel C). x.session.first) (sym same) ∙ now in
         let marks : step.marks ≡ answers held held.first (take m held.ends) = marks-drained C J law whole faulty plain s0 start s s' k number n step ∙ ap (λ j. answers held held.first (take j held.ends)) many in
-        ⊎_elim (λ (z : part < held.first). still-shown (AtWorker k (Did number (Drained n))) s s' step k number part (shown k number client (step.old, step.at, d.2, d.3.0) part z))
+        ⊎_elim (λ (z : part < held.first). still-shown (of_worker k (Did number (Drained n))) s s' step k number part (shown k number client (step.old, step.at, d.2, d.3.0) part z))
         (λ (z : held.first ≤ part).
         let mark = marks-have _ held held.first m held.stages held.ends lived.held.0 fits part z (omega (arith, less, last)) in
         let place = in-right s.log step.marks mark.0 (Answered (ticket_at held part) mark.1) (ap (λ ms. slice_get ms mark.0) marks ∙ mark.2) in
@@ -317,23 +324,24 @@ module _ (C J : Type 0) (law : DrainsOutput) (whole : FrontIsWhole) (faulty : Fr
         ⊎_elim (λ (y : client'.session.first ≡ 0). absurd (omega (arith, less, y)))
         (λ (y : (client : ClientModel C) × (get (step.old).clients number ≡ Some client) × (client.gone ≡ false) × ((client'.session.first ≡ client.session.first) ⊎ IsDrainOf number event)).
         ⊎_elim (λ (x : client'.session.first ≡ (y.0).session.first).
-        still-shown (AtWorker j event) s s' step k number part (shown k number y.0 (step.old, ap (slice_get s.workers) (sym z.1) ∙ step.at, y.1, y.2) part (omega (arith, less, x))))
+        still-shown (of_worker j event) s s' step k number part (shown k number y.0 (step.old, ap (slice_get s.workers) (sym z.1) ∙ step.at, y.1, y.2) part (omega (arith, less, x))))
         (λ (x : IsDrainOf number event). subst (λ q. IsShown s'.log q number part) z.1 (drain-shown j number event x step client' got part less))
         y.3)
         (worker-before number client' step.old step.new event step.does got here.3))
         (λ (z : (nat_eq j k ≡ false) × (j ≢ k)).
         let same : slice_get s'.workers k ≡ slice_get s.workers k = ap (λ (x : System C J). slice_get x.workers k) step.leaves ∙ other-place s.workers j k step.new z.1 in
-        still-shown (AtWorker j event) s s' step k number part (shown k number client' (here.0, sym same ∙ here.1, here.2, here.3) part less))
+        still-shown (of_worker j event) s s' step k number part (shown k number client' (here.0, sym same ∙ here.1, here.2, here.3) part less))
         (eqb_tells j k)
 
-    step-shown : (event : SystemEvent) → SystemStep s event s' → AllShown s'
-    step-shown (AtWorker j event) step = worker-shown j event step
-    step-shown (AtCarrier event) step = workers-same (AtCarrier event) s s' step shown (workers-stay (AtCarrier event) s s' tt step)
-    step-shown (Handed k number) step = workers-same (Handed k number) s s' step shown (workers-stay (Handed k number) s s' tt step)
-    step-shown (AtNode k verdict) step = workers-same (AtNode k verdict) s s' step shown (workers-stay (AtNode k verdict) s s' tt step)
-    step-shown (AtBroken j verdict) step = workers-same (AtBroken j verdict) s s' step shown (workers-stay (AtBroken j verdict) s s' tt step)
-    step-shown (Thrown j) step = workers-same (Thrown j) s s' step shown (workers-stay (Thrown j) s s' tt step)
-    step-shown (Moved event) step = workers-same (Moved event) s s' step shown (workers-stay (Moved event) s s' tt step)
+    step-shown : (event : SharedEvent) → SharedSystemStep s event s' → AllShown s'
+    step-shown (SharedEvent.Ours (AtWorker j event)) step = worker-shown j event step
+    step-shown (SharedEvent.Ours (AtCarrier event)) step = workers-same (SharedEvent.Ours (AtCarrier event)) s s' step shown (workers-stay (AtCarrier event) s s' tt step)
+    step-shown (SharedEvent.Ours (Handed k number)) step = workers-same (SharedEvent.Ours (Handed k number)) s s' step shown (workers-stay (Handed k number) s s' tt step)
+    step-shown (SharedEvent.Ours (AtNode k verdict)) step = workers-same (SharedEvent.Ours (AtNode k verdict)) s s' step shown (workers-stay (AtNode k verdict) s s' tt step)
+    step-shown (SharedEvent.Ours (AtBroken j verdict)) step = workers-same (SharedEvent.Ours (AtBroken j verdict)) s s' step shown (workers-stay (AtBroken j verdict) s s' tt step)
+    step-shown (SharedEvent.Ours (Thrown j)) step = workers-same (SharedEvent.Ours (Thrown j)) s s' step shown (workers-stay (Thrown j) s s' tt step)
+    step-shown (SharedEvent.Ours (Moved event)) step = workers-same (SharedEvent.Ours (Moved event)) s s' step shown (workers-stay (Moved event) s s' tt step)
+    step-shown (SharedEvent.Theirs node asking theirs) step = workers-same (SharedEvent.Theirs node asking theirs) s s' step shown (ap (λ (x : System C J). x.workers) step.1)
 
 -- ---- what went is a front
 
@@ -345,16 +353,16 @@ own-none number other = either-none (nat_eq other number)
     either-none false = refl
 
 -- an event of a worker that pushes nothing to this client
-pushes-none : (k j number : ℕ) (event : WorkerEvent) → bytes_to number event ≡ [] → flat_map (bytes_to number) (events_at k (AtWorker j event)) ≡ []
+pushes-none : (k j number : ℕ) (event : WorkerEvent) → bytes_to number event ≡ [] → flat_map (bytes_to number) (own_events_at k (of_worker j event)) ≡ []
 pushes-none k j number event none = ⊎_elim
     (λ (z : (nat_eq j k ≡ true) × (j ≡ k)). ap (flat_map (bytes_to number)) (own k j (event ∷ []) z.0) ∙ ap (λ bytes. bytes ++ []) none)
     (λ (z : (nat_eq j k ≡ false) × (j ≢ k)). ap (flat_map (bytes_to number)) (not-own k j (event ∷ []) z.0))
     (eqb_tells j k)
 
 -- one more step, by what is seen of it
-flat-step : {X : Type 0} (f : WorkerEvent → List X) (k : ℕ) (done : List SystemEvent) (event : SystemEvent)
-    → flat_map f (flat_map (events_at k) (done ++ event ∷ [])) ≡ flat_map f (flat_map (events_at k) done) ++ flat_map f (events_at k event)
-flat-step f k done event = ap (flat_map f) (flat-push (events_at k) done event) ∙ flat_map-append f (flat_map (events_at k) done) (events_at k event)
+flat-step : {X : Type 0} (f : WorkerEvent → List X) (k : ℕ) (done : List SharedEvent) (event : SharedEvent)
+    → flat_map f (flat_map (own_events_at k) (done ++ event ∷ [])) ≡ flat_map f (flat_map (own_events_at k) done) ++ flat_map f (own_events_at k event)
+flat-step f k done event = ap (flat_map f) (flat-push (own_events_at k) done event) ∙ flat_map-append f (flat_map (own_events_at k) done) (own_events_at k event)
 
 none-unpushed : {C : Type 0} (came : List ℕ) (ends : List (Ticket × Ended)) (went : List ℕ) (client : ClientModel C) → client.gone ≡ true → LivesOn came ends went client → client.unpushed ≡ []
 none-unpushed came ends went client gone (inl (here, lived, out)) = absurd (false≢true (sym here ∙ gone))
@@ -365,95 +373,96 @@ none-front came ends = (record { values = []; text = []; rest = came; spelled = 
 
 module _ (C J : Type 0) (law : DrainsOutput) (whole : FrontIsWhole) (faulty : FrontIsFaulty) (plain : PlansArePlain) (s0 : System C J) (start : IsStart s0) where
   -- what went to this client is a front of the output by the answers in the log
-  abbrev Front : List SystemEvent → System C J → ℕ → ℕ → Type 0
-  Front done s k number = IsFront (flat_map (bytes_from number) (flat_map (events_at k) done)) (flat_map (answers_to k number) s.log) (flat_map (bytes_to number) (flat_map (events_at k) done))
+  abbrev Front : List SharedEvent → System C J → ℕ → ℕ → Type 0
+  Front done s k number = IsFront (flat_map (bytes_from number) (flat_map (own_events_at k) done)) (flat_map (answers_to k number) s.log) (flat_map (bytes_to number) (flat_map (own_events_at k) done))
 
   -- of a client that is there
-  front-here : (done : List SystemEvent) (s : System C J) → FoldsTo SystemStep s0 done s → AllShown s → (k number : ℕ) (client : ClientModel C) → Here s k number client → Front done s k number
+  front-here : (done : List SharedEvent) (s : System C J) → FoldsTo SharedSystemStep s0 done s → AllShown s → (k number : ℕ) (client : ClientModel C) → Here s k number client → Front done s k number
   front-here done s steps shown k number client here =
-      let told : List (Ticket × Ended) = flat_map (ends_for number) (flat_map (events_at k) done) in
+      let told : List (Ticket × Ended) = flat_map (ends_for number) (flat_map (own_events_at k) done) in
       other-front law (flat_map (answers_to k number) s.log) _ told _ client.session client.unfed client.unpushed
       (λ part less. log-tells told k number part s.log
-      (λ i ticket end at w c. ap (λ ends. end_of ends ticket.part) (λ j. flat_map (ends_for (sym c j)) (flat_map (events_at (sym w j)) done)) ∙ answers-were-told C J law whole faulty plain s0 s done start steps i ticket end at)
+      (λ i ticket end at w c. ap (λ ends. end_of ends ticket.part) (λ j. flat_map (ends_for (sym c j)) (flat_map (own_events_at (sym w j)) done)) ∙ shared-answers-were-told C J law whole faulty plain s0 s done start steps i ticket end at)
       (shown k number client here part less))
       (lived-at C J law whole faulty plain s0 start done s steps k number here.0 client here.1 here.2 here.3)
 
-  module _ (done : List SystemEvent) (s s' : System C J) (steps : FoldsTo SystemStep s0 done s) (shown : AllShown s) where
+  module _ (done : List SharedEvent) (s s' : System C J) (steps : FoldsTo SharedSystemStep s0 done s) (shown : AllShown s) where
     -- nothing goes to this client
-    quiet : ((k number : ℕ) → Front done s k number) → (k number : ℕ) (event : SystemEvent) → SystemStep s event s' → flat_map (bytes_to number) (events_at k event) ≡ [] → Front (done ++ event ∷ []) s' k number
+    quiet : ((k number : ℕ) → Front done s k number) → (k number : ℕ) (event : SharedEvent) → SharedSystemStep s event s' → flat_map (bytes_to number) (own_events_at k event) ≡ [] → Front (done ++ event ∷ []) s' k number
     quiet before k number event step none =
         let more = log-more event s s' step in
         let came = flat-step (bytes_from number) k done event in
-        let went : flat_map (bytes_to number) (flat_map (events_at k) (done ++ event ∷ [])) ≡ flat_map (bytes_to number) (flat_map (events_at k) done) =
-        flat-step (bytes_to number) k done event ∙ ap (λ bytes. flat_map (bytes_to number) (flat_map (events_at k) done) ++ bytes) none ∙ append-nil (flat_map (bytes_to number) (flat_map (events_at k) done)) in
+        let went : flat_map (bytes_to number) (flat_map (own_events_at k) (done ++ event ∷ [])) ≡ flat_map (bytes_to number) (flat_map (own_events_at k) done) =
+        flat-step (bytes_to number) k done event ∙ ap (λ bytes. flat_map (bytes_to number) (flat_map (own_events_at k) done) ++ bytes) none ∙ append-nil (flat_map (bytes_to number) (flat_map (own_events_at k) done)) in
         let log : flat_map (answers_to k number) s'.log ≡ flat_map (answers_to k number) s.log ++ flat_map (answers_to k number) more.0 =
         ap (flat_map (answers_to k number)) more.1 ∙ flat_map-append (answers_to k number) s.log more.0 in
-        subst (λ bytes. IsFront bytes (flat_map (answers_to k number) s'.log) (flat_map (bytes_to number) (flat_map (events_at k) (done ++ event ∷ [])))) (sym came)
-        (subst (λ ends. IsFront (flat_map (bytes_from number) (flat_map (events_at k) done) ++ flat_map (bytes_from number) (events_at k event)) ends (flat_map (bytes_to number) (flat_map (events_at k) (done ++ event ∷ [])))) (sym log)
-        (subst (λ bytes. IsFront (flat_map (bytes_from number) (flat_map (events_at k) done) ++ flat_map (bytes_from number) (events_at k event)) (flat_map (answers_to k number) s.log ++ flat_map (answers_to k number) more.0) bytes) (sym went)
-        (written-on _ _ _ (flat_map (bytes_from number) (events_at k event)) (flat_map (answers_to k number) more.0) (before k number))))
+        subst (λ bytes. IsFront bytes (flat_map (answers_to k number) s'.log) (flat_map (bytes_to number) (flat_map (own_events_at k) (done ++ event ∷ [])))) (sym came)
+        (subst (λ ends. IsFront (flat_map (bytes_from number) (flat_map (own_events_at k) done) ++ flat_map (bytes_from number) (own_events_at k event)) ends (flat_map (bytes_to number) (flat_map (own_events_at k) (done ++ event ∷ [])))) (sym log)
+        (subst (λ bytes. IsFront (flat_map (bytes_from number) (flat_map (own_events_at k) done) ++ flat_map (bytes_from number) (own_events_at k event)) (flat_map (answers_to k number) s.log ++ flat_map (answers_to k number) more.0) bytes) (sym went)
+        (written-on _ _ _ (flat_map (bytes_from number) (own_events_at k event)) (flat_map (answers_to k number) more.0) (before k number))))
 
     pushed-front : ((k number : ℕ) → Front done s k number) → (number j : ℕ) (bytes : List ℕ) (step : WorkerStep s j (Did number (Pushed bytes)) s') (b : Bool) → ((step.does).0).gone ≡ b
-        → Front (done ++ AtWorker j (Did number (Pushed bytes)) ∷ []) s' j number
+        → Front (done ++ of_worker j (Did number (Pushed bytes)) ∷ []) s' j number
     pushed-front before number j bytes step false e =
         let d = step.does in
-        let event : SystemEvent = AtWorker j (Did number (Pushed bytes)) in
+        let event : SharedEvent = of_worker j (Did number (Pushed bytes)) in
         let now : slice_get s'.workers j ≡ Some step.new = ap (λ (x : System C J). slice_get x.workers j) step.leaves ∙ set-same s.workers j step.old step.new step.at in
         let got : get (step.new).clients number ≡ Some d.1 = ap (λ (x : WorkerModel C J). get x.clients number) d.4 ∙ put-same (step.old).clients number d.1 in
-        front-here (done ++ event ∷ []) s' (folds-push SystemStep done event s0 s s' steps step) (step-shown C J law whole faulty plain s0 start done s s' steps shown event step) j number d.1
+        front-here (done ++ event ∷ []) s' (folds-push SharedSystemStep done event s0 s s' steps step) (step-shown C J law whole faulty plain s0 start done s s' steps shown event step) j number d.1
         (step.new, now, got, ap (λ (x : ClientContext C). x.client.gone) d.3.2 ∙ e)
     pushed-front before number j bytes step true e =
         let d = step.does in
         let none : (d.0).unpushed ≡ [] = none-unpushed _ _ _ d.0 e (lives-at C J law whole faulty plain s0 start done s steps j number step.old d.0 step.at d.2) in
         let nothing = front-none bytes (d.1).unpushed (sym none ∙ d.3.1) in
-        quiet before j number (AtWorker j (Did number (Pushed bytes))) step (pushes-none j j number (Did number (Pushed bytes)) (ap (if_own number number) nothing.0 ∙ own-none number number))
+        quiet before j number (of_worker j (Did number (Pushed bytes))) step (pushes-none j j number (Did number (Pushed bytes)) (ap (if_own number number) nothing.0 ∙ own-none number number))
 
-    worker-front : ((k number : ℕ) → Front done s k number) → (number j : ℕ) (event : WorkerEvent) (step : WorkerStep s j event s') → Front (done ++ AtWorker j event ∷ []) s' j number
+    worker-front : ((k number : ℕ) → Front done s k number) → (number j : ℕ) (event : WorkerEvent) (step : WorkerStep s j event s') → Front (done ++ of_worker j event ∷ []) s' j number
     worker-front before number j (Did other (Pushed bytes)) step = ⊎_elim
         (λ (z : (nat_eq other number ≡ true) × (other ≡ number)).
-        subst (λ q. Front (done ++ AtWorker j (Did other (Pushed bytes)) ∷ []) s' j q) z.1 (pushed-front before other j bytes step ((step.does).0).gone refl))
+        subst (λ q. Front (done ++ of_worker j (Did other (Pushed bytes)) ∷ []) s' j q) z.1 (pushed-front before other j bytes step ((step.does).0).gone refl))
         (λ (z : (nat_eq other number ≡ false) × (other ≢ number)).
-        quiet before j number (AtWorker j (Did other (Pushed bytes))) step (pushes-none j j number (Did other (Pushed bytes)) (not-own number other bytes z.0)))
+        quiet before j number (of_worker j (Did other (Pushed bytes))) step (pushes-none j j number (Did other (Pushed bytes)) (not-own number other bytes z.0)))
         (eqb_tells other number)
-    worker-front before number j (Did other (Pulled bytes)) step = quiet before j number (AtWorker j (Did other (Pulled bytes))) step (pushes-none j j number (Did other (Pulled bytes)) (own-none number other))
-    worker-front before number j (Did other (Fed result)) step = quiet before j number (AtWorker j (Did other (Fed result))) step (pushes-none j j number (Did other (Fed result)) (own-none number other))
-    worker-front before number j (Did other (Read result)) step = quiet before j number (AtWorker j (Did other (Read result))) step (pushes-none j j number (Did other (Read result)) (own-none number other))
-    worker-front before number j (Did other (HandedOut ticket part)) step = quiet before j number (AtWorker j (Did other (HandedOut ticket part))) step (pushes-none j j number (Did other (HandedOut ticket part)) (own-none number other))
-    worker-front before number j (Did other (Followed ticket part)) step = quiet before j number (AtWorker j (Did other (Followed ticket part))) step (pushes-none j j number (Did other (Followed ticket part)) (own-none number other))
-    worker-front before number j (Did other (Looked slot)) step = quiet before j number (AtWorker j (Did other (Looked slot))) step (pushes-none j j number (Did other (Looked slot)) (own-none number other))
-    worker-front before number j (Did other (CameBack run)) step = quiet before j number (AtWorker j (Did other (CameBack run))) step (pushes-none j j number (Did other (CameBack run)) (own-none number other))
-    worker-front before number j (Did other (Posted run)) step = quiet before j number (AtWorker j (Did other (Posted run))) step (pushes-none j j number (Did other (Posted run)) (own-none number other))
-    worker-front before number j (Did other (Drained n)) step = quiet before j number (AtWorker j (Did other (Drained n))) step (pushes-none j j number (Did other (Drained n)) (own-none number other))
-    worker-front before number j (Did other Tried) step = quiet before j number (AtWorker j (Did other Tried)) step (pushes-none j j number (Did other Tried) (own-none number other))
-    worker-front before number j (Did other Parted) step = quiet before j number (AtWorker j (Did other Parted)) step (pushes-none j j number (Did other Parted) (own-none number other))
-    worker-front before number j (Did other (Dropped tickets)) step = quiet before j number (AtWorker j (Did other (Dropped tickets))) step (pushes-none j j number (Did other (Dropped tickets)) (own-none number other))
-    worker-front before number j (Finished other ticket end) step = quiet before j number (AtWorker j (Finished other ticket end)) step (pushes-none j j number (Finished other ticket end) refl)
-    worker-front before number j (Took ticket told) step = quiet before j number (AtWorker j (Took ticket told)) step (pushes-none j j number (Took ticket told) refl)
-    worker-front before number j FoundNone step = quiet before j number (AtWorker j FoundNone) step (pushes-none j j number FoundNone refl)
-    worker-front before number j (Came other) step = quiet before j number (AtWorker j (Came other)) step (pushes-none j j number (Came other) refl)
-    worker-front before number j (TurnedAway other) step = quiet before j number (AtWorker j (TurnedAway other)) step (pushes-none j j number (TurnedAway other) refl)
-    worker-front before number j FoundNobody step = quiet before j number (AtWorker j FoundNobody) step (pushes-none j j number FoundNobody refl)
-    worker-front before number j (Left other) step = quiet before j number (AtWorker j (Left other)) step (pushes-none j j number (Left other) refl)
+    worker-front before number j (Did other (Pulled bytes)) step = quiet before j number (of_worker j (Did other (Pulled bytes))) step (pushes-none j j number (Did other (Pulled bytes)) (own-none number other))
+    worker-front before number j (Did other (Fed result)) step = quiet before j number (of_worker j (Did other (Fed result))) step (pushes-none j j number (Did other (Fed result)) (own-none number other))
+    worker-front before number j (Did other (Read result)) step = quiet before j number (of_worker j (Did other (Read result))) step (pushes-none j j number (Did other (Read result)) (own-none number other))
+    worker-front before number j (Did other (HandedOut ticket part)) step = quiet before j number (of_worker j (Did other (HandedOut ticket part))) step (pushes-none j j number (Did other (HandedOut ticket part)) (own-none number other))
+    worker-front before number j (Did other (Followed ticket part)) step = quiet before j number (of_worker j (Did other (Followed ticket part))) step (pushes-none j j number (Did other (Followed ticket part)) (own-none number other))
+    worker-front before number j (Did other (Looked slot)) step = quiet before j number (of_worker j (Did other (Looked slot))) step (pushes-none j j number (Did other (Looked slot)) (own-none number other))
+    worker-front before number j (Did other (CameBack run)) step = quiet before j number (of_worker j (Did other (CameBack run))) step (pushes-none j j number (Did other (CameBack run)) (own-none number other))
+    worker-front before number j (Did other (Posted run)) step = quiet before j number (of_worker j (Did other (Posted run))) step (pushes-none j j number (Did other (Posted run)) (own-none number other))
+    worker-front before number j (Did other (Drained n)) step = quiet before j number (of_worker j (Did other (Drained n))) step (pushes-none j j number (Did other (Drained n)) (own-none number other))
+    worker-front before number j (Did other Tried) step = quiet before j number (of_worker j (Did other Tried)) step (pushes-none j j number (Did other Tried) (own-none number other))
+    worker-front before number j (Did other Parted) step = quiet before j number (of_worker j (Did other Parted)) step (pushes-none j j number (Did other Parted) (own-none number other))
+    worker-front before number j (Did other (Dropped tickets)) step = quiet before j number (of_worker j (Did other (Dropped tickets))) step (pushes-none j j number (Did other (Dropped tickets)) (own-none number other))
+    worker-front before number j (Finished other ticket end) step = quiet before j number (of_worker j (Finished other ticket end)) step (pushes-none j j number (Finished other ticket end) refl)
+    worker-front before number j (Took ticket told) step = quiet before j number (of_worker j (Took ticket told)) step (pushes-none j j number (Took ticket told) refl)
+    worker-front before number j FoundNone step = quiet before j number (of_worker j FoundNone) step (pushes-none j j number FoundNone refl)
+    worker-front before number j (Came other) step = quiet before j number (of_worker j (Came other)) step (pushes-none j j number (Came other) refl)
+    worker-front before number j (TurnedAway other) step = quiet before j number (of_worker j (TurnedAway other)) step (pushes-none j j number (TurnedAway other) refl)
+    worker-front before number j FoundNobody step = quiet before j number (of_worker j FoundNobody) step (pushes-none j j number FoundNobody refl)
+    worker-front before number j (Left other) step = quiet before j number (of_worker j (Left other)) step (pushes-none j j number (Left other) refl)
 
-    step-front : ((k number : ℕ) → Front done s k number) → (event : SystemEvent) → SystemStep s event s' → (k number : ℕ) → Front (done ++ event ∷ []) s' k number
-    step-front before (AtWorker j event) step k number = ⊎_elim
-        (λ (z : (nat_eq j k ≡ true) × (j ≡ k)). subst (λ q. Front (done ++ AtWorker j event ∷ []) s' q number) z.1 (worker-front before number j event step))
-        (λ (z : (nat_eq j k ≡ false) × (j ≢ k)). quiet before k number (AtWorker j event) step (ap (flat_map (bytes_to number)) (not-own k j (event ∷ []) z.0)))
+    step-front : ((k number : ℕ) → Front done s k number) → (event : SharedEvent) → SharedSystemStep s event s' → (k number : ℕ) → Front (done ++ event ∷ []) s' k number
+    step-front before (SharedEvent.Ours (AtWorker j event)) step k number = ⊎_elim
+        (λ (z : (nat_eq j k ≡ true) × (j ≡ k)). subst (λ q. Front (done ++ of_worker j event ∷ []) s' q number) z.1 (worker-front before number j event step))
+        (λ (z : (nat_eq j k ≡ false) × (j ≢ k)). quiet before k number (of_worker j event) step (ap (flat_map (bytes_to number)) (not-own k j (event ∷ []) z.0)))
         (eqb_tells j k)
-    step-front before (AtCarrier event) step k number = quiet before k number (AtCarrier event) step refl
-    step-front before (Handed j other) step k number = quiet before k number (Handed j other) step refl
-    step-front before (AtNode j verdict) step k number = quiet before k number (AtNode j verdict) step refl
-    step-front before (AtBroken j verdict) step k number = quiet before k number (AtBroken j verdict) step refl
-    step-front before (Thrown j) step k number = quiet before k number (Thrown j) step refl
-    step-front before (Moved event) step k number = quiet before k number (Moved event) step refl
+    step-front before (SharedEvent.Ours (AtCarrier event)) step k number = quiet before k number (SharedEvent.Ours (AtCarrier event)) step refl
+    step-front before (SharedEvent.Ours (Handed j other)) step k number = quiet before k number (SharedEvent.Ours (Handed j other)) step refl
+    step-front before (SharedEvent.Ours (AtNode j verdict)) step k number = quiet before k number (SharedEvent.Ours (AtNode j verdict)) step refl
+    step-front before (SharedEvent.Ours (AtBroken j verdict)) step k number = quiet before k number (SharedEvent.Ours (AtBroken j verdict)) step refl
+    step-front before (SharedEvent.Ours (Thrown j)) step k number = quiet before k number (SharedEvent.Ours (Thrown j)) step refl
+    step-front before (SharedEvent.Ours (Moved event)) step k number = quiet before k number (SharedEvent.Ours (Moved event)) step refl
+    step-front before (SharedEvent.Theirs node asking theirs) step k number = quiet before k number (SharedEvent.Theirs node asking theirs) step refl
 
-  every-front : (events done : List SystemEvent) (s s' : System C J) → FoldsTo SystemStep s0 done s → FoldsTo SystemStep s events s' → AllShown s → ((k number : ℕ) → Front done s k number)
+  every-front : (events done : List SharedEvent) (s s' : System C J) → FoldsTo SharedSystemStep s0 done s → FoldsTo SharedSystemStep s events s' → AllShown s → ((k number : ℕ) → Front done s k number)
       → (k number : ℕ) → Front (done ++ events) s' k number
   every-front [] done s s' steps same shown before k number =
       subst (λ es. Front es s' k number) (sym (append-nil done)) (subst (λ (x : System C J). Front done x k number) same (before k number))
   every-front (event ∷ events) done s s' steps (mid, step, more) shown before k number =
       subst (λ es. Front es s' k number) (append_assoc done (event ∷ []) events)
-      (every-front events (done ++ event ∷ []) mid s' (folds-push SystemStep done event s0 s mid steps step) more (step-shown C J law whole faulty plain s0 start done s mid steps shown event step)
+      (every-front events (done ++ event ∷ []) mid s' (folds-push SharedSystemStep done event s0 s mid steps step) more (step-shown C J law whole faulty plain s0 start done s mid steps shown event step)
       (step-front done s mid steps shown before event step) k number)
 
   none-there : AllShown s0
@@ -461,7 +470,12 @@ module _ (C J : Type 0) (law : DrainsOutput) (whole : FrontIsWhole) (faulty : Fr
       let none : get (here.0).clients number ≡ None = ap (λ (m : FinMap nat_cmp (ClientModel C)). get m number) (start.idle k here.0 here.1).1 ∙ get-empty nat_cmp number in
       absurd (none-some (get (here.0).clients number) client none here.2)
 
-module _ (C J : Type 0) where
-  pub log-is-written : DrainsOutput → FrontIsWhole → FrontIsFaulty → PlansArePlain → LogIsWritten C J
-  log-is-written law whole faulty plain s s' events start steps k number =
+module _ (C J : Type 0) (law : DrainsOutput) (whole : FrontIsWhole) (faulty : FrontIsFaulty) (plain : PlansArePlain) where
+  pub shared-log-is-written : SharedLogIsWritten C J
+  shared-log-is-written s s' events start steps k number =
       every-front C J law whole faulty plain s start events [] s s' refl steps (none-there C J law whole faulty plain s start) (λ j q. none-front [] (flat_map (answers_to j q) s.log)) k number
+
+  pub log-is-written : LogIsWritten C J
+  log-is-written s s' events start steps k number =
+      subst (λ es. IsFront (flat_map (bytes_from number) es) (flat_map (answers_to k number) s'.log) (flat_map (bytes_to number) es)) (same-events k events)
+      (shared-log-is-written s s' (map SharedEvent.Ours events) start (ours events s s' steps) k number)

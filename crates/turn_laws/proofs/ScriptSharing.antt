@@ -22,6 +22,7 @@ use Rattle.turn_laws.specs.Sharing.{SharedEvent, SharedSystemStep}
 use Rattle.turn_laws.specs.Scripts as script
 use Rattle.turn_laws.specs.Scripts.{key, set, ok, ticket, opening, moving}
 use Rattle.turn_laws.specs.SharedScripts.{HappensBesideOthers, others_set, reading, sending, shares, story_of_sharing}
+use Rattle.turn_laws.proofs.OwnEvents.{ours}
 use Rattle.turn_laws.proofs.Scenes.{and-then}
 use Rattle.turn_laws.proofs.ScriptFacts.{k5, k6, sets}
 use Rattle.turn_laws.proofs.ScriptOpening.{s0, s1, s2, starts, opens, moves}
@@ -52,12 +53,6 @@ others-execute moment = (
   (refl, tt),
   refl,
 )
-
-module _ {C J : Type 0} where
-  -- steps of ours are steps beside others
-  pub ours : (events : List SystemEvent) (s s' : System C J) → FoldsTo SystemStep s events s' → FoldsTo SharedSystemStep s (map SharedEvent.Ours events) s'
-  ours [] s s' f = f
-  ours (event ∷ events) s s' f = (f.0, f.1, ours events f.0 s' f.2)
 
 -- what is seen until the GET is on its way, and until others have set the key
 abbrev asked : List Mark

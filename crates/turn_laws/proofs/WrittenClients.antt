@@ -1,6 +1,6 @@
 -- Each client of a worker is written a front of its output.
 -- A number is used once: it is still to come, or its client is there, or its client has left.
-use Rattle.std.proofs.Common.{◌≡◌, ◌≢◌, ◌⊎◌, inl, inr, ⊎_elim, ◌++◌, ◌∷◌, [], ◌<◌, List, ℕ, refl, ap, sym, subst, ◌∙◌, Option, Some, None, Bool, true, false, append_assoc, arith}
+use Rattle.std.proofs.Common.{◌≡◌, ◌≢◌, ◌⊎◌, inl, inr, ⊎_elim, ◌++◌, ◌∷◌, [], ◌<◌, List, ℕ, map, refl, ap, sym, subst, ◌∙◌, Option, Some, None, Bool, true, false, append_assoc, arith}
 use Rattle.std.specs.Prelude.{nat_eq, slice_get, slice_set}
 use Rattle.std.specs.List.{FoldsTo, flat_map}
 use Rattle.std.specs.FinMap.{FinMap, get, insert, remove, get-empty}
@@ -21,10 +21,13 @@ use Rattle.proxy_turns.specs.WorkerModel.{WorkerModel, WorkerEvent, Did, Finishe
 use Rattle.world_laws.proofs.Recorded.{at-set, set-other, set-same}
 use Rattle.turn_laws.specs.System.{System}
 use Rattle.turn_laws.specs.Steps.{SystemEvent, AtWorker, AtCarrier, Handed, AtNode, AtBroken, Thrown, Moved, SystemStep, WorkerStep}
+use Rattle.turn_laws.specs.Sharing.{SharedEvent, SharedSystemStep}
 use Rattle.turn_laws.specs.PortsMay.{any_moves}
 use Rattle.turn_laws.specs.ClientSees.{bytes_from, bytes_to, ends_for, if_own, pulled_by, pushed_by}
 use Rattle.turn_laws.specs.ClientOutput.{events_at, ClientsAreWritten, AllClientsAreWritten}
+use Rattle.turn_laws.specs.Arrivals.{own_events_at}
 use Rattle.turn_laws.proofs.ClientSees.{own, not-own}
+use Rattle.turn_laws.proofs.OwnEvents.{ours, same-events}
 use Rattle.turn_laws.proofs.Tables.{put-other, put-same}
 use Rattle.turn_laws.proofs.Ending.{none-some, one-of, removed-other}
 use Rattle.turn_laws.proofs.OutputFronts.{IsFront}
@@ -252,16 +255,23 @@ module _ {C J : Type 0} where
       → Does last (slice_get s.workers k) events
   quiet k last event events s s' none step more = subst (λ (ws : List (WorkerModel C J)). Does last (slice_get ws k) events) (workers-stay event s s' none step) more
 
+  pub shared-steps : (k : ℕ) (last : WorkerModel C J) (events : List SharedEvent) (s s' : System C J) → FoldsTo SharedSystemStep s events s' → slice_get s'.workers k ≡ Some last
+      → Does last (slice_get s.workers k) (flat_map (own_events_at k) events)
+  shared-steps k last [] s s' same at = (last, ap (λ (x : System C J). slice_get x.workers k) same ∙ at, refl)
+  shared-steps k last (SharedEvent.Ours (AtWorker j event) ∷ events) s s' (mid, step, more) at = at-worker k j last event (flat_map (own_events_at k) events) s mid step (shared-steps k last events mid s' more at)
+  shared-steps k last (SharedEvent.Ours (AtCarrier event) ∷ events) s s' (mid, step, more) at = quiet k last (AtCarrier event) (flat_map (own_events_at k) events) s mid tt step (shared-steps k last events mid s' more at)
+  shared-steps k last (SharedEvent.Ours (Handed j number) ∷ events) s s' (mid, step, more) at = quiet k last (Handed j number) (flat_map (own_events_at k) events) s mid tt step (shared-steps k last events mid s' more at)
+  shared-steps k last (SharedEvent.Ours (AtNode j verdict) ∷ events) s s' (mid, step, more) at = quiet k last (AtNode j verdict) (flat_map (own_events_at k) events) s mid tt step (shared-steps k last events mid s' more at)
+  shared-steps k last (SharedEvent.Ours (AtBroken j verdict) ∷ events) s s' (mid, step, more) at = quiet k last (AtBroken j verdict) (flat_map (own_events_at k) events) s mid tt step (shared-steps k last events mid s' more at)
+  shared-steps k last (SharedEvent.Ours (Thrown j) ∷ events) s s' (mid, step, more) at = quiet k last (Thrown j) (flat_map (own_events_at k) events) s mid tt step (shared-steps k last events mid s' more at)
+  shared-steps k last (SharedEvent.Ours (Moved event) ∷ events) s s' (mid, step, more) at = quiet k last (Moved event) (flat_map (own_events_at k) events) s mid tt step (shared-steps k last events mid s' more at)
+  shared-steps k last (SharedEvent.Theirs node asking done ∷ events) s s' (mid, step, more) at =
+      subst (λ (ws : List (WorkerModel C J)). Does last (slice_get ws k) (flat_map (own_events_at k) events)) (ap workers_of step.1) (shared-steps k last events mid s' more at)
+
   pub all-steps : (k : ℕ) (last : WorkerModel C J) (events : List SystemEvent) (s s' : System C J) → FoldsTo SystemStep s events s' → slice_get s'.workers k ≡ Some last
       → Does last (slice_get s.workers k) (flat_map (events_at k) events)
-  all-steps k last [] s s' same at = (last, ap (λ (x : System C J). slice_get x.workers k) same ∙ at, refl)
-  all-steps k last (AtWorker j event ∷ events) s s' (mid, step, more) at = at-worker k j last event (flat_map (events_at k) events) s mid step (all-steps k last events mid s' more at)
-  all-steps k last (AtCarrier event ∷ events) s s' (mid, step, more) at = quiet k last (AtCarrier event) (flat_map (events_at k) events) s mid tt step (all-steps k last events mid s' more at)
-  all-steps k last (Handed j number ∷ events) s s' (mid, step, more) at = quiet k last (Handed j number) (flat_map (events_at k) events) s mid tt step (all-steps k last events mid s' more at)
-  all-steps k last (AtNode j verdict ∷ events) s s' (mid, step, more) at = quiet k last (AtNode j verdict) (flat_map (events_at k) events) s mid tt step (all-steps k last events mid s' more at)
-  all-steps k last (AtBroken j verdict ∷ events) s s' (mid, step, more) at = quiet k last (AtBroken j verdict) (flat_map (events_at k) events) s mid tt step (all-steps k last events mid s' more at)
-  all-steps k last (Thrown j ∷ events) s s' (mid, step, more) at = quiet k last (Thrown j) (flat_map (events_at k) events) s mid tt step (all-steps k last events mid s' more at)
-  all-steps k last (Moved event ∷ events) s s' (mid, step, more) at = quiet k last (Moved event) (flat_map (events_at k) events) s mid tt step (all-steps k last events mid s' more at)
+  all-steps k last events s s' steps at =
+      subst (Does last (slice_get s.workers k)) (same-events k events) (shared-steps k last (map SharedEvent.Ours events) s s' (ours events s s' steps) at)
 
 module _ (C J : Type 0) where
   pub clients-are-written : DrainsOutput → FrontIsWhole → FrontIsFaulty → ClientsAreWritten C J

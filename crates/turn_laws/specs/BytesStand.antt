@@ -1,18 +1,21 @@
 -- What goes over a port in bytes goes over the wire for which it stands.
 -- It is a proof, which a trait's ghost cites, and what one cites may not stand in proofs/.
-use Rattle.std.proofs.Common.{◌≡◌, ℕ, List, [], ◌∷◌, ◌++◌, map, refl, sym, ap, ◌∙◌, subst}
+use Rattle.std.proofs.Common.{◌≡◌, ℕ, List, [], ◌∷◌, ◌++◌, map, refl, sym, ap, ◌∙◌, subst, arith}
+use Rattle.std.specs.Prelude.{All}
 use Rattle.std.proofs.lemmas.List.{append_assoc, map-append}
 use Rattle.std.proofs.lemmas.Grind.{flat_map-append}
+use Rattle.std.proofs.lemmas.List.Elements.{All-append, All-cons, All-head, All-nil, All-tail}
 use Rattle.std.specs.List.{flat_map}
 use Rattle.resp_wire.specs.LimitsModel.{LimitsModel}
 use Rattle.resp_wire.specs.declared.value.Value.{Value}
+use Rattle.key_split.specs.Laws.{IsPlain}
 use Rattle.key_split.specs.Requests.{Request, Asking, Command, Slots}
 use Rattle.node_link.specs.declared.replies.Awaited.{Awaited}
-use Rattle.node_link.specs.Blocks.{BlockExchanges, Plain, Tells, awaited_by, blocked, sent_for, written_as}
+use Rattle.node_link.specs.Blocks.{BlockExchanges, IsPlainRequest, Plain, Tells, awaited_by, blocked, sent_for, written_as}
 use Rattle.node_link.specs.Bytes.{Splits}
-use Rattle.turn_laws.specs.Wire.{Item, Asks, Runs, Lists, Part, items_of, joined}
+use Rattle.turn_laws.specs.Wire.{Item, Asks, Runs, Lists, Part, items_of, joined, parts_in}
 use Rattle.turn_laws.specs.AnyPort.{StandsFor}
-use Rattle.turn_laws.specs.ByteWires.{AreAnswers, FarEnd, FlowsTo, IsWiredTo, command_in, sent_as}
+use Rattle.turn_laws.specs.ByteWires.{AreAnswers, FarEnd, FlowsTo, IsPlainItem, IsWiredTo, command_in, sent_as}
 use Rattle.turn_laws.specs.ByteFronts.{split-front, tells-front}
 
 -- ---- what one call sends, and the wire's items
@@ -31,6 +34,26 @@ grouped [] = refl
 grouped (Asking ∷ requests) = ap (λ sent. Plain Asking ∷ sent) (grouped requests)
 grouped (Command ticket part ∷ requests) = ap (blocked (Command ticket part)) (grouped requests) ∙ blocked-is (ticket, part) (items_of requests)
 grouped (Slots ∷ requests) = ap (λ sent. Plain Slots ∷ sent) (grouped requests)
+
+-- ---- plain parts
+
+alone-plain : (part : Part) → IsPlain part.1 → IsPlainItem (Runs (part ∷ []))
+alone-plain part plain = (omega arith, All-cons IsPlain part.1 [] plain (All-nil IsPlain))
+
+joined-plain : (part : Part) (items : List Item) → IsPlain part.1 → All IsPlainItem items → All IsPlainItem (joined part items)
+joined-plain part [] plain all = All-cons IsPlainItem (Runs (part ∷ [])) [] (alone-plain part plain) (All-nil IsPlainItem)
+joined-plain part (Asks ∷ items) plain all = All-cons IsPlainItem (Runs (part ∷ [])) (Asks ∷ items) (alone-plain part plain) all
+joined-plain part (Runs parts ∷ items) plain all =
+    All-cons IsPlainItem (Runs (part ∷ parts)) items (omega arith, All-cons IsPlain part.1 (parts_in parts) plain (All-head IsPlainItem (Runs parts) items all).1) (All-tail IsPlainItem (Runs parts) items all)
+joined-plain part (Lists ∷ items) plain all = All-cons IsPlainItem (Runs (part ∷ [])) (Lists ∷ items) (alone-plain part plain) all
+
+-- plain requests are sent as plain items
+sent-plain : (requests : List Request) → All IsPlainRequest requests → All IsPlainItem (items_of requests)
+sent-plain [] all = All-nil IsPlainItem
+sent-plain (Asking ∷ requests) all = All-cons IsPlainItem Asks (items_of requests) tt (sent-plain requests (All-tail IsPlainRequest Asking requests all))
+sent-plain (Command ticket part ∷ requests) all =
+    joined-plain (ticket, part) (items_of requests) (All-head IsPlainRequest (Command ticket part) requests all) (sent-plain requests (All-tail IsPlainRequest (Command ticket part) requests all))
+sent-plain (Slots ∷ requests) all = All-cons IsPlainItem Lists (items_of requests) tt (sent-plain requests (All-tail IsPlainRequest Slots requests all))
 
 -- ---- what was sent, behind what was sent before
 
@@ -73,7 +96,7 @@ tells-all awaited served pending sent replies given left rest is t = subst (λ a
 
 module _ {S : Type 0} (moved : S → List ℕ → List ℕ → S → Type 0) (far : S → FarEnd) (flows : FlowsTo moved far) where
   pub block-stands : StandsFor (IsWiredTo far) (BlockExchanges moved)
-  block-stands old new wire requests values w (came, (written, read, went, left, spells, bounds), (given1, tells, told), blocks) =
+  block-stands old new wire requests values w (came, (written, read, went, left, spells, bounds), (given1, tells, told), blocks, plain) =
       let before = far old.bytes.stream in
       let after = far new.bytes.stream in
       let flow = flows old.bytes.stream new.bytes.stream written read went in
@@ -90,8 +113,9 @@ module _ {S : Type 0} (moved : S → List ℕ → List ℕ → S → Type 0) (fa
           served = ahead.0;
           coming = cut.0;
           given = ahead.1;
-          leads = w.leads ∙ sym (ap (λ (e : FarEnd). e.node) flow.1);
           asks = w.asks ∙ sym (ap (λ (e : FarEnd). e.asking) flow.1);
+          plain = All-append IsPlainItem wire.items (items_of requests) w.plain (sent-plain requests plain);
+          bounds = bounds ∙ w.bounds;
           goes = goes-on before.unserved after.unserved old.bytes.unsent new.bytes.unsent (flat_map written_as (sent_for requests)) written (flat_map written_as (map sent_as wire.items))
               (ap (λ (e : FarEnd). e.unserved) flow.1) left w.goes
               ∙ spelled-behind wire.items requests;

@@ -3,10 +3,11 @@
 ghost use Rattle.turn_laws.specs.Walks.{EveryWalk};
 ghost use Rattle.turn_laws.specs.Settling.{Settling, SettlingAfter};
 ghost use Rattle.turn_laws.specs.ClientOutput.{AllClientsAreWritten, ClientsAreWritten};
-ghost use Rattle.turn_laws.specs.LogOutput.{AnswersWereTold, LogIsWritten};
+ghost use Rattle.turn_laws.specs.BytesHeadline.{HeadlineOfBytes};
+ghost use Rattle.turn_laws.specs.LogOutput.{AnswersWereTold, LogIsWritten, SharedAnswersWereTold, SharedLogIsWritten};
 ghost use Rattle.turn_laws.specs.Arrivals.{ArrivalsAreSent, SharedArrivalsAreSent};
 ghost use Rattle.turn_laws.specs.AnyPort.{AnyClients, AnyClientTurns, AnyPorts, WiresStand};
-ghost use Rattle.turn_laws.specs.ByteWires.{BeginsWire, ServesWire};
+ghost use Rattle.turn_laws.specs.ByteWires.{BeginsWire, ItemsAreReadBack, ServesWire};
 ghost use Rattle.turn_laws.specs.Scripts.{GivesBack, LosesCommands, MisreadsLines, MovesUnderUse, PairsCommands};
 ghost use Rattle.turn_laws.specs.Refines.{CarrierRefines, HandedRefine, MovesRefine, NamesStay, NodesRefine, Refines, StartsRefine, ThrownRefine, WorkersRefine};
 ghost use Rattle.turn_laws.specs.LogHeadline.{HeadlineOfLogs, LogsAreHeld};
@@ -94,6 +95,7 @@ pub fn any_port<H: Drop, P: WiredPort, D: Dial<Port = P>>()
 pub fn nodes_serve_bytes<S: WiredStream>()
     ensures begins { BeginsWire S.far }
     ensures serves { ServesWire S.far }
+    ensures reads { ItemsAreReadBack }
 {}
 
 /// What `any_port` asks of ports can be had.
@@ -171,10 +173,24 @@ pub fn clients_are_written<C: Drop, J: Naming>()
 }
 
 /// The log's answers are what clients are written. The bytes that went to a client are a front of the output of its requests and of the
-/// answers to it that the log shows; and each of these is the end that it was told of that part.
+/// answers to it that the log shows; and each of these is the end that it was told of that part. So it is where others act too.
 pub fn log_is_written<C: Drop, J: Naming>()
     ensures written { LogIsWritten C J }
     ensures told { AnswersWereTold C J }
+    ensures written_beside_others { SharedLogIsWritten C J }
+    ensures told_beside_others { SharedAnswersWereTold C J }
+{
+    drains_output();
+    front_is_whole();
+    front_is_faulty();
+    parts_of_plans_are_plain();
+}
+
+/// The headline in bytes, from any sound start and beside others. Of the bytes that clients sent, every whole request is what arrived, in
+/// order; what was answered stands in one legal history of everybody's commands; and the bytes that a client was written are a front of the
+/// exact output of its requests by these answers.
+pub fn headline_of_bytes<C: Drop, J: Naming>()
+    ensures { HeadlineOfBytes C J }
 {
     drains_output();
     front_is_whole();

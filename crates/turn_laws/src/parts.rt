@@ -1,6 +1,7 @@
 //! Laws of the parts that the laws of whole systems are made of: what one step is, and what one definition says. Each is the contract of
 //! a function that does nothing.
 
+ghost use Rattle.turn_laws.specs.ByteWires.{ItemsAreReadBack};
 ghost use Rattle.turn_laws.specs.ClientOutput.{PartingOwesNothing};
 ghost use Rattle.turn_laws.specs.ClientSees.{ClientsSeeTheirOwn};
 ghost use Rattle.turn_laws.specs.Handing.{HandedOnce, TakenAsHanded};
@@ -25,6 +26,11 @@ pub fn runs_are_written_whole()
 pub fn nodes_serve_in_order()
     ensures first { FirstIsServed }
     ensures runs { RunsAreInOrder }
+{}
+
+/// A node that reads within the largest limits, and finds an item, has read the first that was written, whole, but for its tickets.
+pub fn items_are_read_back()
+    ensures { ItemsAreReadBack }
 {}
 
 /// A run that a worker posts is no longer than the machine's may be, and goes to a node of the cluster.
