@@ -1,5 +1,5 @@
-"""Ten thousand plays: the engine's turns, what the nodes do, the steps of moves and connections that break, in an order that is handed in,
-each at random.
+"""Ten thousand plays: the engine's turns, what the nodes do, the steps of moves, connections that break, and into how small pieces bytes are
+cut, in an order that is handed in, each at random.
 
 Three clients are served, of which the last comes later. Each play has an engine, nodes and clients of its own. In every other one
 connections break, so that commands are lost.
@@ -13,7 +13,7 @@ sys.path.append(os.path.join(os.path.dirname(os.path.abspath(__file__)), "..", "
 
 from answers import slot_of
 from orders import OWN, SHARED, Seen, counted, script_of, served_as_by_one_store, steps_of_moves
-from shared_plays import ten_thousand_shared_plays
+from shared_plays import WHOLE_AGAIN, cut, ten_thousand_shared_plays
 from table import Row, quoted, request
 
 PLAYS = 10_000
@@ -22,7 +22,7 @@ ORDERS, TO_THE_END = 60, 40
 # The numbers of the clients, and how many orders are given before the last one comes.
 CLIENTS, BEFORE = (0, 1, 4), 15
 # What may be ordered, some of it more often than the rest.
-WORDS = [*3 * ["turn"], "serve 0", "serve 1", "serve 2", "serve 2", "move"]
+WORDS = [*3 * ["turn"], "serve 0", "serve 1", "serve 2", "serve 2", "move", "cut"]
 BREAKS = [*WORDS, "break 2"]
 
 
@@ -30,7 +30,9 @@ def orders_of(chance, play, words):
     """Orders at random, among them the steps of moves in their order."""
     steps, orders = steps_of_moves(chance, play), []
     for word in chance.choices(words, k=ORDERS):
-        if word != "move":
+        if word == "cut":
+            orders.append(cut(chance))
+        elif word != "move":
             orders.append(word)
         elif steps:
             orders.append(steps.pop(0))
@@ -57,7 +59,7 @@ def add_play(row, play, words, scripts):
     row.call(f"play do {' '.join(orders[:BEFORE])}")
     add_client(row, *clients[-1])
     row.call(f"play do {' '.join(orders[BEFORE:])}")
-    row.call(f"play do all {TO_THE_END} {' '.join(last_steps(play))} all {TO_THE_END}")
+    row.call(f"play do {WHOLE_AGAIN} all {TO_THE_END} {' '.join(last_steps(play))} all {TO_THE_END}")
 
 
 def add_whole_play(row, play, seen):

@@ -20,7 +20,7 @@ TAGS, PROXIES, CLIENTS = "pq", ("play", "second"), (0, 1)
 COMMANDS, EVENTS, TO_THE_END = 4, 60, 30
 # What happens: orders of either proxy, a look at how far a client is, a client that is no proxy.
 HAPPENS = [*6 * ["play"], *6 * ["second"], "move", "move", "ends", "others", "others"]
-WORDS = [*4 * ["turn"], "serve 0", "serve 1", "serve 2", "serve 2", "serve 2"]
+WORDS = [*4 * ["turn"], "serve 0", "serve 1", "serve 2", "serve 2", "serve 2", "cut"]
 # Of four plays one has neither breaks nor refusals.
 MORE = [[], ["break 2", "break 0"], ["tryagain 2", "down 2", "moved 2 1"], ["break 2", "tryagain 0", "down 2"]]
 # What all ask for, with a letter of its own for each command.
@@ -30,6 +30,8 @@ ASKED = (
     + ["GET {t}a", "MGET {t}a {t}n", "STRLEN {t}a", "EXISTS {t}a {t}n"]
     + ["DEL {t}a", "DEL {t}a {t}n", "GETDEL {t}a", "SET {t}a X", "SETNX {t}a X", "MSET {t}a X {t}n 7"]
 )
+# The bytes that one call moves at most over a connection that is cut, and what makes all connections whole again.
+SMALL, WHOLE_AGAIN = 64, " ".join(f"cut {node} 65535" for node in range(3))
 LETTERS = "abcdefghijklmnopqrstuvwxyzABCDEFGHIJKLMNOPQRSTUVWXYZ"
 LOST_REPLY = LOST.encode() + b"\r\n"
 REPLIES = re.compile(rb"[+\-:][^\r]*\r\n|\$-1\r\n|\$(\d+)\r\n|\*(\d+)\r\n")
@@ -52,6 +54,11 @@ def shown(reply):
     """A reply of the store, as a row shows what others were told."""
     kind, _, rest = reply.partition(" ")
     return f"array [ {rest.replace(' | ', ' ')} ]" if kind == "array" else reply
+
+
+def cut(chance):
+    """From now on calls over one of the connections move few bytes."""
+    return f"cut {chance.randrange(3)} {chance.randint(1, SMALL)}"
 
 
 class Play:
@@ -143,7 +150,8 @@ class Play:
 
     def happens(self, what):
         if what in PROXIES:
-            self.order(what, self.chance.choice(WORDS + MORE[self.number % len(MORE)]))
+            words = self.chance.choice(WORDS + MORE[self.number % len(MORE)])
+            self.order(what, cut(self.chance) if words == "cut" else words)
         elif what == "move" and self.steps:
             self.order("play", self.steps.pop(0))
         elif what == "ends":
@@ -154,9 +162,9 @@ class Play:
 
     def to_the_end(self):
         """All go on to the end, with both slots settled, and the client that is no proxy reads all keys."""
-        ends = [f"all {TO_THE_END}", *self.last_steps(), f"all {TO_THE_END}"]
+        ends = [WHOLE_AGAIN, f"all {TO_THE_END}", *self.last_steps(), f"all {TO_THE_END}"]
         for words in ends:
-            for proxy in PROXIES if words.startswith("all ") else PROXIES[:1]:
+            for proxy in PROXIES if words.startswith(("all ", "cut ")) else PROXIES[:1]:
                 self.order(proxy, words)
         for tag in TAGS:
             self.others_come(2, tag, [["MGET", f"{{{self.number}{tag}}}a", f"{{{self.number}{tag}}}n"]])

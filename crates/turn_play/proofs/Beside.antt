@@ -14,7 +14,8 @@ use Rattle.turn_laws.specs.Shadow.{IsShadow}
 use Rattle.turn_laws.specs.Sharing.{SharedEvent, SharedRefines, SharedSystemStep}
 use Rattle.turn_laws.specs.Naming.{NamesNodes}
 use Rattle.turn_laws.specs.Refines.{IsStart}
-use Rattle.turn_laws.specs.SharedLog.{HeadlineOfSharedLogs, SharedLogsAreHeld}
+use Rattle.turn_laws.specs.BytesHeadline.{HeadlineOfBytes}
+use Rattle.turn_laws.specs.SharedLog.{SharedLogsAreHeld}
 use Rattle.turn_laws.specs.Writing.{StandsAmong, StandsAtItsNodes}
 use Rattle.turn_play.specs.May.{HearsItsNodes, ListsItsNodes}
 use Rattle.turn_play.specs.Beside.{AreGivenBeside, LeadsBeside, MayNowBeside, MayStepBeside, OthersMay, PlaysRefineBeside, StepBeside, shared_events_of}
@@ -142,7 +143,7 @@ module _ (C J : Type 0) (laws : Laws C J) (shared : SharedRefines C J) (start : 
       let later = along (before ++ step.event ∷ []) step.next s' steps (folds-beside before start s step.event step.next f x.0) x.1 go.1 given.1 in
       (step.next, x.0, later)
 
-module _ (C J : Type 0) (laws : Laws C J) (shared : SharedRefines C J) (headline : HeadlineOfSharedLogs C J) (held : SharedLogsAreHeld C J) where
+module _ (C J : Type 0) (laws : Laws C J) (shared : SharedRefines C J) (headline : HeadlineOfBytes C J) (held : SharedLogsAreHeld C J) where
   pub plays-refine-beside : PlaysRefineBeside C J
   plays-refine-beside start s' steps fresh hears go given =
       let f = along C J laws shared start fresh [] start s' steps refl ((laws.starts start fresh).3, hears) go given in

@@ -8,9 +8,10 @@ use Rattle.turn_play.specs.declared.order.Order.{Order}
 use Rattle.turn_play.specs.Beside.{AreGivenBeside, LeadsBeside, PlaysRefineBeside, StepBeside}
 use Rattle.turn_play.specs.Obeying.{Obeys, ObeysAll, StaysInOrder}
 use Rattle.turn_play.specs.Playing.{PlayModel, Shows}
-use Rattle.turn_play.specs.Port.{IsEnd, IsFresh, IsRead, PortExchanges, any_bytes, longest_run, no_count}
+use Rattle.turn_play.specs.Port.{IsEnd, IsFresh, IsGarbled, PortExchanges, PortGivesNone, failures_at, longest_run}
 use Rattle.turn_play.specs.Turns.{EnginesPlay}
 use Rattle.turn_play.specs.Deeds.{AreDeeds, AreGranted, Deed, IsEventOf, IsGranted, ObeyedPlaysOn, left_by, steps_of}
+use Rattle.turn_play.proofs.ServedWires.{ByteLaws}
 use Rattle.turn_play.proofs.Playing.{AreMayBeside}
 use Rattle.turn_play.proofs.Beside.{premises, joined, premises-join, reach}
 use Rattle.turn_play.proofs.Obeyed.{obeyed-beside}
@@ -46,16 +47,16 @@ module _ (C J : Type 0) (moves : Moves C) (gives_none takes_none : C → Type 0)
     λ given. premises-join s steps s' [] leads (premises s steps (may given.0) given.1) tt,
   )
 
-  module _ (engines : EnginesPlay C J moves IsEnd no_count any_bytes PortExchanges IsRead IsFresh longest_run) where
+  module _ (engines : EnginesPlay C J moves IsEnd failures_at IsGarbled PortExchanges PortGivesNone IsFresh longest_run) (laws : ByteLaws) where
     pub did-all : (orders : List Order) (old : PlayModel C J) (result : Result (Unit {0}) PlayFault) (new : PlayModel C J) → ObeysAll moves gives_none takes_none old orders result new → StaysInOrder result → (s : System C J) → Shows old s
         → (deeds : List (Deed C J)) × DidAll old orders result new s deeds
     did-all [] old result new x stays s shows = ([], (x, subst (λ (p : PlayModel C J). Shows p s) (sym x.1) shows, refl, λ given. tt))
     did-all (what ∷ orders) old result new (inl x) stays s shows =
-        let one = obeyed-beside C J moves gives_none takes_none engines old what (Ok tt) x.0 tt x.1 s shows in
+        let one = obeyed-beside C J moves gives_none takes_none engines laws old what (Ok tt) x.0 tt x.1 s shows in
         let later = did-all orders x.0 result new x.2 stays one.0 one.2 in
         (record { order = what; steps = one.1.0; next = one.0 } ∷ later.0, did-more old what orders result x.0 new s one.0 one.1.0 one.1.1 one.1.2 one.1.3 x.1 one.2 later.0 later.1)
     did-all (what ∷ orders) old result new (inr x) stays s shows =
-        let one = obeyed-beside C J moves gives_none takes_none engines old what (Err x.0) new (subst StaysInOrder x.1 stays) x.2 s shows in
+        let one = obeyed-beside C J moves gives_none takes_none engines laws old what (Err x.0) new (subst StaysInOrder x.1 stays) x.2 s shows in
         (record { order = what; steps = one.1.0; next = one.0 } ∷ [], did-last old what orders x.0 result new s one.0 one.1.0 one.1.1 one.1.2 one.1.3 x.1 x.2 one.2)
 
     pub obeyed-plays-on : PlaysRefineBeside C J → ObeyedPlaysOn C J moves gives_none takes_none

@@ -1,5 +1,5 @@
 -- A call of one play is steps of a fleet.
-use Rattle.std.proofs.Common.{◌≡◌, ◌≢◌, ◌∙◌, ⊎_elim, ℕ, ◌==◌, Bool, true, false, List, [], ◌∷◌, ◌++◌, append_assoc, length, map, refl, sym, ap, subst}
+use Rattle.std.proofs.Common.{◌≡◌, ◌≢◌, ◌∙◌, inl, inr, ⊎_elim, ℕ, ◌==◌, Bool, true, false, List, [], ◌∷◌, ◌++◌, append_assoc, length, map, refl, sym, ap, subst}
 use Rattle.std.specs.Prelude.{All, Result, if◌then◌else◌}
 use Rattle.std.proofs.lemmas.Bool.Decides.{eqb_tells}
 use Rattle.std.proofs.lemmas.List.{append-nil}
@@ -22,11 +22,12 @@ use Rattle.turn_play.specs.May.{HearsItsNodes, MayMoveNow, MayNow}
 use Rattle.turn_play.specs.Moving.{event_of}
 use Rattle.turn_play.specs.Beside.{AreGivenBeside, LeadsBeside, MayNowBeside, MayStepBeside, StepBeside}
 use Rattle.turn_play.specs.Playing.{PlayModel, Shows}
-use Rattle.turn_play.specs.Port.{IsEnd, IsFresh, IsRead, PortExchanges, any_bytes, longest_run, no_count}
+use Rattle.turn_play.specs.Port.{IsEnd, IsFresh, IsGarbled, PortExchanges, PortGivesNone, failures_at, longest_run}
 use Rattle.turn_play.specs.Turns.{EnginesPlay, IsTurns}
 use Rattle.turn_play.specs.Obeying.{IsOurs}
 use Rattle.turn_play.specs.Deeds.{AreDeeds, Deed, IsEventOf, left_by, steps_of}
 use Rattle.turn_play.specs.Fleets.{FleetGoes, HandedInFleets, IsFleetReached, OthersWait, PlaysAreFleets, ShowsAll, after_call}
+use Rattle.turn_play.proofs.ServedWires.{ByteLaws}
 use Rattle.turn_play.proofs.Refining.{step-holds}
 use Rattle.turn_play.proofs.Playing.{same-engine}
 use Rattle.turn_play.proofs.Handed.{IsHanded, handed-beside, handed-given}
@@ -82,13 +83,16 @@ module _ {C J : Type 0} where
 
   event-waits : (f : Fleet C J) (p : ℕ) (what : Order) (event : SharedEvent) → IsOurs what → OthersWait f p what → IsEventOf what event → WaitFor f p event
   event-waits f p order.Turn (SharedEvent.Ours event) ours waits is = still-waits f p event (turns-still event is)
-  event-waits f p (order.Serve node verdict) (SharedEvent.Ours event) ours waits is = still-waits f p event (ap is_moved is)
+  event-waits f p (order.Serve node verdict) (SharedEvent.Ours event) ours waits (inl is) = still-waits f p event (ap is_moved is)
+  event-waits f p (order.Serve node verdict) (SharedEvent.Ours event) ours waits (inr is) = still-waits f p event (ap is_moved is)
   event-waits f p (order.Break node) (SharedEvent.Ours event) ours waits is = absurd is
+  event-waits f p (order.Cut node most) (SharedEvent.Ours event) ours waits is = absurd is
   event-waits f p (order.Move move) (SharedEvent.Ours event) ours waits is = move-waits f p move event waits is
   event-waits f p (order.Others node asking parts) (SharedEvent.Ours event) ours waits is = absurd ours
   event-waits f p order.Turn (SharedEvent.Theirs n a done) ours waits is = absurd is
   event-waits f p (order.Serve node verdict) (SharedEvent.Theirs n a done) ours waits is = absurd is
   event-waits f p (order.Break node) (SharedEvent.Theirs n a done) ours waits is = absurd is
+  event-waits f p (order.Cut node most) (SharedEvent.Theirs n a done) ours waits is = absurd is
   event-waits f p (order.Move move) (SharedEvent.Theirs n a done) ours waits is = absurd is
   event-waits f p (order.Others node asking parts) (SharedEvent.Theirs n a done) ours waits is = absurd ours
 
@@ -245,10 +249,10 @@ module _ (C J : Type 0) (heard : WrittenIsHeard) (stand : FleetsStand C J) (foll
         λ start before reached. fleet-goes plays p new f shows start before reached one.1.0 one.0 one.1.1 one.2 (handed-given client.number one.1.0 (f p) one.1.3) waits,
       )
 
-  module _ (moves : Moves C) (gives_none takes_none : C → Type 0) (engines : EnginesPlay C J moves IsEnd no_count any_bytes PortExchanges IsRead IsFresh longest_run) where
+  module _ (moves : Moves C) (gives_none takes_none : C → Type 0) (engines : EnginesPlay C J moves IsEnd failures_at IsGarbled PortExchanges PortGivesNone IsFresh longest_run) (laws : ByteLaws) where
     pub plays-are-fleets : PlaysAreFleets C J moves gives_none takes_none
     plays-are-fleets plays p orders result new ours x stays f shows =
-        let did = did-all C J moves gives_none takes_none engines orders (plays p) result new x stays (f p) (shows p) in (
+        let did = did-all C J moves gives_none takes_none engines laws orders (plays p) result new x stays (f p) (shows p) in (
           did.0,
           did.1.0,
           λ start before reached given waits.

@@ -4,6 +4,8 @@ mod Breaking
 mod Swapping
 mod Knowing
 mod Turning
+mod BlocksTold
+mod ServedWires
 mod Playing
 mod Theirs
 mod Beside
@@ -13,6 +15,11 @@ mod Deeds
 mod Handed
 mod Fleets
 mod Starting
-mod Kept
 mod Said
-mod ServingFirst
+pub mod FirstValues
+pub mod Heard
+pub mod ReadBack
+pub mod Answered
+pub mod Streamed
+pub mod Hears
+pub mod Feeding

@@ -24,13 +24,15 @@ use Rattle.turn_play.specs.Played.{PlaysRefine}
 use Rattle.turn_laws.specs.Steps.{SystemEvent, Moved}
 use Rattle.turn_laws.specs.Sharing.{SharedEvent}
 use Rattle.turn_play.specs.Beside.{PlaysRefineBeside}
-use Rattle.turn_play.specs.Deeds.{IsEventOf, IsEventOfOthers, IsGranted}
+use Rattle.turn_play.specs.Deeds.{IsEventOf, IsEventOfOthers, IsGranted, IsServing}
 use Rattle.turn_play.specs.Playing.{PlayModel, PlaysTo, PlaysToBeside, Shows}
-use Rattle.turn_play.specs.Port.{IsEnd, IsFresh, IsRead, PortExchanges, any_bytes, longest_run, no_count, port-opens}
+use Rattle.turn_play.specs.Port.{IsEnd, IsFresh, IsGarbled, PortExchanges, PortGivesNone, failures_at, longest_run}
+use Rattle.turn_play.specs.Connection.{broken, cut_to}
 use Rattle.turn_play.specs.Turns.{EnginesPlay, IsTurns}
+use Rattle.turn_play.proofs.ServedWires.{ByteLaws, port-opens}
 use Rattle.turn_play.proofs.Beside.{beside, goes-beside, plainly-beside, soundly-beside}
 use Rattle.turn_play.proofs.Theirs.{others-came}
-use Rattle.turn_play.proofs.Playing.{Any, IsServed, PlaysWhere, PlaysWhereBeside, broke, engine-turned, moved, plainly, plays-none, plays-on, plays-soundly, serves}
+use Rattle.turn_play.proofs.Playing.{Any, PlaysWhere, PlaysWhereBeside, changed, engine-turned, moved, plainly, plays-none, plays-on, plays-soundly, serves}
 
 -- ---- a step of a move
 
@@ -85,15 +87,16 @@ module _ {C J : Type 0} where
   moves-on old move (Err fault.NoMemory) k x = same-cluster (MayMove move) (IsStepOf move) old k (no-memory old.cluster move k x)
   moves-on old move (Err fault.NotServed) k x = absurd x
   moves-on old move (Err fault.OutOfOrder) k x = absurd x
+  moves-on old move (Err fault.TooLong) k x = absurd x
 
 -- a turn that the play calls sound is one
 sound-turn : (cause : EngineFault) (why : PlayFault) → why ≡ of_turn cause → StaysInOrder (Err why) → engine.IsSound (Err cause)
 sound-turn cause_of.NoMemory why is stays = tt
 sound-turn cause_of.OutOfOrder why is stays = subst (λ w. StaysInOrder (Err w)) is stays
 
-module _ (C J : Type 0) (moves : Moves C) (gives_none takes_none : C → Type 0) (engines : EnginesPlay C J moves IsEnd no_count any_bytes PortExchanges IsRead IsFresh longest_run) where
+module _ (C J : Type 0) (moves : Moves C) (gives_none takes_none : C → Type 0) (engines : EnginesPlay C J moves IsEnd failures_at IsGarbled PortExchanges PortGivesNone IsFresh longest_run) (laws : ByteLaws) where
   turned : (old : PlayModel C J) (result : Result Turned EngineFault) (new : PlayModel C J) → IsTurned moves gives_none takes_none old result new → engine.IsSound result → PlaysWhere Any IsTurns old new
-  turned old result new x sound = subst (PlaysWhere Any IsTurns old) (sym x.2) (engine-turned old new.engine (λ s shows. engines port-opens s old.engine new.engine result shows x.0 sound))
+  turned old result new x sound = subst (PlaysWhere Any IsTurns old) (sym x.2) (engine-turned old new.engine (λ s shows. engines (port-opens laws) s old.engine new.engine result shows x.0 sound))
 
   -- where what the order asks is granted
   abbrev Asked : Order → System C J → Type 0
@@ -106,8 +109,9 @@ module _ (C J : Type 0) (moves : Moves C) (gives_none takes_none : C → Type 0)
   obeyed : (old : PlayModel C J) (what : Order) (result : Result (Unit {0}) PlayFault) (new : PlayModel C J) → IsOurs what → StaysInOrder result → Obeys moves gives_none takes_none old what result new → PlaysWhere (Asked what) (Own what) old new
   obeyed old order.Turn (Ok u) new ours stays x = turned old (Ok x.0) new x.1 tt
   obeyed old order.Turn (Err why) new ours stays x = turned old (Err x.0) new x.2 (sound-turn x.0 why x.1 stays)
-  obeyed old (order.Serve node verdict) result new ours stays x = subst (PlaysWhere Any (IsServed node verdict) old) (sym x.1) (serves old node verdict result new.cluster new.engine.carrier x.0)
-  obeyed old (order.Break node) result new ours stays x = subst (PlaysWhere Any (λ event. ⊥) old) (sym x.1.1) (broke old node new.engine.carrier x.1.0)
+  obeyed old (order.Serve node verdict) result new ours stays x = subst (PlaysWhere Any (IsServing node verdict) old) (sym x.1) (serves laws old node verdict result new.cluster new.engine.carrier stays x.0)
+  obeyed old (order.Break node) result new ours stays x = subst (PlaysWhere Any (λ event. ⊥) old) (sym x.1.1) (changed broken (λ stream. refl) old node new.engine.carrier x.1.0)
+  obeyed old (order.Cut node most) result new ours stays x = subst (PlaysWhere Any (λ event. ⊥) old) (sym x.1.1) (changed (cut_to most) (λ stream. refl) old node new.engine.carrier x.1.0)
   obeyed old (order.Move move) result new ours stays x = subst (PlaysWhere (MayMove move) (IsStepOf move) old) (sym x.1) (moves-on old move result new.cluster x.0)
   obeyed old (order.Others node asking parts) result new ours stays x = absurd ours
 
@@ -131,6 +135,7 @@ module _ (C J : Type 0) (moves : Moves C) (gives_none takes_none : C → Type 0)
   obeyed-beside old order.Turn result new stays x = alone-beside old order.Turn result new tt stays x
   obeyed-beside old (order.Serve node verdict) result new stays x = alone-beside old (order.Serve node verdict) result new tt stays x
   obeyed-beside old (order.Break node) result new stays x = alone-beside old (order.Break node) result new tt stays x
+  obeyed-beside old (order.Cut node most) result new stays x = alone-beside old (order.Cut node most) result new tt stays x
   obeyed-beside old (order.Move move) result new stays x = alone-beside old (order.Move move) result new tt stays x
   obeyed-beside old (order.Others node asking parts) (Ok u) new stays x =
       subst (PlaysWhereBeside (Asked (order.Others node asking parts)) (IsEventOfOthers node asking parts.items) old) (sym x.1) (others-came old node asking parts.items new.told new.cluster x.0)

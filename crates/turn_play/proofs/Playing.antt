@@ -2,11 +2,10 @@
 use Rattle.std.proofs.Common.{◌≡◌, inl, inr, ℕ, zero, suc, Bool, true, false, List, [], ◌∷◌, ◌++◌, Some, Ok, refl, sym, ap, ◌∙◌, subst}
 use Rattle.std.specs.Prelude.{Result, Err, All, slice_get, slice_set}
 use Rattle.std.proofs.lemmas.List.Elements.{All-cons, All-head, All-nil, All-tail}
-use Rattle.resp_wire.specs.declared.value.Value.{Value}
 use Rattle.slot_map.specs.Table.{Endpoint}
 use Rattle.node_model.specs.Nodes.{ClusterModel}
-use Rattle.node_model.specs.Runs.{deed_for, DoesRun}
 use Rattle.node_model.specs.declared.role.Verdict.{Verdict}
+use Rattle.node_link.specs.Bytes.{Splits}
 use Rattle.proxy_turns.specs.declared.newcomer.Newcomer.{Newcomer}
 use Rattle.proxy_turns.specs.declared.backend.Backend.{Backend}
 use Rattle.proxy_turns.specs.CarrierModel.{CarrierModel}
@@ -14,20 +13,25 @@ use Rattle.proxy_turns.specs.Swapping.{SwapOutcome, with_port}
 use Rattle.proxy_engine.specs.EngineModel.{EngineModel}
 use Rattle.proxy_engine.specs.Unseen.{LanesKnow}
 use Rattle.world_laws.specs.declared.event.Event.{Event}
-use Rattle.turn_laws.specs.Wire.{Wire, Item, Asks, Runs, Lists, Execution, executions, parts_in}
+use Rattle.turn_laws.specs.Wire.{Wire}
+use Rattle.turn_laws.specs.ByteWires.{FarEnd, over_stream}
 use Rattle.turn_laws.specs.System.{System}
 use Rattle.turn_laws.specs.Steps.{SystemEvent, AtWorker, AtCarrier, Handed, AtNode, AtBroken, Thrown, Moved, log_of}
 use Rattle.turn_laws.specs.AnyPort.{IsWired, AreWired, over_link, link_over, over_backend, over_backends, over_wires}
 use Rattle.turn_play.specs.declared.fault.PlayFault.{PlayFault}
+use Rattle.turn_play.specs.declared.fault.PlayFault.TheVariants as fault
 use Rattle.turn_play.specs.May.{MayServeNext, ClusterMoves, ListsItsNodes, MayNow, MayMoveNow}
 use Rattle.turn_play.specs.Played.{Step, Leads, PlaysRefine}
 use Rattle.turn_laws.specs.Sharing.{SharedEvent}
 use Rattle.turn_play.specs.Beside.{StepBeside, LeadsBeside, MayNowBeside}
 use Rattle.turn_play.specs.Turns.{IsTurns, PlaysEngine, ShowsCarrier, ShowsEngine}
 use Rattle.turn_play.specs.Port.{PortModel, IsEnd}
-use Rattle.turn_play.specs.Waiting.{asking_after}
-use Rattle.turn_play.specs.Serving.{IsSaid, PortServes, ServeOutcome, ServesAt, BreaksAt, okay}
+use Rattle.turn_play.specs.Stream.{StreamModel, StreamServes, far_end}
+use Rattle.turn_play.specs.Connection.{ChangesStream, ServesAt, ServesThere}
+use Rattle.turn_play.specs.Obeying.{StaysInOrder}
+use Rattle.turn_play.specs.Deeds.{IsServing}
 use Rattle.turn_play.specs.Playing.{PlayModel, Shows, PlaysTo, PlaysSoundly}
+use Rattle.turn_play.proofs.ServedWires.{ByteLaws, IsHeardAs, served}
 use Rattle.turn_play.proofs.Turning.{leads-join, set-itself}
 
 -- ---- the wire of a backend
@@ -58,66 +62,37 @@ module _ {P : Type 0} (wired : P → Wire → Type 0) where
   set-over (b ∷ bs) (w ∷ ws) on zero backend wire = refl
   set-over (b ∷ bs) (w ∷ ws) on (suc k) backend wire = ap (λ xs. over_backend b w ∷ xs) (set-over bs ws on.1 k backend wire)
 
--- ---- what a node serves of a port, it serves of its wire
-
-abbrev Served : List Endpoint → ClusterModel → ℕ → Wire → Verdict → ClusterModel → PortModel → Type 0
-Served table k node wire verdict k' port' =
-    (wire' : Wire) × (values : List Value) × (done : List Execution) × MayServeNext table k node wire verdict k' wire' values done × (wire'.values ≡ wire.values ++ values) × IsEnd port' wire'
-
-module _ (table : List Endpoint) (k : ClusterModel) (node : ℕ) (port : PortModel) (wire : Wire) (on : IsEnd port wire) (verdict : Verdict) (k' : ClusterModel) (port' : PortModel) (rest : List Item) (said : List Value) where
-  -- the wire after it, and the port at its end
-  ends : (asking : Bool) → port' ≡ record port { items = rest; values = port.values ++ said; asking = asking } → IsEnd port' (record wire { items = rest; values = wire.values ++ said; asking = asking })
-  ends asking x = (
-    ap (λ (p : PortModel). p.items) x,
-    ap (λ (p : PortModel). p.values) x ∙ ap (λ values. values ++ said) on.1,
-    ap (λ (p : PortModel). p.asking) x,
-  )
-
-  by-item : (first : Item) → port.items ≡ first ∷ rest → IsSaid table k node port.asking first verdict k' said → port' ≡ record port { items = rest; values = port.values ++ said; asking = asking_after first port.asking }
-      → Served table k node wire verdict k' port'
-  by-item Asks is says x = (
-    record wire { items = rest; values = wire.values ++ said; asking = true },
-    said,
-    [],
-    inl (rest, okay, sym on.0 ∙ is, says.1, says.0, refl, refl),
-    refl,
-    ends true x,
-  )
-  by-item (Runs parts) is says x = (
-    record wire { items = rest; values = wire.values ++ said; asking = false },
-    said,
-    executions parts says.0,
-    inr (inl (
-      rest,
-      parts,
-      says.0,
-      sym on.0 ∙ is,
-      says.1,
-      subst (λ (b : Bool). DoesRun (deed_for k node b (parts_in parts) verdict) k node (parts_in parts) says.0 k') on.2 says.2,
-      says.3,
-      refl,
-      refl,
-    )),
-    refl,
-    ends false x,
-  )
-  by-item Lists is says x = (
-    record wire { items = rest; values = wire.values ++ said },
-    said,
-    [],
-    inr (inr (rest, says.0, sym on.0 ∙ is, says.2, says.1, refl, refl)),
-    refl,
-    subst (λ (b : Bool). IsEnd port' (record wire { items = rest; values = wire.values ++ said; asking = b })) on.2 (ends port.asking x),
-  )
-
-served : (table : List Endpoint) (k : ClusterModel) (node : ℕ) (port : PortModel) (wire : Wire) → IsEnd port wire → (verdict : Verdict) (k' : ClusterModel) (port' : PortModel) → PortServes table k node port verdict k' port' → Served table k node wire verdict k' port'
-served table k node port wire on verdict k' port' x = by-item table k node port wire on verdict k' port' x.1 x.2 x.0 x.3 x.4 x.5
-
 -- ---- a play
 
--- the node serves, as the verdict says
-abbrev pub IsServed : ℕ → Verdict → SystemEvent → Type 0
-IsServed node verdict event = event ≡ AtNode node verdict
+-- of this something is said
+abbrev CanBeSaid : Result Bool PlayFault → Type 0
+CanBeSaid (Ok moved) = Unit {0}
+CanBeSaid (Err why) = StaysInOrder (Err why)
+
+-- a change of a stream that leaves its far end as it was
+abbrev pub KeepsEnd : (StreamModel → StreamModel) → Type 0
+KeepsEnd change = (stream : StreamModel) → far_end (change stream) ≡ far_end stream
+
+-- then the port stands for the wire as before
+same-end : (port : PortModel) (wire : Wire) (stream : StreamModel) → far_end stream ≡ far_end port.bytes.stream → IsEnd port wire → IsEnd (over_stream port stream) wire
+same-end port wire stream same on = record {
+  served = on.served;
+  coming = on.coming;
+  given = on.given;
+  asks = on.asks ∙ ap (λ (e : FarEnd). e.asking) (sym same);
+  plain = on.plain;
+  bounds = on.bounds;
+  goes = ap (λ (e : FarEnd). e.unserved ++ port.bytes.unsent) same ∙ on.goes;
+  awaits = on.awaits;
+  comes = subst (λ (e : FarEnd). Splits port.bytes.input.bounds (port.bytes.input.unread ++ e.unread) on.coming []) (sym same) on.comes;
+  answers = on.answers;
+  values = on.values;
+}
+
+-- how a serving is heard
+as-event : (node : ℕ) (given how : Verdict) → IsHeardAs given how → IsServing node given (AtNode node how)
+as-event node given how (inl same) = inl (ap (AtNode node) same)
+as-event node given how (inr again) = inr (ap (AtNode node) again)
 
 module _ {C J : Type 0} where
   -- The events of these steps may happen, each in the system that it finds, where the carrier's table lists nodes of the cluster behind it.
@@ -312,66 +287,75 @@ module _ {C J : Type 0} where
         let same : record (over_backend swapped.0 wire.0) { link = Some (record (over_link swapped.1 wire.0) { port = wire.0 }) } ≡ over_backend swapped.0 wire.0 = λ i. over_backend (record (swapped.0) { link = sym swapped.3 i }) wire.0 in
         engine-after wire.0 on s refl (sym ((λ i. record s.carrier { backends = slice_set s.carrier.backends node (same i) }) ∙ (λ i. record s.carrier { backends = set-itself s.carrier.backends node (over_backend swapped.0 wire.0) wired-there i })))
 
-  -- it is broken
-  pub broke : (old : PlayModel C J) (node : ℕ) (new : CarrierModel (Newcomer C J) PortModel) → BreaksAt node old.engine.carrier new → PlaysWhere Any (λ e. ⊥) old (with_carrier old new)
-  broke old node new (inl same) s shows =
+  -- it is broken, or cut
+  pub changed : (change : StreamModel → StreamModel) → KeepsEnd change → (old : PlayModel C J) (node : ℕ) (new : CarrierModel (Newcomer C J) PortModel) → ChangesStream change node old.engine.carrier new → PlaysWhere Any (λ e. ⊥) old (with_carrier old new)
+  changed change keeps old node new (inl same) s shows =
       (s, ([], refl, (λ given. tt), none-is (λ e. ⊥)), record { engine = subst (λ (c : CarrierModel (Newcomer C J) PortModel). ShowsEngine IsEnd (record old.engine { carrier = c }) s) (sym same.1) shows.engine; cluster = shows.cluster; nodes = shows.nodes })
-  broke old node new (inr x) s shows = (
-    s,
-    ([], refl, (λ given. tt), none-is (λ e. ⊥)),
-    record {
-      engine = as-it-was old node new x.0 (record x.0 { broken = true }) x.1 s shows (its-wire old node new x.0 (record x.0 { broken = true }) x.1 s shows);
-      cluster = shows.cluster;
-      nodes = shows.nodes;
-    },
-  )
-
-  -- what waits first is served
-  served-at : (old : PlayModel C J) (node : ℕ) (verdict : Verdict) (k : ClusterModel) (new : CarrierModel (Newcomer C J) PortModel) (port port' : PortModel) → SwapOutcome node old.engine.carrier port' (Ok port) new → PortServes old.nodes old.cluster node port verdict k port'
-      → PlaysWhere Any (IsServed node verdict) old (record (with_carrier old new) { cluster = k })
-  served-at old node verdict k new port port' x y s shows =
-      let swap = swapped old node new port port' x s shows in
-      let end = wire old node new port port' x s shows in
-      let here = wired-there old node new port port' x s shows in
-      let r = served old.nodes old.cluster node port end.0 (its-wire old node new port port' x s shows) verdict k port' y in
-      let next : System C J = record s { cluster = k; carrier = wired-after old node new port port' x s shows r.0; log = s.log ++ log_of r.2 } in
-      let nodes-so = subst (λ (ns : List Endpoint). MayServeNext ns old.cluster node end.0 verdict k r.0 r.1 r.2) (sym shows.nodes) r.3 in
-      let serves = subst (λ (c : ClusterModel). MayServeNext s.nodes c node end.0 verdict k r.0 r.1 r.2) (sym shows.cluster) nodes-so in (
-        next,
-        (
-          record { event = AtNode node verdict; next = next } ∷ [],
-          ((over_backend swap.0 end.0, over_link swap.1 end.0, r.0, r.1, r.2, here, ap (λ o. link_over o end.0) swap.3, swap.4, serves, r.4, refl), refl),
-          (λ given. ((λ lists. tt), tt)),
-          one-is (IsServed node verdict) (record { event = AtNode node verdict; next = next }) refl,
-        ),
-        record { engine = engine-after old node new port port' x s shows r.0 r.5 next refl refl; cluster = refl; nodes = shows.nodes },
-      )
-
-  -- nothing waited, so the port is as it was
-  idle-at : (old : PlayModel C J) (node : ℕ) (verdict : Verdict) (k : ClusterModel) (new : CarrierModel (Newcomer C J) PortModel) (port port' : PortModel) → SwapOutcome node old.engine.carrier port' (Ok port) new → k ≡ old.cluster → port' ≡ port
-      → PlaysWhere Any (IsServed node verdict) old (record (with_carrier old new) { cluster = k })
-  idle-at old node verdict k new port port' x same-cluster same-port s shows =
-      let end = wire old node new port port' x s shows in (
+  changed change keeps old node new (inr (port, swap)) s shows =
+      let port' = over_stream port (change port.bytes.stream) in (
         s,
-        ([], refl, (λ given. tt), none-is (IsServed node verdict)),
+        ([], refl, (λ given. tt), none-is (λ e. ⊥)),
         record {
-          engine = as-it-was old node new port port' x s shows (subst (λ (p : PortModel). IsEnd p end.0) (sym same-port) (its-wire old node new port port' x s shows));
-          cluster = shows.cluster ∙ sym same-cluster;
+          engine = as-it-was old node new port port' swap s shows
+              (same-end port (wire old node new port port' swap s shows).0 (change port.bytes.stream) (keeps port.bytes.stream) (its-wire old node new port port' swap s shows));
+          cluster = shows.cluster;
           nodes = shows.nodes;
         },
       )
 
-  did-serve : (old : PlayModel C J) (node : ℕ) (verdict : Verdict) (k : ClusterModel) (new : CarrierModel (Newcomer C J) PortModel) (port port' : PortModel) (moved : Bool) → SwapOutcome node old.engine.carrier port' (Ok port) new → ServeOutcome old.nodes old.cluster node port verdict (Ok moved) k port'
-      → PlaysWhere Any (IsServed node verdict) old (record (with_carrier old new) { cluster = k })
-  did-serve old node verdict k new port port' true x y = served-at old node verdict k new port port' x y
-  did-serve old node verdict k new port port' false x y = idle-at old node verdict k new port port' x y.1 y.2
+  -- the port is as it was
+  idle-at : (old : PlayModel C J) (node : ℕ) (given : Verdict) (k : ClusterModel) (new : CarrierModel (Newcomer C J) PortModel) (port : PortModel) (stream : StreamModel) → SwapOutcome node old.engine.carrier (over_stream port stream) (Ok port) new → k ≡ old.cluster
+      → stream ≡ port.bytes.stream → PlaysWhere Any (IsServing node given) old (record (with_carrier old new) { cluster = k })
+  idle-at old node given k new port stream swap same-cluster same s shows = (
+    s,
+    ([], refl, (λ asked. tt), none-is (IsServing node given)),
+    record {
+      engine = as-it-was old node new port (over_stream port stream) swap s shows
+          (subst (λ t. IsEnd (over_stream port t) (wire old node new port (over_stream port stream) swap s shows).0) (sym same) (its-wire old node new port (over_stream port stream) swap s shows));
+      cluster = shows.cluster ∙ sym same-cluster;
+      nodes = shows.nodes;
+    },
+  )
 
   -- nothing has changed
   stays : (Is : SystemEvent → Type 0) (old : PlayModel C J) (k : ClusterModel) (new : CarrierModel (Newcomer C J) PortModel) → k ≡ old.cluster → new ≡ old.engine.carrier → PlaysWhere Any Is old (record (with_carrier old new) { cluster = k })
   stays Is old k new same same-carrier s shows =
       (s, ([], refl, (λ given. tt), none-is Is), record { engine = subst (λ (c : CarrierModel (Newcomer C J) PortModel). ShowsEngine IsEnd (record old.engine { carrier = c }) s) (sym same-carrier) shows.engine; cluster = shows.cluster ∙ sym same; nodes = shows.nodes })
 
-  pub serves : (old : PlayModel C J) (node : ℕ) (verdict : Verdict) (result : Result (Unit {0}) PlayFault) (k : ClusterModel) (new : CarrierModel (Newcomer C J) PortModel) → ServesAt old.nodes old.cluster node old.engine.carrier verdict result k new → PlaysWhere Any (IsServed node verdict) old (record (with_carrier old new) { cluster = k })
-  serves old node verdict (Ok u) k new (inl x) = stays (IsServed node verdict) old k new x.1 x.2
-  serves old node verdict (Ok u) k new (inr x) = did-serve old node verdict k new x.0 x.1 x.2 x.3 x.4
-  serves old node verdict (Err why) k new x = stays (IsServed node verdict) old k new x.3 x.4
+  module _ (laws : ByteLaws) where
+    -- what was read first is served
+    served-at : (old : PlayModel C J) (node : ℕ) (given : Verdict) (k : ClusterModel) (new : CarrierModel (Newcomer C J) PortModel) (port : PortModel) (stream : StreamModel) → SwapOutcome node old.engine.carrier (over_stream port stream) (Ok port) new
+        → StreamServes old.nodes old.cluster node port.bytes.stream given k stream → PlaysWhere Any (IsServing node given) old (record (with_carrier old new) { cluster = k })
+    served-at old node given k new port stream x y s shows =
+        let port' = over_stream port stream in
+        let swap = swapped old node new port port' x s shows in
+        let end = wire old node new port port' x s shows in
+        let here = wired-there old node new port port' x s shows in
+        let r = served laws old.nodes old.cluster node port end.0 (its-wire old node new port port' x s shows) given k stream y in
+        let next : System C J = record s { cluster = k; carrier = wired-after old node new port port' x s shows r.2; log = s.log ++ log_of r.4 } in
+        let nodes-so = subst (λ (ns : List Endpoint). MayServeNext ns old.cluster node end.0 r.0 k r.2 r.3 r.4) (sym shows.nodes) r.5 in
+        let serves = subst (λ (c : ClusterModel). MayServeNext s.nodes c node end.0 r.0 k r.2 r.3 r.4) (sym shows.cluster) nodes-so in (
+          next,
+          (
+            record { event = AtNode node r.0; next = next } ∷ [],
+            ((over_backend swap.0 end.0, over_link swap.1 end.0, r.2, r.3, r.4, here, ap (λ o. link_over o end.0) swap.3, swap.4, serves, r.6, refl), refl),
+            (λ asked. ((λ lists. tt), tt)),
+            one-is (IsServing node given) (record { event = AtNode node r.0; next = next }) (as-event node given r.0 r.1),
+          ),
+          record { engine = engine-after old node new port port' x s shows r.2 r.7 next refl refl; cluster = refl; nodes = shows.nodes },
+        )
+
+    serves-there : (old : PlayModel C J) (node : ℕ) (given : Verdict) (result : Result Bool PlayFault) (k : ClusterModel) (new : CarrierModel (Newcomer C J) PortModel) → CanBeSaid result
+        → ServesThere old.nodes old.cluster node old.engine.carrier given result k new → PlaysWhere Any (IsServing node given) old (record (with_carrier old new) { cluster = k })
+    serves-there old node given (Ok true) k new said (port, stream, swap, did) = served-at old node given k new port stream swap did
+    serves-there old node given (Ok false) k new said (port, stream, swap, did) = idle-at old node given k new port stream swap did.1 did.2
+    serves-there old node given (Err fault.NoMemory) k new said (port, stream, swap, did) = idle-at old node given k new port stream swap did.0 did.1
+    serves-there old node given (Err fault.NotServed) k new said (port, stream, swap, did) = idle-at old node given k new port stream swap did.1 did.2
+    serves-there old node given (Err fault.OutOfOrder) k new said (port, stream, swap, did) = absurd did
+    serves-there old node given (Err fault.TooLong) k new said x = absurd said
+
+    pub serves : (old : PlayModel C J) (node : ℕ) (given : Verdict) (result : Result (Unit {0}) PlayFault) (k : ClusterModel) (new : CarrierModel (Newcomer C J) PortModel) → StaysInOrder result → ServesAt old.nodes old.cluster node old.engine.carrier given result k new
+        → PlaysWhere Any (IsServing node given) old (record (with_carrier old new) { cluster = k })
+    serves old node given (Ok u) k new said (inl x) = stays (IsServing node given) old k new x.1 x.2
+    serves old node given (Ok u) k new said (inr (moved, x)) = serves-there old node given (Ok moved) k new tt x
+    serves old node given (Err why) k new said x = serves-there old node given (Err why) k new said x

@@ -13,7 +13,9 @@ use Rattle.node_model.specs.Nodes.{ClusterModel}
 use Rattle.node_model.specs.declared.role.Verdict.{Verdict}
 use Rattle.node_model.specs.Runs.{deed_for, DoesRun}
 use Rattle.resp_wire.specs.declared.value.Value.{Value}
-use Rattle.turn_laws.specs.Wire.{Wire, Execution, AreTold, ServesNext, parts_in}
+use Rattle.key_split.specs.declared.travel.Told.{Told}
+use Rattle.key_split.specs.declared.travel.Told.TheVariants.{TryAgain}
+use Rattle.turn_laws.specs.Wire.{Wire, Execution, AreTold, ServesNext, heard_in, parts_in}
 use Rattle.turn_laws.specs.System.{System}
 use Rattle.turn_laws.specs.Shadow.{IsShadow}
 use Rattle.turn_laws.specs.Underway.{IsWorking}
@@ -22,7 +24,7 @@ use Rattle.turn_laws.specs.Naming.{NamesNodes}
 use Rattle.turn_laws.specs.Refines.{NamesStay, Refines, StartsRefine, IsStart}
 use Rattle.turn_laws.specs.LogHeadline.{HeadlineOfLogs, LogsAreHeld}
 use Rattle.turn_laws.specs.Writing.{AreEndpointsOf, CanBeNamed, SlotsStay, StandsAtItsNodes, WrittenIsHeard}
-use Rattle.turn_play.specs.May.{MayStep, WorkerMay, ServesMay, MayServeNext, ClusterMoves, HearsItsNodes, MayMoveNow, MayNow}
+use Rattle.turn_play.specs.May.{AreSaid, AreSaidAgain, again, MayStep, WorkerMay, ServesMay, MayServeNext, ClusterMoves, HearsItsNodes, MayMoveNow, MayNow}
 use Rattle.turn_play.specs.Played.{Step, events_of, Leads, AreGiven, PlaysRefine}
 
 -- a list as long as another has an item at each of its places
@@ -32,6 +34,15 @@ beside [] (z ∷ ys) i y e at = absurd (omega (arith, e))
 beside (x ∷ xs) [] i y e at = absurd (omega (arith, e))
 beside (x ∷ xs) (z ∷ ys) zero y e at = (x, refl)
 beside (x ∷ xs) (z ∷ ys) (suc i) y e at = beside xs ys i y (omega (arith, e)) at
+
+-- TRYAGAIN is heard in the line that stands for it
+heard-again : (table : List Endpoint) (node : ℕ) (tolds : List Told) (values : List Value) → AreSaidAgain tolds values → AreTold table node values tolds
+heard-again table node [] [] x = tt
+heard-again table node [] (value ∷ values) x = absurd x
+heard-again table node (told ∷ tolds) [] x = absurd x
+heard-again table node (told ∷ tolds) (value ∷ values) x =
+    let first : heard_in again node table ≡ (TryAgain, table) = refl in
+    ((λ i. heard_in (x.1 i) node table) ∙ first ∙ (λ i. (sym x.0 i, table)), heard-again table node tolds values x.2)
 
 -- what a node of the cluster tells is heard in what it writes, so it serves the wire that leads to it
 next-holds : WrittenIsHeard → (table : List Endpoint) (cluster : ClusterModel) → AreEndpointsOf cluster table → StandsAtItsNodes cluster → (k : ℕ) (old : Wire) (verdict : Verdict) (cluster' : ClusterModel) (new : Wire) (values : List Value) (done : List Execution) → k ≡ old.node
@@ -44,10 +55,14 @@ next-holds heard table cluster ends stands k old verdict cluster' new values don
   x.3,
   x.4,
   subst (λ (n : ℕ). DoesRun (deed_for cluster n old.asking (parts_in x.1) verdict) cluster n (parts_in x.1) x.2 cluster') there x.5,
-  subst (λ (n : ℕ). AreTold table n values x.2) there (heard table cluster k old.asking (parts_in x.1) verdict x.2 cluster' values ends stands x.4 x.5 x.6),
+  subst (λ (n : ℕ). AreTold table n values x.2) there (said x.6),
   x.7,
   x.8,
 ))
+  where
+    said : AreSaid table x.2 values → AreTold table k values x.2
+    said (inl written) = heard table cluster k old.asking (parts_in x.1) verdict x.2 cluster' values ends stands x.4 x.5 written
+    said (inr again) = heard-again table k x.2 values again
 next-holds heard table cluster ends stands k old verdict cluster' new values done there (inr (inr x)) = inr (inr x)
 
 module _ {C J : Type 0} where

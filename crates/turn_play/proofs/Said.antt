@@ -1,4 +1,4 @@
--- What a node says of what waits first.
+-- What a node says of commands that it serves at once.
 use Rattle.std.proofs.Common.{◌≡◌, ◌∙◌, inl, inr, ℕ, suc, List, [], ◌∷◌, ◌++◌, Bool, true, false, Some, None, Ok, Err, refl, sym, ap, subst, length}
 use Rattle.std.specs.Prelude.{IsSome, MatchOption, Option, Result, Vec, if◌then◌else◌, nat_lt}
 use Rattle.std.specs.declared.alloc.Global.{Global}
@@ -19,17 +19,15 @@ use Rattle.node_model.specs.declared.role.ServeFault.{ServeFault}
 use Rattle.node_model.specs.declared.role.ServeFault.TheVariants as serve
 use Rattle.node_model.specs.declared.role.Verdict.{Verdict}
 use Rattle.world_laws.specs.World.{NamesNode}
-use Rattle.turn_laws.specs.Wire.{Item, Part, Asks, Runs, Lists, parts_in}
 use Rattle.turn_laws.specs.Writing.{AreWritten}
 use Rattle.turn_play.specs.declared.fault.PlayFault.{PlayFault}
 use Rattle.turn_play.specs.declared.fault.PlayFault.TheVariants as fault
 use Rattle.turn_play.specs.Faults.{of_serve}
-use Rattle.turn_play.specs.Serving.{CannotServeRun, CannotWrite, IsRefusal, IsRunSaid, IsSaid}
-use Rattle.turn_play.specs.Waiting.{replies_to}
+use Rattle.turn_play.specs.Serving.{CannotServeRun, CannotWrite, IsRefusal, IsRunSaid}
 
 -- ---- how many
 
-as-many-replies : (cs : List PartModel) (store : StoreModel) (tolds : List Told) → AreReplies store cs tolds → length tolds ≡ length cs
+pub as-many-replies : (cs : List PartModel) (store : StoreModel) (tolds : List Told) → AreReplies store cs tolds → length tolds ≡ length cs
 as-many-replies [] store [] x = refl
 as-many-replies [] store (told ∷ tolds) x = absurd x
 as-many-replies (c ∷ cs) store [] x = absurd x
@@ -41,26 +39,15 @@ as-many-told said [] (told ∷ tolds) x = absurd x
 as-many-told said (c ∷ cs) [] x = absurd x
 as-many-told said (c ∷ cs) (told ∷ tolds) x = ap suc (as-many-told said cs tolds x.1)
 
-as-many : (deed : Deed) (k : ClusterModel) (node : ℕ) (cs : List PartModel) (tolds : List Told) (k' : ClusterModel) → DoesRun deed k node cs tolds k' → length tolds ≡ length cs
+pub as-many : (deed : Deed) (k : ClusterModel) (node : ℕ) (cs : List PartModel) (tolds : List Told) (k' : ClusterModel) → DoesRun deed k node cs tolds k' → length tolds ≡ length cs
 as-many Executes k node cs tolds k' x = as-many-replies cs _ tolds x.0
 as-many (Says said) k node cs tolds k' x = as-many-told said cs tolds x.0
 
-as-many-written : (table : List Endpoint) (tolds : List Told) (values : List Value) → AreWritten table tolds values → length values ≡ length tolds
+pub as-many-written : (table : List Endpoint) (tolds : List Told) (values : List Value) → AreWritten table tolds values → length values ≡ length tolds
 as-many-written table [] [] x = refl
 as-many-written table [] (value ∷ values) x = absurd x
 as-many-written table (told ∷ tolds) [] x = absurd x
 as-many-written table (told ∷ tolds) (value ∷ values) x = ap suc (as-many-written table tolds values x.1)
-
-as-many-parts : (parts : List Part) → length (parts_in parts) ≡ length parts
-as-many-parts [] = refl
-as-many-parts (part ∷ parts) = ap suc (as-many-parts parts)
-
--- a node says as much as there is room for
-pub said-length : (table : List Endpoint) (k : ClusterModel) (node : ℕ) (asking : Bool) (item : Item) (verdict : Verdict) (k' : ClusterModel) (said : List Value) → IsSaid table k node asking item verdict k' said → length said ≡ replies_to item
-said-length table k node asking Asks verdict k' said x = ap length x.1
-said-length table k node asking (Runs parts) verdict k' said x =
-    as-many-written table x.0 said x.3 ∙ as-many (deed_for k node asking (parts_in parts) verdict) k node (parts_in parts) x.0 k' x.2 ∙ as-many-parts parts
-said-length table k node asking Lists verdict k' said x = ap length x.2
 
 -- one more is written
 pub written-more : (table : List Endpoint) (tolds : List Told) (values : List Value) (told : Told) (value : Value) → AreWritten table tolds values → IsWritten told table value → AreWritten table (tolds ++ told ∷ []) (values ++ value ∷ [])
@@ -100,6 +87,7 @@ module _ (table : List Endpoint) (k : ClusterModel) (node : ℕ) (asking : Bool)
   by-deed Executes e before told after x r why cannot = absurd (replies-none before told after cs _ x.0 r)
   by-deed (Says said) e before told after x r fault.NoMemory cannot = (x.1, tt)
   by-deed (Says said) e before told after x r fault.OutOfOrder cannot = absurd cannot
+  by-deed (Says said) e before told after x r fault.TooLong cannot = absurd cannot
   by-deed (Says said) e before told after x r fault.NotServed cannot = (x.1, inr (inr (said, e, subst (λ t. CanBeWritten t table → ⊥) (told-so said before told after cs x.0) cannot)))
 
   -- what a node did whose call succeeded

@@ -4,10 +4,10 @@ use Rattle.std.specs.Prelude.{IsSome, Result, slice_get, slice_set}
 use Rattle.proxy_turns.specs.declared.backend.Backend.{Backend}
 use Rattle.proxy_turns.specs.CarrierModel.{CarrierModel}
 use Rattle.proxy_turns.specs.Swapping.{SwapOutcome, with_port}
+use Rattle.node_link.specs.Blocks.{BlockPortModel}
+use Rattle.turn_laws.specs.ByteWires.{over_stream}
 use Rattle.world_laws.proofs.Recorded.{set-same}
-use Rattle.turn_play.specs.Port.{PortModel}
-use Rattle.turn_play.specs.Serving.{HasPort}
-use Rattle.turn_play.proofs.Turning.{set-itself, set-twice}
+use Rattle.turn_play.proofs.Turning.{set-twice}
 
 -- two swaps, one after the other, are one
 pub swap-twice : {H P : Type 0} (node : ℕ) (old mid new : CarrierModel H P) (idle taken port back : P) → SwapOutcome node old idle (Ok taken) mid → SwapOutcome node mid port (Ok back) new → SwapOutcome node old port (Ok taken) new
@@ -37,11 +37,8 @@ put-back {H} {P} node old mid new idle taken port (Err back) x y =
     let n : false ≡ true = subst IsSome x.4 failed in
     absurd (cc)
 
--- the port of the connection, put back as it was, leaves the carrier as it was
-pub put-same : {H : Type 0} (node : ℕ) (old new : CarrierModel H PortModel) (taken port : PortModel) → SwapOutcome node old port (Ok taken) new → port ≡ taken → HasPort node old taken × (new ≡ old)
-put-same {H} node old new taken port x same =
-    let its : port ≡ x.1.port = same ∙ x.5 in
-    let whole : with_port x.0 x.1 port ≡ x.0 = (λ i. record x.0 { link = Some (record x.1 { port = its i }) }) ∙ (λ i. record x.0 { link = sym x.3 i }) in (
-      (x.0, x.1, x.2, x.3, x.4, x.5),
-      x.6 ∙ (λ i. record old { backends = slice_set old.backends node (whole i) }) ∙ (λ i. record old { backends = set-itself old.backends node x.0 x.2 i }),
-    )
+-- a port whose stream was taken out, and put back as another one, goes back so
+pub stream-back : {H S : Type 0} (node : ℕ) (old mid new : CarrierModel H (BlockPortModel S)) (idle taken between back : BlockPortModel S) (spare stream : S) (result : Result (BlockPortModel S) (BlockPortModel S))
+    → between ≡ over_stream taken spare → back ≡ over_stream between stream → SwapOutcome node old idle (Ok taken) mid → SwapOutcome node mid back result new → SwapOutcome node old (over_stream taken stream) (Ok taken) new
+stream-back node old mid new idle taken between back spare stream result out put x y =
+    subst (λ port. SwapOutcome node old port (Ok taken) new) (put ∙ ap (λ port. over_stream port stream) out) (put-back node old mid new idle taken back result x y)

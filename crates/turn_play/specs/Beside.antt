@@ -19,7 +19,7 @@ use Rattle.turn_laws.specs.Steps.{log_of}
 use Rattle.turn_laws.specs.Sharing.{SharedEvent, SharedSystemStep}
 use Rattle.turn_laws.specs.Refines.{IsStart}
 use Rattle.turn_laws.specs.LogHeadline.{IsHeld}
-use Rattle.turn_laws.specs.SharedLog.{SharedLogHeadline}
+use Rattle.turn_laws.specs.BytesHeadline.{BytesHeadline, sent_by, written_to}
 use Rattle.turn_play.specs.May.{MayStep, HearsItsNodes, MayNow}
 
 abbrev pub parts_of : List Execution → List PartModel
@@ -72,11 +72,13 @@ module _ {C J : Type 0} where
   abbrev pub PlaysBeside : System C J → System C J → Type 0
   PlaysBeside s s' = (steps : List (StepBeside C J)) × LeadsBeside s steps s'
 
-  -- These steps are steps of the system and of others. So the headline holds of the system's own commands, in one legal history of
-  -- everybody's, and its nodes hold the store that the log leaves; and the machine beside others may do what they did.
+  -- These steps are steps of the system and of others. So the headline holds in bytes: of what the clients sent and were written, in one legal
+  -- history of everybody's commands. The nodes hold the store that the log leaves; and the machine beside others may do what they did.
   abbrev pub HoldsBeside : System C J → List (StepBeside C J) → System C J → Type 0
   HoldsBeside start steps s' =
-      FoldsTo SharedSystemStep start (shared_events_of steps) s' × SharedLogHeadline s'.initial (length s'.workers) s'.log × IsHeld s'.initial s'.log s'.cluster
+      FoldsTo SharedSystemStep start (shared_events_of steps) s'
+      × BytesHeadline s'.initial (length s'.workers) (sent_by (shared_events_of steps)) (written_to (shared_events_of steps)) s'.log
+      × IsHeld s'.initial s'.log s'.cluster
       × ((w : WorldModel) × IsSharedWalked w × IsShadow s' w × SharedHeadline w)
 
 module _ (C J : Type 0) where

@@ -2,10 +2,12 @@
 -- finds, and what one call of a play leaves is what the next goes on from.
 use Rattle.std.specs.Prelude.{◌≡◌, ◌⊎◌, ℕ, Bool, List, [], ◌∷◌, ◌++◌, All, Result, Ok, Err}
 use Rattle.key_split.specs.PartModel.{PartModel}
+use Rattle.node_model.specs.declared.role.Verdict.{Verdict}
+use Rattle.node_model.specs.declared.role.Verdict.TheVariants.{TryAgain}
 use Rattle.proxy_turns.specs.Port.{Moves}
 use Rattle.shared_laws.specs.Shared.{AskIsTrue}
 use Rattle.turn_laws.specs.System.{System}
-use Rattle.turn_laws.specs.Steps.{AtNode, Moved}
+use Rattle.turn_laws.specs.Steps.{SystemEvent, AtNode, Moved}
 use Rattle.turn_laws.specs.Sharing.{SharedEvent}
 use Rattle.turn_laws.specs.Refines.{IsStart}
 use Rattle.turn_laws.specs.LogHeadline.{IsHeld, LogHeadline}
@@ -30,11 +32,16 @@ abbrev pub IsEventOfOthers : ℕ → Bool → List PartModel → SharedEvent →
 IsEventOfOthers node asking parts (SharedEvent.Ours event) = ⊥
 IsEventOfOthers node asking parts (SharedEvent.Theirs n a done) = (n ≡ node) × (a ≡ asking) × (parts_of done ≡ parts)
 
+-- The node serves, as the verdict says; or it refuses by TRYAGAIN, as which a block is heard that it refused by CLUSTERDOWN or TRYAGAIN.
+abbrev pub IsServing : ℕ → Verdict → SystemEvent → Type 0
+IsServing node verdict event = (event ≡ AtNode node verdict) ⊎ (event ≡ AtNode node TryAgain)
+
 -- the event is one of those that the order makes
 abbrev pub IsEventOf : Order → SharedEvent → Type 0
 IsEventOf order.Turn (SharedEvent.Ours event) = IsTurns event
-IsEventOf (order.Serve node verdict) (SharedEvent.Ours event) = event ≡ AtNode node verdict
+IsEventOf (order.Serve node verdict) (SharedEvent.Ours event) = IsServing node verdict event
 IsEventOf (order.Break node) (SharedEvent.Ours event) = ⊥
+IsEventOf (order.Cut node most) (SharedEvent.Ours event) = ⊥
 IsEventOf (order.Move step) (SharedEvent.Ours event) = event ≡ Moved (event_of step)
 IsEventOf (order.Others node asking parts) event = IsEventOfOthers node asking parts.items event
 IsEventOf order (SharedEvent.Theirs n a done) = ⊥
@@ -74,6 +81,7 @@ module _ {C J : Type 0} where
   IsGranted s order.Turn = Unit {0}
   IsGranted s (order.Serve node verdict) = Unit {0}
   IsGranted s (order.Break node) = Unit {0}
+  IsGranted s (order.Cut node most) = Unit {0}
   IsGranted s (order.Move step) = MayMoveNow s (event_of step)
   IsGranted s (order.Others node asking parts) = All (λ (part : PartModel). AskIsTrue s.cluster node asking part) parts.items
 

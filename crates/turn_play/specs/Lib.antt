@@ -1,10 +1,11 @@
 pub mod May
 pub mod Played
 pub mod Turns
-pub mod Waiting
-pub mod Port
 pub mod Faults
 pub mod Serving
+pub mod Stream
+pub mod Port
+pub mod Connection
 pub mod Playing
 pub mod Moving
 pub mod Others
@@ -16,3 +17,6 @@ pub mod Fleets
 pub mod Play
 pub mod Dialling
 pub mod Starting
+pub mod Hearing
+pub mod Answering
+pub mod Streaming

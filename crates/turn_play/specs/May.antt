@@ -1,9 +1,11 @@
 -- What the turns of the code, the serving of its nodes and the steps of its moves do to a system: `SystemStep`, without what no contract
 -- of the code says. What is left out is said apart, as premises: `HearsItsNodes` of the start, `MayNow` of each step.
-use Rattle.std.specs.Prelude.{◌≡◌, ◌⊎◌, ◌++◌, ◌∷◌, [], ℕ, List, All, true, false, Some, None, slice_get, slice_set}
+use Rattle.std.specs.Prelude.{◌≡◌, ◌⊎◌, ◌++◌, ◌∷◌, [], ℕ, List, All, true, false, Some, None, codes, slice_get, slice_set}
 use mathlib.Core.List.{IsPrefix}
 use Rattle.resp_wire.specs.declared.value.Value.{Value}
+use Rattle.resp_wire.specs.declared.value.Value.TheVariants.{Error}
 use Rattle.key_split.specs.declared.travel.Told.{Told}
+use Rattle.key_split.specs.declared.travel.Told.TheVariants.{TryAgain}
 use Rattle.slot_map.specs.Table.{Endpoint}
 use Rattle.node_model.specs.Nodes.{ClusterModel}
 use Rattle.node_model.specs.Moves.{MayImport, MayMigrate, MayMoveKey, MayOwn, MayRelease, MayForget, MayStay, import_done, migrate_done, move_key_done, own_done, release_done, forget_done, stay_done}
@@ -26,7 +28,24 @@ use Rattle.turn_laws.specs.Steps.{SystemEvent, AtWorker, AtCarrier, Handed, AtNo
 use Rattle.turn_laws.specs.PortsMay.{any_moves, any_failures, any_garbled, any_none}
 use Rattle.turn_laws.specs.Writing.{AreWritten, CanBeNamed, StandsAtItsNodes}
 
--- A node serves the first item of a wire, as in `ServesNext`, and writes what it says.
+-- ---- what a node writes of a run
+
+-- this stands for a refusal that leads nowhere, of all commands of a block (`told_of_none` of node_link)
+abbrev pub again : Value
+again = Error (codes "TRYAGAIN")
+
+-- each is refused so
+abbrev pub AreSaidAgain : List Told → List Value → Type 0
+AreSaidAgain [] [] = Unit {0}
+AreSaidAgain [] (value ∷ values) = ⊥
+AreSaidAgain (told ∷ tolds) [] = ⊥
+AreSaidAgain (told ∷ tolds) (value ∷ values) = (told ≡ TryAgain) × (value ≡ again) × AreSaidAgain tolds values
+
+-- the values say this of a run: each what a node writes, or all of them that
+abbrev pub AreSaid : List Endpoint → List Told → List Value → Type 0
+AreSaid table tolds values = AreWritten table tolds values ⊎ AreSaidAgain tolds values
+
+-- A node serves the first item of a wire, as in `ServesNext`, and the values say what it says.
 abbrev pub MayServeNext : List Endpoint → ClusterModel → ℕ → Wire → Verdict → ClusterModel → Wire → List Value → List Execution → Type 0
 MayServeNext table k node old verdict k' new values done =
     ((rest : List Item) × (value : Value) × (old.items ≡ Asks ∷ rest) × (values ≡ value ∷ []) × (k' ≡ k) × (done ≡ [])
@@ -34,7 +53,7 @@ MayServeNext table k node old verdict k' new values done =
     ⊎ ((rest : List Item) × (parts : List Part) × (tolds : List Told)
     × (old.items ≡ Runs parts ∷ rest) × NamesNode k verdict
     × DoesRun (deed_for k node old.asking (parts_in parts) verdict) k node (parts_in parts) tolds k'
-    × AreWritten table tolds values × (done ≡ executions parts tolds)
+    × AreSaid table tolds values × (done ≡ executions parts tolds)
     × (new ≡ record old { items = rest; values = new.values; asking = false }))
     ⊎ ((rest : List Item) × (value : Value) × (old.items ≡ Lists ∷ rest) × (values ≡ value ∷ []) × (k' ≡ k) × (done ≡ [])
     × (new ≡ record old { items = rest; values = new.values }))

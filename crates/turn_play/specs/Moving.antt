@@ -7,7 +7,7 @@ use Rattle.node_model.specs.declared.standing.MoveFault.TheVariants as fault
 use Rattle.world_laws.specs.declared.event.Event.{Event}
 use Rattle.world_laws.specs.declared.event.Event.TheVariants as core
 use Rattle.turn_play.specs.declared.fault.PlayFault.{PlayFault}
-use Rattle.turn_play.specs.declared.fault.PlayFault.TheVariants.{NoMemory, NotServed, OutOfOrder}
+use Rattle.turn_play.specs.declared.fault.PlayFault.TheVariants.{NoMemory, NotServed, OutOfOrder, TooLong}
 use Rattle.turn_play.specs.declared.moves.Move.{Move}
 use Rattle.turn_play.specs.declared.moves.Move.TheVariants as step
 
@@ -37,3 +37,4 @@ MovesOrNot k move (Ok _) k' = MoveOutcome k move (Ok tt) k' ⊎ MoveOutcome k mo
 MovesOrNot k move (Err NoMemory) k' = MoveOutcome k move (Err fault.NoMemory) k'
 MovesOrNot k move (Err NotServed) k' = ⊥
 MovesOrNot k move (Err OutOfOrder) k' = ⊥
+MovesOrNot k move (Err TooLong) k' = ⊥

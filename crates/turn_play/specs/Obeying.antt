@@ -16,8 +16,9 @@ use Rattle.turn_play.specs.declared.order.Order.{Order}
 use Rattle.turn_play.specs.declared.order.Order.TheVariants as order
 use Rattle.turn_play.specs.Faults.{of_turn}
 use Rattle.turn_play.specs.Moving.{MovesOrNot}
-use Rattle.turn_play.specs.Port.{IsFresh, IsRead, PortExchanges, any_bytes, longest_run, no_count}
-use Rattle.turn_play.specs.Serving.{BreaksAt, ServesAt}
+use Rattle.turn_play.specs.Port.{IsFresh, IsGarbled, PortExchanges, PortGivesNone, failures_at, longest_run}
+use Rattle.turn_play.specs.Stream.{StreamModel}
+use Rattle.turn_play.specs.Connection.{ChangesStream, ServesAt, broken, cut_to}
 use Rattle.turn_play.specs.Others.{AreServed, CannotCome}
 use Rattle.turn_play.specs.Playing.{PlayModel, PlaysSoundly, PlaysSoundlyBeside}
 
@@ -26,23 +27,24 @@ module _ {C J : Type 0} where
     -- the engine had its turn: its worker and then its carrier, and it rests where nothing moved
     abbrev pub IsTurned : PlayModel C J → Result Turned EngineFault → PlayModel C J → Type 0
     IsTurned old result new =
-        EngineTurns moves (CarrierGoes no_count any_bytes PortExchanges IsRead IsFresh longest_run) old.engine result new.engine
-        × EngineRests gives_none takes_none (GaveNone no_count any_bytes PortExchanges IsRead) result new.engine
+        EngineTurns moves (CarrierGoes failures_at IsGarbled PortExchanges PortGivesNone IsFresh longest_run) old.engine result new.engine
+        × EngineRests gives_none takes_none (GaveNone failures_at IsGarbled PortExchanges PortGivesNone) result new.engine
         × (new ≡ record old { engine = new.engine })
 
     abbrev pub TurnsEngine : PlayModel C J → Result (Unit {0}) PlayFault → PlayModel C J → Type 0
     TurnsEngine old (Ok _) new = (turned : Turned) × IsTurned old (Ok turned) new
     TurnsEngine old (Err why) new = (cause : EngineFault) × (why ≡ of_turn cause) × IsTurned old (Err cause) new
 
-  -- a node served what waits first at the open connection to it
+  -- a node served what it read first at the open connection to it
   abbrev pub ServesNode : PlayModel C J → ℕ → Verdict → Result (Unit {0}) PlayFault → PlayModel C J → Type 0
   ServesNode old node verdict result new =
       ServesAt old.nodes old.cluster node old.engine.carrier verdict result new.cluster new.engine.carrier
       × (new ≡ record old { cluster = new.cluster; engine = record old.engine { carrier = new.engine.carrier } })
 
-  -- the open connection to a node broke
-  abbrev pub BreaksLink : PlayModel C J → ℕ → PlayModel C J → Type 0
-  BreaksLink old node new = BreaksAt node old.engine.carrier new.engine.carrier × (new ≡ record old { engine = record old.engine { carrier = new.engine.carrier } })
+  -- the stream of the open connection to a node was changed so
+  abbrev pub ChangesLink : (StreamModel → StreamModel) → PlayModel C J → ℕ → PlayModel C J → Type 0
+  ChangesLink change old node new =
+      ChangesStream change node old.engine.carrier new.engine.carrier × (new ≡ record old { engine = record old.engine { carrier = new.engine.carrier } })
 
   -- a step of a move was made, or may not be made now
   abbrev pub MovesSlot : PlayModel C J → Move → Result (Unit {0}) PlayFault → PlayModel C J → Type 0
@@ -58,7 +60,8 @@ module _ {C J : Type 0} where
     abbrev pub Obeys : PlayModel C J → Order → Result (Unit {0}) PlayFault → PlayModel C J → Type 0
     Obeys old order.Turn result new = TurnsEngine moves gives_none takes_none old result new
     Obeys old (order.Serve node verdict) result new = ServesNode old node verdict result new
-    Obeys old (order.Break node) result new = (result ≡ Ok tt) × BreaksLink old node new
+    Obeys old (order.Break node) result new = (result ≡ Ok tt) × ChangesLink broken old node new
+    Obeys old (order.Cut node most) result new = (result ≡ Ok tt) × ChangesLink (cut_to most) old node new
     Obeys old (order.Move step) result new = MovesSlot old step result new
     Obeys old (order.Others node asking parts) result new = OthersCome old node asking parts.items result new
 
@@ -74,15 +77,17 @@ abbrev pub IsOurs : Order → Type 0
 IsOurs order.Turn = Unit {0}
 IsOurs (order.Serve node verdict) = Unit {0}
 IsOurs (order.Break node) = Unit {0}
+IsOurs (order.Cut node most) = Unit {0}
 IsOurs (order.Move step) = Unit {0}
 IsOurs (order.Others node asking parts) = ⊥
 
--- no turn found the worker to see of the slot map what was not published
+-- no turn found the worker to see of the slot map what was not published, and no node did commands whose reply is longer than a reader takes
 abbrev pub StaysInOrder : Result (Unit {0}) PlayFault → Type 0
 StaysInOrder (Ok _) = Unit {0}
 StaysInOrder (Err fault.NoMemory) = Unit {0}
 StaysInOrder (Err fault.NotServed) = Unit {0}
 StaysInOrder (Err fault.OutOfOrder) = ⊥
+StaysInOrder (Err fault.TooLong) = ⊥
 
 module _ (C J : Type 0) (moves : Moves C) (gives_none takes_none : C → Type 0) where
   -- whatever orders were obeyed that let nobody else act, what was done is sound

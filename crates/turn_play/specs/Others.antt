@@ -7,7 +7,7 @@ use Rattle.node_model.specs.Runs.{deed_for, DoesRun, HaveOneSlot}
 use Rattle.node_model.specs.declared.role.Verdict.TheVariants.{Plain}
 use Rattle.world_laws.specs.World.{IsNode}
 use Rattle.turn_play.specs.declared.fault.PlayFault.{PlayFault}
-use Rattle.turn_play.specs.declared.fault.PlayFault.TheVariants.{NoMemory, NotServed, OutOfOrder}
+use Rattle.turn_play.specs.declared.fault.PlayFault.TheVariants.{NoMemory, NotServed, OutOfOrder, TooLong}
 
 -- the node executed all of them or refused all of them, and told them this
 abbrev pub AreServed : ClusterModel → ℕ → Bool → List PartModel → List Told → ClusterModel → Type 0
@@ -18,3 +18,4 @@ abbrev pub CannotCome : ClusterModel → ℕ → List PartModel → PlayFault �
 CannotCome k node cs NoMemory = Unit {0}
 CannotCome k node cs NotServed = (HaveOneSlot cs → ⊥) ⊎ (IsNode k node → ⊥)
 CannotCome k node cs OutOfOrder = ⊥
+CannotCome k node cs TooLong = ⊥

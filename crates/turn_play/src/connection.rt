@@ -2,12 +2,12 @@
 
 ghost use Rattle.std.specs.Prelude.{◌≡◌};
 ghost use Rattle.proxy_engine.specs.Engine.{engine_model};
-ghost use Rattle.turn_play.specs.Serving.{BreaksAt, ServesAt};
+ghost use Rattle.turn_play.specs.Connection.{ChangesStream, ServesAt, broken, cut_to};
 ghost use Rattle.turn_play.specs.Dialling.{no_failures};
 
 use crate::dial::PlayDial;
 use crate::fault::PlayFault;
-use crate::port::PlayPort;
+use crate::port::{PlayPort, new_port, new_stream};
 use node_model::{Cluster, Verdict};
 use proxy_engine::Engine;
 use proxy_lanes::Naming;
@@ -16,7 +16,7 @@ use slot_map::{NodeId, NodeTable};
 use std::alloc::Global;
 use std::sync::Wait;
 
-/// The node at the other end of the open connection to it serves what waits first, where a connection is open.
+/// The node at the other end of the open connection to it serves the request that it reads first, where a connection is open.
 pub(crate) fn serve_at<C: ClientPort + Drop, J: Naming, R: Wait + Drop, G: Gate>(
     alloc: Global,
     engine: &mut Engine<'_, C, J, R, PlayDial, PlayPort, G>,
@@ -28,12 +28,14 @@ pub(crate) fn serve_at<C: ClientPort + Drop, J: Naming, R: Wait + Drop, G: Gate>
     ensures serves { ServesAt nodes.now cluster.old node (engine_model no_failures engine.old).carrier verdict result cluster.new (engine_model no_failures engine.new).carrier }
     ensures worker { (engine_model no_failures engine.new).worker ≡ (engine_model no_failures engine.old).worker }
 {
-    let Ok(taken) = engine.swap_port(node, PlayPort::new(alloc)) else {
+    let Ok(taken) = engine.swap_port(node, new_port(alloc)) else {
         return Ok(());
     };
     let mut port = taken;
-    let served = port.serve(node, verdict, cluster, nodes);
-    // whatever it answered, the port goes back to the link, which is open
+    let mut stream = port.swap_stream(new_stream(alloc));
+    let served = stream.serve(node, verdict, cluster, nodes);
+    // whatever it answered, the stream goes back to its port, and the port to its link, which is open
+    drop(port.swap_stream(stream));
     drop(engine.swap_port(node, port));
     served?;
     Ok(())
@@ -45,13 +47,35 @@ pub(crate) fn break_at<C: ClientPort + Drop, J: Naming, R: Wait + Drop, G: Gate>
     engine: &mut Engine<'_, C, J, R, PlayDial, PlayPort, G>,
     node: NodeId,
 )
-    ensures breaks { BreaksAt node (engine_model no_failures engine.old).carrier (engine_model no_failures engine.new).carrier }
+    ensures breaks { ChangesStream broken node (engine_model no_failures engine.old).carrier (engine_model no_failures engine.new).carrier }
     ensures worker { (engine_model no_failures engine.new).worker ≡ (engine_model no_failures engine.old).worker }
 {
-    let Ok(taken) = engine.swap_port(node, PlayPort::new(alloc)) else {
+    let Ok(taken) = engine.swap_port(node, new_port(alloc)) else {
         return;
     };
     let mut port = taken;
-    port.break_off();
+    let mut stream = port.swap_stream(new_stream(alloc));
+    stream.break_off();
+    drop(port.swap_stream(stream));
+    drop(engine.swap_port(node, port));
+}
+
+/// From now on one call over the open connection to a node moves so many bytes at most, where one is open.
+pub(crate) fn cut_at<C: ClientPort + Drop, J: Naming, R: Wait + Drop, G: Gate>(
+    alloc: Global,
+    engine: &mut Engine<'_, C, J, R, PlayDial, PlayPort, G>,
+    node: NodeId,
+    most: usize,
+)
+    ensures cuts { ChangesStream (cut_to most) node (engine_model no_failures engine.old).carrier (engine_model no_failures engine.new).carrier }
+    ensures worker { (engine_model no_failures engine.new).worker ≡ (engine_model no_failures engine.old).worker }
+{
+    let Ok(taken) = engine.swap_port(node, new_port(alloc)) else {
+        return;
+    };
+    let mut port = taken;
+    let mut stream = port.swap_stream(new_stream(alloc));
+    stream.cut(most);
+    drop(port.swap_stream(stream));
     drop(engine.swap_port(node, port));
 }

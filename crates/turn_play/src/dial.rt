@@ -2,7 +2,7 @@
 
 ghost use Rattle.turn_play.specs.Port.{IsFresh};
 
-use crate::port::PlayPort;
+use crate::port::{PlayPort, new_port};
 use node_link::{Dial, DialFault};
 use slot_map::NodeId;
 use std::alloc::Global;
@@ -31,6 +31,6 @@ impl Dial for PlayDial {
     }
 
     fn open(&mut self, _: NodeId, _: &[u8], _: u16) -> Result<PlayPort, DialFault> {
-        Ok(PlayPort::new(self.alloc))
+        Ok(new_port(self.alloc))
     }
 }

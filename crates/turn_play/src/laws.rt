@@ -11,13 +11,15 @@ ghost use Rattle.turn_play.specs.Turns.{EnginesPlay};
 
 use crate::dial::PlayDial;
 use crate::port::PlayPort;
+use crate::stream::PlayStream;
 use proxy_engine::laws::turns_are_events;
 use proxy_lanes::Naming;
 use proxy_turns::{ClientPort, Dial, Newcomer};
 use turn_laws::WiredPort;
 use turn_laws::laws::{
-    any_client, any_port, headline_beside_others, headline_of_fleets, headline_of_logs, names_stay,
-    refines, slots_stand_at_nodes, starts_refine, written_is_heard,
+    any_client, any_port, headline_beside_others, headline_of_bytes, headline_of_fleets,
+    headline_of_logs, names_stay, nodes_serve_bytes, refines, slots_stand_at_nodes, starts_refine,
+    written_is_heard,
 };
 
 /// From a start that hears its nodes, where the premises hold along them, the steps that the code made are steps of the system: so the
@@ -33,8 +35,8 @@ pub fn plays_refine<C: Drop, J: Naming>()
     headline_of_logs::<C, J>();
 }
 
-/// The same of steps among which others act: they are steps of the system and of others, so the headline holds of its own commands, in
-/// one legal history of everybody's.
+/// The same of steps among which others act: they are steps of the system and of others, so the headline holds in bytes, of what its
+/// clients sent and were written, in one legal history of everybody's commands.
 pub fn plays_refine_beside<C: Drop, J: Naming>()
     ensures { PlaysRefineBeside C J }
 {
@@ -44,6 +46,7 @@ pub fn plays_refine_beside<C: Drop, J: Naming>()
     slots_stand_at_nodes::<C, J>();
     written_is_heard();
     headline_beside_others::<C, J>();
+    headline_of_bytes::<C, J>();
 }
 
 /// An engine's turn, over ports that stand for wires, is steps of a system that shows it: of its worker and then of its carrier. It
@@ -65,6 +68,7 @@ pub fn obeyed_is_sound<C: ClientPort + Drop, J: Naming>()
     ensures plays_on { ObeyedPlaysOn C J C.moves C.gives_none C.takes_none }
 {
     engines_play::<C, J, PlayPort, PlayDial>();
+    nodes_serve_bytes::<PlayStream>();
     plays_refine::<C, J>();
     plays_refine_beside::<C, J>();
 }
@@ -91,6 +95,7 @@ pub fn plays_are_fleets<C: ClientPort + Drop, J: Naming>()
     ensures handed { HandedInFleets C J }
 {
     engines_play::<C, J, PlayPort, PlayDial>();
+    nodes_serve_bytes::<PlayStream>();
     written_is_heard();
     headline_of_fleets::<C, J>();
 }

@@ -7,7 +7,9 @@
 //! play.play(&mut cluster, &[Order::Turn, Order::Serve(node, Verdict::Plain), Order::Turn])?;
 //! ```
 //!
-//! The cluster is handed to each call, so several plays can have one, and others can act at it between two calls.
+//! Between the two go bytes, over the ports that `serve` has: a node reads requests off the bytes that came, as many as a call moves,
+//! and writes the bytes of its replies (`specs/Stream.antt`). The cluster is handed to each call, so several plays can have one, and
+//! others can act at it between two calls.
 //!
 //! Promise: each order does what `Obeys` of `specs/Obeying.antt` says of it, and the headline holds of the turns that ran: what
 //! `Play::play` did is a list of steps of a system and of others (`PlaysSoundlyBeside` of `specs/Playing.antt`); behind the steps
@@ -18,17 +20,23 @@
 //! `specs/Deeds.antt`), and of several plays before one cluster (`specs/Fleets.antt`).
 #![tactic(auto)]
 
+mod answering;
+mod block;
 mod connection;
 mod dial;
 mod fault;
+mod first_words;
+mod hearing;
 pub mod laws;
 mod moves;
 mod order;
 mod others;
+mod plain_part;
 mod play;
 mod port;
+mod readable;
 mod serving;
-mod waiting;
+mod stream;
 
 pub use dial::PlayDial;
 pub use fault::PlayFault;
@@ -36,4 +44,4 @@ pub use moves::Move;
 pub use order::Order;
 pub use play::Play;
 pub use port::PlayPort;
-pub use waiting::Waiting;
+pub use stream::PlayStream;

@@ -10,11 +10,13 @@ use slot_map::NodeId;
 pub enum Order {
     /// One turn of the engine: its worker's, and then its carrier's.
     Turn,
-    /// The node serves what waits first at the carrier's open connection to it, as the verdict says. Nothing happens where
-    /// nothing waits, or no connection is open.
+    /// The node reads the first request off the bytes that came over the carrier's open connection to it, or all from MULTI to EXEC,
+    /// serves it as the verdict says, and writes its replies. Nothing happens where none came whole, or no connection is open.
     Serve(NodeId, Verdict),
     /// The carrier's open connection to the node breaks, where there is one. The carrier sees it at its next call.
     Break(NodeId),
+    /// From now on one call over the carrier's open connection to the node moves so many bytes at most, where there is one.
+    Cut(NodeId, usize),
     /// One step of a move, where it may be made now.
     Move(Move),
     /// Somebody else's commands, for keys of one slot, come to a node, right behind ASKING where the flag says so. It does all of

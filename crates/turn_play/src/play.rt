@@ -11,7 +11,7 @@ ghost use Rattle.turn_play.specs.Play.{play_model, told_in};
 ghost use Rattle.turn_play.specs.Playing.{PlaysSoundly, PlaysSoundlyBeside};
 ghost use Rattle.turn_play.specs.Starting.{IsBeginning, IsNewPlay, ShowsStart};
 
-use crate::connection::{break_at, serve_at};
+use crate::connection::{break_at, cut_at, serve_at};
 use crate::dial::PlayDial;
 use crate::fault::PlayFault;
 use crate::laws::{handed_is_sound, obeyed_is_sound, plays_start};
@@ -98,14 +98,14 @@ impl<'g, C: ClientPort + Drop, J: Naming, R: Wait + Drop, G: Gate> Play<'g, C, J
     }
 
     /// Does what is handed in, in its order, over these nodes. Where a turn has a fault, what it did before stands; after a fault of
-    /// any other order, that order has changed nothing. In both cases the orders behind it were left out, and the play may go on.
+    /// any other order but TooLong, that order has changed nothing. The orders behind it were left out, and the play may go on.
     /// Between two calls others may do to the nodes what they do: several plays can have one cluster.
     ///
     /// Of a system that shows the play before, what was done is steps to one that shows it after. Behind the steps that led there from
     /// a start that hears its nodes, those of earlier calls and what others did, where the premises hold along all of them, the headline
     /// holds of all. Each order's steps are told apart: so the premises can be said of what each order finds, and what a call leaves is
     /// what the next goes on from. Nothing is asked of the lanes and the slot map; after OutOfOrder, which can't come, nothing of
-    /// this is said of the turn at which it came.
+    /// this is said of the turn at which it came; nor is it after TooLong, of the serving at which that came.
     pub fn play(&mut self, cluster: &mut Cluster, orders: &[Order]) -> Result<(), PlayFault>
         ensures obeys { ObeysAll C.moves C.gives_none C.takes_none (play_model self.old cluster.old) orders.now result (play_model self.new cluster.new) }
         ensures sound { StaysInOrder result → All IsOurs orders.now → PlaysSoundly (play_model self.old cluster.old) (play_model self.new cluster.new) }
@@ -145,6 +145,10 @@ impl<'g, C: ClientPort + Drop, J: Naming, R: Wait + Drop, G: Gate> Play<'g, C, J
             ),
             Order::Break(node) => {
                 break_at(self.alloc, &mut self.engine, *node);
+                Ok(())
+            }
+            Order::Cut(node, most) => {
+                cut_at(self.alloc, &mut self.engine, *node, *most);
                 Ok(())
             }
             Order::Move(step) => move_on(cluster, step),

@@ -1,52 +1,27 @@
-//! How a node of a play serves what waits first at a connection.
+//! How a node of a play serves commands.
 
 ghost use Rattle.std.specs.Prelude.{◌≡◌, ◌∷◌, ◌≤◌, ◌<◌, ◌↔◌, IfOk, IfErr, IsTrue, [], length};
 ghost use Rattle.std.specs.VecDeque.{deque_capacity};
 ghost use Rattle.key_split.specs.Told.{CanBeWritten};
 ghost use Rattle.node_model.specs.Runs.{HaveOneSlot};
-ghost use Rattle.turn_laws.specs.Wire.{parts_in};
-ghost use Rattle.turn_play.specs.Serving.{CannotServe, CannotServeRun, IsRefusal, IsRunSaid, IsSaid, ReplyOutcome, WriteAllOutcome, WriteOutcome, okay};
-ghost use Rattle.turn_play.specs.Waiting.{item_of};
+ghost use Rattle.turn_play.specs.Serving.{CannotServeRun, IsRefusal, IsRunSaid, ReplyOutcome, WriteAllOutcome, WriteOutcome, okay};
 
 use crate::fault::PlayFault;
-use crate::waiting::Waiting;
-use key_split::{Part, Ticket, Told, told_value};
-use node_model::{Cluster, Verdict, have_one_slot};
+use key_split::{Part, Told, told_value};
+use node_model::{Cluster, Verdict};
 use resp_wire::{Line, NoMemory, Value};
 use slot_map::{NodeId, NodeTable};
 use std::alloc::Global;
 use std::collections::VecDeque;
 
-/// A node serves what waits first, and gives the values that it writes. After a fault nothing was executed.
-pub(crate) fn serve_first(
-    alloc: Global,
-    first: &Waiting,
-    node: NodeId,
-    asking: bool,
-    verdict: Verdict,
-    cluster: &mut Cluster,
-    nodes: &NodeTable,
-) -> Result<VecDeque<Value>, PlayFault>
-    ensures ok { IfOk result (λ said. IsSaid nodes.now cluster.old node asking (item_of first.now) verdict cluster.new said.items) }
-    ensures err { IfErr result (λ fault. (cluster.new ≡ cluster.old) × CannotServe nodes.now cluster.old node asking (item_of first.now) verdict fault) }
-{
-    match first {
-        Waiting::Asking => Ok(one_value(alloc, okay(alloc)?)?),
-        Waiting::Run(commands) => {
-            serve_run(alloc, commands, node, asking, verdict, cluster, nodes)
-        }
-        Waiting::Slots => Ok(one_value(alloc, cluster.slots_value(nodes)?)?),
-    }
-}
-
-fn okay(alloc: Global) -> Result<Value, NoMemory>
+pub(crate) fn okay(alloc: Global) -> Result<Value, NoMemory>
     ensures { IfOk result (λ value. value ≡ okay) }
 {
     let line = Line::from_text(alloc, b"OK")?;
     Ok(Value::Simple(line))
 }
 
-fn one_value(alloc: Global, value: Value) -> Result<VecDeque<Value>, NoMemory>
+pub(crate) fn one_value(alloc: Global, value: Value) -> Result<VecDeque<Value>, NoMemory>
     ensures { IfOk result (λ said. said.items ≡ value ∷ []) }
 {
     let mut said = VecDeque::with_capacity(alloc, 1)?;
@@ -54,41 +29,8 @@ fn one_value(alloc: Global, value: Value) -> Result<VecDeque<Value>, NoMemory>
     Ok(said)
 }
 
-/// A node serves the commands of a run at once, and gives a value for each.
-fn serve_run(
-    alloc: Global,
-    commands: &[(Ticket, Part)],
-    node: NodeId,
-    asking: bool,
-    verdict: Verdict,
-    cluster: &mut Cluster,
-    nodes: &NodeTable,
-) -> Result<VecDeque<Value>, PlayFault>
-    ensures ok { IfOk result (λ said. IsRunSaid nodes.now cluster.old node asking (parts_in commands.now) verdict cluster.new said.items) }
-    ensures err { IfErr result (λ fault. (cluster.new ≡ cluster.old) × CannotServeRun nodes.now cluster.old node asking (parts_in commands.now) verdict fault) }
-{
-    let parts = parts_of(alloc, commands)?;
-    if !have_one_slot(&parts) {
-        return Err(PlayFault::NotServed);
-    }
-    serve_parts(alloc, &parts, node, asking, verdict, cluster, nodes)
-}
-
-fn parts_of(alloc: Global, commands: &[(Ticket, Part)]) -> Result<Vec<Part>, NoMemory>
-    ensures { IfOk result (λ parts. parts.items ≡ parts_in commands.now) }
-{
-    let mut parts = Vec::with_capacity(alloc, commands.len())?;
-    let mut rest = commands;
-    while let [(_, part), later @ ..] = rest {
-        let part = part.copy(alloc)?;
-        parts.push(part)?;
-        rest = later;
-    }
-    Ok(parts)
-}
-
 // The room for the values is made first: a reply is moved there, and only what is said in place of executing may want memory.
-fn serve_parts(
+pub(crate) fn serve_parts(
     alloc: Global,
     parts: &[Part],
     node: NodeId,
@@ -108,7 +50,7 @@ fn serve_parts(
 }
 
 /// What a node writes of each.
-fn write_all(
+pub(crate) fn write_all(
     alloc: Global,
     tolds: Vec<Told>,
     nodes: &NodeTable,
@@ -148,7 +90,7 @@ fn write_refusal(alloc: Global, told: &Told, nodes: &NodeTable) -> Result<Value,
 }
 
 /// The value of a reply; anything else comes back.
-fn into_reply(told: Told) -> Result<Value, Told>
+pub(crate) fn into_reply(told: Told) -> Result<Value, Told>
     ensures { ReplyOutcome told result }
 {
     match told {

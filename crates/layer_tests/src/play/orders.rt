@@ -38,12 +38,20 @@ fn order_of(name: &str, line: &mut Line) -> Option<Order> {
     match name {
         "turn" => Some(Order::Turn),
         "break" => Some(Order::Break(line.read()?)),
+        "cut" => cut(line),
         "serve" | "tryagain" | "down" | "moved" => {
             let node = line.read()?;
             Some(Order::Serve(node, verdict_of(name, line)?))
         }
         _ => Some(Order::Move(step_of(name, line)?)),
     }
+}
+
+/// How many bytes one call moves at most over the connection to a node.
+fn cut(line: &mut Line) -> Option<Order> {
+    let node = line.read()?;
+    let most = line.read::<u16>()?;
+    Some(Order::Cut(node, usize::from(most)))
 }
 
 /// What the node says: by its role, or in place of it.

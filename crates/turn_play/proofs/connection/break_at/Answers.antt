@@ -1,9 +1,11 @@
 use Rattle.std.proofs.Common.{Ok, inr, subst}
 use Rattle.proxy_engine.specs.Engine.{engine_model}
 use Rattle.proxy_turns.specs.Swapping.{SwapOutcome}
+use Rattle.turn_laws.specs.ByteWires.{over_stream}
+use Rattle.turn_play.specs.Connection.{broken}
 use Rattle.turn_play.specs.Dialling.{no_failures}
-use Rattle.turn_play.specs.Port.{PortModel}
-use Rattle.turn_play.proofs.Swapping.{put-back}
+use Rattle.turn_play.specs.Stream.{StreamModel}
+use Rattle.turn_play.proofs.Swapping.{stream-back}
 use Rattle.turn_play.proofs.connection.break_at.Goals as goal
 
 pub returns-clause-breaks : goal.returns-clause-breaks
@@ -11,10 +13,11 @@ returns-clause-breaks g c =
     let old = (engine_model no_failures c.args.engine.now).carrier in
     let mid = (engine_model no_failures c.swap_port.new.self).carrier in
     let new = (engine_model no_failures c.swap_port-2.new.self).carrier in
+    let taken = c.in-Ok.taken in
+    let back = stream-back c.args.node old mid new c.new_port.result taken c.swap_stream-stream.new.self c.swap_stream.new.self c.new_stream.result c.break_off.new.self c.swap_port-2.result
+    c.swap_stream-stream.ensures.put c.swap_stream.ensures.put c.in-Ok.ensures.swaps c.swap_port-2.ensures.swaps in
     inr (
-      c.in-Ok.taken,
-      subst
-          (λ (p : PortModel). SwapOutcome c.args.node old p (Ok c.in-Ok.taken) new)
-          c.break_off.ensures
-          (put-back c.args.node old mid new c.new.result c.in-Ok.taken c.break_off.new.self c.swap_port-2.result c.in-Ok.ensures.swaps c.swap_port-2.ensures.swaps),
+      taken,
+      subst (λ (s : StreamModel). SwapOutcome c.args.node old (over_stream taken (broken s)) (Ok taken) new) c.swap_stream-stream.ensures.taken
+          (subst (λ (s : StreamModel). SwapOutcome c.args.node old (over_stream taken s) (Ok taken) new) c.break_off.ensures back),
     )
