@@ -52,7 +52,7 @@ module _ {C J : Type 0} where
         → (old new : EngineModel C J P) (result : Result Bool EngineFault) → PartEnds Part old result new → IsDraining old.worker → IsDraining new.worker
     by-part Part one old new (Ok moved) (part, order) draining = one old new moved part draining
     by-part Part one old new (Err fault.NoMemory) (moved, part, order) draining = one old new moved part draining
-    by-part Part one old new (Err fault.OutOfOrder) (moved, part) draining = one old new moved part draining
+    by-part Part one old new (Err fault.OutOfOrder) (moved, part, more) draining = one old new moved part draining
 
     module _ (moves : Moves C) (goes : CarrierModel (Newcomer C J) P → Bool → CarrierModel (Newcomer C J) P → Type 0) where
       by-turn : (old new : EngineModel C J P) (result : Result Turned EngineFault) → EngineTurns moves goes old result new → IsDraining old.worker → IsDraining new.worker

@@ -15,7 +15,7 @@ use Rattle.proxy_turns.specs.CarrierModel.{CarrierGoes, CarrierModel, CarrierTur
 use Rattle.proxy_engine.specs.declared.turned.Turned.{Turned}
 use Rattle.proxy_engine.specs.declared.turned.EngineFault.{EngineFault}
 use Rattle.proxy_engine.specs.declared.turned.EngineFault.TheVariants as fault
-use Rattle.proxy_engine.specs.EngineModel.{CarrierPart, CarrierRests, EngineModel, EngineTurns, IsDrainedOf, IsEngineAtRest, IsInOrder, LookAfter, Looks, PartEnds, PartRests, WorkerPart, WorkerRests}
+use Rattle.proxy_engine.specs.EngineModel.{CarrierPart, CarrierRests, EngineModel, EngineTurns, IsDrainedOf, IsEngineAtRest, IsInOrder, LookAfter, Looks, PartEnds, PartRests, SeesMore, WorkerPart, WorkerRests}
 use Rattle.proxy_engine.proofs.Pairs.{not-both}
 use Rattle.proxy_engine.proofs.Looking.{drained-of, outcome-looks}
 
@@ -38,10 +38,10 @@ module _ {C J P : Type 0} where
       → PartEnds (WorkerPart moves) old result new
   worker-ends moves old mid new (Ok went) (Ok moved) same t l = ((mid, went, l.0, t, same, l.1, l.3), l.2)
   worker-ends moves old mid new (Ok went) (Err fault.NoMemory) same t l = absurd l
-  worker-ends moves old mid new (Ok went) (Err fault.OutOfOrder) same t l = (went || l.0, (mid, went, l.0, t, same, l.1, refl))
+  worker-ends moves old mid new (Ok went) (Err fault.OutOfOrder) same t l = (went || l.0, (mid, went, l.0, t, same, l.1, refl), l.2)
   worker-ends moves old mid new (Err refused) (Ok moved) same t l = absurd l
   worker-ends moves old mid new (Err refused) (Err fault.NoMemory) same t l = (t.0 || l.0, (mid, t.0, l.0, t.1, same, l.1, refl), l.2)
-  worker-ends moves old mid new (Err refused) (Err fault.OutOfOrder) same t l = (t.0 || l.0, (mid, t.0, l.0, t.1, same, l.1, refl))
+  worker-ends moves old mid new (Err refused) (Err fault.OutOfOrder) same t l = (t.0 || l.0, (mid, t.0, l.0, t.1, same, l.1, refl), l.2)
 
   pub worker-rests : (gives_none takes_none : C → Type 0) (mid new : EngineModel C J P) (went : Result Bool NoMemory) (result : Result Bool EngineFault) → IfStill went (IsWorkerAtRest gives_none takes_none mid.worker) → LookAfter mid went result new
       → PartRests (WorkerRests gives_none takes_none) result new
@@ -57,10 +57,10 @@ module _ {C J P : Type 0} where
         → CarrierTurns failures is_garbled exchange gives_none opens longest old.carrier went mid.carrier → LookAfter mid went result new → PartEnds (CarrierPart (CarrierGoes failures is_garbled exchange gives_none opens longest)) old result new
     carrier-ends old mid new (Ok went) (Ok moved) same t l = ((mid, went, l.0, t, same, l.1, l.3), l.2)
     carrier-ends old mid new (Ok went) (Err fault.NoMemory) same t l = absurd l
-    carrier-ends old mid new (Ok went) (Err fault.OutOfOrder) same t l = (went || l.0, (mid, went, l.0, t, same, l.1, refl))
+    carrier-ends old mid new (Ok went) (Err fault.OutOfOrder) same t l = (went || l.0, (mid, went, l.0, t, same, l.1, refl), l.2)
     carrier-ends old mid new (Err refused) (Ok moved) same t l = absurd l
     carrier-ends old mid new (Err refused) (Err fault.NoMemory) same t l = (t.0 || l.0, (mid, t.0, l.0, t.1, same, l.1, refl), l.2)
-    carrier-ends old mid new (Err refused) (Err fault.OutOfOrder) same t l = (t.0 || l.0, (mid, t.0, l.0, t.1, same, l.1, refl))
+    carrier-ends old mid new (Err refused) (Err fault.OutOfOrder) same t l = (t.0 || l.0, (mid, t.0, l.0, t.1, same, l.1, refl), l.2)
 
   pub carrier-rests : (gave_none : LinkModel P → Type 0) (mid new : EngineModel C J P) (went : Result Bool NoMemory) (result : Result Bool EngineFault) → RestsAfter gave_none went mid.carrier → LookAfter mid went result new
       → PartRests (λ (left : EngineModel C J P). CarrierRests gave_none left × IsDrainedOf left) result new
@@ -72,9 +72,9 @@ module _ {C J P : Type 0} where
 
   -- ---- a look behind a turn
 
-  pub looked-out : (old new : EngineModel C J P) (went : Result Bool NoMemory) (left : Bool) → Looks old left new → LookAfter old went (Err fault.OutOfOrder) new
-  looked-out old new (Ok moved) left l = (left, l)
-  looked-out old new (Err refused) left l = (left, l)
+  pub looked-out : (old new : EngineModel C J P) (went : Result Bool NoMemory) (left : Bool) → Looks old left new → SeesMore new → LookAfter old went (Err fault.OutOfOrder) new
+  looked-out old new (Ok moved) left l more = (left, l, more)
+  looked-out old new (Err refused) left l more = (left, l, more)
 
   pub looked-starved : (old new : EngineModel C J P) (went : Result Bool NoMemory) (refused : NoMemory) (result : Result Bool EngineFault) (left : Bool) → went ≡ Err refused → result ≡ Err fault.NoMemory → Looks old left new → IsInOrder new
       → LookAfter old went result new

@@ -1,7 +1,7 @@
 -- What a worker and its carrier do as one value.
 -- A turn is the worker's and then the carrier's, as each of their contracts has it; then the ends of their lanes look at each other. So
 -- what each end took is a front of what the other put in, and the worker sees a front of the slot map that was published.
-use Rattle.std.specs.Prelude.{◌≡◌, ◌⊎◌, ◌||◌, ℕ, List, [], ◌∷◌, Bool, true, false, Option, Result, Ok, Err, ⊤, slice_get}
+use Rattle.std.specs.Prelude.{◌≡◌, ◌≢◌, ◌⊎◌, ◌||◌, ℕ, List, [], ◌∷◌, Bool, true, false, Option, Result, Ok, Err, ⊤, length, slice_get}
 use Rattle.std.specs.Option.{ForSome}
 use mathlib.Core.List.{IsPrefix}
 use Rattle.resp_wire.specs.declared.fault.NoMemory.{NoMemory}
@@ -49,6 +49,10 @@ module _ {C J P : Type 0} where
     pub door : AtLanes engine (λ lane. IsInStep lane.door engine.worker.newcomers)
     pub view : IsPrefix engine.worker.view.known engine.carrier.published
 
+  -- The worker sees more of the slot map than was published, so that it sees no front of it.
+  abbrev pub SeesMore : EngineModel C J P → Type 0
+  SeesMore engine = IsPrefix engine.carrier.published engine.worker.view.known × (length engine.worker.view.known ≢ length engine.carrier.published)
+
   -- ---- a turn
 
   -- the ends of the lanes look at each other, which says whether something is left to do for one of them
@@ -73,19 +77,19 @@ module _ {C J P : Type 0} where
   CarrierPart goes old moved new = (mid : EngineModel C J P) × (went : Bool) × (left : Bool) × goes old.carrier went mid.carrier
       × (mid ≡ record old { carrier = mid.carrier }) × Looks mid left new × (moved ≡ went || left)
 
-  -- a look after a turn that went so: all is in order, or the worker saw what was not published
+  -- a look after a turn that went so: all is in order, or the worker sees what was not published
   abbrev pub LookAfter : EngineModel C J P → Result Bool NoMemory → Result Bool EngineFault → EngineModel C J P → Type 0
   LookAfter old (Ok went) (Ok moved) new = (left : Bool) × Looks old left new × IsInOrder new × (moved ≡ went || left)
   LookAfter old (Err refused) (Err fault.NoMemory) new = (left : Bool) × Looks old left new × IsInOrder new
-  LookAfter old went (Err fault.OutOfOrder) new = (left : Bool) × Looks old left new
+  LookAfter old went (Err fault.OutOfOrder) new = (left : Bool) × Looks old left new × SeesMore new
   LookAfter old went result new = ⊥
 
-  -- A part was done and all is in order; or memory ran out, and what was done before stands. It would not be in order only where the worker
-  -- saw what was not published.
+  -- A part was done and all is in order; or memory ran out, and what was done before stands. It is not in order only where the worker
+  -- sees what was not published.
   abbrev pub PartEnds : (EngineModel C J P → Bool → EngineModel C J P → Type 0) → EngineModel C J P → Result Bool EngineFault → EngineModel C J P → Type 0
   PartEnds Part old (Ok moved) new = Part old moved new × IsInOrder new
   PartEnds Part old (Err fault.NoMemory) new = (moved : Bool) × Part old moved new × IsInOrder new
-  PartEnds Part old (Err fault.OutOfOrder) new = (moved : Bool) × Part old moved new
+  PartEnds Part old (Err fault.OutOfOrder) new = (moved : Bool) × Part old moved new × SeesMore new
 
   module _ (moves : Moves C) (carrier_goes : CarrierModel (Newcomer C J) P → Bool → CarrierModel (Newcomer C J) P → Type 0) where
     -- the worker's part and then the carrier's, or what was done before a fault of one of them

@@ -41,7 +41,7 @@ where
     P: RunPort + Drop,
     G: Gate,
 {
-    ghost use Rattle.std.specs.Prelude.{◌↔◌, IfOk, IsTrue, false};
+    ghost use Rattle.std.specs.Prelude.{◌↔◌, IfOk, IsTrue, MatchBool, false};
     ghost use mathlib.Core.List.{IsPrefix};
     ghost use Rattle.proxy_lanes.specs.Opened.{book_of};
     ghost use Rattle.proxy_turns.specs.Backend.{GaveNone};
@@ -52,7 +52,7 @@ where
     ghost use Rattle.proxy_turns.specs.WorkerDrain.{Drains};
     ghost use Rattle.proxy_turns.specs.WorkerModel.{AreAllServed};
     ghost use Rattle.proxy_engine.specs.Engine.{dial_in, engine_model, waiting_in};
-    ghost use Rattle.proxy_engine.specs.EngineModel.{CarrierPart, CarrierRests, EngineRests, EngineTurns, HandsClient, IsDrainedOf, IsInOrder, IsNewEngine, LookAfter, Looks, PartEnds, PartRests, WorkerPart, WorkerRests};
+    ghost use Rattle.proxy_engine.specs.EngineModel.{CarrierPart, CarrierRests, EngineRests, EngineTurns, HandsClient, IsDrainedOf, IsInOrder, IsNewEngine, LookAfter, Looks, PartEnds, PartRests, SeesMore, WorkerPart, WorkerRests};
 
     /// A worker that is to take `clients` clients, or clients without end, and a carrier with these seeds, of which the first is
     /// dialled at its first turn. NoMemory also where a lane or a place of the slot map was not made for another cause.
@@ -182,11 +182,11 @@ where
         self.worker.look_beside(self.carrier.ends())
     }
 
-    // Whether what the worker sees of the slot map is a front of what was published.
+    // Whether what the worker sees of the slot map is a front of what was published. If not, it sees more than that.
     fn sees_front(&mut self) -> bool
         ensures same { engine_model D.failures self.new ≡ engine_model D.failures self.old }
         ensures waiting { waiting_in self.new ≡ waiting_in self.old }
-        ensures front { IsTrue result → IsPrefix (engine_model D.failures self.new).worker.view.known (engine_model D.failures self.new).carrier.published }
+        ensures front { MatchBool result (IsPrefix (engine_model D.failures self.new).worker.view.known (engine_model D.failures self.new).carrier.published) (SeesMore (engine_model D.failures self.new)) }
     {
         match self.carrier.ends().map.tell() {
             Some(front) => self.worker.is_known_in(&front),

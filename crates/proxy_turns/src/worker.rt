@@ -1,6 +1,6 @@
 //! A worker, as a future: each poll is one pass of its gate and one turn.
 
-ghost use Rattle.std.specs.Prelude.{◌≡◌, ◌↔◌, IsTrue, false, true, ⊤};
+ghost use Rattle.std.specs.Prelude.{◌≡◌, ◌≢◌, ◌↔◌, IsTrue, MatchBool, false, length, true, ⊤};
 ghost use Rattle.std.specs.BinaryHeap.{heap_items};
 ghost use Rattle.futures.specs.Task.{Covers, Keeps};
 ghost use Rattle.futures.specs.Poll.{IfReady, OnPending};
@@ -118,9 +118,10 @@ impl<'g, C: ClientPort + Drop, J: Naming, G: Gate> Worker<'g, C, J, G> {
         self.state.look_beside(ends)
     }
 
-    /// Whether the front has all that the worker's view of the map knows.
+    /// Whether the front has all that the worker's view of the map knows. If not, the view knows more than it.
     pub fn is_known_in(&self, front: &Front<J>) -> bool
-        ensures { IsTrue result → IsPrefix (worker_model self.now).view.known front.now }
+        ensures { MatchBool result (IsPrefix (worker_model self.now).view.known front.now)
+            (IsPrefix front.now (worker_model self.now).view.known × (length (worker_model self.now).view.known ≢ length front.now)) }
     {
         self.state.is_known_in(front)
     }

@@ -1,6 +1,6 @@
 //! The clients of a worker, between them and the carrier the lanes.
 
-ghost use Rattle.std.specs.Prelude.{◌≡◌, ◌⊎◌, ◌<◌, ◌≤◌, ◌+◌, ◌∷◌, [], List, drop, IfOk, IfSome, IsTrue, ◌↔◌, OnOk, Ok, Some, length, true, vec_capacity};
+ghost use Rattle.std.specs.Prelude.{◌≡◌, ◌≢◌, ◌⊎◌, ◌<◌, ◌≤◌, ◌+◌, ◌∷◌, [], List, drop, IfOk, IfSome, IsTrue, MatchBool, ◌↔◌, OnOk, Ok, Some, length, true, vec_capacity};
 ghost use Rattle.std.specs.BinaryHeap.{heap_items};
 ghost use Rattle.proxy_turns.specs.WorkerModel.{AdmitsClients, AreAllServed, Learns, RemovesClient, ServesClients, SettlesDue, TakesTold, TurnsClient, WorkerTurns, clients_in};
 ghost use Rattle.proxy_turns.specs.ClientRest.{HasNoPlace, IfStill};
@@ -162,9 +162,10 @@ impl<C: ClientPort + Drop, J: Naming> WorkerState<C, J> {
         !places | is_left(counts, self.left)
     }
 
-    /// Whether the front has all that the view knows.
+    /// Whether the front has all that the view knows. If not, the view knows more than it.
     pub(crate) fn is_known_in(&self, front: &Front<J>) -> bool
-        ensures { IsTrue result → IsPrefix (state_model self.now).view.known front.now }
+        ensures { MatchBool result (IsPrefix (state_model self.now).view.known front.now)
+            (IsPrefix front.now (state_model self.now).view.known × (length (state_model self.now).view.known ≢ length front.now)) }
     {
         self.uplink.view.is_in(front)
     }
