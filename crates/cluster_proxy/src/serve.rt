@@ -4,12 +4,10 @@ use crate::descriptors::descriptor_limit;
 use crate::log_lines::{log_end, log_start};
 use event_log::ErrorStream;
 use node_dial::Credentials;
-use program_words::{Address, Serving, VERSION};
+use program_words::{Address, Serving, VERSION, seed_table};
 use proxy_runtime::WireRunFault;
-use resp_wire::NoMemory;
-use slot_map::NodeTable;
 use socket_proxy::{Admin, Proxy, listen, run_wire};
-use std::alloc::{AllocGlobal, Global};
+use std::alloc::AllocGlobal;
 use std::fs::File;
 use std::net::{Net, TcpListener, TcpStream};
 use std::random::RandomSource;
@@ -79,17 +77,6 @@ where
         Ok(()) => Ok(()),
         Err(fault) => Err(ServeFault::Run(fault)),
     }
-}
-
-/// The table of these seeds.
-fn seed_table(alloc: Global, seeds: &[Address<'_>]) -> Result<NodeTable, NoMemory> {
-    let mut table = NodeTable::new(alloc);
-    for seed in seeds {
-        if table.intern(seed.host.as_bytes(), seed.port).is_err() {
-            return Err(NoMemory);
-        }
-    }
-    Ok(table)
 }
 
 /// Where the page is asked for, at this address, where there is one.

@@ -1,3 +1,4 @@
 mod Colon
 mod Comma
 mod Addresses
+mod SeedTables

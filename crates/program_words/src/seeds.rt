@@ -4,9 +4,11 @@ ghost use Rattle.std.specs.Prelude.{◌≡◌, IfOk, map, codes, option_and_then
 ghost use Rattle.clap.specs.Matches.{found_of, matched_of, raw_values};
 ghost use Rattle.program_words.specs.Asked.{addresses_in, seeds_in};
 ghost use Rattle.program_words.specs.Endpoints.{endpoints_of};
+ghost use Rattle.program_words.specs.SeedTable.{IsTableOf};
 
 use crate::address::{Address, address_of};
 use clap::ArgMatches;
+use slot_map::{MapFault, NodeTable};
 use std::alloc::{AllocError, Global};
 
 /// The most seeds.
@@ -51,4 +53,15 @@ fn addresses_of<'a>(
         addresses.push(address)?;
     }
     Ok(Some(addresses))
+}
+
+/// The seeds as the nodes of a table, in their order, each once.
+pub fn seed_table(alloc: Global, seeds: &[Address<'_>]) -> Result<NodeTable, MapFault>
+    ensures { IsTableOf (endpoints_of seeds.now) result }
+{
+    let mut table = NodeTable::new(alloc);
+    for seed in seeds {
+        table.intern(seed.host.as_bytes(), seed.port)?;
+    }
+    Ok(table)
 }
