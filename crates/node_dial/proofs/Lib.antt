@@ -1,3 +1,4 @@
 pub mod CredentialLemmas
 pub mod PauseLemmas
 pub mod Slots
+pub mod TableLemmas

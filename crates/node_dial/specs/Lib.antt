@@ -3,3 +3,4 @@ pub mod DialPause
 pub mod NodeSet
 pub mod NewPort
 pub mod LostNodes
+pub mod NextTable

@@ -18,6 +18,8 @@ pub(crate) struct ClusterNotes {
     owners: RefCell<SlotOwners>,
     /// The nodes whose connection was garbled while a block was under way: a node that refuses MULTI is one. They take runs of one.
     plain: RefCell<NodeSet>,
+    /// The proxy has come to its end: that of a connection is not logged.
+    ended: Cell<bool>,
 }
 
 /// The same, for each that notes.
@@ -31,8 +33,19 @@ impl ClusterNotes {
             lost: Cell::new(LostNodes::new()),
             owners: RefCell::new(owners),
             plain: RefCell::new(NodeSet::new()),
+            ended: Cell::new(false),
         };
         Ok(Rc::new(alloc, notes)?)
+    }
+
+    /// The proxy has come to its end.
+    pub(crate) fn end(&self) {
+        self.ended.set(true);
+    }
+
+    /// Whether the proxy has come to its end.
+    pub(crate) fn has_ended(&self) -> bool {
+        self.ended.get()
     }
 
     /// Whether runs may go to the node as blocks.

@@ -8,15 +8,19 @@ use crate::cluster_notes::{ClusterNotes, SharedNotes, share};
 use crate::connector::Connector;
 use crate::known_node::{DialOutcome, KnownNode};
 use crate::link_watch::LinkWatch;
-use crate::lost_nodes::{Look, look_at, next_ask, note_asked, note_lost, note_reached};
+use crate::lost_nodes::{
+    Look, look_at, next_ask, note_asked, note_lost, note_reached, note_unclear,
+};
+use crate::next_table::{are_too_many, keep, next_table};
 use crate::node_stream::NodeStream;
-use event_log::{Figure, NodeName};
+use event_log::{Event, Figure, NodeName};
 use key_split::Told;
 use node_link::{BlockPort, Dial, DialFault, Failure};
 use proxy_runtime::PolledSocket;
-use resp_wire::{Limits, NoMemory};
-use slot_map::{MapOp, NODE_LIMIT, NodeId};
+use resp_wire::{Limits, NoMemory, Value};
+use slot_map::{MapOp, NODE_LIMIT, NodeId, NodeTable};
 use std::alloc::Global;
+use std::cell::RefCell;
 use std::net::{Net, TcpListener, TcpStream};
 use std::time::Clock;
 
@@ -30,6 +34,9 @@ pub struct SocketDial<'b, R> {
     /// What is known of each node, by its number.
     nodes: Vec<KnownNode>,
     cluster: SharedNotes,
+    seeds: NodeTable,
+    /// A table for the nodes of the last answer to CLUSTER SLOTS, where the proxy's had no place for one of them.
+    next_table: RefCell<Option<NodeTable>>,
     /// What was seen of the lost nodes when it was last asked whether one seeks.
     look: Look,
     /// How often no port was given.
@@ -43,18 +50,26 @@ impl<R> Drop for SocketDial<'_, R> {
             alloc: _,
             nodes,
             cluster,
+            seeds,
+            next_table,
             look: _,
             failures: _,
         } = self;
         drop(connector);
         drop(nodes);
         drop(cluster);
+        drop(seeds);
+        drop(next_table);
     }
 }
 
 impl<'b, R: Clock + Net<Listener = TcpListener, Stream = TcpStream>> SocketDial<'b, R> {
-    /// A dial that has dialled no node yet.
-    pub fn new(alloc: Global, connector: Connector<'b, R>) -> Result<SocketDial<'b, R>, NoMemory> {
+    /// A dial that has dialled no node yet, of a cluster that has these seeds.
+    pub fn new(
+        alloc: Global,
+        connector: Connector<'b, R>,
+        seeds: NodeTable,
+    ) -> Result<SocketDial<'b, R>, NoMemory> {
         let nodes = unknown_nodes(alloc)?;
         let cluster = ClusterNotes::new(alloc)?;
         let look = look_at(&cluster.lost, 0);
@@ -63,9 +78,36 @@ impl<'b, R: Clock + Net<Listener = TcpListener, Stream = TcpStream>> SocketDial<
             alloc,
             nodes,
             cluster,
+            seeds,
+            next_table: RefCell::new(None),
             look,
             failures: 0,
         })
+    }
+
+    /// Whether the proxy's table has no place for a node that the last answer to CLUSTER SLOTS named, and another has.
+    pub fn wants_table(&self) -> bool {
+        match self.next_table.try_borrow() {
+            Ok(kept) => kept.is_some(),
+            Err(_) => false,
+        }
+    }
+
+    /// The table that is wanted, of the seeds and the nodes of that answer.
+    pub fn take_table(&self) -> Option<NodeTable> {
+        self.next_table.try_borrow_mut().ok()?.take()
+    }
+
+    /// From now on the end of a connection is not logged.
+    pub fn end(&self) {
+        self.cluster.end();
+    }
+
+    /// Reports that no table has places for the seeds and the nodes that the answer of this node names.
+    fn report_too_many(&self, node: NodeId, host: &[u8], port: u16) {
+        if let Ok(name) = NodeName::new(self.alloc, node, host, port) {
+            self.connector.report().tell(Event::TooManyNodes(name));
+        }
     }
 
     /// The thread is to be awake when a node is to be asked next.
@@ -130,12 +172,26 @@ impl<'b, R: Clock + Net<Listener = TcpListener, Stream = TcpStream>> Dial for So
         if let Some(figure) = refusal(told) {
             self.connector.report().count(figure, 1);
         }
+        if matches!(told, Told::Unclear) {
+            note_unclear(&self.cluster.lost);
+        }
     }
 
     fn slots_told(&self, node: NodeId, host: &[u8], port: u16, changes: &[MapOp]) {
+        drop(self.take_table());
         if let Ok(name) = NodeName::new(self.alloc, node, host, port) {
             self.cluster
                 .note_slots(self.connector.report(), name, changes);
+        }
+    }
+
+    fn slots_unread(&self, node: NodeId, host: &[u8], port: u16, answer: &Value) {
+        let read = next_table(self.alloc, &self.seeds, host, port, answer);
+        if are_too_many(&read) {
+            self.report_too_many(node, host, port);
+        }
+        if let Ok(mut kept) = self.next_table.try_borrow_mut() {
+            keep(&mut kept, read);
         }
     }
 

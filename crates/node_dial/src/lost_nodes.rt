@@ -1,7 +1,7 @@
-//! The nodes that were lost: another is then asked for CLUSTER SLOTS.
+//! The nodes that were lost, and redirects that were not read: a node is then asked for CLUSTER SLOTS.
 
 ghost use Rattle.std.specs.Prelude.{◌≡◌, false};
-ghost use Rattle.node_dial.specs.LostNodes.{IsCalm, IsLook};
+ghost use Rattle.node_dial.specs.LostNodes.{IsCalm, IsLook, is_wanted};
 
 use crate::ask_schedule::AskSchedule;
 use crate::node_set::NodeSet;
@@ -12,6 +12,8 @@ use std::cell::Cell;
 #[derive(Clone, Copy)]
 pub(crate) struct LostNodes {
     nodes: NodeSet,
+    /// A redirect could not be read, or there was no place for its node, and no node was asked since.
+    has_unclear: bool,
     schedule: AskSchedule,
 }
 
@@ -20,6 +22,7 @@ impl LostNodes {
     pub(crate) fn new() -> LostNodes {
         LostNodes {
             nodes: NodeSet::new(),
+            has_unclear: false,
             schedule: AskSchedule::new(),
         }
     }
@@ -31,12 +34,19 @@ impl LostNodes {
         }
     }
 
+    // Whether a node is to be asked for CLUSTER SLOTS.
+    fn is_wanted(&self) -> bool
+        ensures { result ≡ is_wanted self.now }
+    {
+        self.has_unclear || self.nodes.has_any()
+    }
+
     // What a look at it sees at this time.
     fn look(&self, time: u64) -> Look
         ensures { IsLook self.now time result }
     {
         Look {
-            any_lost: self.nodes.has_any(),
+            is_wanted: self.is_wanted(),
             next: self.schedule.next(),
             time,
         }
@@ -46,8 +56,8 @@ impl LostNodes {
 /// What a look at the lost nodes saw.
 #[derive(Clone, Copy)]
 pub(crate) struct Look {
-    /// Whether a node was lost.
-    any_lost: bool,
+    /// Whether a node was lost, or a redirect was not read.
+    is_wanted: bool,
     /// When a node is to be asked next, in milliseconds.
     next: u64,
     /// What time it was, in milliseconds.
@@ -59,7 +69,7 @@ impl Look {
     pub(crate) fn is_due(self) -> bool
         ensures { result ≡ false → IsCalm self }
     {
-        if !self.any_lost {
+        if !self.is_wanted {
             return false;
         }
         if self.time < self.next {
@@ -73,6 +83,13 @@ impl Look {
 pub(crate) fn note_lost(lost: &Cell<LostNodes>, node: NodeId) {
     let mut held = lost.get();
     held.add(node);
+    lost.set(held);
+}
+
+/// A redirect came that can't be read, or whose node has no place in the table.
+pub(crate) fn note_unclear(lost: &Cell<LostNodes>) {
+    let mut held = lost.get();
+    held.has_unclear = true;
     lost.set(held);
 }
 
@@ -95,16 +112,17 @@ pub(crate) fn look_at(lost: &Cell<LostNodes>, time: u64) -> Look {
     lost.get().look(time)
 }
 
-/// When a node is to be asked next, in milliseconds, where any is lost.
+/// When a node is to be asked next, in milliseconds, where one is to be asked.
 pub(crate) fn next_ask(lost: &Cell<LostNodes>) -> Option<u64> {
     let held = lost.get();
-    held.nodes.has_any().then_some(held.schedule.next())
+    held.is_wanted().then_some(held.schedule.next())
 }
 
 /// A node is asked for CLUSTER SLOTS at this time.
 pub(crate) fn note_asked(lost: &Cell<LostNodes>, time: u64) {
     let mut held = lost.get();
     held.schedule.take(time);
+    held.has_unclear = false;
     lost.set(held);
 }
 

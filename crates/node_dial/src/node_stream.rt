@@ -35,7 +35,12 @@ impl Drop for NodeStream {
         } = self;
         if let Some(name) = name {
             note_lost(&cluster.lost, node);
-            report_end(&socket, name, reason_of(&socket));
+            if cluster.has_ended() {
+                socket.count(Figure::LinksGone, 1);
+                drop(name);
+            } else {
+                report_end(&socket, name, reason_of(&socket));
+            }
         }
         drop(socket);
         drop(cluster);

@@ -7,6 +7,7 @@ ghost use Rattle.node_link.specs.Dialling.{OpenOutcome};
 use crate::link::Failure;
 use crate::run_port::RunPort;
 use key_split::Told;
+use resp_wire::Value;
 use slot_map::{MapOp, NodeId};
 use thiserror::Error;
 
@@ -53,6 +54,10 @@ pub trait Dial {
 
     /// Told of each answer to CLUSTER SLOTS that can be read: the node that gave it, and what it says of the slot map.
     fn slots_told(&self, _node: NodeId, _host: &[u8], _port: u16, _changes: &[MapOp]) {}
+
+    /// Told of each answer to CLUSTER SLOTS that can't be read, or names a node for which the table has no place: the node that gave
+    /// it, and the answer.
+    fn slots_unread(&self, _node: NodeId, _host: &[u8], _port: u16, _answer: &Value) {}
 
     /// Told why the link to a node failed when a reply was to be read, and over which port.
     fn broke(&self, _node: NodeId, _failure: Failure, _port: &Self::Port) {}

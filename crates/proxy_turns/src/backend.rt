@@ -226,6 +226,16 @@ impl<P: NodePort + Drop> Backend<P> {
         }
     }
 
+    // Tells the dial of an answer to CLUSTER SLOTS that is thrown away, since it can't be read into the table.
+    fn note_unread<D: Dial<Port = P>>(&self, dial: &D, nodes: &NodeTable) {
+        let (Some(link), Some(answer)) = (&self.link, &self.answer) else {
+            return;
+        };
+        if let Some((host, port)) = nodes.endpoint(link.node()) {
+            dial.slots_unread(link.node(), host, port, answer);
+        }
+    }
+
     /// Tells the dial why the link failed just now.
     pub(crate) fn note_failure<D: Dial<Port = P>>(&self, dial: &D) {
         if let Some(link) = &self.link {
@@ -354,8 +364,12 @@ impl<P: NodePort + Drop> Backend<P> {
         Ok(BackendStep::Asked)
     }
 
-    /// Reads the answer to CLUSTER SLOTS. One that cannot be read is thrown away.
-    pub(crate) fn read(&mut self, nodes: &mut NodeTable) -> Result<BackendStep, NoMemory>
+    /// Reads the answer to CLUSTER SLOTS. One that cannot be read is thrown away, and the dial is told of it.
+    pub(crate) fn read<D: Dial<Port = P>>(
+        &mut self,
+        nodes: &mut NodeTable,
+        dial: &D,
+    ) -> Result<BackendStep, NoMemory>
         ensures { (unanswered : Bool) (published : List MapOp) → BackendRenews P.failures P.is_garbled P.exchange P.gives_none map_task.Read unanswered
             (record { backend = self.old; nodes = nodes.old; published = published }) result
             (record { backend = self.new; nodes = nodes.new; published = published }) }
@@ -382,6 +396,7 @@ impl<P: NodePort + Drop> Backend<P> {
             }
             Err(fault) => {
                 if is_unread(fault) {
+                    self.note_unread(dial, nodes);
                     put(&mut self.answer, None);
                     return Ok(BackendStep::Unread);
                 }
@@ -471,12 +486,13 @@ impl<P: NodePort + Drop> Backend<P> {
     }
 
     /// Does one of the tasks.
-    pub(crate) fn run_task<J: Naming, R: Wait + Drop>(
+    pub(crate) fn run_task<J: Naming, R: Wait + Drop, D: Dial<Port = P>>(
         &mut self,
         task: MapTask,
         unanswered: bool,
         nodes: &mut NodeTable,
         map: &mut Publisher<J, R>,
+        dial: &D,
     ) -> Result<BackendStep, NoMemory>
         ensures { BackendRenews P.failures P.is_garbled P.exchange P.gives_none task unanswered
             (record { backend = self.old; nodes = nodes.old; published = map.old }) result
@@ -485,7 +501,7 @@ impl<P: NodePort + Drop> Backend<P> {
         match task {
             MapTask::Publish => self.publish(map),
             MapTask::Ask => self.ask(unanswered),
-            MapTask::Read => self.read(nodes),
+            MapTask::Read => self.read(nodes, dial),
             MapTask::Renew => self.renew(map),
         }
     }

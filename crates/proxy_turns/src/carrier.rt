@@ -152,7 +152,7 @@ where
         }
         let unanswered = any_unanswered(&self.backends);
         let map = &mut self.ends.map;
-        let step = self.backends[at].run_task(task, unanswered, &mut self.nodes, map)?;
+        let step = self.backends[at].run_task(task, unanswered, &mut self.nodes, map, &self.dial)?;
         self.note_step(at, step);
         Ok(step.is_move())
     }
