@@ -101,6 +101,13 @@ pub enum Event {
     DrainBegun(u64, u64),
     /// All clients are gone, or so many were cut.
     Drained(u64),
+    /// The table of the worker of this number has no place for a node that an answer to CLUSTER SLOTS named. So many clients of it are
+    /// let go, and cut after this number of seconds.
+    TableFull(usize, u64, u64),
+    /// The worker of this number began anew, with a table of so many nodes, and cut so many clients.
+    TableBegun(usize, usize, u64),
+    /// The answer to CLUSTER SLOTS of this node names, with the seeds, more nodes than a table holds.
+    TooManyNodes(NodeName),
 }
 
 impl Drop for Event {
@@ -109,13 +116,16 @@ impl Drop for Event {
             Event::LinkOpened(node)
             | Event::LinkLost(node, _)
             | Event::DialFailed(node, _)
-            | Event::SlotsTold(node, _) => drop(node),
+            | Event::SlotsTold(node, _)
+            | Event::TooManyNodes(node) => drop(node),
             Event::ClientRefused(_)
             | Event::ClientsFull(_)
             | Event::ProtocolError(_, _)
             | Event::UnfinishedRequest(_, _)
             | Event::DrainBegun(_, _)
-            | Event::Drained(_) => {}
+            | Event::Drained(_)
+            | Event::TableFull(_, _, _)
+            | Event::TableBegun(_, _, _) => {}
         }
     }
 }
@@ -132,7 +142,10 @@ pub struct SlotsTold {
 
 /// How many nodes an event may be of: the most that a table holds.
 pub(crate) const NODES: usize = 64;
-// Where the limits of each kind of event begin. Those of a node's events have one for each node.
+/// How many workers an event may be of: the most that there are.
+const WORKERS: usize = 64;
+// Where the limits of each kind of event begin. Those of a node's events have one for each node, those of a worker's one for each
+// worker.
 const CLIENTS_REFUSED: usize = 0;
 
 const PROTOCOL_ERRORS: usize = 1;
@@ -145,15 +158,21 @@ const DRAIN_BEGUN: usize = 4;
 
 const DRAINED: usize = 5;
 
-const LINKS_OPENED: usize = 6;
+const TABLES_FULL: usize = 6;
+
+const TABLES_BEGUN: usize = TABLES_FULL + WORKERS;
+
+const LINKS_OPENED: usize = TABLES_BEGUN + WORKERS;
 
 const LINKS_LOST: usize = LINKS_OPENED + NODES;
 
 const DIALS_FAILED: usize = LINKS_LOST + NODES;
 
 const SLOTS_TOLD: usize = DIALS_FAILED + NODES;
+
+const TOO_MANY_NODES: usize = SLOTS_TOLD + NODES;
 /// How many limits keep events from being written too often.
-pub(crate) const EVENT_LIMITS: usize = SLOTS_TOLD + NODES;
+pub(crate) const EVENT_LIMITS: usize = TOO_MANY_NODES + NODES;
 
 impl Event {
     /// The node that it is of.
@@ -162,13 +181,16 @@ impl Event {
             Event::LinkOpened(node)
             | Event::LinkLost(node, _)
             | Event::DialFailed(node, _)
-            | Event::SlotsTold(node, _) => Some(node),
+            | Event::SlotsTold(node, _)
+            | Event::TooManyNodes(node) => Some(node),
             Event::ClientRefused(_)
             | Event::ClientsFull(_)
             | Event::ProtocolError(..)
             | Event::UnfinishedRequest(..)
             | Event::DrainBegun(..)
-            | Event::Drained(_) => None,
+            | Event::Drained(_)
+            | Event::TableFull(..)
+            | Event::TableBegun(..) => None,
         }
     }
 
@@ -185,15 +207,18 @@ impl Event {
             Event::LinkLost(..) => LINKS_LOST.saturating_add(node),
             Event::DialFailed(..) => DIALS_FAILED.saturating_add(node),
             Event::SlotsTold(..) => SLOTS_TOLD.saturating_add(node),
+            Event::TooManyNodes(_) => TOO_MANY_NODES.saturating_add(node),
+            Event::TableFull(worker, ..) => TABLES_FULL.saturating_add(*worker),
+            Event::TableBegun(worker, ..) => TABLES_BEGUN.saturating_add(*worker),
         }
     }
 
-    /// The name of its kind, where the nodes of the numbers below `seeds` are the seeds.
-    fn name(&self, seeds: usize) -> &'static str {
+    /// The name of its kind, where it is of a seed or not.
+    fn name(&self, is_of_seed: bool) -> &'static str {
         match self {
             Event::LinkOpened(_) => "link_opened",
             Event::LinkLost(..) => "link_lost",
-            Event::DialFailed(node, _) if usize::from(node.number) < seeds => "seed_unreachable",
+            Event::DialFailed(..) if is_of_seed => "seed_unreachable",
             Event::DialFailed(..) => "dial_failed",
             Event::SlotsTold(..) => "slot_map_renewed",
             Event::ClientRefused(_) => "client_refused",
@@ -202,20 +227,28 @@ impl Event {
             Event::UnfinishedRequest(..) => "unfinished_request",
             Event::DrainBegun(..) => "drain_begun",
             Event::Drained(_) => "drained",
+            Event::TableFull(..) => "table_full",
+            Event::TableBegun(..) => "table_begun",
+            Event::TooManyNodes(_) => "too_many_nodes",
         }
     }
 
     fn level(&self) -> &'static str {
         match self {
             Event::LinkOpened(_) | Event::SlotsTold(..) | Event::DrainBegun(..) => "info",
-            Event::Drained(0) => "info",
+            Event::Drained(0) | Event::TableBegun(_, _, 0) => "info",
             _ => "warn",
         }
     }
 
     /// The event's line, without the count of those that were left out.
-    pub(crate) fn line(&self, alloc: Global, time: &str, seeds: usize) -> Result<Line, AllocError> {
-        let line = Line::new(alloc, time.as_bytes(), self.level(), self.name(seeds))?;
+    pub(crate) fn line(
+        &self,
+        alloc: Global,
+        time: &str,
+        is_of_seed: bool,
+    ) -> Result<Line, AllocError> {
+        let line = Line::new(alloc, time.as_bytes(), self.level(), self.name(is_of_seed))?;
         match self {
             Event::LinkOpened(node) => line.pair("node", node.address.as_bytes()),
             Event::LinkLost(node, reason) | Event::DialFailed(node, reason) => {
@@ -241,6 +274,17 @@ impl Event {
                 pair_shown(alloc, line, "seconds", seconds)
             }
             Event::Drained(clients) => pair_shown(alloc, line, "clients_cut", clients),
+            Event::TableFull(worker, clients, seconds) => {
+                let line = pair_shown(alloc, line, "worker", worker)?;
+                let line = pair_shown(alloc, line, "clients", clients)?;
+                pair_shown(alloc, line, "seconds", seconds)
+            }
+            Event::TableBegun(worker, nodes, clients) => {
+                let line = pair_shown(alloc, line, "worker", worker)?;
+                let line = pair_shown(alloc, line, "nodes", nodes)?;
+                pair_shown(alloc, line, "clients_cut", clients)
+            }
+            Event::TooManyNodes(node) => line.pair("node", node.address.as_bytes()),
         }
     }
 }

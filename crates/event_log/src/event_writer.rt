@@ -1,6 +1,6 @@
 //! What writes the lines of events.
 
-use crate::event::{EVENT_LIMITS, Event, pair_shown};
+use crate::event::{EVENT_LIMITS, Event, NodeName, pair_shown};
 use crate::journal::EVENTS_WAITING;
 use crate::line::Line;
 use crate::node_places::NodePlaces;
@@ -22,15 +22,15 @@ pub(crate) struct EventWriter<'a> {
     stream: &'a ErrorStream,
     limits: Vec<RateLimit>,
     nodes: NodePlaces,
-    /// The nodes of the numbers below it are the seeds.
-    seeds: usize,
+    /// The names of the seeds.
+    seeds: Vec<NodeName>,
 }
 
 impl<'a> EventWriter<'a> {
     pub(crate) fn new(
         alloc: Global,
         stream: &'a ErrorStream,
-        seeds: usize,
+        seeds: Vec<NodeName>,
     ) -> Result<EventWriter<'a>, NoMemory> {
         let mut limits = Vec::with_capacity(alloc, EVENT_LIMITS)?;
         for _ in 0..EVENT_LIMITS {
@@ -77,6 +77,14 @@ impl<'a> EventWriter<'a> {
         }
     }
 
+    /// Whether the event is of a seed. Threads number the nodes each by itself, so an address tells it.
+    fn is_of_seed(&self, event: &Event) -> bool {
+        match event.node() {
+            Some(node) => self.seeds.iter().any(|seed| seed.is_at_same(node)),
+            None => false,
+        }
+    }
+
     fn event_line<R: Clock>(
         &self,
         rt: &R,
@@ -84,7 +92,7 @@ impl<'a> EventWriter<'a> {
         left_out: u64,
     ) -> Result<Line, AllocError> {
         let time = utc_text(rt, self.alloc)?;
-        let line = event.line(self.alloc, &time, self.seeds)?;
+        let line = event.line(self.alloc, &time, self.is_of_seed(event))?;
         if left_out == 0 {
             return Ok(line);
         }

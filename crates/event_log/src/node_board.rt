@@ -21,8 +21,8 @@ pub struct NodeStanding {
 /// What the events of a thread tell of each node. Only that thread changes it; a node is a bit of each number.
 #[derive(Drop)]
 pub(crate) struct NodeBoard {
-    /// The name of each node, where it is known. It is put there once, before the node counts as named, and only read from then
-    /// on: so neither side finds it locked.
+    /// The name of each node, where it is known. It is put there before the node counts as named, and only read while it does: so
+    /// neither side finds it locked, but where a worker has just begun anew. Its node is then named by a later event.
     names: Vec<Mutex<Vec<NodeName>>>,
     named: AtomicU64,
     linked: AtomicU64,
@@ -70,8 +70,19 @@ impl NodeBoard {
             | Event::ProtocolError(_, _)
             | Event::UnfinishedRequest(_, _)
             | Event::DrainBegun(_, _)
-            | Event::Drained(_) => {}
+            | Event::Drained(_)
+            | Event::TableFull(_, _, _)
+            | Event::TooManyNodes(_) => {}
+            Event::TableBegun(_, _, _) => self.forget_nodes(),
         }
+    }
+
+    /// No node is known any more: the numbers are those of other nodes from now on.
+    fn forget_nodes(&self) {
+        self.named.store(0, Ordering::SeqCst);
+        self.linked.store(0, Ordering::SeqCst);
+        self.failed.store(0, Ordering::SeqCst);
+        self.serving.store(0, Ordering::SeqCst);
     }
 
     /// Keeps the node's name, where none is kept.
@@ -88,6 +99,7 @@ impl NodeBoard {
         let Some(mut kept) = place.try_lock() else {
             return;
         };
+        kept.clear();
         if kept.push(name).is_ok() {
             set(&self.named, node);
         }

@@ -1,6 +1,6 @@
 //! What writes the log.
 
-use crate::event::pair_shown;
+use crate::event::{NodeName, pair_shown};
 use crate::event_writer::EventWriter;
 use crate::figures::{FIGURE_NAMES, FIGURES};
 use crate::line::Line;
@@ -43,12 +43,12 @@ impl Drop for Reporter<'_> {
 }
 
 impl<'a> Reporter<'a> {
-    /// Writes what these threads report to the stream. The nodes of the numbers below `seeds` are named as seeds.
+    /// Writes what these threads report to the stream. The seeds have these names.
     pub fn new(
         alloc: Global,
         stream: &'a ErrorStream,
         threads: Vec<Arc<ThreadReport, Global>>,
-        seeds: usize,
+        seeds: Vec<NodeName>,
     ) -> Result<Reporter<'a>, NoMemory> {
         Ok(Reporter {
             alloc,
