@@ -2,6 +2,7 @@
 
 use crate::acceptor::{Acceptor, RETRY_MILLIS};
 use crate::dealer::{Arrival, Dealer};
+use crate::drain_end::{is_cut, is_over};
 use crate::shared::Shared;
 use event_log::{Event, Reporter};
 use proxy_runtime::Poller;
@@ -92,16 +93,8 @@ impl<'a> Desk<'a> {
 
     /// Whether all clients that were to come came, and are gone, or the time of the drain is over.
     fn is_over(&self, shared: &Shared, now: u64) -> bool {
-        (self.acceptor.is_done() && shared.clients() == 0) || self.is_cut(shared, now)
-    }
-
-    /// Whether the run is drained, and what is left is to be cut at this time.
-    fn is_cut(&self, shared: &Shared, now: u64) -> bool {
-        match (self.drain_began, shared.drain_seconds()) {
-            (Some(began), Some(seconds)) => now.saturating_sub(began)
-                >= seconds.saturating_mul(1000),
-            _ => false,
-        }
+        let cut = is_cut(self.drain_began, shared.drain_seconds(), now);
+        is_over(self.acceptor.is_done(), shared.clients(), cut)
     }
 
     /// Accepts no client any more, where that is asked for.

@@ -50,6 +50,8 @@ pub(crate) struct Arrivals<'b> {
     registry: Registry,
     unfinished: SharedUnfinished,
     lingering: SharedLingering,
+    /// How many clients were taken of those that were dealt.
+    taken: u64,
     /// The number of the next client; `None` once all are given.
     next: Option<u32>,
     /// A client that was taken and put back.
@@ -65,6 +67,7 @@ impl Drop for Arrivals<'_> {
             registry,
             unfinished,
             lingering,
+            taken: _,
             next: _,
             waiting,
         } = self;
@@ -92,9 +95,16 @@ impl<'b> Arrivals<'b> {
             registry,
             unfinished,
             lingering,
+            taken: 0,
             next: Some(0),
             waiting: None,
         }
+    }
+
+    /// How many clients were taken, and are not gone.
+    pub(crate) fn clients(&self) -> u64 {
+        self.taken
+            .saturating_sub(self.handle.counted(Figure::ClientsGone))
     }
 
     /// Puts a client back, which comes next.
@@ -110,6 +120,7 @@ impl<'b> Arrivals<'b> {
         let Some(arrival) = self.inlet.take() else {
             return Arrived::Nobody;
         };
+        self.taken = self.taken.saturating_add(1);
         match self.client_over(arrival) {
             Ok(client) => Arrived::Client(client),
             Err(error) => {

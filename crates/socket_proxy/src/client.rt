@@ -77,6 +77,11 @@ impl SocketClient {
 }
 
 impl SocketClient {
+    /// Whether it is not gone.
+    pub(crate) fn is_there(&self) -> bool {
+        self.socket.is_some()
+    }
+
     /// Whether it has ended its sending and is owed something.
     fn stays(&self) -> bool {
         match &self.socket {

@@ -1,6 +1,8 @@
 //! How clients are dealt to the workers.
 
-use crate::emptiest::emptiest;
+ghost use Rattle.std.specs.Prelude.{◌≡◌, length, vec_len};
+
+use crate::emptiest::{CLOSED, emptiest_open};
 use crate::setup::push;
 use crate::shared::Shared;
 use event_log::Figure;
@@ -17,12 +19,14 @@ pub(crate) struct Arrival {
     pub(crate) address: SocketAddr,
 }
 
-/// Deals each client to a worker than which none has fewer. What a worker was dealt and did not count as gone, it has.
+/// Deals each client to a worker than which none has fewer, of those that take clients now. What a worker was dealt and did not count
+/// as gone, it has.
 pub(crate) struct Dealer {
     /// The lanes to the workers.
     outlets: Vec<Outlet<Arrival>>,
-    /// How many clients each worker has.
+    /// How many clients each worker has, or `CLOSED` where it takes none now.
     clients: Vec<u64>,
+    ghost paired: { vec_len clients ≡ vec_len outlets },
 }
 
 impl Drop for Dealer {
@@ -34,52 +38,75 @@ impl Drop for Dealer {
 }
 
 impl Dealer {
+    ghost use Rattle.std.specs.Prelude.{◌<◌};
+    ghost use Rattle.proxy_lanes.specs.Ends.{ChangesAt};
+    ghost use Rattle.proxy_lanes.specs.Lane.{Posts};
+    ghost use Rattle.socket_proxy.specs.Dealing.{Deals};
+
     /// A dealer with a lane to each of so many workers, and the lanes' other ends.
     pub(crate) fn new(
         alloc: Global,
         workers: usize,
     ) -> Result<(Dealer, Vec<Inlet<Arrival>>), NoMemory> {
-        let mut dealer = Dealer {
-            outlets: Vec::new(alloc),
-            clients: Vec::new(alloc),
-        };
+        let mut outlets = Vec::new(alloc);
         let mut inlets = Vec::new(alloc);
         for _ in 0..workers {
             let (outlet, inlet) = lane(alloc)?;
-            push(&mut dealer.outlets, outlet)?;
-            push(&mut dealer.clients, 0)?;
+            push(&mut outlets, outlet)?;
             push(&mut inlets, inlet)?;
         }
-        Ok((dealer, inlets))
+        let clients = vec![in alloc; 0; outlets.len()]?;
+        Ok((Dealer { outlets, clients }, inlets))
     }
 
-    /// Deals the client, and wakes its worker. It comes back where the worker's lane has no place.
-    pub(crate) fn deal(&mut self, shared: &Shared, arrival: Arrival) -> Result<(), Arrival> {
+    /// Deals the client by the clients that each worker has now, and wakes its worker. It comes back where no worker takes clients, or
+    /// that worker's lane has no place.
+    pub(crate) fn deal(&mut self, shared: &Shared, arrival: Arrival) -> Result<(), Arrival>
+        ensures { Deals self.new.clients.items self.old.outlets.items arrival result self.new.outlets.items }
+    {
         self.count_clients(shared);
-        let Some(worker) = emptiest(&self.clients) else {
+        let Some(worker) = emptiest_open(&self.clients) else {
             return Err(arrival);
         };
-        let (Some(outlet), Some(handle)) = (
-            self.outlets.get_mut(worker),
-            shared.workers.get(worker),
-        ) else {
-            return Err(arrival);
-        };
-        match outlet.post(arrival) {
-            Ok(()) => {
-                handle.wake();
-                Ok(())
-            }
-            Err(arrival) => Err(arrival),
-        }
+        let dealt = self.post_to(worker, arrival);
+        wake_dealt(shared, worker, dealt.is_ok());
+        dealt
     }
 
-    fn count_clients(&mut self, shared: &Shared) {
-        let lanes = self.clients.iter_mut().zip(self.outlets.iter());
-        for ((clients, outlet), worker) in lanes.zip(shared.workers.iter()) {
-            *clients = outlet
+    fn post_to(&mut self, worker: usize, arrival: Arrival) -> Result<(), Arrival>
+        requires { worker < vec_len self.old.outlets }
+        ensures lane { ChangesAt self.old.outlets.items worker self.new.outlets.items (λ old new. Posts old new arrival result) }
+        ensures clients { self.new.clients ≡ self.old.clients }
+    {
+        self.outlets[worker].post(arrival)
+    }
+
+    fn count_clients(&mut self, shared: &Shared)
+        ensures { self.new.outlets ≡ self.old.outlets }
+    {
+        count(&mut self.clients, &self.outlets, shared);
+    }
+}
+
+/// Wakes a worker that was dealt a client.
+fn wake_dealt(shared: &Shared, worker: usize, dealt: bool) {
+    if dealt {
+        shared.wake_worker(worker);
+    }
+}
+
+/// What a worker was dealt and did not count as gone, it has, where it takes clients.
+fn count(clients: &mut [u64], outlets: &[Outlet<Arrival>], shared: &Shared)
+    ensures { length clients.new ≡ length clients.old }
+{
+    let lanes = clients.iter_mut().zip(outlets.iter());
+    for ((clients, outlet), worker) in lanes.zip(shared.workers.iter()) {
+        *clients = if worker.takes_clients() {
+            outlet
                 .posted()
-                .saturating_sub(worker.counted(Figure::ClientsGone));
-        }
+                .saturating_sub(worker.counted(Figure::ClientsGone))
+        } else {
+            CLOSED
+        };
     }
 }

@@ -1,10 +1,26 @@
 //! Which worker has the fewest clients.
 
 ghost use Rattle.std.specs.Prelude.{◌≡◌, [], MatchOption};
-ghost use Rattle.socket_proxy.specs.Emptiest.{IsEmptiest};
+ghost use Rattle.socket_proxy.specs.Emptiest.{AreClosed, IsEmptiest, IsEmptiestOpen};
+
+/// In place of the number of its clients, of a worker that takes none now.
+pub(crate) const CLOSED: u64 = u64::MAX;
+
+/// Which of the workers that have so many clients takes clients and has the fewest, where one takes clients.
+pub(crate) fn emptiest_open(clients: &[u64]) -> Option<usize>
+    ensures { MatchOption result (AreClosed clients.now) (IsEmptiestOpen clients.now) }
+{
+    let Some(worker) = emptiest(clients) else {
+        return None;
+    };
+    if clients[worker] < CLOSED {
+        return Some(worker);
+    }
+    None
+}
 
 /// Which of the workers that have so many clients has the fewest, where there is one.
-pub(crate) fn emptiest(clients: &[u64]) -> Option<usize>
+fn emptiest(clients: &[u64]) -> Option<usize>
     ensures { MatchOption result (clients.now ≡ []) (IsEmptiest clients.now) }
 {
     if clients.is_empty() {

@@ -12,7 +12,9 @@
 //! Promise: `run_wire` is safe, and says what its faults mean. `Credentials` is AUTH, byte by byte; that each connection to a
 //! node begins with it is not proved. No dial begins before the node's pause is over, which is as long as `specs/DialPause.antt`
 //! says. What a proxy does with bytes is promised by `proxy_engine`. A client is dealt to a worker that has no more clients than
-//! any other (`specs/Emptiest.antt`), as they are counted. Of the threads, the sockets and the waking nothing more is proved.
+//! any other (`specs/Dealing.antt`), as they are counted, of the workers that take clients now. A worker's thread sleeps only where its
+//! proxy is at rest, and lets its clients go to begin anew ten seconds apart at least (`specs/Renewal.antt`). Of the threads, the sockets
+//! and the waking nothing more is proved.
 #![tactic(auto)]
 
 mod accept_loop;
@@ -21,15 +23,20 @@ mod arrivals;
 mod client;
 mod client_room;
 mod dealer;
+mod drain_end;
 mod emptiest;
+mod linger_end;
 mod lingering;
 mod pace;
 mod page_client;
 mod page_figures;
 mod page_thread;
 mod process_figures;
+mod renewal;
 mod request_times;
+mod resting;
 mod run;
+mod seat;
 mod setup;
 mod shared;
 mod socket_gate;

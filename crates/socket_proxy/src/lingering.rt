@@ -1,21 +1,17 @@
-//! Connections of clients that were let go, while the run comes to its end.
+//! Connections of clients that were let go, while a proxy comes to its end.
 
+use crate::linger_end::{closes, linger_until};
 use event_log::Figure;
-use node_link::{Flow, Stream};
 use proxy_runtime::PolledSocket;
 use resp_wire::NoMemory;
 use std::alloc::Global;
 use std::cell::{Cell, RefCell};
 use std::rc::Rc;
 
-/// Microseconds for which a connection stays open at most.
-const LINGER_MICROS: u64 = 2_000_000;
 /// The most bytes that are read at once, and thrown away.
 const PIECE: usize = 4096;
-/// The most pieces of one connection that are read in a turn.
-const PIECES_PER_TURN: u32 = 16;
 
-/// Connections over which all was written that was owed. While the run comes to its end each stays open until the other end closes
+/// Connections over which all was written that was owed. While the proxy comes to its end each stays open until the other end closes
 /// it, or its time is over: a close over bytes that were not read destroys replies that are on their way.
 #[derive(Drop)]
 pub(crate) struct Lingering {
@@ -42,23 +38,6 @@ impl Drop for Connection {
     }
 }
 
-impl Connection {
-    /// Reads what came, which is thrown away. Whether the other end has closed, or its time is over.
-    fn is_over(&mut self, piece: &mut [u8], micros: u64) -> bool {
-        if micros >= self.until {
-            return true;
-        }
-        for _ in 0..PIECES_PER_TURN {
-            match self.socket.read(piece) {
-                Flow::Bytes(_) => {}
-                Flow::Nothing => return false,
-                Flow::Gone => return true,
-            }
-        }
-        false
-    }
-}
-
 impl Lingering {
     /// Connections are closed at once.
     pub(crate) fn new(alloc: Global) -> Result<SharedLingering, NoMemory> {
@@ -76,10 +55,15 @@ impl Lingering {
         !self.lingers.replace(true)
     }
 
+    /// From now on connections are closed at once, but for those that are open still.
+    pub(crate) fn end(&self) {
+        self.lingers.set(false);
+    }
+
     /// Takes the connection of a client that is let go.
     pub(crate) fn take(&self, socket: PolledSocket) {
         let connection = Connection {
-            until: socket.micros().saturating_add(LINGER_MICROS),
+            until: linger_until(socket.micros()),
             socket,
         };
         if !self.lingers.get() {
@@ -132,7 +116,7 @@ impl Connections {
 
     fn is_over(&mut self, place: usize, piece: &mut [u8], micros: u64) -> bool {
         match self.open.get_mut(place) {
-            Some(connection) => connection.is_over(piece, micros),
+            Some(connection) => closes(&mut connection.socket, piece, connection.until, micros),
             None => false,
         }
     }

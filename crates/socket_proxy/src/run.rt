@@ -97,7 +97,12 @@ where
     let tasks = worker_tasks(alloc, pollers, inlets)?;
     let room = ClientRoom::new(descriptors, workers);
     let acceptor = acceptor(listener, &shared, &poller, clients, room)?;
-    let reporter = Reporter::new(alloc, log, shared.reports(alloc)?, upstream.seed_count())?;
+    let reporter = Reporter::new(
+        alloc,
+        log,
+        shared.reports(alloc)?,
+        upstream.seed_names(alloc)?,
+    )?;
     let desk = Desk::new(acceptor, dealer, reporter);
     run_beside_page(rt, alloc, pages, &shared, || -> Option<WireRunFault> {
         run_workers(

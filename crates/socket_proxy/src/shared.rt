@@ -15,11 +15,17 @@ const NO_DRAIN: u64 = u64::MAX;
 pub(crate) struct ThreadHandle {
     pub(crate) ready: Arc<ReadySet, Global>,
     waker: Waker,
+    /// The thread takes no client for a time.
+    is_closed: AtomicBool,
 }
 
 impl Drop for ThreadHandle {
     fn drop(self) {
-        let ThreadHandle { ready, waker } = self;
+        let ThreadHandle {
+            ready,
+            waker,
+            is_closed: _,
+        } = self;
         drop(ready);
         drop(waker);
     }
@@ -27,7 +33,21 @@ impl Drop for ThreadHandle {
 
 impl ThreadHandle {
     pub(crate) fn new(ready: Arc<ReadySet, Global>, waker: Waker) -> ThreadHandle {
-        ThreadHandle { ready, waker }
+        ThreadHandle {
+            ready,
+            waker,
+            is_closed: AtomicBool::new(false),
+        }
+    }
+
+    /// Whether clients may be dealt to the thread.
+    pub(crate) fn takes_clients(&self) -> bool {
+        !self.is_closed.load(Ordering::SeqCst)
+    }
+
+    /// Clients may be dealt to the thread from now on, or may not.
+    pub(crate) fn set_closed(&self, is_closed: bool) {
+        self.is_closed.store(is_closed, Ordering::SeqCst);
     }
 
     /// What the thread reports.
@@ -141,6 +161,13 @@ impl Shared {
         self.drain_seconds
             .store(u64::from(seconds), Ordering::SeqCst);
         self.wake_all();
+    }
+
+    /// Wakes this worker's thread, or keeps it from sleeping next.
+    pub(crate) fn wake_worker(&self, worker: usize) {
+        if let Some(handle) = self.workers.get(worker) {
+            handle.wake();
+        }
     }
 
     fn wake_all(&self) {

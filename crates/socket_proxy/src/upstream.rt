@@ -5,6 +5,7 @@ ghost use Rattle.resp_wire.specs.Text.{is_one_line};
 
 use crate::setup::{clone_registry, push};
 use crate::shared::ThreadHandle;
+use event_log::NodeName;
 use node_dial::{Connector, Credentials, SharedLookUps, SocketDial};
 use proxy_runtime::{Poller, WireRunFault};
 use resp_wire::NoMemory;
@@ -17,6 +18,7 @@ use std::time::Clock;
 /// A node of the cluster that is known at the start.
 #[derive(Clone, Copy)]
 struct Seed<'a> {
+    node: NodeId,
     host: &'a [u8],
     port: u16,
     ghost one_line: { IsTrue (is_one_line host.now) },
@@ -64,9 +66,16 @@ impl<'a> Upstream<'a> {
         Ok(nodes)
     }
 
-    /// How many seeds there are.
-    pub(crate) fn seed_count(&self) -> usize {
-        self.seeds.len()
+    /// The names of the seeds.
+    pub(crate) fn seed_names(&self, alloc: Global) -> Result<Vec<NodeName>, NoMemory> {
+        let mut names = Vec::new(alloc);
+        for seed in &self.seeds {
+            push(
+                &mut names,
+                NodeName::new(alloc, seed.node, seed.host, seed.port)?,
+            )?;
+        }
+        Ok(names)
     }
 
     /// A dial of the thread that has this handle and poll.
@@ -88,7 +97,8 @@ impl<'a> Upstream<'a> {
             return Err(WireRunFault::NoMemory);
         };
         let connector = Connector::new(rt, alloc, ready, registry, look_ups, credentials);
-        Ok(SocketDial::new(alloc, connector)?)
+        let seeds = self.seed_table(alloc)?;
+        Ok(SocketDial::new(alloc, connector, seeds)?)
     }
 
     fn share_credentials(&self) -> Result<Option<Arc<Credentials, Global>>, NoMemory> {
@@ -112,7 +122,7 @@ fn seeds_in<'a>(alloc: Global, nodes: &'a NodeTable) -> Result<Vec<Seed<'a>>, No
 
 /// The node of this number, where there is one.
 fn seed_at<'a>(nodes: &'a NodeTable, number: usize) -> Option<Seed<'a>> {
-    let number = u8::try_from(number).ok()?;
-    let (host, port) = nodes.endpoint(NodeId::new(number)?)?;
-    Some(Seed { host, port })
+    let node = NodeId::new(u8::try_from(number).ok()?)?;
+    let (host, port) = nodes.endpoint(node)?;
+    Some(Seed { node, host, port })
 }

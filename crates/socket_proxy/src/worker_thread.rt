@@ -8,16 +8,19 @@ use crate::client::SocketClient;
 use crate::dealer::Arrival;
 use crate::lingering::{Lingering, SharedLingering};
 use crate::pace::{Next, Pace};
+use crate::renewal::Renewal;
+use crate::resting::behind_turn;
+use crate::seat::{Seat, count_nodes};
 use crate::setup::clone_registry;
 use crate::shared::{Shared, ThreadHandle};
 use crate::socket_gate::SocketGate;
 use crate::unfinished::Unfinished;
 use crate::upstream::Upstream;
-use node_dial::{LookUps, NodeSocket, SharedLookUps, SocketDial, advance_look_ups};
+use node_dial::{LookUps, NodeSocket, SocketDial, advance_look_ups};
 use proxy_engine::{Engine, EngineFault};
 use proxy_lanes::{Inlet, Naming, Opened};
-use proxy_runtime::{Poller, ReadySet, WireRunFault};
-use proxy_turns::Newcomer;
+use proxy_runtime::{Poller, WireRunFault};
+use proxy_turns::{Newcomer, WorkerOutcome};
 use resp_wire::NoMemory;
 use std::alloc::Global;
 use std::marker::Brand;
@@ -76,16 +79,7 @@ where
     let Some(handle) = shared.workers.get(worker) else {
         return None;
     };
-    match serve::<Brand, R>(
-        rt,
-        alloc,
-        Opened::new(),
-        upstream,
-        shared,
-        handle,
-        poller,
-        inlet,
-    ) {
+    match serve_on(rt, alloc, worker, handle, poller, inlet, upstream, shared) {
         Ok(()) => None,
         Err(fault) => {
             shared.stop();
@@ -94,17 +88,98 @@ where
     }
 }
 
-/// Serves by a proxy whose map's history has this name.
+/// Serves by one proxy after another: the next one begins where the table of the last has no place for a node of the cluster.
+fn serve_on<R>(
+    rt: &R,
+    alloc: Global,
+    worker: usize,
+    handle: &ThreadHandle,
+    poller: Poller,
+    inlet: Inlet<Arrival>,
+    upstream: &Upstream<'_>,
+    shared: &Shared,
+) -> Result<(), WireRunFault>
+where
+    R: Threads
+        + Wait
+        + Clock
+        + Net<Listener = TcpListener, Stream = TcpStream>
+        + Copy
+        + Send
+        + 'static,
+{
+    let mut seat = seat_of(alloc, worker, handle, poller, inlet, shared.workers.len())?;
+    for _ in rt.forever() {
+        if !serve_anew(rt, alloc, &mut seat, upstream, shared)? {
+            return Ok(());
+        }
+    }
+    unreachable!()
+}
+
+/// What the thread keeps, before its first proxy.
+fn seat_of<'a>(
+    alloc: Global,
+    worker: usize,
+    handle: &'a ThreadHandle,
+    poller: Poller,
+    inlet: Inlet<Arrival>,
+    workers: usize,
+) -> Result<Seat<'a>, WireRunFault> {
+    let look_ups = LookUps::new(alloc, clone_registry(&poller)?)?;
+    let unfinished = Unfinished::new(alloc, workers)?;
+    let lingering = Lingering::new(alloc)?;
+    let shared_lingering = share(&lingering)?;
+    let arrivals = Arrivals::new(
+        alloc,
+        inlet,
+        handle,
+        clone_registry(&poller)?,
+        unfinished,
+        shared_lingering,
+    );
+    Ok(Seat {
+        worker,
+        handle,
+        poller,
+        arrivals,
+        lingering,
+        look_ups,
+        renewal: Renewal::new(),
+        table: None,
+        cut: 0,
+    })
+}
+
+/// Serves by one proxy. True where another is to begin.
+fn serve_anew<R>(
+    rt: &R,
+    alloc: Global,
+    seat: &mut Seat<'_>,
+    upstream: &Upstream<'_>,
+    shared: &Shared,
+) -> Result<bool, WireRunFault>
+where
+    R: Threads
+        + Wait
+        + Clock
+        + Net<Listener = TcpListener, Stream = TcpStream>
+        + Copy
+        + Send
+        + 'static,
+{
+    serve::<Brand, R>(rt, alloc, Opened::new(), seat, upstream, shared)
+}
+
+/// Serves by a proxy whose map's history has this name. True where another is to begin.
 fn serve<J, R>(
     rt: &R,
     alloc: Global,
     opened: Opened,
+    seat: &mut Seat<'_>,
     upstream: &Upstream<'_>,
     shared: &Shared,
-    handle: &ThreadHandle,
-    poller: Poller,
-    inlet: Inlet<Arrival>,
-) -> Result<(), WireRunFault>
+) -> Result<bool, WireRunFault>
 where
     J: Naming,
     R: Threads
@@ -116,51 +191,29 @@ where
         + 'static,
     requires name { book_of opened ≡ J.book }
 {
-    let look_ups = LookUps::new(alloc, clone_registry(&poller)?)?;
-    let unfinished = Unfinished::new(alloc, shared.workers.len())?;
-    let lingering = Lingering::new(alloc)?;
-    let shared_lingering = share(&lingering)?;
-    let mut arrivals = Arrivals::new(
-        alloc,
-        inlet,
-        handle,
-        clone_registry(&poller)?,
-        unfinished,
-        shared_lingering,
-    );
-    let gate = SocketGate::new(&handle.ready);
-    let dial = upstream.dial(rt, alloc, handle, &poller, &look_ups)?;
-    let seeds = upstream.seed_table(alloc)?;
+    let gate = SocketGate::new(seat.ready());
+    let dial = upstream.dial(rt, alloc, seat.handle, &seat.poller, &seat.look_ups)?;
+    let nodes = seat.next_table(alloc, upstream)?;
+    let count = count_nodes(&nodes);
     let mut engine: SocketEngine<'_, '_, '_, J, R> = Engine::new(
-        alloc, rt, opened, &gate, dial, seeds, None,
+        alloc, rt, opened, &gate, dial, nodes, None,
     )?;
-    match serve_until_stopped(
-        rt,
-        &mut engine,
-        &mut arrivals,
-        &lingering,
-        &look_ups,
-        shared,
-        &handle.ready,
-        poller,
-    ) {
-        Ok(()) => Ok(()),
-        Err(_) => Err(WireRunFault::NoMemory),
-    }
+    seat.begin(count);
+    let Ok(again) = serve_until_stopped(rt, &mut engine, seat, shared) else {
+        return Err(WireRunFault::NoMemory);
+    };
+    seat.cut(engine.end(WorkerOutcome::Stopped));
+    Ok(again)
 }
 
 /// Takes the clients that were dealt, turns the proxy, polls now and then, and sleeps where nothing moved: until a socket is
-/// ready, another thread wakes this one, or the first of what waits is due.
+/// ready, another thread wakes this one, or the first of what waits is due. True where another proxy is to begin.
 fn serve_until_stopped<'g, 'r, 'b, J, R>(
     rt: &R,
     engine: &mut SocketEngine<'g, 'r, 'b, J, R>,
-    arrivals: &mut Arrivals<'_>,
-    lingering: &Lingering,
-    look_ups: &SharedLookUps,
+    seat: &mut Seat<'_>,
     shared: &Shared,
-    ready: &ReadySet,
-    mut poller: Poller,
-) -> Result<(), EngineFault>
+) -> Result<bool, EngineFault>
 where
     J: Naming,
     R: Threads
@@ -171,28 +224,33 @@ where
         + Send
         + 'static,
 {
+    let ready = seat.ready();
     let mut pace = Pace::new();
     for _ in rt.forever() {
         if shared.is_stopped() {
-            return Ok(());
+            return Ok(false);
         }
         ready.begin_turn(rt);
-        let came = if shared.is_draining() {
-            drain(engine, arrivals, lingering)
+        let came = if shared.is_draining() || seat.renewal.is_under_way() {
+            drain(engine, &mut seat.arrivals, &seat.lingering)
         } else {
-            hand_over(engine, arrivals)
+            hand_over(engine, &mut seat.arrivals)
         };
-        let looked_up = advance_look_ups(rt, look_ups);
+        let looked_up = advance_look_ups(rt, &seat.look_ups);
         let turned = engine.turn()?;
-        if let Some(until) = lingering.advance(ready.micros()) {
+        if !shared.is_draining() && seat.renew(engine.dial(), turned.served) {
+            return Ok(true);
+        }
+        if let Some(until) = seat.lingering.advance(ready.micros()) {
             ready.wake_at(until.div_ceil(1000));
         }
-        match pace.after(came | looked_up | turned.moved | ready.had_traffic()) {
+        let moved = came | looked_up | ready.had_traffic();
+        match behind_turn(&mut pace, engine, &turned, moved) {
             Next::Turn => {}
-            Next::Poll => poller.poll_now(ready),
+            Next::Poll => seat.poller.poll_now(ready),
             Next::Sleep => {
                 ready.wake_at(turned.next_due.unwrap_or(u64::MAX));
-                poller.sleep(ready, ready.millis_to_sleep());
+                seat.poller.sleep(ready, ready.millis_to_sleep());
             }
         }
     }

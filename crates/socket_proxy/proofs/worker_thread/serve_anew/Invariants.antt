@@ -1,5 +1,5 @@
 use Rattle.proxy_lanes.specs.Opened.{book_of}
-use Rattle.socket_proxy.proofs.worker_thread.run_worker.Given as goal
+use Rattle.socket_proxy.proofs.worker_thread.serve_anew.Given as goal
 
 -- the history that was just opened
 abbrev pub ghosts-serve : goal.ghosts-serve

@@ -1,0 +1,104 @@
+//! When a worker begins anew with another table of nodes.
+
+ghost use Rattle.std.specs.Prelude.{◌≡◌, ◌↔◌, IsTrue, Some};
+ghost use Rattle.socket_proxy.specs.Renewal.{IsApart, IsEmptied};
+
+/// Milliseconds that pass at least from one time that a worker lets its clients go to the next.
+const APART_MILLIS: u64 = 10_000;
+/// Seconds after which the clients are cut that are left.
+pub(crate) const CUT_SECONDS: u64 = 30;
+
+const CUT_MILLIS: u64 = CUT_SECONDS * 1_000;
+
+/// How far a worker is that begins anew: it lets its clients go, and then goes on with another proxy.
+#[derive(Drop)]
+pub(crate) struct Renewal {
+    /// When it last began to let its clients go, in milliseconds.
+    began: Option<u64>,
+    is_under_way: bool,
+}
+
+/// What comes next.
+#[derive(Clone, Copy, PartialEq, Eq)]
+pub(crate) enum Step {
+    /// Nothing is new.
+    Rest,
+    /// The clients are to be let go.
+    LetGo,
+    /// They are gone, or to be cut: the worker begins anew.
+    Begin,
+}
+
+impl Renewal {
+    /// It never began anew.
+    pub(crate) fn new() -> Renewal {
+        Renewal {
+            began: None,
+            is_under_way: false,
+        }
+    }
+
+    /// Whether the clients are being let go.
+    pub(crate) fn is_under_way(&self) -> bool {
+        self.is_under_way
+    }
+
+    /// What comes next at this time, in milliseconds, where another table is wanted or not, and all clients are gone or not.
+    pub(crate) fn step(&mut self, wanted: bool, served: bool, now: u64) -> Step
+        ensures apart { result ≡ Step.LetGo → IsApart self.old.began now }
+        ensures noted { result ≡ Step.LetGo → self.new.began ≡ Some now }
+        ensures emptied { result ≡ Step.Begin → IsEmptied served self.old.began now }
+    {
+        if self.is_under_way {
+            if !is_emptied(served, self.began, now) {
+                return Step::Rest;
+            }
+            return Step::Begin;
+        }
+        if !wanted {
+            return Step::Rest;
+        }
+        if !is_apart(self.began, now) {
+            return Step::Rest;
+        }
+        self.began = Some(now);
+        self.is_under_way = true;
+        Step::LetGo
+    }
+
+    /// When something may come next without any news, in milliseconds.
+    pub(crate) fn next_due(&self, wanted: bool) -> Option<u64> {
+        let began = self.began?;
+        if self.is_under_way {
+            return Some(began.saturating_add(CUT_MILLIS));
+        }
+        wanted.then_some(began.saturating_add(APART_MILLIS))
+    }
+
+    /// The worker has begun anew. True where it was on its way to that.
+    pub(crate) fn end(&mut self) -> bool {
+        let was_under_way = self.is_under_way;
+        self.is_under_way = false;
+        was_under_way
+    }
+}
+
+/// Whether it may begin anew at this time, where it last did at that.
+fn is_apart(last: Option<u64>, now: u64) -> bool
+    ensures { IsTrue result ↔ IsApart last now }
+{
+    match last {
+        None => true,
+        Some(last) => now.saturating_sub(last) >= APART_MILLIS,
+    }
+}
+
+/// Whether all clients are gone that were to go at that time, or what is left is to be cut.
+fn is_emptied(served: bool, began: Option<u64>, now: u64) -> bool
+    ensures { IsTrue result ↔ IsEmptied served began now }
+{
+    match began {
+        None => served,
+        Some(began) => served || now.saturating_sub(began) >= CUT_MILLIS,
+    }
+}
