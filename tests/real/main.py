@@ -10,6 +10,7 @@ from concurrent.futures import ThreadPoolExecutor
 
 # in the order in which they run
 import cases_commands
+import cases_relay_table
 import cases_texts
 import cases_pipelines
 import cases_crowd
@@ -23,6 +24,7 @@ import cases_others
 import cases_starts
 import cases_ends
 import cases_seeds
+import cases_tables
 import cases_scripted
 import cases_blocks
 import cases_idle
