@@ -9,6 +9,7 @@ import time
 import urllib.parse
 import urllib.request
 
+from cases_idle import MOST_COMMANDS, MOST_PERCENT, percent_of_commands, percent_of_core
 from client import request
 from cluster import OwnProxy, Proxy, end, free_ports, wait_until
 from harness import Together, case, check_same, check_time
@@ -168,3 +169,16 @@ def the_page_holds_no_client_up(world):
             check_same(curl.wait(60), 0, "curl")
         check_time(beside < alone * 1.1, f"a median of {beside * 1000:.2f} ms beside {alone * 1000:.2f} ms")
         return f"{alone * 1000:.2f} ms, {beside * 1000:.2f} ms beside {ASKED} pages"
+
+
+@case
+def a_page_costs_nothing_while_idle(world):
+    """Nobody asks for it, and a client that was served says nothing."""
+    with Page(world, world.cluster.nodes[0].port, "idle page") as page, page.proxy.client() as client:
+        client.value("GET", "a")
+        check_same(page.get("/healthz")[0], 200, "status of the health")
+        percent = percent_of_core(page.proxy.process)
+        most = max(MOST_PERCENT, percent_of_commands(page.proxy, MOST_COMMANDS))
+        note = f"{percent:.3f} % of a core, of {most:.1f}"
+        check_time(percent < most, note)
+        return note
