@@ -18,7 +18,7 @@ from table import Row, quoted, request
 
 PLAYS = 10_000
 # So many orders come at random, and so many rounds of all take the play to its end.
-ORDERS, TO_THE_END = 60, 40
+ORDERS, TO_THE_END = 60, 72
 # The numbers of the clients, and how many orders are given before the last one comes.
 CLIENTS, BEFORE = (0, 1, 4), 15
 # What may be ordered, some of it more often than the rest.

@@ -17,7 +17,7 @@ from table import Row, quoted, request
 SHARED_PLAYS = 10_000
 TAGS, PROXIES, CLIENTS = "pq", ("play", "second"), (0, 1)
 # So many commands has a client, so many things happen in a play, and so many rounds of all take it to its end.
-COMMANDS, EVENTS, TO_THE_END = 4, 60, 30
+COMMANDS, EVENTS, TO_THE_END = 4, 60, 72
 # What happens: orders of either proxy, a look at how far a client is, a client that is no proxy.
 HAPPENS = [*6 * ["play"], *6 * ["second"], "move", "move", "ends", "others", "others"]
 WORDS = [*4 * ["turn"], "serve 0", "serve 1", "serve 2", "serve 2", "serve 2", "cut"]
