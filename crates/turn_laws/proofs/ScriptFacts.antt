@@ -81,7 +81,7 @@ set-data = array (items_of (bulk (codes "SET") ∷ bulk key ∷ bulk (codes "5")
 abbrev pub get-data : Data
 get-data = array (items_of (bulk (codes "GET") ∷ bulk key ∷ []))
 
-spells-set : Spells full 8 set-bytes set-data
+pub spells-set : Spells full 8 set-bytes set-data
 unfolding length_in
 spells-set = (
   51 ∷ [],
@@ -112,7 +112,7 @@ spells-set = (
   ),
 )
 
-spells-get : Spells full 8 get-bytes get-data
+pub spells-get : Spells full 8 get-bytes get-data
 unfolding length_in
 spells-get = (
   50 ∷ [],

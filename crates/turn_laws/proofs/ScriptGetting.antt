@@ -21,7 +21,7 @@ use Rattle.turn_laws.specs.Wire.{Wire, Asks, Runs}
 use Rattle.turn_laws.specs.System.{System}
 use Rattle.turn_laws.specs.Steps.{SystemStep}
 use Rattle.turn_laws.specs.Scripts as script
-use Rattle.turn_laws.specs.Scripts.{key, five, ticket, plain, behind_asking, did, opening, moving, asking, setting as request_set, getting_key, refused as request_refused, followed, settling, story, Happens}
+use Rattle.turn_laws.specs.Scripts.{key, five, ticket, plain, behind_asking, did, opening, moving, asking, setting as request_set, getting_key, refused as request_refused, redirected, followed, settling, up_to_asking, story, Happens}
 use Rattle.turn_laws.proofs.Rings.{posts, takes, outlet_with}
 use Rattle.turn_laws.proofs.Scenes.{scene, and-then, put, at-worker, at-client, at-carrier, down-in}
 use Rattle.turn_laws.proofs.ScriptFacts.{k7, k8, k9, k10, k11, slot-is, in-held, key-moved, given-none, ask, told-ask, learns-ask, table, does-ask, does-get, fresh-alone, goes-alone}
@@ -38,7 +38,7 @@ module _ {C J : Type 0} (port : C) where
   abbrev l4 : LaneEnds (Newcomer C J)
   l4 = lane port up2 down2
 
-  abbrev l5 : LaneEnds (Newcomer C J)
+  abbrev pub l5 : LaneEnds (Newcomer C J)
   l5 = lane port up3 down2
 
   abbrev l6 : LaneEnds (Newcomer C J)
@@ -48,7 +48,7 @@ module _ {C J : Type 0} (port : C) where
   c l run a b = carrier l (run ∷ []) (a ∷ b ∷ []) false
 
   -- it has learnt the second node from ASK
-  abbrev learnt : LaneEnds (Newcomer C J) → PendingRun → Backend Wire → Backend Wire → CarrierModel (Newcomer C J) Wire
+  abbrev pub learnt : LaneEnds (Newcomer C J) → PendingRun → Backend Wire → Backend Wire → CarrierModel (Newcomer C J) Wire
   learnt l run a b = record (c l run a b) { nodes = table }
 
   -- after the second post, after ASK was taken, after the third post, and after the reply was taken
@@ -58,7 +58,7 @@ module _ {C J : Type 0} (port : C) where
   abbrev w4 : FinMap nat_cmp (ClientModel C) → WorkerModel C J
   w4 clients = worker clients (Some 0) (doors port) up2 down2 (one_more 0)
 
-  abbrev w5 : FinMap nat_cmp (ClientModel C) → WorkerModel C J
+  abbrev pub w5 : FinMap nat_cmp (ClientModel C) → WorkerModel C J
   w5 clients = worker clients (Some 0) (doors port) up3 down2 (one_more 0)
 
   abbrev w6 : FinMap nat_cmp (ClientModel C) → ℕ → WorkerModel C J
@@ -192,12 +192,12 @@ module _ {C J : Type 0} (port : C) where
     ),
   )
 
-  -- executed by the second node
+  -- sent on behind ASKING, which the second node served
   abbrev pub s7 : System C J
-  s7 = scene (w5 (t17 port)) (learnt l6 (pending None) idle opened) [] 2 k9 log5
+  s7 = scene (w5 (t17 port)) (learnt l5 (pending None) idle welcomed) [] 2 k8 log4
 
-  pub follows : FoldsTo SystemStep s6 script.followed s7
-  follows = (
+  pub redirects : FoldsTo SystemStep s6 script.redirected s7
+  redirects = (
     scene (w5 (t17 port)) (learnt l4 (pending None) idle new_backend) [] 1 k8 log4,
     at-client l4 0 (a13 port) (a14 port) (outlet_with up3) [] refl (put _ (a13 port) 0) (
       sent-on,
@@ -252,7 +252,7 @@ module _ {C J : Type 0} (port : C) where
             refl,
           ) (refl, (refl, tt)) refl ([], refl) refl,
           (
-            scene (w5 (t17 port)) (learnt l5 (pending None) idle welcomed) [] 2 k8 log4,
+            s7,
             (
               both-due,
               link 1 (wire 1 (Asks ∷ Runs ((ticket 1, script.get) ∷ []) ∷ []) [] false) (due.Asking ∷ due.Command (ticket 1) ∷ []),
@@ -266,81 +266,88 @@ module _ {C J : Type 0} (port : C) where
               refl,
               refl,
             ),
-            (
-              scene (w5 (t17 port)) (learnt l5 (pending None) idle both-served) [] 2 k9 log5,
-              (
-                welcomed,
-                link 1 (wire 1 (Runs ((ticket 1, script.get) ∷ []) ∷ []) (script.ok ∷ []) true) (due.Asking ∷ due.Command (ticket 1) ∷ []),
-                wire 1 [] (script.ok ∷ five ∷ []) false,
-                five ∷ [],
-                did 1 script.get five ∷ [],
-                refl,
-                refl,
-                refl,
-                inr (inl ([], (ticket 1, script.get) ∷ [], Reply five ∷ [], refl, refl, does-get, (refl, tt), refl, refl)),
-                refl,
-                refl,
-              ),
-              (
-                scene (w5 (t17 port)) (learnt l5 (pending None) idle one-left) [] 2 k9 log5,
-                at-carrier l5 (
-                  1,
-                  both-served,
-                  one-left,
-                  refl,
-                  (
-                    link 1 (wire 1 [] (script.ok ∷ five ∷ []) false) (due.Asking ∷ due.Command (ticket 1) ∷ []),
-                    link 1 (wire 1 [] (five ∷ []) false) (due.Command (ticket 1) ∷ []),
-                    (refl, (refl, refl, inr (script.ok, inr (refl, (refl, refl)), refl, refl))),
-                    inl refl,
-                    refl,
-                  ),
-                  refl,
-                ) (refl, (refl, tt)) refl ([], refl) refl,
-                (
-                  scene (w5 (t17 port)) (learnt l5 (pending None) idle fetched) [] 2 k9 log5,
-                  at-carrier l5 (
-                    1,
-                    one-left,
-                    fetched,
-                    refl,
-                    (
-                      link 1 (wire 1 [] (five ∷ []) false) (due.Command (ticket 1) ∷ []),
-                      link 1 (wire 1 [] [] false) [],
-                      ticket 1,
-                      Reply five,
-                      refl,
-                      (refl, (five, refl, inr (refl, (refl, refl)), refl, refl, refl)),
-                      refl,
-                    ),
-                    refl,
-                  ) (refl, (refl, tt)) refl ([], refl) refl,
-                  (
-                    s7,
-                    at-carrier l6 (
-                      1,
-                      fetched,
-                      opened,
-                      refl,
-                      (new_pending_told (ticket 1) (Reply five), refl, refl, inl (l5, l6, refl, refl, (refl, (_, refl, posts down2 (ticket 1, Reply five)))), refl),
-                      refl,
-                    ) (refl, (refl, tt)) refl ([], refl) refl,
-                    refl,
-                  ),
-                ),
-              ),
-            ),
+            refl,
           ),
         ),
       ),
     ),
   )
 
-  -- the client is answered, and the second node owns the slot
+  -- executed by the second node
   abbrev pub s8 : System C J
-  s8 = scene (w6 (t21 port) (one_more (one_more 0))) (learnt l6 (pending None) idle opened) [] 2 k11 log6
+  s8 = scene (w5 (t17 port)) (learnt l6 (pending None) idle opened) [] 2 k9 log5
 
-  pub answers : FoldsTo SystemStep s7 script.settling s8
+  pub follows : FoldsTo SystemStep s7 script.followed s8
+  follows = (
+    scene (w5 (t17 port)) (learnt l5 (pending None) idle both-served) [] 2 k9 log5,
+    (
+      welcomed,
+      link 1 (wire 1 (Runs ((ticket 1, script.get) ∷ []) ∷ []) (script.ok ∷ []) true) (due.Asking ∷ due.Command (ticket 1) ∷ []),
+      wire 1 [] (script.ok ∷ five ∷ []) false,
+      five ∷ [],
+      did 1 script.get five ∷ [],
+      refl,
+      refl,
+      refl,
+      inr (inl ([], (ticket 1, script.get) ∷ [], Reply five ∷ [], refl, refl, does-get, (refl, tt), refl, refl)),
+      refl,
+      refl,
+    ),
+    (
+      scene (w5 (t17 port)) (learnt l5 (pending None) idle one-left) [] 2 k9 log5,
+      at-carrier l5 (
+        1,
+        both-served,
+        one-left,
+        refl,
+        (
+          link 1 (wire 1 [] (script.ok ∷ five ∷ []) false) (due.Asking ∷ due.Command (ticket 1) ∷ []),
+          link 1 (wire 1 [] (five ∷ []) false) (due.Command (ticket 1) ∷ []),
+          (refl, (refl, refl, inr (script.ok, inr (refl, (refl, refl)), refl, refl))),
+          inl refl,
+          refl,
+        ),
+        refl,
+      ) (refl, (refl, tt)) refl ([], refl) refl,
+      (
+        scene (w5 (t17 port)) (learnt l5 (pending None) idle fetched) [] 2 k9 log5,
+        at-carrier l5 (
+          1,
+          one-left,
+          fetched,
+          refl,
+          (
+            link 1 (wire 1 [] (five ∷ []) false) (due.Command (ticket 1) ∷ []),
+            link 1 (wire 1 [] [] false) [],
+            ticket 1,
+            Reply five,
+            refl,
+            (refl, (five, refl, inr (refl, (refl, refl)), refl, refl, refl)),
+            refl,
+          ),
+          refl,
+        ) (refl, (refl, tt)) refl ([], refl) refl,
+        (
+          s8,
+          at-carrier l6 (
+            1,
+            fetched,
+            opened,
+            refl,
+            (new_pending_told (ticket 1) (Reply five), refl, refl, inl (l5, l6, refl, refl, (refl, (_, refl, posts down2 (ticket 1, Reply five)))), refl),
+            refl,
+          ) (refl, (refl, tt)) refl ([], refl) refl,
+          refl,
+        ),
+      ),
+    ),
+  )
+
+  -- the client is answered, and the second node owns the slot
+  abbrev pub s9 : System C J
+  s9 = scene (w6 (t21 port) (one_more (one_more 0))) (learnt l6 (pending None) idle opened) [] 2 k11 log6
+
+  pub answers : FoldsTo SystemStep s8 script.settling s9
   answers = (
     scene (w6 (t18 port) (one_more 0)) (learnt l6 (pending None) idle opened) [] 2 k9 log5,
     at-worker l6 [] refl (
@@ -371,7 +378,7 @@ module _ {C J : Type 0} (port : C) where
             scene (w6 (t21 port) (one_more (one_more 0))) (learnt l6 (pending None) idle opened) [] 2 k10 log6,
             (((refl, λ q e. given-none q), refl), refl),
             (
-              s8,
+              s9,
               (((refl, λ q e. given-none q), refl), refl),
               refl,
             ),
@@ -381,18 +388,21 @@ module _ {C J : Type 0} (port : C) where
     ),
   )
 
+  -- up to where the second request is on its way to the second node
+  pub begun : FrontIsWhole → FoldsTo SystemStep (s0 port) up_to_asking s7
+  begun law =
+      and-then SystemStep (s0 port) opening (s1 port) (moving ++ (asking ++ (request_set ++ (getting_key ++ (request_refused ++ redirected))))) s7 (opens port)
+      (and-then SystemStep (s1 port) moving (s2 port) (asking ++ (request_set ++ (getting_key ++ (request_refused ++ redirected)))) s7 (moves port)
+      (and-then SystemStep (s2 port) asking (s3 port) (request_set ++ (getting_key ++ (request_refused ++ redirected))) s7 (asks port law)
+      (and-then SystemStep (s3 port) request_set (s4 port) (getting_key ++ (request_refused ++ redirected)) s7 (sets port)
+      (and-then SystemStep (s4 port) getting_key s5 (request_refused ++ redirected) s7 gives
+      (and-then SystemStep s5 request_refused s6 redirected s7 refuses redirects)))))
+
   pub happens : FrontIsWhole → Happens C J script.moves story
   happens law = record {
     start = s0 port;
-    left = s8;
+    left = s9;
     begins = starts port;
-    goes =
-        and-then SystemStep (s0 port) opening (s1 port) (moving ++ (asking ++ (request_set ++ (getting_key ++ (request_refused ++ (followed ++ settling)))))) s8 (opens port)
-        (and-then SystemStep (s1 port) moving (s2 port) (asking ++ (request_set ++ (getting_key ++ (request_refused ++ (followed ++ settling))))) s8 (moves port)
-        (and-then SystemStep (s2 port) asking (s3 port) (request_set ++ (getting_key ++ (request_refused ++ (followed ++ settling)))) s8 (asks port law)
-        (and-then SystemStep (s3 port) request_set (s4 port) (getting_key ++ (request_refused ++ (followed ++ settling))) s8 (sets port)
-        (and-then SystemStep (s4 port) getting_key s5 (request_refused ++ (followed ++ settling)) s8 gives
-        (and-then SystemStep s5 request_refused s6 (followed ++ settling) s8 refuses
-        (and-then SystemStep s6 followed s7 settling s8 follows answers))))));
+    goes = and-then SystemStep (s0 port) up_to_asking s7 (followed ++ settling) s9 (begun law) (and-then SystemStep s7 followed s8 settling s9 follows answers);
     log = refl;
   }

@@ -144,15 +144,20 @@ refused =
     ∷ AtWorker 0 (Took (ticket 1) (Ask slot 1))
     ∷ []
 
--- the second node executes it behind ASKING
-abbrev pub followed : List SystemEvent
-followed =
+-- it goes to the second node behind ASKING, which is served
+abbrev pub redirected : List SystemEvent
+redirected =
     AtWorker 0 (Did 0 (Posted (behind_asking 1 1 get)))
     ∷ AtCarrier carrier.Took
     ∷ AtCarrier carrier.Opened
     ∷ AtCarrier carrier.Sent
     ∷ AtNode 1 Plain
-    ∷ AtNode 1 Plain
+    ∷ []
+
+-- the second node executes it
+abbrev pub followed : List SystemEvent
+followed =
+    AtNode 1 Plain
     ∷ AtCarrier (AtBackend backend.Waited)
     ∷ AtCarrier (AtBackend backend.Fetched)
     ∷ AtCarrier carrier.Gave
@@ -169,8 +174,12 @@ settling =
     ∷ Moved (Release slot)
     ∷ []
 
+-- all of it until ASKING was served
+abbrev pub up_to_asking : List SystemEvent
+up_to_asking = opening ++ (moving ++ (asking ++ (setting ++ (getting_key ++ (refused ++ redirected)))))
+
 abbrev pub moves : List SystemEvent
-moves = opening ++ (moving ++ (asking ++ (setting ++ (getting_key ++ (refused ++ (followed ++ settling))))))
+moves = up_to_asking ++ (followed ++ settling)
 
 -- what is seen of it all
 abbrev pub story : List Mark

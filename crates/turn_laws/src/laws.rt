@@ -4,6 +4,7 @@ ghost use Rattle.turn_laws.specs.Walks.{EveryWalk};
 ghost use Rattle.turn_laws.specs.Settling.{Settling, SettlingAfter};
 ghost use Rattle.turn_laws.specs.ClientOutput.{AllClientsAreWritten, ClientsAreWritten};
 ghost use Rattle.turn_laws.specs.BytesHeadline.{HeadlineOfBytes};
+ghost use Rattle.turn_laws.specs.ByteStory.{HeadlineHappens};
 ghost use Rattle.turn_laws.specs.LogOutput.{AnswersWereTold, LogIsWritten, SharedAnswersWereTold, SharedLogIsWritten};
 ghost use Rattle.turn_laws.specs.Arrivals.{ArrivalsAreSent, SharedArrivalsAreSent};
 ghost use Rattle.turn_laws.specs.AnyPort.{AnyClients, AnyClientTurns, AnyPorts, WiresStand};
@@ -196,6 +197,15 @@ pub fn headline_of_bytes<C: Drop, J: Naming>()
     front_is_whole();
     front_is_faulty();
     parts_of_plans_are_plain();
+}
+
+/// The headline in bytes speaks of something: under all its premises a system and others can make these steps, from a start whose nodes
+/// hold data, where a slot moves, a connection breaks in the midst of a request, and a client reads slowly; and what it says holds of them.
+pub fn bytes_happen<C: Drop, J: Naming>()
+    ensures { HeadlineHappens C J }
+{
+    headline_of_bytes::<C, J>();
+    front_is_whole();
 }
 
 /// What the log shows arrived for a client is what this client sent: all parts of the requests that its bytes begin with, in order, each
