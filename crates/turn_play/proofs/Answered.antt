@@ -217,7 +217,9 @@ module _ (table : List Endpoint) (k : ClusterModel) (node : ℕ) (asking : Bool)
       by Asks fault.OutOfOrder x = absurd (let e = x.1 in cc)
       by (Runs parts) fault.OutOfOrder x = absurd x.1
       by Lists fault.OutOfOrder x = absurd (let e = x.1 in cc)
-      by item fault.TooLong x = tt
+      by Asks fault.TooLong x = absurd (let e = x.1 in cc)
+      by (Runs parts) fault.TooLong x = absurd x.1
+      by Lists fault.TooLong x = absurd (let e = x.1 in cc)
 
   -- a run's call that was refused, as the item's
   pub commands-failed : (parts : List PartModel) (r : Result (VecDeque Value Global) PlayFault) → IfErr r (λ why. (k' ≡ k) × CannotServeRun table k node asking parts v why) → IfErr r (λ why. (k' ≡ k) × CannotBeServed table k node asking (Runs (map unnumbered parts)) v why)

@@ -19,6 +19,7 @@ mod Said
 pub mod FirstValues
 pub mod Heard
 pub mod ReadBack
+pub mod Overlong
 pub mod Answered
 pub mod Streamed
 pub mod Hears

@@ -1,8 +1,9 @@
 -- What each order does is steps of a system.
-use Rattle.std.proofs.Common.{◌≡◌, ◌≤◌, ◌<◌, ◌-◌, inl, inr, ℕ, zero, suc, List, [], ◌∷◌, Ok, Err, length, take, drop, get_or, refl, sym, ap, subst, arith}
+use Rattle.std.proofs.Common.{◌≡◌, ◌≤◌, ◌<◌, ◌-◌, inl, inr, ℕ, zero, suc, List, [], ◌∷◌, ◌++◌, Ok, Err, length, take, drop, get_or, refl, sym, ap, subst, arith}
 use Rattle.std.specs.Prelude.{All, Result}
 use Rattle.std.proofs.lemmas.List.Elements.{All-head, All-tail}
 use Rattle.node_model.specs.Nodes.{ClusterModel}
+use Rattle.node_model.specs.declared.role.Verdict.{Verdict}
 use Rattle.node_model.specs.declared.standing.MoveFault.TheVariants as cause
 use Rattle.proxy_turns.specs.Port.{Moves}
 use Rattle.proxy_engine.specs.declared.turned.Turned.{Turned}
@@ -19,7 +20,7 @@ use Rattle.turn_play.specs.declared.order.Order.TheVariants as order
 use Rattle.turn_play.specs.Faults.{of_turn}
 use Rattle.turn_play.specs.May.{ClusterMoves, MayMoveNow}
 use Rattle.turn_play.specs.Moving.{MoveOutcome, MovesOrNot, event_of}
-use Rattle.turn_play.specs.Obeying.{IsOurs, IsTurned, Obeys, ObeysAll, ObeyedIsSound, ObeyedIsSoundBeside, StaysInOrder}
+use Rattle.turn_play.specs.Obeying.{EndsTooLong, IsOurs, IsTurned, Obeys, ObeysAll, ObeyedIsSound, ObeyedIsSoundBeside, ServesNode, StaysInOrder}
 use Rattle.turn_play.specs.Played.{PlaysRefine}
 use Rattle.turn_laws.specs.Steps.{SystemEvent, Moved}
 use Rattle.turn_laws.specs.Sharing.{SharedEvent}
@@ -154,6 +155,18 @@ module _ (C J : Type 0) (moves : Moves C) (gives_none takes_none : C → Type 0)
   pub obeyed-is-sound-beside : PlaysRefineBeside C J → ObeyedIsSoundBeside C J moves gives_none takes_none
   obeyed-is-sound-beside refine old new orders result x stays = soundly-beside refine old new (obeyed-all-beside orders old result new stays x)
 
+-- ---- what ends so
+
+no-turn : (why : EngineFault) → fault.TooLong ≡ of_turn why → ⊥
+no-turn cause_of.NoMemory is = cc
+no-turn cause_of.OutOfOrder is = cc
+
+no-end : (result : Result (Unit {0}) PlayFault) → result ≡ Err fault.TooLong → result ≡ Ok tt → ⊥
+no-end result is fine = cc
+
+one-fault : (result : Result (Unit {0}) PlayFault) (why : PlayFault) → result ≡ Err fault.TooLong → result ≡ Err why → why ≡ fault.TooLong
+one-fault result why is so = cc
+
 -- ---- the next order
 
 -- a list that is not empty, by what stands first
@@ -185,3 +198,32 @@ module _ {C J : Type 0} (moves : Moves C) (gives_none takes_none : C → Type 0)
   pub all-obeyed : (first : PlayModel C J) (orders : List Order) (now : PlayModel C J) (rest : List Order) → length rest < 1 → GoesOn first orders now rest → ObeysAll moves gives_none takes_none first orders (Ok tt) now
   all-obeyed first orders now [] none goes = goes (Ok tt) now (refl, refl)
   all-obeyed first orders now (what ∷ rest) none goes = absurd (omega (arith, none))
+
+  -- ---- a reply that is too long
+
+  -- no other order ends so
+  was-to-serve : (old : PlayModel C J) (what : Order) (new : PlayModel C J) → Obeys moves gives_none takes_none old what (Err fault.TooLong) new
+      → (node : ℕ) × (verdict : Verdict) × (what ≡ order.Serve node verdict) × ServesNode old node verdict (Err fault.TooLong) new
+  was-to-serve old order.Turn new x = absurd (no-turn x.0 x.1)
+  was-to-serve old (order.Serve node verdict) new x = (node, verdict, refl, x)
+  was-to-serve old (order.Break node) new x = absurd (no-end (Err fault.TooLong) refl x.0)
+  was-to-serve old (order.Cut node most) new x = absurd (no-end (Err fault.TooLong) refl x.0)
+  was-to-serve old (order.Move move) new x = absurd x.0
+  was-to-serve old (order.Others node asking parts) new x = absurd x.0
+
+  up-to : (orders : List Order) (old new : PlayModel C J) → ObeysAll moves gives_none takes_none old orders (Err fault.TooLong) new
+      → (before : List Order) × (node : ℕ) × (verdict : Verdict) × (after : List Order) × (mid : PlayModel C J)
+      × (orders ≡ before ++ order.Serve node verdict ∷ after) × ObeysAll moves gives_none takes_none old before (Ok tt) mid × ServesNode mid node verdict (Err fault.TooLong) new
+  up-to [] old new x = absurd (no-end (Err fault.TooLong) refl x.0)
+  up-to (what ∷ orders) old new (inl x) =
+      let u = up-to orders x.0 new x.2 in
+      (what ∷ u.0, u.1, u.2, u.3, u.4, ap (λ os. what ∷ os) u.5, inl (x.0, x.1, u.6), u.7)
+  up-to (what ∷ orders) old new (inr x) =
+      let s = was-to-serve old what new (subst (λ why. Obeys moves gives_none takes_none old what (Err why) new) (one-fault (Err fault.TooLong) x.0 refl x.1) x.2) in
+      ([], s.0, s.1, orders, old, ap (λ w. w ∷ orders) s.2, (refl, refl), s.3)
+
+  pub ends-too-long : ObeyedIsSoundBeside C J moves gives_none takes_none → (old : PlayModel C J) (orders : List Order) (result : Result (Unit {0}) PlayFault) (new : PlayModel C J) → ObeysAll moves gives_none takes_none old orders result new
+      → EndsTooLong moves gives_none takes_none old orders result new
+  ends-too-long sound old orders result new x is =
+      let u = up-to orders old new (subst (λ r. ObeysAll moves gives_none takes_none old orders r new) is x) in
+      (u.0, u.1, u.2, u.3, u.4, u.5, u.6, sound old u.4 u.0 (Ok tt) u.6 tt, u.7)

@@ -168,10 +168,6 @@ item-spelled room vs i v lt is s t =
 pub items-spelled : (room : ℕ) (vs : List Value) (i : ℕ) (ds : List Data) → length vs ≤ i → map data_of vs ≡ ds → length ds ≤ 1048576 → CanAllBeSpelled room (map data_of (take i vs)) → CanBeSpelled (suc room) (array (items_of ds))
 items-spelled room vs i ds past is few s = array-spelled room ds few (subst (CanAllBeSpelled room) (ap (map data_of) (take_all i vs past) ∙ is) s)
 
--- an array with room for what stands in it
-pub room-back : (room : ℕ) (d : Data) → 0 < room → CanBeSpelled (suc (room - 1)) d → CanBeSpelled room d
-room-back room d some s = subst (λ n. CanBeSpelled n d) (let back : suc (room - 1) ≡ room = omega (arith, some) in back) s
-
 -- ---- values that were looked at one by one
 
 below-or-at : (k n : ℕ) → k < n + 1 → (k < n) ⊎ (k ≡ n)

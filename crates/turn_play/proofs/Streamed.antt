@@ -108,7 +108,7 @@ module _ (old : StreamModel) (unserved spelled : List ℕ) (replies : List Value
       by fault.NoMemory x = (x, same)
       by fault.NotServed x = (subst (λ b. CannotBeServed table k node b item verdict fault.NotServed) (ap (λ (s : StreamModel). s.asking) view) x.1, x.0, same)
       by fault.OutOfOrder x = absurd x
-      by fault.TooLong x = tt
+      by fault.TooLong x = (x.0, subst (λ b. IsReplied table k node b item verdict k' x.0) (ap (λ (s : StreamModel). s.asking) view) x.1, x.2, same)
 
   pub item-served : (table : List Endpoint) (k : ClusterModel) (node : ℕ) (verdict : Verdict) (k' : ClusterModel) (item : Item) (count : ℕ) (said : List Value)
       → ReadsItem unserved item (drop count unserved) → IsReplied table k node asking item verdict k' said → All IsReadable said
@@ -142,7 +142,7 @@ item-failed table k node old item rest verdict why k' new reads x result is = su
     by fault.NoMemory x = x
     by fault.NotServed x = (inr (inr (item, rest, reads, x.0)), x.1, x.2)
     by fault.OutOfOrder x = absurd x
-    by fault.TooLong x = tt
+    by fault.TooLong x = (item, rest, x.0, reads, x.1, x.2, x.3)
 
 -- ---- what a stream promises of its calls
 

@@ -24,7 +24,7 @@ use Rattle.turn_play.specs.declared.fault.PlayFault.{PlayFault}
 use Rattle.turn_play.specs.declared.fault.PlayFault.TheVariants.{NoMemory, NotServed, OutOfOrder, TooLong}
 use Rattle.turn_play.specs.Hearing.{unnumbered}
 use Rattle.turn_play.specs.Serving.{CannotServeRun, IsRefusal, okay}
-use Rattle.turn_play.specs.Stream.{BlockDone, CannotBeServed, IsReplied, exec_aborted, queued}
+use Rattle.turn_play.specs.Stream.{AreTooLong, BlockDone, CannotBeServed, IsReplied, exec_aborted, queued}
 
 -- ---- what can be read back
 
@@ -82,10 +82,11 @@ RefuseOutcome table tolds (Err NotServed) =
 RefuseOutcome table tolds (Err OutOfOrder) = ⊥
 RefuseOutcome table tolds (Err TooLong) = ⊥
 
--- the replies, each of which can be read; after want of memory, or where it can't be served, nothing has changed
+-- The replies, each of which can be read. After want of memory, or where it can't be served, nothing has changed. Where it was served, but
+-- the replies can't be read, there are none.
 abbrev pub Answers : List Endpoint → ClusterModel → ℕ → Bool → Item → Verdict → Result (VecDeque Value Global) PlayFault → ClusterModel → Type 0
 Answers table k node asking item verdict (Ok replies) k' = IsReplied table k node asking item verdict k' replies.items × All IsReadable replies.items
 Answers table k node asking item verdict (Err NoMemory) k' = k' ≡ k
 Answers table k node asking item verdict (Err NotServed) k' = (k' ≡ k) × CannotBeServed table k node asking item verdict NotServed
 Answers table k node asking item verdict (Err OutOfOrder) k' = ⊥
-Answers table k node asking item verdict (Err TooLong) k' = Unit {0}
+Answers table k node asking item verdict (Err TooLong) k' = (replies : List Value) × IsReplied table k node asking item verdict k' replies × AreTooLong replies

@@ -1,6 +1,6 @@
 -- What each order does to a play, and where a fault ends it.
 -- A turn that moved nothing has left nothing to do: that is why a turn can't be left out.
-use Rattle.std.specs.Prelude.{◌≡◌, ◌⊎◌, ℕ, Bool, List, All, [], ◌∷◌, Result, Ok, Err}
+use Rattle.std.specs.Prelude.{◌≡◌, ◌⊎◌, ℕ, Bool, List, All, [], ◌∷◌, ◌++◌, Result, Ok, Err}
 use Rattle.key_split.specs.PartModel.{PartModel}
 use Rattle.node_model.specs.declared.role.Verdict.{Verdict}
 use Rattle.proxy_turns.specs.Port.{Moves}
@@ -71,6 +71,15 @@ module _ {C J : Type 0} where
     ObeysAll old (order ∷ orders) result new =
         ((mid : PlayModel C J) × Obeys old order (Ok tt) mid × ObeysAll mid orders result new)
         ⊎ ((why : PlayFault) × (result ≡ Err why) × Obeys old order (Err why) new)
+
+module _ {C J : Type 0} (moves : Moves C) (gives_none takes_none : C → Type 0) where
+  -- Where an order ended so, it was one to serve, whose node did commands with a reply that is longer than any reader takes. The orders before
+  -- it were obeyed, and what they did is sound.
+  abbrev pub EndsTooLong : PlayModel C J → List Order → Result (Unit {0}) PlayFault → PlayModel C J → Type 0
+  EndsTooLong old orders result new = result ≡ Err fault.TooLong
+      → (before : List Order) × (node : ℕ) × (verdict : Verdict) × (after : List Order) × (mid : PlayModel C J)
+      × (orders ≡ before ++ order.Serve node verdict ∷ after) × ObeysAll moves gives_none takes_none old before (Ok tt) mid × PlaysSoundlyBeside old mid
+      × ServesNode mid node verdict (Err fault.TooLong) new
 
 -- it lets nobody else act
 abbrev pub IsOurs : Order → Type 0

@@ -106,6 +106,16 @@ StreamServes table k node old verdict k' new =
     × ReadsItem old.unserved item new.unserved × IsReplied table k node old.asking item verdict k' replies × Splits full bytes replies []
     × (new ≡ record old { asking = asking_after item old.asking; unserved = new.unserved; unread = old.unread ++ bytes })
 
+-- no bytes spell these values, one after another, for any reader: one of them is past the largest limits
+abbrev pub AreTooLong : List Value → Type 0
+AreTooLong values = (bytes : List ℕ) → Splits full bytes values [] → ⊥
+
+-- The node did what the item that it reads first says, but no bytes spell its replies: it wrote none, and the item stands there still.
+abbrev pub CannotReply : List Endpoint → ClusterModel → ℕ → StreamModel → Verdict → ClusterModel → StreamModel → Type 0
+CannotReply table k node old verdict k' new =
+    (item : Item) × (rest : List ℕ) × (replies : List Value)
+    × ReadsItem old.unserved item rest × IsReplied table k node old.asking item verdict k' replies × AreTooLong replies × (new ≡ old)
+
 -- why an item was not served: as of the commands of a run; of any other, there was no memory
 abbrev pub CannotBeServed : List Endpoint → ClusterModel → ℕ → Bool → Item → Verdict → PlayFault → Type 0
 CannotBeServed table k node asking Asks verdict fault = fault ≡ NoMemory
@@ -122,12 +132,12 @@ IsUnserved table k node stream verdict fault =
     (fault ≡ NoMemory) ⊎ ((fault ≡ NotServed) × HasNone stream)
     ⊎ ((item : Item) × (rest : List ℕ) × ReadsItem stream.unserved item rest × CannotBeServed table k node stream.asking item verdict fault)
 
--- What stands first was served, or no item stands whole before the node. After a fault nothing has changed; but a node may do commands
--- whose reply is longer than any reader takes: of that order nothing is said.
+-- What stands first was served, or no item stands whole before the node. After a fault nothing has changed, but where a node did commands
+-- whose reply is longer than any reader takes.
 abbrev pub StreamOutcome : List Endpoint → ClusterModel → ℕ → StreamModel → Verdict → Result Bool PlayFault → ClusterModel → StreamModel → Type 0
 StreamOutcome table k node old verdict (Ok true) k' new = StreamServes table k node old verdict k' new
 StreamOutcome table k node old verdict (Ok false) k' new = HasNone old × (k' ≡ k) × (new ≡ old)
 StreamOutcome table k node old verdict (Err NoMemory) k' new = (k' ≡ k) × (new ≡ old)
 StreamOutcome table k node old verdict (Err NotServed) k' new = IsUnserved table k node old verdict NotServed × (k' ≡ k) × (new ≡ old)
 StreamOutcome table k node old verdict (Err OutOfOrder) k' new = ⊥
-StreamOutcome table k node old verdict (Err TooLong) k' new = Unit {0}
+StreamOutcome table k node old verdict (Err TooLong) k' new = CannotReply table k node old verdict k' new

@@ -2,6 +2,7 @@
 use Rattle.std.specs.Prelude.{◌≡◌, ◌⊎◌, ◌<◌, ◌≤◌, ℕ, List, [], ◌++◌, Result, Ok, Err, length, take, drop}
 use Rattle.std.proofs.Common.{refl, sym, ap, ◌∙◌}
 use Rattle.std.proofs.lemmas.List.{append-nil, append_assoc}
+use Rattle.resp_wire.specs.declared.value.Value.{Value}
 use Rattle.slot_map.specs.Table.{Endpoint}
 use Rattle.node_link.specs.declared.stream.Flow.{Flow}
 use Rattle.node_link.specs.declared.stream.Flow.TheVariants as flow
@@ -11,7 +12,7 @@ use Rattle.turn_laws.specs.ByteWires.{FlowsTo}
 use Rattle.turn_laws.specs.Wire.{Item}
 use Rattle.turn_play.specs.declared.fault.PlayFault.{PlayFault}
 use Rattle.turn_play.specs.declared.fault.PlayFault.TheVariants.{NoMemory, NotServed, OutOfOrder, TooLong}
-use Rattle.turn_play.specs.Stream.{CannotBeServed, StreamModel, StreamMoves, StreamServes, far_end}
+use Rattle.turn_play.specs.Stream.{AreTooLong, CannotBeServed, IsReplied, StreamModel, StreamMoves, StreamServes, far_end}
 
 -- ---- moves
 
@@ -54,10 +55,11 @@ WritesSome old bytes flow.Gone new = new ≡ old
 
 -- ---- an item
 
--- the first item was served, or it was not and nothing has changed
+-- the first item was served, or it was not and nothing has changed, or its commands were done and the replies can't be written
 abbrev pub ServesItem : List Endpoint → ClusterModel → ℕ → StreamModel → Item → Verdict → Result (Unit {0}) PlayFault → ClusterModel → StreamModel → Type 0
 ServesItem table k node old item verdict (Ok _) k' new = StreamServes table k node old verdict k' new
 ServesItem table k node old item verdict (Err NoMemory) k' new = (k' ≡ k) × (new ≡ old)
 ServesItem table k node old item verdict (Err NotServed) k' new = CannotBeServed table k node old.asking item verdict NotServed × (k' ≡ k) × (new ≡ old)
 ServesItem table k node old item verdict (Err OutOfOrder) k' new = ⊥
-ServesItem table k node old item verdict (Err TooLong) k' new = Unit {0}
+ServesItem table k node old item verdict (Err TooLong) k' new =
+    (replies : List Value) × IsReplied table k node old.asking item verdict k' replies × AreTooLong replies × (new ≡ old)

@@ -16,7 +16,7 @@ pub enum PlayFault {
     /// The worker's view of the slot map is not a front of what was published. It can't be.
     #[error("the slot map is out of order")]
     OutOfOrder,
-    /// A node did commands whose reply is longer than a reader takes: 512 MiB and more. The play ends.
+    /// A node did commands whose reply is longer than any reader takes, as one of more than 512 MiB. The play ends.
     #[error("a reply is too long to be read")]
     TooLong,
 }

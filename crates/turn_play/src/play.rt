@@ -6,7 +6,7 @@ ghost use Rattle.node_model.specs.Nodes.{ClusterModel};
 ghost use Rattle.node_model.specs.Store.{StoreModel};
 ghost use Rattle.turn_play.specs.Deeds.{PlaysOn};
 ghost use Rattle.turn_play.specs.Handing.{HandsClient, HandsOn};
-ghost use Rattle.turn_play.specs.Obeying.{IsOurs, Obeys, ObeysAll, OthersCome, StaysInOrder, TurnsEngine};
+ghost use Rattle.turn_play.specs.Obeying.{EndsTooLong, IsOurs, Obeys, ObeysAll, OthersCome, StaysInOrder, TurnsEngine};
 ghost use Rattle.turn_play.specs.Play.{play_model, told_in};
 ghost use Rattle.turn_play.specs.Playing.{PlaysSoundly, PlaysSoundlyBeside};
 ghost use Rattle.turn_play.specs.Starting.{IsBeginning, IsNewPlay, ShowsStart};
@@ -98,16 +98,18 @@ impl<'g, C: ClientPort + Drop, J: Naming, R: Wait + Drop, G: Gate> Play<'g, C, J
     }
 
     /// Does what is handed in, in its order, over these nodes. Where a turn has a fault, what it did before stands; after a fault of
-    /// any other order but TooLong, that order has changed nothing. The orders behind it were left out, and the play may go on.
-    /// Between two calls others may do to the nodes what they do: several plays can have one cluster.
+    /// any other order but TooLong, that order has changed nothing. The orders behind it were left out, and the play may go on. After
+    /// TooLong the node did what it read, and would do it again: this is the end of the play. Between two calls others may do to the
+    /// nodes what they do: several plays can have one cluster.
     ///
     /// Of a system that shows the play before, what was done is steps to one that shows it after. Behind the steps that led there from
     /// a start that hears its nodes, those of earlier calls and what others did, where the premises hold along all of them, the headline
     /// holds of all. Each order's steps are told apart: so the premises can be said of what each order finds, and what a call leaves is
     /// what the next goes on from. Nothing is asked of the lanes and the slot map; after OutOfOrder, which can't come, nothing of
-    /// this is said of the turn at which it came; nor is it after TooLong, of the serving at which that came.
+    /// this is said of the turn at which it came; nor is it after TooLong, but of the orders before.
     pub fn play(&mut self, cluster: &mut Cluster, orders: &[Order]) -> Result<(), PlayFault>
         ensures obeys { ObeysAll C.moves C.gives_none C.takes_none (play_model self.old cluster.old) orders.now result (play_model self.new cluster.new) }
+        ensures too_long { EndsTooLong C.moves C.gives_none C.takes_none (play_model self.old cluster.old) orders.now result (play_model self.new cluster.new) }
         ensures sound { StaysInOrder result → All IsOurs orders.now → PlaysSoundly (play_model self.old cluster.old) (play_model self.new cluster.new) }
         ensures beside { StaysInOrder result → PlaysSoundlyBeside (play_model self.old cluster.old) (play_model self.new cluster.new) }
         ensures plays_on { StaysInOrder result → PlaysOn C.moves C.gives_none C.takes_none (play_model self.old cluster.old) orders.now result (play_model self.new cluster.new) }

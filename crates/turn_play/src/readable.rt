@@ -1,6 +1,6 @@
 //! Which values whoever reads within the largest limits can read.
 
-ghost use Rattle.std.specs.Prelude.{◌≡◌, All, FitsSigned, IsTrue, ℕ, suc};
+ghost use Rattle.std.specs.Prelude.{◌≡◌, ◌↔◌, All, FitsSigned, IsTrue, ℕ, suc};
 ghost use Rattle.std.specs.Int.{w64};
 ghost use Rattle.resp_wire.specs.Data.{array, error, integer, items_of, simple};
 ghost use Rattle.resp_wire.specs.Seen.{data_of};
@@ -23,7 +23,7 @@ const MOST_DEPTH: usize = 8;
 
 /// Whether all the values can be read.
 pub(crate) fn are_readable(values: &VecDeque<Value>) -> bool
-    ensures { IsTrue result → All IsReadable values.now.items }
+    ensures { IsTrue result ↔ All IsReadable values.now.items }
 {
     for at in 0..values.len() {
         if !is_readable(&values[at], MOST_DEPTH) {
@@ -36,7 +36,7 @@ pub(crate) fn are_readable(values: &VecDeque<Value>) -> bool
 /// Whether the value can be read where so many arrays may stand one inside another.
 #[cycle(readable)]
 fn is_readable(value: &Value, room: usize) -> bool
-    ensures { IsTrue result → CanBeSpelled room (data_of value.now) }
+    ensures { IsTrue result ↔ CanBeSpelled room (data_of value.now) }
 {
     match value {
         Value::Simple(line) => is_short(line),
@@ -52,7 +52,7 @@ fn is_readable(value: &Value, room: usize) -> bool
 /// The same of the items of an array, which are not too many.
 #[cycle(readable)]
 fn has_short_items(items: &Values, room: usize) -> bool
-    ensures { IsTrue result → CanBeSpelled (suc room) (array (items_of items.now)) }
+    ensures { IsTrue result ↔ CanBeSpelled (suc room) (array (items_of items.now)) }
 {
     if items.as_slice().len() > MOST_ITEMS {
         return false;
@@ -66,15 +66,15 @@ fn has_short_items(items: &Values, room: usize) -> bool
 }
 
 fn is_short(line: &Line) -> bool
-    ensures simple { IsTrue result → (room : ℕ) → CanBeSpelled room (simple line.now) }
-    ensures error { IsTrue result → (room : ℕ) → CanBeSpelled room (error line.now) }
+    ensures simple { (room : ℕ) → IsTrue result ↔ CanBeSpelled room (simple line.now) }
+    ensures error { (room : ℕ) → IsTrue result ↔ CanBeSpelled room (error line.now) }
 {
     line.bytes().len() <= LONGEST_LINE
 }
 
 /// Each number can be read, since it has 64 bits.
 fn is_number(number: &i64) -> bool
-    ensures { (room : ℕ) → CanBeSpelled room (integer number.now) }
+    ensures { (room : ℕ) → IsTrue result ↔ CanBeSpelled room (integer number.now) }
 {
     let _ = number_at(number);
     true

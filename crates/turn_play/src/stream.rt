@@ -79,7 +79,7 @@ impl PlayStream {
     }
 
     /// The node at the other end serves the item that it reads first, and writes its replies. False where none is whole yet. Where
-    /// a reply is longer than any reader takes, the commands were executed.
+    /// a reply is longer than any reader takes, the commands were executed, and the item still stands first.
     pub fn serve(
         &mut self,
         node: NodeId,

@@ -1,7 +1,7 @@
 use Rattle.std.proofs.Common.{◌≡◌, Ok, Err, rules, subst, sym}
 use Rattle.turn_play.specs.Obeying.{ObeysAll}
 use Rattle.turn_play.specs.Play.{play_model}
-use Rattle.turn_play.proofs.Obeyed.{all-obeyed, ends-here, goes-on}
+use Rattle.turn_play.proofs.Obeyed.{all-obeyed, ends-here, ends-too-long, goes-on}
 use Rattle.turn_play.proofs.play.Play.play.Goals as goal
 
 pub loop-rest-init : goal.loop-rest-init
@@ -35,6 +35,11 @@ pub returns-in_err-obey-clause-plays_on : goal.returns-in_err-obey-clause-plays_
 returns-in_err-obey-clause-plays_on g c = λ stays.
     c.obeyed_is_sound.ensures.plays_on (play_model c.args.self.now c.args.cluster.now) (play_model c.obey.new.self c.obey.new.cluster) c.args.orders.now c.from_residual.result (returns-in_err-obey-clause-obeys g c) stays
 
+pub returns-in_err-obey-clause-too_long : goal.returns-in_err-obey-clause-too_long
+returns-in_err-obey-clause-too_long g c =
+    let m = g.C.ClientPort in
+    ends-too-long m.moves m.gives_none m.takes_none c.obeyed_is_sound.ensures.beside (play_model c.args.self.now c.args.cluster.now) c.args.orders.now c.from_residual.result (play_model c.obey.new.self c.obey.new.cluster) (returns-in_err-obey-clause-obeys g c)
+
 pub returns-clause-obeys : goal.returns-clause-obeys
 returns-clause-obeys g c =
     let m = g.C.ClientPort in
@@ -51,3 +56,8 @@ returns-clause-beside g c =
 pub returns-clause-plays_on : goal.returns-clause-plays_on
 returns-clause-plays_on g c =
     c.obeyed_is_sound.ensures.plays_on (play_model c.args.self.now c.args.cluster.now) (play_model c.loop-rest.self c.loop-rest.cluster) c.args.orders.now (Ok tt) (returns-clause-obeys g c)
+
+pub returns-clause-too_long : goal.returns-clause-too_long
+returns-clause-too_long g c =
+    let m = g.C.ClientPort in
+    ends-too-long m.moves m.gives_none m.takes_none c.obeyed_is_sound.ensures.beside (play_model c.args.self.now c.args.cluster.now) c.args.orders.now (Ok tt) (play_model c.loop-rest.self c.loop-rest.cluster) (returns-clause-obeys g c)
