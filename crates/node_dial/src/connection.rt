@@ -10,6 +10,7 @@ use std::net::{self, Net};
 use std::time::Clock;
 
 /// A connection to a node, by how far it has come.
+#[derive(Drop)]
 pub(crate) enum Connection {
     /// The system connects.
     Connecting(TcpStream),
@@ -17,19 +18,6 @@ pub(crate) enum Connection {
     Greeting(PolledSocket, Handshake),
     /// Commands may go over it.
     Open(PolledSocket),
-}
-
-impl Drop for Connection {
-    fn drop(self) {
-        match self {
-            Connection::Connecting(stream) => drop(stream),
-            Connection::Greeting(socket, handshake) => {
-                drop(socket);
-                drop(handshake);
-            }
-            Connection::Open(socket) => drop(socket),
-        }
-    }
 }
 
 impl Connection {

@@ -16,6 +16,7 @@ use std::sync::Arc;
 use std::time::Clock;
 
 /// Connects to nodes, whose sockets are watched by the poll of the registry.
+#[derive(Drop)]
 pub struct Connector<'b, R> {
     rt: &'b R,
     alloc: Global,
@@ -24,23 +25,6 @@ pub struct Connector<'b, R> {
     look_ups: SharedLookUps,
     /// What each node is told first; `None` for nothing.
     credentials: Option<Arc<Credentials, Global>>,
-}
-
-impl<R> Drop for Connector<'_, R> {
-    fn drop(self) {
-        let Connector {
-            rt: _,
-            alloc: _,
-            ready,
-            registry,
-            look_ups,
-            credentials,
-        } = self;
-        drop(ready);
-        drop(registry);
-        drop(look_ups);
-        drop(credentials);
-    }
 }
 
 impl<'b, R: Clock + Net<Listener = TcpListener, Stream = TcpStream>> Connector<'b, R> {

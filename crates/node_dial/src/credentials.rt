@@ -12,18 +12,11 @@ use std::io::ErrorKind;
 use std::marker::Model;
 
 /// A password at the nodes, with a user's name or without. It has no text of its own, so that no log and no fault shows it.
+#[derive(Drop)]
 pub struct Credentials {
     /// AUTH, as it goes over the wire.
     request: Vec<u8>,
     password: Vec<u8>,
-}
-
-impl Drop for Credentials {
-    fn drop(self) {
-        let Credentials { request, password } = self;
-        drop(request);
-        drop(password);
-    }
 }
 
 impl Model for Credentials {

@@ -43,6 +43,7 @@ pub struct SocketDial<'b, R> {
     failures: u64,
 }
 
+// By hand, so that the crates above prove one call.
 impl<R> Drop for SocketDial<'_, R> {
     fn drop(self) {
         let SocketDial {

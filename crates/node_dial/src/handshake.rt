@@ -12,24 +12,13 @@ use std::sync::Arc;
 const REPLY_LIMIT: usize = 512;
 
 /// AUTH on a new connection, until the node has answered it.
+#[derive(Drop)]
 pub(crate) struct Handshake {
     credentials: Arc<Credentials, Global>,
     /// How many bytes of AUTH were sent.
     sent: usize,
     /// The reply, as far as it has come.
     reply: Vec<u8>,
-}
-
-impl Drop for Handshake {
-    fn drop(self) {
-        let Handshake {
-            credentials,
-            sent: _,
-            reply,
-        } = self;
-        drop(credentials);
-        drop(reply);
-    }
 }
 
 /// What came of a handshake.

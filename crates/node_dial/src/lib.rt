@@ -16,7 +16,8 @@
 //! Promise: `SocketDial` keeps the contract of `Dial`, and says that no node is to be asked only where a look saw no lost node and no
 //! redirect that was not read, or saw that the pause had not passed. `Credentials` is AUTH, byte by byte; that each connection
 //! begins with it is not proved. The pauses of dials and of requests after a loss are exact, and so are the sets of nodes that are
-//! lost and that take no blocks; that a node is noted there is not proved. The other table has the seeds and the nodes of its answer.
+//! lost and that take no blocks; that a node is noted there is not proved. The other table is exact, and so
+//! is why there is none (`specs/NextTable.antt`).
 //! Of the sockets nothing more is proved.
 #![tactic(auto)]
 
@@ -44,4 +45,5 @@ pub use connector::Connector;
 pub use credentials::Credentials;
 pub use dial::{NodeSocket, SocketDial};
 pub use look_ups::{LookUps, SharedLookUps, advance_look_ups};
+pub use next_table::copy_table;
 pub use node_stream::NodeStream;

@@ -22,6 +22,7 @@ pub struct LookUps {
     names: Vec<Name>,
 }
 
+// By hand, so that the crates above prove one call.
 impl Drop for LookUps {
     fn drop(self) {
         let LookUps {

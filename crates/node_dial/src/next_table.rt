@@ -1,18 +1,16 @@
 //! The table of nodes with which a proxy begins anew.
 
-ghost use Rattle.std.specs.Prelude.{◌≡◌, ◌<◌, ◌↔◌, IsTrue, IfOk, IfSome, OnOk, Err, slice_get};
-ghost use Rattle.slot_map.specs.Table.{Grows};
+ghost use Rattle.std.specs.Prelude.{◌≡◌, ◌<◌, ◌↔◌, [], IsTrue, IfOk, Err, slice_get};
 ghost use Rattle.slot_map.specs.declared.fault.MapFault.TheVariants as fault;
-ghost use Rattle.node_dial.specs.NextTable.{Has, HasAll, HasAnswer, Keeps};
+ghost use Rattle.node_dial.specs.NextTable.{Adds, IsNextTable, Keeps, with_nodes, with_place};
 
 use crate::place::put;
-use resp_wire::{Value, is_one_line};
+use resp_wire::{NoMemory, Value, is_one_line};
 use slot_map::{MapFault, NODE_LIMIT, NodeId, NodeTable, ops_of};
 use std::alloc::Global;
 
 /// A table of the node at this endpoint, of those that its answer to CLUSTER SLOTS names, and of the seeds. Since it answers, it is the
 /// first, which is dialled first.
-#[tactic(auto, using(crate::proofs::TableLemmas::answer_read))]
 pub(crate) fn next_table(
     alloc: Global,
     seeds: &NodeTable,
@@ -20,8 +18,7 @@ pub(crate) fn next_table(
     port: u16,
     answer: &Value,
 ) -> Result<NodeTable, MapFault>
-    ensures seeds { IfOk result (λ table. HasAll table seeds.now) }
-    ensures answer { IfOk result (HasAnswer (record { host = host.now; port = port }) answer.now) }
+    ensures { IsNextTable seeds.now (record { host = host.now; port = port }) answer.now result }
 {
     if !is_one_line(host) {
         return Err(MapFault::NotSlots);
@@ -33,11 +30,20 @@ pub(crate) fn next_table(
     Ok(table)
 }
 
+/// The same nodes in a table of their own.
+pub fn copy_table(alloc: Global, nodes: &NodeTable) -> Result<NodeTable, NoMemory>
+    ensures { IfOk result (λ table. table ≡ with_nodes [] nodes.now) }
+{
+    let mut table = NodeTable::new(alloc);
+    match add_all(nodes, &mut table) {
+        Ok(()) => Ok(table),
+        Err(_) => Err(NoMemory),
+    }
+}
+
 /// Adds the nodes of one table to another.
-#[tactic(auto, using(crate::proofs::TableLemmas::front_next, crate::proofs::TableLemmas::grows_on, crate::proofs::TableLemmas::stays, crate::proofs::TableLemmas::all_of_front, crate::proofs::TableLemmas::front_of_none))]
 fn add_all(nodes: &NodeTable, table: &mut NodeTable) -> Result<(), MapFault>
-    ensures all { OnOk result (HasAll table.new nodes.now) }
-    ensures grows { Grows table.old table.new }
+    ensures { Adds (with_nodes table.old nodes.now) result table.new }
 {
     for number in 0..NODE_LIMIT {
         add_at(nodes, number, table)?;
@@ -46,11 +52,9 @@ fn add_all(nodes: &NodeTable, table: &mut NodeTable) -> Result<(), MapFault>
 }
 
 /// Adds the node of this number, where there is one.
-#[tactic(auto, using(crate::proofs::TableLemmas::known_interned, crate::proofs::TableLemmas::none_known, crate::proofs::TableLemmas::stays))]
 fn add_at(nodes: &NodeTable, number: usize, table: &mut NodeTable) -> Result<(), MapFault>
     requires { number < 64 }
-    ensures has { OnOk result (IfSome (slice_get nodes.now number) (Has table.new)) }
-    ensures grows { Grows table.old table.new }
+    ensures { Adds (with_place table.old (slice_get nodes.now number)) result table.new }
 {
     let Some(node) = NodeId::new(number as u8) else {
         return Ok(());
