@@ -1,5 +1,5 @@
 -- To which worker a client goes. Each worker has a lane, and a number of clients that it has.
-use Rattle.std.specs.Prelude.{◌≡◌, ◌⊎◌, ℕ, List, Result, Err}
+use Rattle.std.specs.Prelude.{◌≡◌, ◌⊎◌, ℕ, Bool, true, false, List, Option, Some, None, Result, Err}
 use Rattle.proxy_lanes.specs.declared.ring.Outlet.{Outlet}
 use Rattle.proxy_lanes.specs.Ends.{ChangesAt}
 use Rattle.proxy_lanes.specs.Lane.{Posts}
@@ -12,3 +12,9 @@ module _ {T : Type 0} where
   Deals clients old client dealt new =
       ((worker : ℕ) × IsEmptiestOpen clients worker × ChangesAt old worker new (λ lane lane'. Posts lane lane' client dealt))
       ⊎ (AreClosed clients × (dealt ≡ Err client) × (new ≡ old))
+
+  -- a client that waits was dealt, or waits on
+  abbrev pub WaitsOn : Option T → Bool → Option T → Type 0
+  WaitsOn old true new = new ≡ None
+  WaitsOn None false new = ⊥
+  WaitsOn (Some client) false new = new ≡ Some client

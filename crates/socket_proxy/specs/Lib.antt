@@ -4,3 +4,6 @@ pub mod Unfinished
 pub mod DrainEnd
 pub mod LingerEnd
 pub mod Renewal
+pub mod Pace
+pub mod ClientRoom
+pub mod Seats

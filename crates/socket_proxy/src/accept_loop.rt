@@ -1,5 +1,7 @@
 //! What the thread does that accepts clients and writes the log.
 
+ghost use Rattle.std.specs.Prelude.{◌≡◌};
+
 use crate::acceptor::{Acceptor, RETRY_MILLIS};
 use crate::dealer::{Arrival, Dealer};
 use crate::drain_end::{is_cut, is_over};
@@ -15,6 +17,7 @@ const ACCEPT_BATCH: u32 = 16;
 const LOG_MILLIS: u64 = 250;
 
 /// Clients as they come in, and the log.
+#[derive(Drop)]
 pub(crate) struct Desk<'a> {
     acceptor: Acceptor,
     dealer: Dealer,
@@ -25,23 +28,9 @@ pub(crate) struct Desk<'a> {
     drain_began: Option<u64>,
 }
 
-impl Drop for Desk<'_> {
-    fn drop(self) {
-        let Desk {
-            acceptor,
-            dealer,
-            waiting,
-            reporter,
-            drain_began: _,
-        } = self;
-        drop(acceptor);
-        drop(dealer);
-        drop(waiting);
-        drop(reporter);
-    }
-}
-
 impl<'a> Desk<'a> {
+    ghost use Rattle.socket_proxy.specs.Dealing.{WaitsOn};
+
     /// No client has come.
     pub(crate) fn new(acceptor: Acceptor, dealer: Dealer, reporter: Reporter<'a>) -> Desk<'a> {
         Desk {
@@ -69,7 +58,9 @@ impl<'a> Desk<'a> {
     }
 
     /// Deals the client that waits. False where it waits on.
-    fn deal_waiting(&mut self, shared: &Shared) -> bool {
+    fn deal_waiting(&mut self, shared: &Shared) -> bool
+        ensures { WaitsOn self.old.waiting result self.new.waiting }
+    {
         let Some(arrival) = self.waiting.take() else {
             return true;
         };
@@ -120,7 +111,9 @@ impl<'a> Desk<'a> {
     }
 }
 
-fn put<T: Drop>(place: &mut Option<T>, value: Option<T>) {
+fn put<T: Drop>(place: &mut Option<T>, value: Option<T>)
+    ensures { place.new ≡ value }
+{
     *place = value;
 }
 

@@ -14,6 +14,7 @@ use std::os::fd::AsRawFd;
 pub(crate) const RETRY_MILLIS: u64 = 20;
 
 /// The listener with its registration, and how many clients may still be accepted.
+#[derive(Drop)]
 pub(crate) struct Acceptor {
     /// `None` once no client is accepted any more.
     listener: Option<TcpListener>,
@@ -27,22 +28,6 @@ pub(crate) struct Acceptor {
     retried: u64,
     /// That there is no room was reported.
     is_full: bool,
-}
-
-impl Drop for Acceptor {
-    fn drop(self) {
-        let Acceptor {
-            listener,
-            registration,
-            left: _,
-            room: _,
-            starves: _,
-            retried: _,
-            is_full: _,
-        } = self;
-        drop(listener);
-        drop(registration);
-    }
 }
 
 impl Acceptor {

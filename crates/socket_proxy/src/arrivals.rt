@@ -42,6 +42,7 @@ pub(crate) enum Arrived {
 }
 
 /// What makes clients of the connections that are dealt to a worker.
+#[derive(Drop)]
 pub(crate) struct Arrivals<'b> {
     alloc: Global,
     inlet: Inlet<Arrival>,
@@ -56,27 +57,6 @@ pub(crate) struct Arrivals<'b> {
     next: Option<u32>,
     /// A client that was taken and put back.
     waiting: Option<NumberedClient>,
-}
-
-impl Drop for Arrivals<'_> {
-    fn drop(self) {
-        let Arrivals {
-            alloc: _,
-            inlet,
-            handle: _,
-            registry,
-            unfinished,
-            lingering,
-            taken: _,
-            next: _,
-            waiting,
-        } = self;
-        drop(inlet);
-        drop(registry);
-        drop(unfinished);
-        drop(lingering);
-        drop(waiting);
-    }
 }
 
 impl<'b> Arrivals<'b> {

@@ -20,6 +20,7 @@ use std::sync::Arc;
 
 /// A client over a socket. It counts the ends that it is to note. One that has ended its sending is there as long as it is owed
 /// something.
+#[derive(Drop)]
 pub(crate) struct SocketClient {
     /// `None` once the client is gone.
     socket: Option<PolledSocket>,
@@ -31,26 +32,6 @@ pub(crate) struct SocketClient {
     is_owed: Cell<bool>,
     /// Its protocol error was reported.
     is_faulted: Cell<bool>,
-}
-
-impl Drop for SocketClient {
-    fn drop(self) {
-        let SocketClient {
-            socket,
-            report,
-            address: _,
-            request,
-            lingering,
-            times,
-            is_owed: _,
-            is_faulted: _,
-        } = self;
-        drop(socket);
-        drop(report);
-        drop(request);
-        drop(lingering);
-        drop(times);
-    }
 }
 
 impl SocketClient {

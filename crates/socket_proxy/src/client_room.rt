@@ -1,6 +1,7 @@
 //! How many clients are served at once, so that descriptors are left for connections to nodes.
 
-ghost use Rattle.std.specs.Prelude.{◌≡◌, ◌⊎◌, ◌<◌, ◌≤◌, ◌+◌, ◌*◌};
+ghost use Rattle.std.specs.Prelude.{◌≡◌, ◌↔◌, IsTrue};
+ghost use Rattle.socket_proxy.specs.ClientRoom.{kept_for_nodes};
 
 /// So many descriptors are kept for each worker's connections to nodes, or of all a quarter where that is less.
 const KEPT_FOR_NODES: u64 = 64;
@@ -16,8 +17,12 @@ pub(crate) struct ClientRoom {
 }
 
 impl ClientRoom {
+    ghost use Rattle.socket_proxy.specs.ClientRoom.{IsFull, most_clients, new_room};
+
     /// The room beside the connections of so many workers, where this number of descriptors may be open, or any number of them.
-    pub(crate) fn new(descriptors: Option<u64>, workers: u16) -> ClientRoom {
+    pub(crate) fn new(descriptors: Option<u64>, workers: u16) -> ClientRoom
+        ensures { result ≡ new_room descriptors workers }
+    {
         let limit = descriptors.unwrap_or(u64::MAX);
         ClientRoom {
             last: limit
@@ -28,12 +33,16 @@ impl ClientRoom {
     }
 
     /// Whether there is none for another client beside these.
-    pub(crate) fn is_full(&self, clients: u64) -> bool {
+    pub(crate) fn is_full(&self, clients: u64) -> bool
+        ensures { IsTrue result ↔ IsFull self.now.most clients }
+    {
         self.most.is_some_and(|most| clients >= most)
     }
 
     /// The newest of the clients has this descriptor.
-    pub(crate) fn note_client(&mut self, descriptor: u64, clients: u64) {
+    pub(crate) fn note_client(&mut self, descriptor: u64, clients: u64)
+        ensures { self.new ≡ record self.old { most = most_clients self.old.last descriptor clients } }
+    {
         self.most = descriptor
             .checked_sub(self.last)
             .map(|above| clients.saturating_sub(above).max(1));
@@ -42,9 +51,7 @@ impl ClientRoom {
 
 /// How many of `limit` descriptors are kept for the connections of so many workers to nodes.
 fn kept_for_nodes(limit: u64, workers: u16) -> u64
-    ensures enough { result ≤ KEPT_FOR_NODES * workers }
-    ensures a_quarter { 4 * result ≤ limit }
-    ensures no_fewer { (result ≡ KEPT_FOR_NODES * workers) ⊎ (limit < 4 * (result + 1)) }
+    ensures { result ≡ kept_for_nodes limit workers }
 {
     (KEPT_FOR_NODES * u64::from(workers)).min(limit / 4)
 }

@@ -2,7 +2,7 @@
 
 ghost use Rattle.std.specs.Prelude.{◌≡◌, length, vec_len};
 
-use crate::emptiest::{CLOSED, emptiest_open};
+use crate::emptiest::{clients_of, emptiest_open};
 use crate::setup::push;
 use crate::shared::Shared;
 use event_log::Figure;
@@ -21,20 +21,13 @@ pub(crate) struct Arrival {
 
 /// Deals each client to a worker than which none has fewer, of those that take clients now. What a worker was dealt and did not count
 /// as gone, it has.
+#[derive(Drop)]
 pub(crate) struct Dealer {
     /// The lanes to the workers.
     outlets: Vec<Outlet<Arrival>>,
     /// How many clients each worker has, or `CLOSED` where it takes none now.
     clients: Vec<u64>,
     ghost paired: { vec_len clients ≡ vec_len outlets },
-}
-
-impl Drop for Dealer {
-    fn drop(self) {
-        let Dealer { outlets, clients } = self;
-        drop(outlets);
-        drop(clients);
-    }
 }
 
 impl Dealer {
@@ -101,12 +94,7 @@ fn count(clients: &mut [u64], outlets: &[Outlet<Arrival>], shared: &Shared)
 {
     let lanes = clients.iter_mut().zip(outlets.iter());
     for ((clients, outlet), worker) in lanes.zip(shared.workers.iter()) {
-        *clients = if worker.takes_clients() {
-            outlet
-                .posted()
-                .saturating_sub(worker.counted(Figure::ClientsGone))
-        } else {
-            CLOSED
-        };
+        let gone = worker.counted(Figure::ClientsGone);
+        *clients = clients_of(worker.takes_clients(), outlet.posted(), gone);
     }
 }

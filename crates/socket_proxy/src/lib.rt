@@ -13,8 +13,8 @@
 //! node begins with it is not proved. No dial begins before the node's pause is over, which is as long as `specs/DialPause.antt`
 //! says. What a proxy does with bytes is promised by `proxy_engine`. A client is dealt to a worker that has no more clients than
 //! any other (`specs/Dealing.antt`), as they are counted, of the workers that take clients now. A worker's thread sleeps only where its
-//! proxy is at rest, and lets its clients go to begin anew ten seconds apart at least (`specs/Renewal.antt`). Of the threads, the sockets
-//! and the waking nothing more is proved.
+//! proxy is at rest. When it lets its clients go to begin anew, when it begins, and with which table, is exact (`specs/Renewal.antt`,
+//! `specs/Seats.antt`). Of the threads, the sockets and the waking nothing more is proved.
 #![tactic(auto)]
 
 mod accept_loop;

@@ -1,6 +1,6 @@
 //! What a thread does behind a turn: it goes on, polls, or sleeps.
 
-ghost use Rattle.std.specs.Prelude.{◌≡◌, ◌<◌, ◌+◌, false, true};
+ghost use Rattle.std.specs.Prelude.{◌≡◌, ◌<◌, true, false};
 ghost use Rattle.socket_proxy.specs.declared.pace.TheConstants.{STILL_TURNS, TURNS_PER_POLL};
 
 /// So many turns that move something go by between two polls.
@@ -28,8 +28,12 @@ pub(crate) enum Next {
 }
 
 impl Pace {
+    ghost use Rattle.socket_proxy.specs.Pace.{Counts, Paces};
+
     /// No turn was taken.
-    pub(crate) fn new() -> Pace {
+    pub(crate) fn new() -> Pace
+        ensures { Counts result 0 0 }
+    {
         Pace {
             moving: 0,
             still: 0,
@@ -39,8 +43,7 @@ impl Pace {
     /// What comes behind a turn that moved something, or nothing.
     pub(crate) fn after(&mut self, moved: bool) -> Next
         ensures rests { result ≡ Next.Sleep → moved ≡ false }
-        ensures moving { moved ≡ true → result ≡ Next.Turn → self.new.moving ≡ self.old.moving + 1 }
-        ensures still { moved ≡ false → result ≡ Next.Turn → self.new.still ≡ self.old.still + 1 }
+        ensures paces { Paces self.old moved result self.new }
     {
         if moved {
             self.still = 0;
@@ -56,8 +59,8 @@ impl Pace {
     }
 
     fn after_move(&mut self) -> Next
-        ensures awake { result ≡ Next.Sleep → false ≡ true }
-        ensures moving { result ≡ Next.Turn → self.new.moving ≡ self.old.moving + 1 }
+        requires { self.old.still ≡ 0 }
+        ensures { Paces self.old true result self.new }
     {
         if self.moving + 1 < TURNS_PER_POLL {
             self.moving += 1;

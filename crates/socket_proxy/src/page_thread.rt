@@ -150,20 +150,10 @@ fn no_clients(alloc: Global) -> Result<Vec<Option<PageClient>>, NoMemory> {
 }
 
 /// Where connections come in.
+#[derive(Drop)]
 struct Door {
     listener: TcpListener,
     registration: Registration,
-}
-
-impl Drop for Door {
-    fn drop(self) {
-        let Door {
-            listener,
-            registration,
-        } = self;
-        drop(listener);
-        drop(registration);
-    }
 }
 
 impl Door {
@@ -185,6 +175,7 @@ impl Door {
 }
 
 /// The connections for the page.
+#[derive(Drop)]
 struct Page<'a> {
     door: Door,
     ready: Arc<ReadySet, Global>,
@@ -193,23 +184,6 @@ struct Page<'a> {
     version: &'a str,
     status: Option<File>,
     descriptors: Option<u64>,
-}
-
-impl Drop for Page<'_> {
-    fn drop(self) {
-        let Page {
-            door,
-            ready,
-            clients,
-            version: _,
-            status,
-            descriptors: _,
-        } = self;
-        drop(door);
-        drop(ready);
-        drop(clients);
-        drop(status);
-    }
 }
 
 impl Page<'_> {

@@ -1,7 +1,7 @@
 //! When a worker begins anew with another table of nodes.
 
-ghost use Rattle.std.specs.Prelude.{◌≡◌, ◌↔◌, IsTrue, Some};
-ghost use Rattle.socket_proxy.specs.Renewal.{IsApart, IsEmptied};
+ghost use Rattle.std.specs.Prelude.{◌≡◌, ◌↔◌, IsTrue, false};
+ghost use Rattle.socket_proxy.specs.Renewal.{IsApart, IsEmptied, Steps, at_rest, next_due};
 
 /// Milliseconds that pass at least from one time that a worker lets its clients go to the next.
 const APART_MILLIS: u64 = 10_000;
@@ -31,7 +31,9 @@ pub(crate) enum Step {
 
 impl Renewal {
     /// It never began anew.
-    pub(crate) fn new() -> Renewal {
+    pub(crate) fn new() -> Renewal
+        ensures { result ≡ at_rest }
+    {
         Renewal {
             began: None,
             is_under_way: false,
@@ -39,15 +41,15 @@ impl Renewal {
     }
 
     /// Whether the clients are being let go.
-    pub(crate) fn is_under_way(&self) -> bool {
+    pub(crate) fn is_under_way(&self) -> bool
+        ensures { result ≡ self.now.is_under_way }
+    {
         self.is_under_way
     }
 
     /// What comes next at this time, in milliseconds, where another table is wanted or not, and all clients are gone or not.
     pub(crate) fn step(&mut self, wanted: bool, served: bool, now: u64) -> Step
-        ensures apart { result ≡ Step.LetGo → IsApart self.old.began now }
-        ensures noted { result ≡ Step.LetGo → self.new.began ≡ Some now }
-        ensures emptied { result ≡ Step.Begin → IsEmptied served self.old.began now }
+        ensures { Steps self.old wanted served now result self.new }
     {
         if self.is_under_way {
             if !is_emptied(served, self.began, now) {
@@ -67,7 +69,9 @@ impl Renewal {
     }
 
     /// When something may come next without any news, in milliseconds.
-    pub(crate) fn next_due(&self, wanted: bool) -> Option<u64> {
+    pub(crate) fn next_due(&self, wanted: bool) -> Option<u64>
+        ensures { result ≡ next_due self.now wanted }
+    {
         let began = self.began?;
         if self.is_under_way {
             return Some(began.saturating_add(CUT_MILLIS));
@@ -76,7 +80,10 @@ impl Renewal {
     }
 
     /// The worker has begun anew. True where it was on its way to that.
-    pub(crate) fn end(&mut self) -> bool {
+    pub(crate) fn end(&mut self) -> bool
+        ensures was { result ≡ self.old.is_under_way }
+        ensures ended { self.new ≡ record self.old { is_under_way = false } }
+    {
         let was_under_way = self.is_under_way;
         self.is_under_way = false;
         was_under_way

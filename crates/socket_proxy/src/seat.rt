@@ -1,5 +1,7 @@
 //! What a worker's thread keeps from one proxy to the next.
 
+ghost use Rattle.std.specs.Prelude.{◌≡◌, None, false};
+
 use crate::arrivals::Arrivals;
 use crate::client::SocketClient;
 use crate::lingering::SharedLingering;
@@ -17,6 +19,7 @@ use std::net::{Net, TcpListener, TcpStream};
 use std::time::Clock;
 
 /// What a worker's thread keeps from one proxy to the next.
+#[derive(Drop)]
 pub(crate) struct Seat<'a> {
     /// The number of the worker.
     pub(crate) worker: usize,
@@ -32,29 +35,10 @@ pub(crate) struct Seat<'a> {
     pub(crate) cut: u64,
 }
 
-impl Drop for Seat<'_> {
-    fn drop(self) {
-        let Seat {
-            worker: _,
-            handle: _,
-            poller,
-            arrivals,
-            lingering,
-            look_ups,
-            renewal,
-            table,
-            cut: _,
-        } = self;
-        drop(poller);
-        drop(arrivals);
-        drop(lingering);
-        drop(look_ups);
-        drop(renewal);
-        drop(table);
-    }
-}
-
 impl<'a> Seat<'a> {
+    ghost use Rattle.std.specs.Option.{option_or};
+    ghost use Rattle.socket_proxy.specs.Seats.{BeginsWith, Renews};
+
     /// What is ready in the thread, with its time.
     pub(crate) fn ready(&self) -> &'a ReadySet {
         &self.handle.ready
@@ -65,7 +49,10 @@ impl<'a> Seat<'a> {
         &mut self,
         alloc: Global,
         upstream: &Upstream<'_>,
-    ) -> Result<NodeTable, NoMemory> {
+    ) -> Result<NodeTable, NoMemory>
+        ensures begins { BeginsWith upstream.now.seeds.now self.old.table result }
+        ensures taken { self.new.table ≡ None }
+    {
         match self.table.take() {
             Some(table) => Ok(table),
             None => upstream.seed_table(alloc),
@@ -73,7 +60,9 @@ impl<'a> Seat<'a> {
     }
 
     /// A proxy begins, with a table of so many nodes. Where it is not the first one of the thread, that is reported.
-    pub(crate) fn begin(&mut self, nodes: usize) {
+    pub(crate) fn begin(&mut self, nodes: usize)
+        ensures { self.new.renewal ≡ record self.old.renewal { is_under_way = false } }
+    {
         if !self.renewal.end() {
             return;
         }
@@ -91,8 +80,20 @@ impl<'a> Seat<'a> {
         dial: &SocketDial<'_, R>,
         served: bool,
     ) -> bool {
-        let wanted = dial.wants_table();
         let now = self.ready().time();
+        self.renew_at(dial, dial.wants_table(), served, now)
+    }
+
+    /// The same at this time, in milliseconds, where another table is wanted or not.
+    fn renew_at<R: Clock + Net<Listener = TcpListener, Stream = TcpStream>>(
+        &mut self,
+        dial: &SocketDial<'_, R>,
+        wanted: bool,
+        served: bool,
+        now: u64,
+    ) -> bool
+        ensures { Renews self.old.renewal wanted served now result self.new.renewal }
+    {
         match self.renewal.step(wanted, served, now) {
             Step::Rest => {
                 self.ready()
@@ -113,7 +114,10 @@ impl<'a> Seat<'a> {
     }
 
     /// Keeps the table for the next proxy, where there is one.
-    fn keep_table(&mut self, table: Option<NodeTable>) {
+    fn keep_table(&mut self, table: Option<NodeTable>)
+        ensures kept { self.new.table ≡ option_or table self.old.table }
+        ensures renewal { self.new.renewal ≡ self.old.renewal }
+    {
         match table {
             Some(table) => self.table = Some(table),
             None => {}
@@ -121,7 +125,7 @@ impl<'a> Seat<'a> {
     }
 
     /// No client is dealt to the thread any more, and those that it has are let go from the next turn on.
-    fn let_go(&mut self, now: u64) {
+    fn let_go(&self, now: u64) {
         self.handle.set_closed(true);
         self.handle.report().tell(Event::TableFull(
             self.worker,

@@ -12,23 +12,12 @@ use std::sync::atomic::{AtomicBool, AtomicU64, Ordering};
 const NO_DRAIN: u64 = u64::MAX;
 
 /// What the others see of a thread: the ready set of its sockets, and what wakes it.
+#[derive(Drop)]
 pub(crate) struct ThreadHandle {
     pub(crate) ready: Arc<ReadySet, Global>,
     waker: Waker,
     /// The thread takes no client for a time.
     is_closed: AtomicBool,
-}
-
-impl Drop for ThreadHandle {
-    fn drop(self) {
-        let ThreadHandle {
-            ready,
-            waker,
-            is_closed: _,
-        } = self;
-        drop(ready);
-        drop(waker);
-    }
 }
 
 impl ThreadHandle {
@@ -73,6 +62,7 @@ impl ThreadHandle {
 }
 
 /// The handles of all threads, and whether they are to stop.
+#[derive(Drop)]
 pub(crate) struct Shared {
     pub(crate) workers: Vec<ThreadHandle>,
     /// The thread that accepts clients and writes the log.
@@ -80,19 +70,6 @@ pub(crate) struct Shared {
     stopped: AtomicBool,
     /// After how many seconds of the drain what is left is cut.
     drain_seconds: AtomicU64,
-}
-
-impl Drop for Shared {
-    fn drop(self) {
-        let Shared {
-            workers,
-            acceptor,
-            stopped: _,
-            drain_seconds: _,
-        } = self;
-        drop(workers);
-        drop(acceptor);
-    }
 }
 
 impl Shared {

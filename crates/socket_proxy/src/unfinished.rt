@@ -153,23 +153,12 @@ fn known_after(known: u64, before: u64, bytes: u64) -> u64
 }
 
 /// What is held of a client's unfinished request, among those of its worker.
+#[derive(Drop)]
 pub(crate) struct UnfinishedRequest {
     all: SharedUnfinished,
     bytes: Cell<u64>,
     /// Its entry, once bytes of the client came.
     held: Option<Rc<HeldRequest>>,
-}
-
-impl Drop for UnfinishedRequest {
-    fn drop(self) {
-        let UnfinishedRequest {
-            all,
-            bytes: _,
-            held,
-        } = self;
-        drop(all);
-        drop(held);
-    }
 }
 
 impl UnfinishedRequest {

@@ -1,12 +1,12 @@
 //! The cluster, as each worker is given it.
 
-ghost use Rattle.std.specs.Prelude.{IsTrue};
-ghost use Rattle.resp_wire.specs.Text.{is_one_line};
+ghost use Rattle.std.specs.Prelude.{◌≡◌, ◌<◌, [], IfOk};
+ghost use Rattle.node_dial.specs.NextTable.{with_nodes};
 
 use crate::setup::{clone_registry, push};
 use crate::shared::ThreadHandle;
 use event_log::NodeName;
-use node_dial::{Connector, Credentials, SharedLookUps, SocketDial};
+use node_dial::{Connector, Credentials, SharedLookUps, SocketDial, copy_table};
 use proxy_runtime::{Poller, WireRunFault};
 use resp_wire::NoMemory;
 use slot_map::{NODE_LIMIT, NodeId, NodeTable};
@@ -15,28 +15,12 @@ use std::net::{self, Net};
 use std::sync::Arc;
 use std::time::Clock;
 
-/// A node of the cluster that is known at the start.
-#[derive(Clone, Copy)]
-struct Seed<'a> {
-    node: NodeId,
-    host: &'a [u8],
-    port: u16,
-    ghost one_line: { IsTrue (is_one_line host.now) },
-}
-
 /// The seeds, and what each node is told first.
+#[derive(Drop)]
 pub(crate) struct Upstream<'a> {
-    seeds: Vec<Seed<'a>>,
+    seeds: &'a NodeTable,
     /// `None` for nothing.
     pub(crate) credentials: Option<Arc<Credentials, Global>>,
-}
-
-impl Drop for Upstream<'_> {
-    fn drop(self) {
-        let Upstream { seeds, credentials } = self;
-        drop(seeds);
-        drop(credentials);
-    }
 }
 
 impl<'a> Upstream<'a> {
@@ -44,38 +28,45 @@ impl<'a> Upstream<'a> {
         alloc: Global,
         seeds: &'a NodeTable,
         credentials: Option<Credentials>,
-    ) -> Result<Upstream<'a>, NoMemory> {
+    ) -> Result<Upstream<'a>, NoMemory>
+        ensures { IfOk result (λ upstream. upstream.seeds.now ≡ seeds.now) }
+    {
         let credentials = match credentials {
             Some(credentials) => Some(Arc::new(alloc, credentials)?),
             None => None,
         };
-        Ok(Upstream {
-            seeds: seeds_in(alloc, seeds)?,
-            credentials,
-        })
+        Ok(Upstream { seeds, credentials })
     }
 
     /// A table of the nodes that are known at the start: the seeds.
-    pub(crate) fn seed_table(&self, alloc: Global) -> Result<NodeTable, NoMemory> {
-        let mut nodes = NodeTable::new(alloc);
-        for seed in &self.seeds {
-            if nodes.intern(seed.host, seed.port).is_err() {
-                return Err(NoMemory);
-            }
-        }
-        Ok(nodes)
+    pub(crate) fn seed_table(&self, alloc: Global) -> Result<NodeTable, NoMemory>
+        ensures { IfOk result (λ table. table ≡ with_nodes [] self.now.seeds.now) }
+    {
+        copy_table(alloc, self.seeds)
     }
 
     /// The names of the seeds.
     pub(crate) fn seed_names(&self, alloc: Global) -> Result<Vec<NodeName>, NoMemory> {
         let mut names = Vec::new(alloc);
-        for seed in &self.seeds {
-            push(
-                &mut names,
-                NodeName::new(alloc, seed.node, seed.host, seed.port)?,
-            )?;
+        for number in 0..NODE_LIMIT {
+            if let Some(name) = self.seed_name(alloc, number)? {
+                push(&mut names, name)?;
+            }
         }
         Ok(names)
+    }
+
+    /// The name of the seed of this number, where there is one.
+    fn seed_name(&self, alloc: Global, number: usize) -> Result<Option<NodeName>, NoMemory>
+        requires { number < 64 }
+    {
+        let Some(node) = NodeId::new(number as u8) else {
+            return Ok(None);
+        };
+        match self.seeds.endpoint(node) {
+            Some((host, port)) => Ok(Some(NodeName::new(alloc, node, host, port)?)),
+            None => Ok(None),
+        }
     }
 
     /// A dial of the thread that has this handle and poll.
@@ -107,22 +98,4 @@ impl<'a> Upstream<'a> {
             None => Ok(None),
         }
     }
-}
-
-/// The nodes of the table.
-fn seeds_in<'a>(alloc: Global, nodes: &'a NodeTable) -> Result<Vec<Seed<'a>>, NoMemory> {
-    let mut seeds = Vec::new(alloc);
-    for number in 0..NODE_LIMIT {
-        if let Some(seed) = seed_at(nodes, number) {
-            push(&mut seeds, seed)?;
-        }
-    }
-    Ok(seeds)
-}
-
-/// The node of this number, where there is one.
-fn seed_at<'a>(nodes: &'a NodeTable, number: usize) -> Option<Seed<'a>> {
-    let node = NodeId::new(u8::try_from(number).ok()?)?;
-    let (host, port) = nodes.endpoint(node)?;
-    Some(Seed { node, host, port })
 }
