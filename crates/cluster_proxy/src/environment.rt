@@ -1,5 +1,7 @@
 //! What the environment says: how the proxy names itself to the nodes.
 
+ghost use Rattle.std.specs.Prelude.{◌≡◌, Err, MatchOption, None, Ok};
+
 use node_dial::Credentials;
 use resp_wire::NoMemory;
 use std::alloc::{AllocGlobal, Global};
@@ -36,7 +38,19 @@ pub fn credentials_of<R: Env + AllocGlobal>(
     let user = variable(rt, USER)?;
     match password {
         Some(password) => Ok(Some(named(rt.alloc(), user, password.as_bytes())?)),
-        None if user.is_some() => Err(EnvironmentFault::UserAlone),
+        None => without_password(user),
+    }
+}
+
+/// What a user without a password means: a fault; none means no credentials.
+fn without_password(user: Option<String<Global>>) -> Result<Option<Credentials>, EnvironmentFault>
+    ensures { MatchOption user (result ≡ Ok None) (λ _. result ≡ Err EnvironmentFault.UserAlone) }
+{
+    match user {
+        Some(user) => {
+            drop(user);
+            Err(EnvironmentFault::UserAlone)
+        }
         None => Ok(None),
     }
 }

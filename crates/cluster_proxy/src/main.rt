@@ -5,6 +5,8 @@
 //! `node_server::run_nodes`, and `serve` by `socket_proxy::run_wire`. The contract of each says what it promises.
 #![tactic(auto)]
 
+ghost use Rattle.std.specs.Prelude.{◌≡◌, OnErr, OnOk};
+
 mod descriptors;
 mod environment;
 mod log_lines;
@@ -98,7 +100,10 @@ where
 }
 
 /// The status of a run that ended so: 1 with the fault in a line on standard error.
-fn status_of<R: Eprint, F: Display + Drop>(rt: &R, ended: Result<(), F>) -> u8 {
+fn status_of<R: Eprint, F: Display + Drop>(rt: &R, ended: Result<(), F>) -> u8
+    ensures ok { OnOk ended (result ≡ 0) }
+    ensures err { OnErr ended (result ≡ 1) }
+{
     match ended {
         Ok(()) => 0,
         Err(fault) => {
