@@ -64,12 +64,12 @@ def failures_of(rows):
 
 
 def is_timed(row):
-    return row.seconds is not None or any(call.startswith("time ") for call in row.calls)
+    return row.seconds is not None or any(call.split(" ")[1:2] == ["time"] for call in row.calls)
 
 
 def is_slow(failure):
     """Whether what went wrong is a time."""
-    return ": took " in failure or bool(re.match(r".*, call \d+: time ", failure))
+    return ": took " in failure or bool(re.match(r".*, call \d+: \S+ time ", failure))
 
 
 def failures_in(rows):

@@ -49,8 +49,10 @@ BY_ROWS = {
     "audit": ("cluster_world", "answered_has_one_entry", "report audit"),
     "LocalState's calls": ("local_state", "an_ask_is_followed_once", "state serve"),
     "lanes, CarrierEnds::publish": ("proxy_lanes", "a_view_shows_what_was_published", "lanes publish"),
-    "Carrier::turn": ("carrier", "a_reply_is_given", "turns all"),
-    "Worker::turn": ("workers", "the_first_post_is_moved", "turns all"),
+    "Engine::new": ("engine", "the_first_post_is_moved", "engine begin"),
+    "Carrier::turn": ("engine", "a_reply_is_given", "engine turn"),
+    "Worker::turn": ("engine", "the_first_post_is_moved", "engine turn"),
+    "Engine::turn": ("engine", "a_client_that_is_gone_drops_what_was_not_posted", "engine turn"),
     "Play::new": ("plays", "a_key_moves_in_a_play", "play begin"),
     "Play::play": ("plays", "a_key_moves_in_a_play", "play do"),
 }

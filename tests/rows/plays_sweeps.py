@@ -12,7 +12,7 @@ import sys
 sys.path.append(os.path.join(os.path.dirname(os.path.abspath(__file__)), "..", "program"))
 
 from answers import slot_of
-from orders import OWN, SHARED, Seen, counted, script_of, served_as_by_one_store, steps_of_moves
+from scripts import OWN, SHARED, Seen, counted, script_of, served_as_by_one_store, steps_of_moves
 from shared_plays import WHOLE_AGAIN, cut, ten_thousand_shared_plays
 from table import Row, quoted, request
 
@@ -47,7 +47,7 @@ def last_steps(play):
 
 def add_client(row, number, script):
     data = b"".join(request(*(word.encode() for word in each)) for each in script)
-    row.call(f"play client 0 {number} {quoted(data)}")
+    row.call(f"play client {number} {quoted(data)}")
 
 
 def add_play(row, play, words, scripts):

@@ -16,17 +16,13 @@ MOST_CALLS = 80
 LEFT_OUT = {
     # their nodes in memory, which are the driver's, execute the commands of a run one by one
     "a_run_is_sent",
-    # behind a turn that is made again the replies of two nodes come in another order
-    "an_ask_is_given",
-    # it counts turns, and one that finds no memory and is made again is one more
+    # they count turns, and one that finds no memory and is made again is one more
     "a_client_that_is_gone_drops_what_was_not_posted",
+    "a_run_that_is_too_long_is_refused_whole",
+    "a_worker_is_ready_once_its_client_is_gone",
     # a call that is made again offers bytes again, which are counted
     "refused_bytes_are_offered_at_the_next_call",
-    # they run a worker to its end by one call, which is not made again
-    "a_worker_is_ready_once_its_clients_are_served",
-    "a_worker_is_ready_once_its_client_is_gone",
-    "a_worker_is_stopped_by_its_gate",
-    # a play that finds no memory leaves the orders behind out, and one that can't begin is gone
+    # a play that finds no memory leaves the orders behind out
     "refused_together_then_one_by_one",
     "a_key_moves_in_a_play",
     "a_connection_breaks_behind_a_command",
@@ -36,18 +32,22 @@ LEFT_OUT = {
     "two_proxies_before_one_cluster",
 }
 
+# Calls of which no growth is refused: an engine or a play that can't begin is gone.
+BEGINS = {f"{thing} begin" for thing in ("engine", "other", "play", "second")}
+
 # Calls that take no memory, by their object: all others find none at least once. Some lines are of one word.
 QUIET = {
     "cluster": "forget import migrate own rest",
     "command": "end finish posted slot ticket want",
     "copy": "node slot",
     "courier": "later new node posts",
+    "engine": " end held jump",
     "jump": "",
-    "lane": "node run take",
     "lanes": "finish hand learn newcomer node take told",
     "link": "failed lose new patience written",
     "map": "node range slot",
-    "nodes": "fail leave longest own served",
+    "nodes": "fail import leave listen longest migrate own served",
+    "other": "held",
     "plan": "name",
     "port": "new writes written",
     "reader": "new",
@@ -58,7 +58,6 @@ QUIET = {
     "store": "new",
     "stream": "moves room slow",
     "table": "endpoint new",
-    "turns": " held jump worker",
     "value": "request show",
     "world": "answers",
 }
@@ -112,8 +111,9 @@ class Sweep:
             return [f"{row.name}: is answered otherwise while there is memory"]
         ends = [self.growths_of(row.calls[:count]) for count in range(len(row.calls) + 1)]
         places = Counter()
-        numbers = range(ends[0] + 1, ends[-1] + 1)
-        failures = list(filter(None, (self.failure(row, number, bisect_left(ends, number) - 1, places) for number in numbers)))
+        growths = ((number, bisect_left(ends, number) - 1) for number in range(ends[0] + 1, ends[-1] + 1))
+        refused = [(number, at) for number, at in growths if kind_of(row.calls[at]) not in BEGINS]
+        failures = list(filter(None, (self.failure(row, number, at, places) for number, at in refused)))
         self.made.update(map(kind_of, row.calls))
         for at, count in places.items():
             kind = kind_of(row.calls[at])
@@ -195,7 +195,7 @@ def failures_refused(tables, are_all):
             f"{sweep.of_driver} of the driver's own, {sweep.unneeded} not needed; {time.monotonic() - begun:.1f} s"
         )
     if are_all:
-        failures += [f"{kind}: never finds no memory" for kind in sorted(made - refused - TAKE_NONE)]
+        failures += [f"{kind}: never finds no memory" for kind in sorted(made - refused - TAKE_NONE - BEGINS)]
     failures += [f"{kind}: finds no memory, though it takes none" for kind in sorted(refused & TAKE_NONE)]
     print(f"{len(refused)} kinds of calls find no memory, {len(made & TAKE_NONE)} take none")
     return failures

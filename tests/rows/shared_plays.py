@@ -11,7 +11,7 @@ from itertools import cycle
 
 from answers import Fitting, slot_of, spelled
 from legal import Command, Others, is_legal
-from orders import GAVE_UP, LOST, Seen, steps_of_moves
+from scripts import GAVE_UP, LOST, Seen, steps_of_moves
 from table import Row, quoted, request
 
 SHARED_PLAYS = 10_000
@@ -112,7 +112,7 @@ class Play:
     def client_comes(self, proxy, client):
         commands = [command for _, command in self.asked[proxy, client]]
         data = b"".join(request(*(word.encode() for word in each.words)) for each in commands)
-        self.call(f"{proxy} client 0 {client} {quoted(data)}")
+        self.call(f"{proxy} client {client} {quoted(data)}")
         self.begun.append((proxy, client))
         for command in commands:
             command.came = self.moment

@@ -7,17 +7,14 @@ use command_future::{Command, Step, Want};
 /// A call of the command, or of a new one.
 pub fn call(held: &mut Held<Command>, line: &mut Line) {
     match line.call() {
-        "new" => renew(held, line),
+        "new" => {
+            if let Some((ticket, part)) = line.read() {
+                held.put(Command::new(ticket, part));
+                line.done();
+            }
+        }
         "finish" => finish(held, line),
         _ => held.call(line),
-    }
-}
-
-/// The command of a ticket and a part.
-fn renew(held: &mut Held<Command>, line: &mut Line) {
-    if let Some((ticket, part)) = line.read() {
-        held.put(Command::new(ticket, part));
-        line.done();
     }
 }
 
@@ -81,18 +78,14 @@ fn tell(command: &mut Command, line: &mut Line) {
         return;
     };
     match command.want() {
-        Want::Await => line.say(step_name(command.told(told))),
+        Want::Await => match command.told(told) {
+            Step::Again => line.say("again"),
+            Step::Done => line.say("done"),
+        },
         _ => {
             drop(told);
             line.refuse(CallFault::NotNow);
         }
-    }
-}
-
-fn step_name(step: Step) -> &'static str {
-    match step {
-        Step::Again => "again",
-        Step::Done => "done",
     }
 }
 

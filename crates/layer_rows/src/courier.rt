@@ -2,8 +2,8 @@
 
 ghost use Rattle.std.specs.Prelude.{◌≡◌, ⊤};
 
-use crate::held::{is_done, put};
-use crate::notation::{CallFault, Line, Object, Word};
+use crate::held::{is_done, put, put_read};
+use crate::notation::{CallFault, Line, Object};
 use command_future::{self, Command, OneCommand, Posting, Want};
 use futures::Future;
 use futures::executor::block_on;
@@ -54,24 +54,14 @@ impl Object for Courier {
             "new" => put(self, Courier::new(line.alloc), line),
             "later" => put_read(&mut self.later, line),
             "node" => put_read(&mut self.node, line),
-            "tells" => will_tell(&mut self.tells, line),
+            "tells" => {
+                if let Some(told) = line.read() {
+                    line.show_made(self.tells.push_back(told));
+                }
+            }
             _ => line.refuse(CallFault::NoSuchCall),
         }
     }
-}
-
-/// From now on it does otherwise.
-fn put_read<T: Word + Drop>(place: &mut T, line: &mut Line) {
-    if let Some(read) = line.read::<T>() {
-        put(place, read, line);
-    }
-}
-
-fn will_tell(tells: &mut VecDeque<Told>, line: &mut Line) {
-    let Some(told) = line.read() else {
-        return;
-    };
-    line.show_made(tells.push_back(told));
 }
 
 fn show_batches(batches: &[Batch], line: &mut Line) {

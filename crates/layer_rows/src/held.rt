@@ -1,6 +1,6 @@
 //! Places whose values change.
 
-use crate::notation::{CallFault, Line, Object};
+use crate::notation::{CallFault, Line, Object, Word};
 use std::fmt::Debug;
 
 /// A value that a call makes, or none as yet.
@@ -50,6 +50,13 @@ impl<T: Object> Held<T> {
 pub fn put<T: Drop>(place: &mut T, value: T, line: &mut Line) {
     *place = value;
     line.done();
+}
+
+/// Puts what the line says in the place of another value, and answers `ok`.
+pub fn put_read<T: Word + Drop>(place: &mut T, line: &mut Line) {
+    if let Some(read) = line.read::<T>() {
+        put(place, read, line);
+    }
 }
 
 /// Whether it was done. What came of it goes here, behind type parameters, since each is then dropped by one call.

@@ -7,7 +7,7 @@ use crate::held::is_done;
 use crate::maps::{range_in, slot_in};
 use crate::notation::{CallFault, Line, Object};
 use key_split::{Batch, Run};
-use proxy_lanes::{CarrierEnds, Front, MapView, Naming, Outlet, Publisher, WorkerEnds};
+use proxy_lanes::{CarrierEnds, Front, Naming, Outlet, Publisher, WorkerEnds};
 use slot_map::MapOp;
 use std::alloc::Global;
 use std::sync::Wait;
@@ -44,13 +44,6 @@ impl<J: Naming, R: Wait + Drop> LaneObjects<J, R> {
         }
     }
 
-    /// `publish range FIRST LAST NODE` or `publish slot SLOT NODE`
-    fn publish(&mut self, line: &mut Line) {
-        if let Some(op) = op_in(line) {
-            line.show(self.carrier.map.publish(&[op]));
-        }
-    }
-
     /// Keeps what was published so far, and shows its place among what was kept.
     fn tell(&mut self, line: &mut Line) {
         match self.carrier.map.tell() {
@@ -59,14 +52,17 @@ impl<J: Naming, R: Wait + Drop> LaneObjects<J, R> {
         }
     }
 
-    /// `learn WORKER PLACE`
+    /// `learn WORKER PLACE`: a worker learns what was kept at a place, where anything is kept there.
     fn learn(&mut self, line: &mut Line) {
         let Some((worker, place)) = line.read() else {
             return;
         };
-        match self.workers.get_mut(worker) {
-            Some(ends) => learn_kept(&mut ends.view, &mut self.fronts, place, line),
-            None => line.refuse(CallFault::NotMade),
+        let Some(ends) = self.workers.get_mut(worker) else {
+            return line.refuse(CallFault::NotMade);
+        };
+        if let Some(front) = line.found(kept_at(&mut self.fronts, place), CallFault::NotMade) {
+            ends.view.learn(front);
+            line.done();
         }
     }
 }
@@ -74,7 +70,11 @@ impl<J: Naming, R: Wait + Drop> LaneObjects<J, R> {
 impl<J: Naming, R: Wait + Drop> Object for LaneObjects<J, R> {
     fn call(&mut self, line: &mut Line) {
         match line.call() {
-            "publish" => self.publish(line),
+            "publish" => {
+                if let Some(op) = op_in(line) {
+                    line.show(self.carrier.map.publish(&[op]));
+                }
+            }
             "tell" => self.tell(line),
             "learn" => self.learn(line),
             "give" | "take" | "finish" | "hand" => call_of_carrier(&mut self.carrier, line),
@@ -83,6 +83,7 @@ impl<J: Naming, R: Wait + Drop> Object for LaneObjects<J, R> {
     }
 }
 
+/// `range FIRST LAST NODE` or `slot SLOT NODE`
 fn op_in(line: &mut Line) -> Option<MapOp> {
     match line.name()? {
         "range" => range_in(line),
@@ -101,25 +102,12 @@ fn keep_front<F: Drop>(fronts: &mut Vec<Option<F>>, front: F, line: &mut Line) {
     }
 }
 
-/// A worker learns what was kept at a place, where anything is kept there.
-fn learn_kept<J: Naming>(
-    view: &mut MapView<J>,
-    kept: &mut [Option<Front<J>>],
-    place: usize,
-    line: &mut Line,
-) {
-    if let Some(front) = line.found(kept_at(kept, place), CallFault::NotMade) {
-        view.learn(front);
-        line.done();
-    }
-}
-
 /// What was kept at a place, which is kept no longer.
 fn kept_at<F: Drop>(kept: &mut [Option<F>], place: usize) -> Option<F> {
     kept.get_mut(place)?.take()
 }
 
-/// A call of the carrier's end of a worker's lane.
+/// A call of the carrier's end of a worker's lane. `finish` finishes what goes down to the worker.
 fn call_of_carrier<M: Drop>(carrier: &mut CarrierEnds<u32, M>, line: &mut Line) {
     let Some(worker) = line.read::<u16>() else {
         return;
@@ -130,7 +118,10 @@ fn call_of_carrier<M: Drop>(carrier: &mut CarrierEnds<u32, M>, line: &mut Line) 
     match line.call() {
         "give" => give(carrier, worker, line),
         "take" => line.show(carrier.take(worker)),
-        "finish" => finish(carrier, worker, line),
+        "finish" => {
+            let is_noted = carrier.finish_down(worker).is_some();
+            line.say(if is_noted { "note" } else { "none" });
+        }
         _ => hand(carrier, worker, line),
     }
 }
@@ -151,14 +142,6 @@ fn give<M: Drop>(carrier: &mut CarrierEnds<u32, M>, worker: u16, line: &mut Line
     }
 }
 
-/// Finishes what goes down to a worker.
-fn finish<M: Drop>(carrier: &mut CarrierEnds<u32, M>, worker: u16, line: &mut Line)
-    requires { worker < length (lanes_of carrier.old) }
-{
-    let is_noted = carrier.finish_down(worker).is_some();
-    line.say(if is_noted { "note" } else { "none" });
-}
-
 /// `hand WORKER CLIENT`
 fn hand<M: Drop>(carrier: &mut CarrierEnds<u32, M>, worker: u16, line: &mut Line)
     requires { worker < length (lanes_of carrier.old) }
@@ -175,7 +158,11 @@ fn call_of_ends<J: Naming>(ends: &mut WorkerEnds<u32, J>, line: &mut Line) {
         "post" => post(&mut ends.outlet, line),
         "told" => line.show(ends.inlet.take()),
         "newcomer" => line.show(ends.newcomers.take()),
-        "node" => show_node(&mut ends.view, line),
+        "node" => {
+            if let Some(slot) = line.read() {
+                line.show(ends.view.node_of(slot));
+            }
+        }
         _ => line.refuse(CallFault::NoSuchCall),
     }
 }
@@ -190,12 +177,5 @@ fn post(outlet: &mut Outlet<Run>, line: &mut Line) {
             line.say("back");
             line.show(run);
         }
-    }
-}
-
-/// The node that the published map shows for a slot.
-pub fn show_node<J: Naming>(view: &mut MapView<J>, line: &mut Line) {
-    if let Some(slot) = line.read() {
-        line.show(view.node_of(slot));
     }
 }

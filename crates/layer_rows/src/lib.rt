@@ -18,14 +18,14 @@ mod objects;
 mod plans;
 mod round;
 mod row;
+mod runs;
 mod sessions;
 mod slots;
 mod stores;
 mod stream;
 mod wire;
 
-pub use held::{Held, is_done, keep, put};
-pub use lanes::show_node;
+pub use held::{Held, is_done, keep, put, put_read};
 pub use maps::written;
 pub use notation::{Answer, CallFault, Line, Object, Rows, Shown, Word};
 pub use row::{AnswersRow, RowHost, answer_rows};

@@ -1,6 +1,6 @@
 //! Links and ports over a stream in memory.
 
-use crate::held::{Held, put};
+use crate::held::{Held, put, put_read};
 use crate::notation::{CallFault, Line, Object};
 use crate::stream::MemoryStream;
 use key_split::Batch;
@@ -14,7 +14,7 @@ type Port = BlockPort<MemoryStream>;
 #[derive(Drop)]
 pub struct LinkObjects {
     /// The stream of the link or port that is made next.
-    stream: MemoryStream,
+    pub stream: MemoryStream,
     port: Held<Port>,
     link: Held<Link<Port>>,
 }
@@ -28,43 +28,33 @@ impl LinkObjects {
         }
     }
 
-    pub fn stream(&mut self, line: &mut Line) {
-        self.stream.call(line);
-    }
-
     pub fn port(&mut self, line: &mut Line) {
         match line.call() {
-            "new" => self.renew_port(line),
+            "new" => {
+                self.port.put(next_port(&mut self.stream, line.alloc));
+                line.done();
+            }
             _ => self.port.call(line),
         }
     }
 
-    fn renew_port(&mut self, line: &mut Line) {
-        self.port.put(next_port(&mut self.stream, line.alloc));
-        line.done();
-    }
-
     pub fn link(&mut self, table: &mut NodeTable, value: &mut Held<Value>, line: &mut Line) {
         match line.call() {
-            "new" => self.renew_link(line),
+            "new" => {
+                if let Some(node) = line.read() {
+                    let port = next_port(&mut self.stream, line.alloc);
+                    self.link.put(Link::new(line.alloc, port, node));
+                    line.done();
+                }
+            }
             "patience" => line.show(FLUSH_AFTER_READS),
             "receive" => self.receive(table, 1, value, line),
-            "wait" => self.wait(table, value, line),
+            "wait" => {
+                if let Some(calls) = line.read() {
+                    self.receive(table, calls, value, line);
+                }
+            }
             _ => self.link.call(line),
-        }
-    }
-
-    fn renew_link(&mut self, line: &mut Line) {
-        if let Some(node) = line.read() {
-            let port = next_port(&mut self.stream, line.alloc);
-            self.link.put(Link::new(line.alloc, port, node));
-            line.done();
-        }
-    }
-
-    fn wait(&mut self, table: &mut NodeTable, value: &mut Held<Value>, line: &mut Line) {
-        if let Some(calls) = line.read() {
-            self.receive(table, calls, value, line);
         }
     }
 
@@ -91,17 +81,19 @@ fn next_port(stream: &mut MemoryStream, alloc: Global) -> Port {
     BlockPort::new(alloc, std::mem::replace(stream, next), Limits::full(), true)
 }
 
-/// How the next stream is.
+/// How the next stream is: `slow` moves one byte at once, and before each such call stands one that would have to wait; `room` fails
+/// behind so many bytes; `moves` moves at most so many at once.
 impl Object for MemoryStream {
     fn call(&mut self, line: &mut Line) {
         match line.call() {
             "gives" => give(self, line),
             "slow" => {
-                self.slow_down();
+                self.at_once = 1;
+                self.waits = true;
                 line.done();
             }
-            "room" => make_room(self, line),
-            "moves" => slow_to(self, line),
+            "room" => put_read(&mut self.room, line),
+            "moves" => put_read(&mut self.at_once, line),
             _ => line.refuse(CallFault::NoSuchCall),
         }
     }
@@ -119,43 +111,23 @@ fn give(stream: &mut MemoryStream, line: &mut Line) {
     }
 }
 
-/// The next stream fails behind this number of bytes.
-fn make_room(stream: &mut MemoryStream, line: &mut Line) {
-    if let Some(room) = line.read() {
-        stream.make_room(room);
-        line.done();
-    }
-}
-
-/// The next stream moves this number of bytes at once.
-fn slow_to(stream: &mut MemoryStream, line: &mut Line) {
-    if let Some(at_once) = line.read() {
-        stream.slow_to(at_once);
-        line.done();
-    }
-}
-
 impl Object for Port {
     fn call(&mut self, line: &mut Line) {
         match line.call() {
-            "send" => send_over(self, line),
+            "send" => {
+                if let Some(batch) = line.read::<Batch>() {
+                    line.show(self.send(&batch));
+                }
+            }
             "slots" => line.show(self.ask_slots()),
             "next" => line.show(self.next()),
-            "wait" => wait_over(self, line),
-            _ => show_moved(self, line),
+            "wait" => {
+                if let Some(calls) = line.read() {
+                    line.show(next_within(self, calls));
+                }
+            }
+            _ => show_moved(self.stream(), line),
         }
-    }
-}
-
-fn send_over(port: &mut Port, line: &mut Line) {
-    if let Some(batch) = line.read::<Batch>() {
-        line.show(port.send(&batch));
-    }
-}
-
-fn wait_over(port: &mut Port, line: &mut Line) {
-    if let Some(calls) = line.read() {
-        line.show(next_within(port, calls));
     }
 }
 
@@ -177,32 +149,36 @@ fn come<T: Drop, F: Drop>(answer: Result<Option<T>, F>) -> Option<Result<Option<
     }
 }
 
-/// Shows what the port's stream moved.
-fn show_moved(port: &Port, line: &mut Line) {
+/// Shows what a port's stream moved.
+fn show_moved(stream: &MemoryStream, line: &mut Line) {
     match line.call() {
-        "written" => line.answer.bytes(port.stream().taken()),
-        "reads" => line.show(port.stream().reads()),
-        "writes" => line.show(port.stream().writes()),
+        "written" => line.answer.bytes(stream.taken.as_slice()),
+        "reads" => line.show(stream.reads),
+        "writes" => line.show(stream.writes),
         _ => line.refuse(CallFault::NoSuchCall),
     }
 }
 
-/// A call that receives nothing.
+/// A call that receives nothing. `lose` gives the oldest ticket of a link that has failed.
 impl Object for Link<Port> {
     fn call(&mut self, line: &mut Line) {
         match line.call() {
-            "send" => send(self, line),
+            "send" => {
+                if let Some(batch) = line.read::<Batch>() {
+                    line.show(self.send(&batch));
+                }
+            }
             "slots" => line.show(self.ask_slots()),
-            "lose" => lose(self, line),
+            "lose" => {
+                if self.failed() {
+                    line.show(self.lose());
+                } else {
+                    line.refuse(CallFault::NotNow);
+                }
+            }
             "failed" => line.show(self.failed()),
-            _ => show_moved(self.port(), line),
+            _ => show_moved(self.port().stream(), line),
         }
-    }
-}
-
-fn send(link: &mut Link<Port>, line: &mut Line) {
-    if let Some(batch) = line.read::<Batch>() {
-        line.show(link.send(&batch));
     }
 }
 
@@ -242,14 +218,5 @@ fn show_got(got: Got, held: &mut Held<Value>, line: &mut Line) {
             line.show(&value);
             held.put(value);
         }
-    }
-}
-
-/// Loses the oldest ticket of a link that has failed.
-fn lose(link: &mut Link<Port>, line: &mut Line) {
-    if link.failed() {
-        line.show(link.lose());
-    } else {
-        line.refuse(CallFault::NotNow);
     }
 }

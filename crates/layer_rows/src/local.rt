@@ -30,16 +30,14 @@ fn renew(held: &mut Held<LocalState>, line: &mut Line) {
 impl Object for LocalState {
     fn call(&mut self, line: &mut Line) {
         match line.call() {
-            "serve" => serve(self, line),
+            "serve" => {
+                if let Some(batch) = line.read::<Batch>() {
+                    line.show(self.serve(&batch));
+                }
+            }
             "history" => line.show(self.history().len()),
             _ => make_step(self, line),
         }
-    }
-}
-
-fn serve(state: &mut LocalState, line: &mut Line) {
-    if let Some(batch) = line.read::<Batch>() {
-        line.show(state.serve(&batch));
     }
 }
 

@@ -12,7 +12,8 @@ use std::alloc::Global;
 pub struct MapObjects {
     pub table: NodeTable,
     pub map: Held<SlotMap>,
-    copy: Held<SlotMap>,
+    /// A copy of the map, by itself.
+    pub copy: Held<SlotMap>,
 }
 
 impl MapObjects {
@@ -27,22 +28,13 @@ impl MapObjects {
     pub fn map(&mut self, value: &Held<Value>, line: &mut Line) {
         match line.call() {
             "new" => self.map.hold(SlotMap::new(line.alloc), line),
-            "copy" => self.renew_copy(line),
+            "copy" => match &self.map.value {
+                Some(map) => self.copy.hold(map.copy(line.alloc), line),
+                None => line.refuse(CallFault::NotMade),
+            },
             "read" => self.read(value, line),
             _ => self.map.call(line),
         }
-    }
-
-    fn renew_copy(&mut self, line: &mut Line) {
-        match &self.map.value {
-            Some(map) => self.copy.hold(map.copy(line.alloc), line),
-            None => line.refuse(CallFault::NotMade),
-        }
-    }
-
-    /// A call of the copy.
-    pub fn copy(&mut self, line: &mut Line) {
-        self.copy.call(line);
     }
 
     /// Reads a value as the asked node's reply to CLUSTER SLOTS, and applies what it says to the map, where there is one.
@@ -116,17 +108,15 @@ fn show_endpoint(table: &NodeTable, line: &mut Line) {
 impl Object for SlotMap {
     fn call(&mut self, line: &mut Line) {
         match line.call() {
-            "node" => show_node_of(self, line),
+            "node" => {
+                if let Some(slot) = line.read() {
+                    line.show(self.node_of(slot));
+                }
+            }
             "range" => apply(self, range_in(line), line),
             "slot" => apply(self, slot_in(line), line),
             _ => line.refuse(CallFault::NoSuchCall),
         }
-    }
-}
-
-fn show_node_of(map: &SlotMap, line: &mut Line) {
-    if let Some(slot) = line.read() {
-        line.show(map.node_of(slot));
     }
 }
 
@@ -160,27 +150,19 @@ fn read_slots(
         return line.refuse(CallFault::NotNow);
     }
     match ops_of(value, asked, table) {
-        Ok(ops) => {
-            show_ops(ops.as_slice(), line);
-            apply_all(&mut map.value, ops.as_slice());
-        }
+        Ok(ops) => apply_all(&mut map.value, ops.as_slice(), line),
         Err(fault) => line.answer.debug(&fault),
     }
 }
 
-fn show_ops(ops: &[MapOp], line: &mut Line) {
+/// Shows what is said of the map, and applies it, where there is a map.
+fn apply_all(map: &mut Option<SlotMap>, ops: &[MapOp], line: &mut Line) {
     line.say("ops");
     for op in ops {
         line.show(*op);
-    }
-}
-
-fn apply_all(map: &mut Option<SlotMap>, ops: &[MapOp]) {
-    let Some(map) = map else {
-        return;
-    };
-    for op in ops {
-        map.apply(*op);
+        if let Some(map) = map {
+            map.apply(*op);
+        }
     }
 }
 

@@ -43,8 +43,16 @@ impl Object for Cluster {
     fn call(&mut self, line: &mut Line) {
         match line.call() {
             "serve" => serve(self, line),
-            "import" => import(self, line),
-            "movekey" => move_key(self, line),
+            "import" => {
+                if let Some((slot, node)) = line.read() {
+                    line.show(self.import_slot(slot, node));
+                }
+            }
+            "movekey" => {
+                if let Some((slot, key)) = line.read::<(Slot, Bytes)>() {
+                    line.show(self.move_key(slot, &key));
+                }
+            }
             _ => call_of_slot(self, line),
         }
     }
@@ -73,18 +81,6 @@ fn verdict_in(line: &mut Line) -> Option<Verdict> {
             line.refuse(CallFault::UnknownWord);
             None
         }
-    }
-}
-
-fn import(cluster: &mut Cluster, line: &mut Line) {
-    if let Some((slot, node)) = line.read() {
-        line.show(cluster.import_slot(slot, node));
-    }
-}
-
-fn move_key(cluster: &mut Cluster, line: &mut Line) {
-    if let Some((slot, key)) = line.read::<(Slot, Bytes)>() {
-        line.show(cluster.move_key(slot, &key));
     }
 }
 

@@ -7,9 +7,9 @@ use crate::maps::MapObjects;
 use crate::notation::{CallFault, Line, Object};
 use crate::plans::{self, PlanObjects};
 use crate::wire::call_of_value;
-use crate::{commands, local, nodes, slots};
+use crate::{commands, local, nodes, runs, slots};
 use command_future::Command;
-use key_split::{Ended, Part};
+use key_split::{Ended, Part, Run};
 use local_cluster::LocalState;
 use node_model::{Cluster, Store};
 use resp_wire::{Limits, Reader, Value};
@@ -49,6 +49,7 @@ pub struct RowObjects {
     value: Held<Value>,
     maps: MapObjects,
     plans: PlanObjects,
+    run: Held<Run>,
     command: Held<Command>,
     session: Session,
     store: Store,
@@ -64,6 +65,7 @@ impl RowObjects {
             value: Held::none(),
             maps: MapObjects::new(alloc),
             plans: PlanObjects::new(alloc),
+            run: Held::none(),
             command: Held::none(),
             session: Session::new(alloc, 0, 0, Limits::full()),
             store: Store::new(alloc),
@@ -71,20 +73,6 @@ impl RowObjects {
             links: LinkObjects::new(alloc),
             state: Held::none(),
         }
-    }
-}
-
-impl RowObjects {
-    fn call_map(&mut self, line: &mut Line) {
-        self.maps.map(&self.value, line);
-    }
-
-    fn call_cluster(&mut self, line: &mut Line) {
-        nodes::call(&mut self.cluster, &self.maps, &mut self.value, line);
-    }
-
-    fn call_link(&mut self, line: &mut Line) {
-        self.links.link(&mut self.maps.table, &mut self.value, line);
     }
 }
 
@@ -98,16 +86,17 @@ impl Object for RowObjects {
             "value" => call_of_value(&mut self.value, line),
             "slot" => slots::call(line),
             "plan" => self.plans.call(line),
+            "run" => runs::call(&mut self.run, line),
             "part" => plans::call_of_one::<Part>(line),
             "end" => plans::call_of_one::<Ended>(line),
             "table" => self.maps.table.call(line),
-            "map" => self.call_map(line),
-            "copy" => self.maps.copy(line),
+            "map" => self.maps.map(&self.value, line),
+            "copy" => self.maps.copy.call(line),
             "told" => self.maps.told(line),
-            "cluster" => self.call_cluster(line),
-            "stream" => self.links.stream(line),
+            "cluster" => nodes::call(&mut self.cluster, &self.maps, &mut self.value, line),
+            "stream" => self.links.stream.call(line),
             "port" => self.links.port(line),
-            "link" => self.call_link(line),
+            "link" => self.links.link(&mut self.maps.table, &mut self.value, line),
             "state" => local::call(&mut self.state, line),
             _ => line.refuse(CallFault::NoSuchObject),
         }

@@ -25,10 +25,15 @@ impl PlanObjects {
         }
     }
 
+    /// `of` plans the words of a request, and `end` keeps the end of its next part.
     pub fn call(&mut self, line: &mut Line) {
         match line.call() {
             "of" => self.plan(line),
-            "end" => self.push_end(line),
+            "end" => {
+                if let Some(end) = line.read() {
+                    keep(&mut self.ends, end, line);
+                }
+            }
             "name" => show_name(line),
             _ => self.call_of_plan(line),
         }
@@ -52,13 +57,6 @@ impl PlanObjects {
         let copied = copy_all(line.alloc, line.rest(), &mut self.words);
         if let Some(()) = line.made(copied) {
             show_planned(&self.words, line);
-        }
-    }
-
-    /// Keeps the end of the next part.
-    fn push_end(&mut self, line: &mut Line) {
-        if let Some(end) = line.read() {
-            keep(&mut self.ends, end, line);
         }
     }
 }
@@ -150,7 +148,10 @@ fn show_plan(planned: &Planned, line: &mut Line) {
         Planned::Close => line.say("close"),
         Planned::Parts(joining, parts) => {
             show_joining(joining, line);
-            show_parts(parts.as_slice(), line);
+            for part in parts.as_slice() {
+                line.say(";");
+                line.show(part);
+            }
         }
     }
 }
@@ -166,13 +167,6 @@ fn show_joining(joining: &Joining, line: &mut Line) {
                 line.show(*place);
             }
         }
-    }
-}
-
-fn show_parts(parts: &[Part], line: &mut Line) {
-    for part in parts {
-        line.say(";");
-        line.show(part);
     }
 }
 

@@ -10,8 +10,17 @@ use std::alloc::Global;
 impl Object for Session {
     fn call(&mut self, line: &mut Line) {
         match line.call() {
-            "new" => renew(self, line),
-            "feed" => feed(self, line),
+            "new" => {
+                if let Some((worker, client)) = line.read::<(u16, u16)>() {
+                    let new = Session::new(line.alloc, worker, u32::from(client), Limits::full());
+                    put(self, new, line);
+                }
+            }
+            "feed" => {
+                if let Some(bytes) = line.read::<Bytes>() {
+                    line.show(feed(line.alloc, self, bytes.as_slice()));
+                }
+            }
             "read" => line.show(self.read()),
             "readall" => read_all(self, line),
             "ready" => line.show(self.ready()),
@@ -22,24 +31,8 @@ impl Object for Session {
     }
 }
 
-/// The session of a client of a worker, by their numbers.
-fn renew(session: &mut Session, line: &mut Line) {
-    if let Some((worker, client)) = line.read::<(u16, u16)>() {
-        let new = Session::new(line.alloc, worker, u32::from(client), Limits::full());
-        put(session, new, line);
-    }
-}
-
-fn feed(session: &mut Session, line: &mut Line) {
-    let alloc = line.alloc;
-    if let Some(bytes) = line.bytes() {
-        let fed = feed_bytes(alloc, session, bytes);
-        line.show(fed);
-    }
-}
-
 /// Feeds a buffer of these bytes.
-fn feed_bytes(alloc: Global, session: &mut Session, bytes: &[u8]) -> Result<usize, SessionFault> {
+fn feed(alloc: Global, session: &mut Session, bytes: &[u8]) -> Result<usize, SessionFault> {
     let mut buffer = Vec::new(alloc);
     if buffer.extend_from_slice(bytes).is_err() {
         return Err(SessionFault::NoMemory);
@@ -64,18 +57,15 @@ fn call_of_ticket(session: &mut Session, line: &mut Line) {
     };
     match line.call() {
         "awaits" => line.show(session.awaits(ticket)),
-        "follow" => follow(session, ticket, line),
+        "follow" => {
+            if session.awaits(ticket) {
+                line.show(session.follower(ticket));
+            } else {
+                line.say("none");
+            }
+        }
         "ended" => end(session, ticket, line),
         _ => line.refuse(CallFault::NoSuchCall),
-    }
-}
-
-// The part behind one that is out.
-fn follow(session: &mut Session, ticket: Ticket, line: &mut Line) {
-    if session.awaits(ticket) {
-        line.show(session.follower(ticket));
-    } else {
-        line.say("none");
     }
 }
 

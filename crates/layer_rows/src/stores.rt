@@ -9,14 +9,12 @@ impl Object for Store {
     fn call(&mut self, line: &mut Line) {
         match line.call() {
             "new" => put(self, Store::new(line.alloc), line),
-            "apply" => apply(self, line),
+            "apply" => {
+                if let Some(part) = line.read::<Part>() {
+                    line.show(self.apply(&part));
+                }
+            }
             _ => line.refuse(CallFault::NoSuchCall),
         }
-    }
-}
-
-fn apply(store: &mut Store, line: &mut Line) {
-    if let Some(part) = line.read::<Part>() {
-        line.show(store.apply(&part));
     }
 }

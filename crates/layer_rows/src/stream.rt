@@ -9,17 +9,20 @@ use std::alloc::{AllocError, Global};
 pub struct MemoryStream {
     coming: Vec<u8>,
     given: usize,
-    taken: Vec<u8>,
+    /// The bytes that were written.
+    pub taken: Vec<u8>,
     /// The most bytes that one call moves.
-    at_once: usize,
+    pub at_once: usize,
     /// Each second read and each second write would have to wait.
-    waits: bool,
+    pub waits: bool,
     read_waited: bool,
     write_waited: bool,
     /// How many bytes are taken before the stream fails.
-    room: usize,
-    reads: u64,
-    writes: u64,
+    pub room: usize,
+    /// How often it was read, calls that had to wait among them.
+    pub reads: u64,
+    /// How often it was written.
+    pub writes: u64,
 }
 
 impl MemoryStream {
@@ -37,37 +40,6 @@ impl MemoryStream {
             reads: 0,
             writes: 0,
         }
-    }
-
-    /// From now on a call moves one byte, and before each stands one that would have to wait.
-    pub fn slow_down(&mut self) {
-        self.at_once = 1;
-        self.waits = true;
-    }
-
-    /// From now on a call moves at most `at_once` bytes.
-    pub fn slow_to(&mut self, at_once: usize) {
-        self.at_once = at_once;
-    }
-
-    /// `room` bytes are taken before the stream fails.
-    pub fn make_room(&mut self, room: usize) {
-        self.room = room;
-    }
-
-    /// The bytes that were written.
-    pub fn taken(&self) -> &[u8] {
-        self.taken.as_slice()
-    }
-
-    /// How often it was read, calls that had to wait among them.
-    pub fn reads(&self) -> u64 {
-        self.reads
-    }
-
-    /// How often it was written.
-    pub fn writes(&self) -> u64 {
-        self.writes
     }
 
     /// Keeps what was written, or nothing of it.

@@ -10,18 +10,15 @@ impl Object for Reader {
     fn call(&mut self, line: &mut Line) {
         match line.call() {
             "new" => renew(self, line),
-            "feed" => feed(self, line),
+            "feed" => {
+                if let Some(bytes) = line.read::<Bytes>() {
+                    line.show(self.feed(bytes.as_slice()));
+                }
+            }
             "next" => line.show(self.next()),
             "round" => round::call(line),
             _ => line.refuse(CallFault::NoSuchCall),
         }
-    }
-}
-
-fn feed(reader: &mut Reader, line: &mut Line) {
-    if let Some(bytes) = line.bytes() {
-        let fed = reader.feed(bytes);
-        line.show(fed);
     }
 }
 
@@ -39,20 +36,17 @@ fn renew(reader: &mut Reader, line: &mut Line) {
     }
 }
 
-/// A call of the value that is held.
+/// A call of the value that is held, or of another: `read BYTES` holds the value that they spell.
 pub fn call_of_value(held: &mut Held<Value>, line: &mut Line) {
     match line.call() {
-        "read" => read(held, line),
+        "read" => {
+            if let Some(value) = line.read() {
+                held.put(value);
+                line.done();
+            }
+        }
         "words" => show_words(held, line),
         _ => held.call(line),
-    }
-}
-
-/// Holds the value that the bytes spell.
-fn read(held: &mut Held<Value>, line: &mut Line) {
-    if let Some(value) = line.read() {
-        held.put(value);
-        line.done();
     }
 }
 
@@ -79,40 +73,35 @@ impl Object for Value {
         match line.call() {
             "show" => line.show(&*self),
             "request" => line.show(self.is_request()),
-            "copy" => copy(self, line),
-            "write" => write(self, line),
-            "equals" => compare(self, line),
+            "copy" => {
+                if let Some(copy) = line.made(self.copy(line.alloc)) {
+                    put(self, copy, line);
+                }
+            }
+            "write" => {
+                if let Some(before) = line.read::<Bytes>() {
+                    line.show(written_behind(line.alloc, before.as_slice(), self));
+                }
+            }
+            "equals" => {
+                if let Some(other) = line.read::<Value>() {
+                    line.show(is_same(self, other));
+                }
+            }
             _ => line.refuse(CallFault::NoSuchCall),
         }
     }
 }
 
-/// Holds a copy in the place of the value.
-fn copy(value: &mut Value, line: &mut Line) {
-    if let Some(copy) = line.made(value.copy(line.alloc)) {
-        put(value, copy, line);
-    }
-}
-
 /// The spelling of the value behind other bytes.
-fn write(value: &Value, line: &mut Line) {
-    let alloc = line.alloc;
-    if let Some(before) = line.bytes() {
-        let written = written_behind(alloc, before, value);
-        line.show(written);
-    }
-}
-
 fn written_behind(alloc: Global, before: &[u8], value: &Value) -> Result<Bytes, CallFault> {
     let mut bytes = Vec::from_slice(alloc, before)?;
     write_value(&mut bytes, value)?;
     Ok(Bytes::new(bytes))
 }
 
-fn compare(value: &Value, line: &mut Line) {
-    if let Some(other) = line.read::<Value>() {
-        let is_same = *value == other;
-        drop(other);
-        line.show(is_same);
-    }
+fn is_same(value: &Value, other: Value) -> bool {
+    let is_same = *value == other;
+    drop(other);
+    is_same
 }

@@ -4,6 +4,26 @@ use proxy_turns::Gate;
 use std::sync::atomic::{AtomicBool, AtomicU64, Ordering};
 use std::thread;
 
+/// Lets all go on.
+#[derive(Drop)]
+pub struct Open;
+
+impl Gate for Open {
+    fn pass(&self, _: u16, _: u64) -> bool {
+        true
+    }
+
+    fn time(&self) -> Option<u64> {
+        None
+    }
+
+    fn next_due(&self, _: Option<u64>) {}
+
+    fn idle(&self) {
+        thread::yield_now();
+    }
+}
+
 /// Two workers wait for each other. Each one's first pass waits until the other's first pass has begun, worker 0's then until
 /// worker 1 has answered a command. A pass that has yielded thirty million times says no, and so does every pass after it.
 #[derive(Drop)]

@@ -18,8 +18,6 @@ mod maps;
 #[cfg(test)]
 mod numbered;
 #[cfg(test)]
-mod play;
-#[cfg(test)]
 mod report;
 #[cfg(test)]
 mod rows;
@@ -27,6 +25,10 @@ mod rows;
 mod runs;
 #[cfg(test)]
 mod socket_runs;
+#[cfg(test)]
+mod tables;
+#[cfg(test)]
+mod turns;
 #[cfg(test)]
 mod way;
 #[cfg(test)]

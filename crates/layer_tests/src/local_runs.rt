@@ -1,6 +1,6 @@
 //! Runs of scripts.
 
-use crate::gates::Meeting;
+use crate::gates::{Meeting, Open};
 use crate::runs::{Counts, Move, ran, run, scripts_of};
 use cluster_world::RunReport;
 use proxy_runtime::Host;
@@ -9,7 +9,6 @@ use resp_wire::Bytes;
 use std::alloc::Global;
 use std::process::Abort;
 use std::test::Fail;
-use turn_rows::Open;
 
 const SET_A: &[u8] = b"*3\r\n$3\r\nSET\r\n$1\r\na\r\n$1\r\n1\r\n";
 

@@ -1,41 +1,13 @@
-//! `report`: the report of a run, made by hand, and its audit; and `world` beside it.
+//! `report`: the report of a run, made by hand, and its audit.
 
-use crate::world;
-use cluster_world::{Entry, RunReport, World, audit};
-use layer_rows::{CallFault, Held, Line, Object, Word, keep, put};
+use cluster_world::{Entry, RunReport, audit};
+use layer_rows::{CallFault, Line, Word, keep, put};
 use std::alloc::Global;
 
-/// A report and a world, beside other objects.
-#[derive(Drop)]
-pub struct ReportObject<O> {
-    report: RunReport,
-    world: Held<World>,
-    others: O,
-}
-
-impl<O> ReportObject<O> {
-    pub fn new(alloc: Global, others: O) -> ReportObject<O> {
-        ReportObject {
-            report: new_report(alloc),
-            world: Held::none(),
-            others,
-        }
-    }
-}
-
-impl<O: Object> Object for ReportObject<O> {
-    fn call(&mut self, line: &mut Line) {
-        match line.object() {
-            "report" => call(&mut self.report, line),
-            "world" => world::call(&mut self.world, line),
-            _ => self.others.call(line),
-        }
-    }
-}
-
-fn call(report: &mut RunReport, line: &mut Line) {
+/// A call of the report.
+pub fn call(report: &mut RunReport, line: &mut Line) {
     match line.call() {
-        "new" => put(report, new_report(line.alloc), line),
+        "new" => put(report, none(line.alloc), line),
         "part" => keep_read(&mut report.parts, line),
         "end" => keep_read(&mut report.ends, line),
         "entry" => keep_entry(&mut report.history, line),
@@ -45,7 +17,7 @@ fn call(report: &mut RunReport, line: &mut Line) {
 }
 
 /// A report of no run.
-fn new_report(alloc: Global) -> RunReport {
+pub fn none(alloc: Global) -> RunReport {
     RunReport {
         parts: Vec::new(alloc),
         ends: Vec::new(alloc),

@@ -2,6 +2,7 @@
 
 ghost use Rattle.std.specs.Prelude.{◌<◌, ◌≤◌};
 
+use crate::tables::{PORTS, table_at};
 use cluster_world::{RunReport, audit};
 use key_split::Ended;
 use local_cluster::{LocalCluster, LocalState, MoveStep, three_nodes};
@@ -13,7 +14,6 @@ use slot_hash::Slot;
 use slot_map::NodeId;
 use std::alloc::Global;
 use std::test::Fail;
-use turn_rows::{PORTS, table_at};
 
 /// Where a slot goes while clients are served.
 #[derive(Clone, Copy)]

@@ -4,6 +4,7 @@
 
 ghost use Rattle.std.specs.Prelude.{◌≡◌};
 
+use crate::tables::table_at;
 use event_log::ErrorStream;
 use local_cluster::{LocalState, three_nodes};
 use mio::net;
@@ -16,7 +17,6 @@ use std::net::{Net, SocketAddr, TcpListener, TcpStream};
 use std::sync::Wait;
 use std::test::Fail;
 use std::thread::{self, JoinHandle, Threads};
-use turn_rows::table_at;
 
 /// SET a 1, and GET without its key.
 const CUT: &[u8] = b"*3\r\n$3\r\nSET\r\n$1\r\na\r\n$1\r\n1\r\n*2\r\n$3\r\nGET\r\n";

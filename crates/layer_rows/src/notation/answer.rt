@@ -103,20 +103,8 @@ impl Answer {
             b'\n' => self.put("\\n"),
             b'"' => self.put("\\\""),
             b'\\' => self.put("\\\\"),
-            b' '..=b'~' => self.put_char(char::from(byte)),
-            _ => self.put_hexadecimal(byte),
-        }
-    }
-
-    fn put_char(&mut self, letter: char) {
-        if self.text.push(letter).is_err() {
-            self.cut = true;
-        }
-    }
-
-    fn put_hexadecimal(&mut self, byte: u8) {
-        if write!(self.text, "\\x{byte:02x}").is_err() {
-            self.cut = true;
+            b' '..=b'~' => self.cut |= self.text.push(char::from(byte)).is_err(),
+            _ => self.cut |= write!(self.text, "\\x{byte:02x}").is_err(),
         }
     }
 }
@@ -124,13 +112,9 @@ impl Answer {
 /// Whether the bytes are a word without quotes.
 fn is_plain(bytes: &[u8]) -> bool {
     for byte in bytes {
-        if !is_plain_byte(*byte) {
+        if !matches!(*byte, b'!' | b'#'..=b'[' | b']'..=b'~') {
             return false;
         }
     }
     !bytes.is_empty()
-}
-
-fn is_plain_byte(byte: u8) -> bool {
-    byte > b' ' && byte <= b'~' && byte != b'"' && byte != b'\\'
 }

@@ -44,7 +44,10 @@ impl<B: BufRead, W: Write> Rows<B, W> {
         for _ in 0..u64::MAX {
             match self.next_line()? {
                 Read::Call => self.answer_line(&mut objects)?,
-                Read::Reset => return self.end_row(),
+                Read::Reset => {
+                    self.writer.write_all(b"ok\n")?;
+                    return Ok(true);
+                }
                 Read::End => return Ok(false),
             }
         }
@@ -65,11 +68,6 @@ impl<B: BufRead, W: Write> Rows<B, W> {
     fn answer_line<O: Object>(&mut self, objects: &mut O) -> io::Result<()> {
         answer_call(objects, self.text.as_str().trim_end(), &mut self.line);
         write_answer(&mut self.writer, &self.line.answer)
-    }
-
-    fn end_row(&mut self) -> io::Result<bool> {
-        self.writer.write_all(b"ok\n")?;
-        Ok(true)
     }
 
     /// Writes out all answers.

@@ -56,10 +56,12 @@ impl Word for Told {
                 let (slot, node) = line.read()?;
                 Some(Told::Ask(slot, node))
             }
-            name => {
-                let told = told_alone(name);
-                line.found(told, CallFault::UnknownWord)
-            }
+            "tryagain" => Some(Told::TryAgain),
+            "clusterdown" => Some(Told::ClusterDown),
+            "unclear" => Some(Told::Unclear),
+            "lost" => Some(Told::Lost),
+            "unsent" => Some(Told::Unsent),
+            _ => line.found(None, CallFault::UnknownWord),
         }
     }
 }
@@ -68,32 +70,10 @@ impl Word for Ended {
     fn next_in(line: &mut Line) -> Option<Ended> {
         match line.name()? {
             "answered" => line.read().map(Ended::Answered),
-            name => {
-                let end = end_alone(name);
-                line.found(end, CallFault::UnknownWord)
-            }
+            "gaveup" => Some(Ended::GaveUp),
+            "lost" => Some(Ended::Lost),
+            _ => line.found(None, CallFault::UnknownWord),
         }
-    }
-}
-
-/// What one word says that a command's end is.
-fn end_alone(name: &str) -> Option<Ended> {
-    match name {
-        "gaveup" => Some(Ended::GaveUp),
-        "lost" => Some(Ended::Lost),
-        _ => None,
-    }
-}
-
-/// What one word says that a command is told.
-fn told_alone(name: &str) -> Option<Told> {
-    match name {
-        "tryagain" => Some(Told::TryAgain),
-        "clusterdown" => Some(Told::ClusterDown),
-        "unclear" => Some(Told::Unclear),
-        "lost" => Some(Told::Lost),
-        "unsent" => Some(Told::Unsent),
-        _ => None,
     }
 }
 

@@ -71,16 +71,11 @@ impl Word for NodeId {
 /// Whether ASKING goes before a command.
 impl Word for bool {
     fn next_in(line: &mut Line) -> Option<bool> {
-        let asking = line.name().and_then(asking_in);
-        line.found(asking, CallFault::UnknownWord)
-    }
-}
-
-fn asking_in(name: &str) -> Option<bool> {
-    match name {
-        "plain" => Some(false),
-        "asking" => Some(true),
-        _ => None,
+        match line.name()? {
+            "plain" => Some(false),
+            "asking" => Some(true),
+            _ => line.found(None, CallFault::UnknownWord),
+        }
     }
 }
 
@@ -93,9 +88,8 @@ impl Word for Bytes {
 /// The value that the bytes of a word spell.
 impl Word for Value {
     fn next_in(line: &mut Line) -> Option<Value> {
-        let alloc = line.alloc;
-        let value = value_in(alloc, line.bytes()?);
-        line.made(value)
+        let bytes = line.read::<Bytes>()?;
+        line.made(value_in(line.alloc, bytes.as_slice()))
     }
 }
 

@@ -47,64 +47,33 @@ pub fn words_in(alloc: Global, line: &[u8]) -> Result<Vec<Bytes>, CallFault> {
 
 impl Lexer {
     fn take(&mut self, byte: u8) {
-        match self.place {
-            Place::Between => self.begin(byte),
-            Place::Plain => self.go_on(byte),
-            Place::Quoted => self.quoted(byte),
-            Place::Escaped => self.escaped(byte),
-            Place::FirstDigit => self.first_digit(byte),
-            Place::SecondDigit(high) => self.second_digit(high, byte),
-        }
-    }
-
-    fn begin(&mut self, byte: u8) {
-        match byte {
-            b' ' => {}
-            b'"' => self.place = Place::Quoted,
-            _ => {
+        match (self.place, byte) {
+            (Place::Between, b' ') => {}
+            (Place::Between, b'"') => self.place = Place::Quoted,
+            (Place::Between, _) => {
                 self.place = Place::Plain;
                 self.push(byte);
+            }
+            (Place::Plain, b' ') | (Place::Quoted, b'"') => self.end(),
+            (Place::Quoted, b'\\') => self.place = Place::Escaped,
+            (Place::Plain | Place::Quoted, _) => self.push(byte),
+            (Place::Escaped, b'x') => self.place = Place::FirstDigit,
+            (Place::Escaped, _) => self.push_quoted(escaped(byte)),
+            (Place::FirstDigit, _) => match digit(byte) {
+                Some(high) => self.place = Place::SecondDigit(high),
+                None => self.push_quoted(None),
+            },
+            (Place::SecondDigit(high), _) => {
+                self.push_quoted(digit(byte).map(|low| (high << 4) | low));
             }
         }
     }
 
-    fn go_on(&mut self, byte: u8) {
-        match byte {
-            b' ' => self.end(),
-            _ => self.push(byte),
-        }
-    }
-
-    fn quoted(&mut self, byte: u8) {
-        match byte {
-            b'"' => self.end(),
-            b'\\' => self.place = Place::Escaped,
-            _ => self.push(byte),
-        }
-    }
-
-    fn escaped(&mut self, byte: u8) {
+    /// Goes on in a word in quotes, with this byte, or none where the backslash and what stands behind it say none.
+    fn push_quoted(&mut self, byte: Option<u8>) {
         self.place = Place::Quoted;
         match byte {
-            b'r' => self.push(b'\r'),
-            b'n' => self.push(b'\n'),
-            b'"' | b'\\' => self.push(byte),
-            b'x' => self.place = Place::FirstDigit,
-            _ => self.refuse(CallFault::BadQuote),
-        }
-    }
-
-    fn first_digit(&mut self, byte: u8) {
-        match digit(byte) {
-            Some(high) => self.place = Place::SecondDigit(high),
-            None => self.refuse(CallFault::BadQuote),
-        }
-    }
-
-    fn second_digit(&mut self, high: u8, byte: u8) {
-        self.place = Place::Quoted;
-        match digit(byte) {
-            Some(low) => self.push((high << 4) | low),
+            Some(byte) => self.push(byte),
             None => self.refuse(CallFault::BadQuote),
         }
     }
@@ -147,6 +116,16 @@ impl Lexer {
             Some(fault) => Err(fault),
             None => Ok(self.words),
         }
+    }
+}
+
+/// The byte that a letter behind a backslash says.
+fn escaped(letter: u8) -> Option<u8> {
+    match letter {
+        b'r' => Some(b'\r'),
+        b'n' => Some(b'\n'),
+        b'"' | b'\\' => Some(letter),
+        _ => None,
     }
 }
 

@@ -1,6 +1,0 @@
-use Rattle.proxy_lanes.specs.Opened.{book_of}
-use Rattle.turn_rows.proofs.row.answer_row.Given as goal
-
--- the history that was just opened
-abbrev pub ghosts-row_named : goal.ghosts-row_named
-ghosts-row_named g a = record { book = book_of a.opened }
