@@ -14,17 +14,11 @@ use std::sync::Arc;
 const HOST_SHOWN: usize = 128;
 
 /// A node, as the log names it.
+#[derive(Drop)]
 pub struct NodeName {
     number: u8,
     /// Its host and port.
     address: Arc<String, Global>,
-}
-
-impl Drop for NodeName {
-    fn drop(self) {
-        let NodeName { number: _, address } = self;
-        drop(address);
-    }
 }
 
 impl NodeName {
@@ -82,6 +76,7 @@ impl NodeName {
 }
 
 /// Something that an operator may want to know of.
+#[derive(Drop)]
 pub enum Event {
     LinkOpened(NodeName),
     LinkLost(NodeName, io::Error),
@@ -108,26 +103,6 @@ pub enum Event {
     TableBegun(usize, usize, u64),
     /// The answer to CLUSTER SLOTS of this node names, with the seeds, more nodes than a table holds.
     TooManyNodes(NodeName),
-}
-
-impl Drop for Event {
-    fn drop(self) {
-        match self {
-            Event::LinkOpened(node)
-            | Event::LinkLost(node, _)
-            | Event::DialFailed(node, _)
-            | Event::SlotsTold(node, _)
-            | Event::TooManyNodes(node) => drop(node),
-            Event::ClientRefused(_)
-            | Event::ClientsFull(_)
-            | Event::ProtocolError(_, _)
-            | Event::UnfinishedRequest(_, _)
-            | Event::DrainBegun(_, _)
-            | Event::Drained(_)
-            | Event::TableFull(_, _, _)
-            | Event::TableBegun(_, _, _) => {}
-        }
-    }
 }
 
 /// What an answer to CLUSTER SLOTS told.

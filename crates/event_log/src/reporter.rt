@@ -16,6 +16,7 @@ use std::time::Clock;
 const FIGURES_INTERVAL_MILLIS: u64 = 60_000;
 
 /// Writes the events and figures of all threads. A line for which there is no memory is left out.
+#[derive(Drop)]
 pub struct Reporter<'a> {
     alloc: Global,
     stream: &'a ErrorStream,
@@ -25,21 +26,6 @@ pub struct Reporter<'a> {
     figures_due: u64,
     /// The figures that were written last.
     written: [u64; FIGURES],
-}
-
-impl Drop for Reporter<'_> {
-    fn drop(self) {
-        let Reporter {
-            alloc: _,
-            stream: _,
-            threads,
-            events,
-            figures_due: _,
-            written: _,
-        } = self;
-        drop(threads);
-        drop(events);
-    }
 }
 
 impl<'a> Reporter<'a> {

@@ -10,26 +10,12 @@ use std::alloc::Global;
 use std::sync::Arc;
 
 /// The events of a thread that are not logged yet, its counts, and what its events told of the nodes.
+#[derive(Drop)]
 pub struct ThreadReport {
     journal: Journal,
     figures: Figures,
     times: TimeCounts,
     nodes: NodeBoard,
-}
-
-impl Drop for ThreadReport {
-    fn drop(self) {
-        let ThreadReport {
-            journal,
-            figures,
-            times,
-            nodes,
-        } = self;
-        drop(journal);
-        drop(figures);
-        drop(times);
-        drop(nodes);
-    }
 }
 
 impl ThreadReport {

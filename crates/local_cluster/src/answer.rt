@@ -24,6 +24,7 @@ pub(crate) enum LocalRequest {
     Slots,
 }
 
+// By hand, so that a proof has one call where a value is let go, and no case for each variant.
 impl Drop for LocalRequest {
     fn drop(self) {
         match self {

@@ -28,6 +28,7 @@ pub struct LocalState<H: History = Vec<Entry>> {
     asks: Vec<Asked>,
 }
 
+// By hand, so that the crates above prove one call.
 impl<H: History> Drop for LocalState<H> {
     fn drop(self) {
         let LocalState {

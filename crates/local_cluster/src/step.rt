@@ -24,6 +24,7 @@ pub enum MoveStep {
     Stay(Slot),
 }
 
+// By hand, so that a proof has one call where a value is let go, and no case for each variant.
 impl Drop for MoveStep {
     fn drop(self) {
         match self {

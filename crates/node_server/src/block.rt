@@ -1,6 +1,6 @@
 //! The commands between MULTI and EXEC.
 
-ghost use Rattle.std.specs.Prelude.{◌≡◌, ◌∷◌, ◌++◌, [], OnOk, OnErr, length};
+ghost use Rattle.std.specs.Prelude.{◌≡◌, ◌∷◌, ◌++◌, [], OnOk, OnErr};
 ghost use Rattle.node_server.specs.Blocks.{aborts, has_room, is_open, parts_in, with_part};
 
 use key_split::Part;
@@ -61,6 +61,7 @@ pub enum Block {
     Aborted,
 }
 
+// By hand, so that a proof has one call where a value is let go, and no case for each variant.
 impl Drop for Block {
     fn drop(self) {
         match self {

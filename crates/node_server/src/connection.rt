@@ -22,6 +22,7 @@ use std::marker::Model;
 const SEND_LIMIT: usize = 64 * 1024;
 
 /// A connection to a node: bytes come in, requests are answered in their order, and replies go out.
+#[derive(Drop)]
 pub struct Connection {
     alloc: Global,
     caller: Caller,
@@ -30,22 +31,6 @@ pub struct Connection {
     reader: Reader,
     unsent: ByteQueue,
     reads_on: bool,
-}
-
-impl Drop for Connection {
-    fn drop(self) {
-        let Connection {
-            alloc: _,
-            caller: _,
-            block,
-            reader,
-            unsent,
-            reads_on: _,
-        } = self;
-        drop(block);
-        drop(reader);
-        drop(unsent);
-    }
 }
 
 impl Model for Connection {

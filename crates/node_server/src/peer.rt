@@ -26,6 +26,7 @@ pub(crate) enum TurnOutcome {
 }
 
 /// A connection with its socket.
+#[derive(Drop)]
 pub(crate) struct Peer {
     socket: Socket,
     connection: Connection,
@@ -41,23 +42,6 @@ pub(crate) struct Peer {
     gone: bool,
     /// It is among those that have a turn.
     pub(crate) active: bool,
-}
-
-impl Drop for Peer {
-    fn drop(self) {
-        let Peer {
-            socket,
-            connection,
-            readable: _,
-            writable: _,
-            unanswered: _,
-            ended: _,
-            gone: _,
-            active: _,
-        } = self;
-        drop(socket);
-        drop(connection);
-    }
 }
 
 impl Peer {

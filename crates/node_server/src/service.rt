@@ -61,6 +61,7 @@ fn serve<R: Wait>(
 }
 
 /// The nodes, and who is connected to them.
+#[derive(Drop)]
 struct Service<'a> {
     alloc: Global,
     poll: Poll,
@@ -76,28 +77,6 @@ struct Service<'a> {
     next: Option<u32>,
     /// The system refused a connection.
     refused: bool,
-}
-
-impl Drop for Service<'_> {
-    fn drop(self) {
-        let Service {
-            alloc: _,
-            poll,
-            listeners,
-            peers,
-            active,
-            state,
-            table: _,
-            left: _,
-            next: _,
-            refused: _,
-        } = self;
-        drop(poll);
-        drop(listeners);
-        drop(peers);
-        drop(active);
-        drop(state);
-    }
 }
 
 impl<'a> Service<'a> {

@@ -13,20 +13,10 @@ use std::io;
 use std::io::ErrorKind;
 
 /// A socket with its registration. A call where the socket is not ready makes no call of the system's.
+#[derive(Drop)]
 pub struct PolledSocket {
     socket: Socket,
     registration: Registration,
-}
-
-impl Drop for PolledSocket {
-    fn drop(self) {
-        let PolledSocket {
-            socket,
-            registration,
-        } = self;
-        drop(socket);
-        drop(registration);
-    }
 }
 
 impl PolledSocket {

@@ -13,17 +13,10 @@ const EVENTS: usize = 256;
 const WAKER: Token = Token(usize::MAX);
 
 /// A thread's poll of its sockets. What it reports is noted in the thread's ready set.
+#[derive(Drop)]
 pub struct Poller {
     poll: Poll,
     events: Events<Global>,
-}
-
-impl Drop for Poller {
-    fn drop(self) {
-        let Poller { poll, events } = self;
-        drop(poll);
-        drop(events);
-    }
 }
 
 impl Poller {

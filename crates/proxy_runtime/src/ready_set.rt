@@ -61,6 +61,7 @@ impl Readiness {
 }
 
 /// What is known of the sockets that a thread polls.
+#[derive(Drop)]
 pub struct ReadySet {
     /// Milliseconds on the system's clock, as the thread last saw it.
     time: AtomicU64,
@@ -74,22 +75,6 @@ pub struct ReadySet {
     /// Where the search for a free entry goes on.
     next: AtomicU64,
     report: Arc<ThreadReport, Global>,
-}
-
-impl Drop for ReadySet {
-    fn drop(self) {
-        let ReadySet {
-            time: _,
-            micros: _,
-            traffic: _,
-            wake_time: _,
-            sockets,
-            next: _,
-            report,
-        } = self;
-        drop(sockets);
-        drop(report);
-    }
 }
 
 impl ReadySet {
@@ -223,6 +208,7 @@ pub struct Registration {
     peer: Peer,
 }
 
+// By hand: its entry is free again.
 impl Drop for Registration {
     fn drop(self) {
         if let Some(entry) = self.entry() {
