@@ -1,6 +1,6 @@
 -- What a request for the page gets: `/metrics` the figures, `/healthz` the health, `/drain` an end of the run. The first two are read, by
 -- GET or HEAD; the last is asked for by POST.
-use Rattle.std.specs.Prelude.{◌≡◌, ℕ, List, [], ◌∷◌, Bool, ◌||◌, Option, Some, None, codes, bytes_eq, nat_eq, if◌then◌else◌}
+use Rattle.std.specs.Prelude.{ℕ, List, [], ◌∷◌, Bool, ◌||◌, Option, Some, None, codes, bytes_eq, nat_eq, if◌then◌else◌}
 use Rattle.std.specs.List.{after_first, before_first}
 use Rattle.http_server.specs.declared.response.Response.{Response}
 use Rattle.http_server.specs.Response.{IsResponse}

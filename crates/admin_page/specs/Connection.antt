@@ -1,5 +1,5 @@
 -- One connection for the page: when it is closed.
-use Rattle.std.specs.Prelude.{◌≡◌, ℕ, ◌+◌, ◌-◌, ◌^◌, ◌<◌, ◌≤◌, ◌⊎◌, length, drop, min, if◌then◌else◌, ◌==◌, ◌&&◌, nat_le}
+use Rattle.std.specs.Prelude.{◌≡◌, ℕ, ◌+◌, ◌-◌, ◌^◌, ◌≤◌, ◌⊎◌, length, drop, min, if◌then◌else◌, ◌==◌, ◌&&◌, nat_le}
 use Rattle.http_server.specs.declared.state.Config.{Config}
 use Rattle.http_server.specs.Connection as http
 use Rattle.http_server.specs.History.{History, IsDone}

@@ -1,5 +1,5 @@
 -- Whether the proxy can serve: it knows the slots, each node that serves some has a link or could be dialled last, and it is not drained.
-use Rattle.std.specs.Prelude.{ℕ, List, [], ◌++◌, Bool, true, false, ◌&&◌, not, codes, if◌then◌else◌}
+use Rattle.std.specs.Prelude.{ℕ, List, [], ◌++◌, Bool, ◌&&◌, not, codes, if◌then◌else◌}
 use Rattle.std.specs.List.{flat_map, list_any}
 use Rattle.admin_page.specs.declared.figures.NodeFigures.{NodeFigures}
 

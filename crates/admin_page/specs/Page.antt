@@ -8,7 +8,7 @@ use Rattle.admin_page.specs.declared.figures.CarrierFigures.{CarrierFigures}
 use Rattle.admin_page.specs.declared.figures.NodeFigures.{NodeFigures}
 use Rattle.admin_page.specs.declared.figures.Figures.{Figures}
 use Rattle.admin_page.specs.declared.times.Times.{Times}
-use Rattle.admin_page.specs.Text.{Label, Sample, Family, family_text}
+use Rattle.admin_page.specs.Text.{Sample, Family, family_text}
 use Rattle.admin_page.specs.Times.{bound_at, bound_text, seconds_text, total, up_to}
 
 -- a value without a label

@@ -1,5 +1,5 @@
 -- Where the last colon of a text stands.
-use Rattle.std.proofs.Common.{◌≡◌, ◌≢◌, ◌≤◌, ◌<◌, ◌+◌, ◌-◌, ◌∷◌, List, ℕ, Bool, true, false, length, take, drop, get_or, ap, sym, ◌∙◌, subst, arith, rules, length-drop, inl, inr}
+use Rattle.std.proofs.Common.{◌≡◌, ◌≢◌, ◌≤◌, ◌<◌, ◌+◌, ◌-◌, ◌∷◌, List, ℕ, true, false, length, take, drop, get_or, ap, ◌∙◌, subst, arith, length-drop, inl, inr}
 use Rattle.std.specs.Prelude.{nat_eq, not}
 use Rattle.std.specs.List.{list_any, suffix_len, before_last, after_last}
 use Rattle.std.specs.Str.{NoCharPasses}

@@ -1,5 +1,5 @@
 -- A new engine, and a client that is handed over.
-use Rattle.std.proofs.Common.{◌≡◌, ℕ, zero, suc, ◌<◌, List, [], ◌∷◌, ◌++◌, Option, Some, None, Result, refl, sym, ap, ◌∙◌, subst, arith, length}
+use Rattle.std.proofs.Common.{◌≡◌, ℕ, zero, suc, List, [], ◌∷◌, ◌++◌, Option, Some, None, Result, refl, sym, ap, ◌∙◌, subst, arith, length}
 use Rattle.std.specs.Prelude.{IsSome, IsSomeAnd, slice_get}
 use mathlib.Core.List.{IsPrefix}
 use Rattle.key_split.specs.declared.travel.Ticket.{Ticket}
@@ -12,8 +12,8 @@ use Rattle.proxy_lanes.specs.declared.ends.WorkerEnds.{WorkerEnds}
 use Rattle.proxy_lanes.specs.declared.ends.lane_ends.LaneEnds.{LaneEnds}
 use Rattle.proxy_lanes.specs.Carrier.{AreLanes, AreLanesOf}
 use Rattle.proxy_lanes.specs.View.{ViewModel}
-use Rattle.proxy_lanes.specs.Ends.{ChangesAt, HandsOver}
-use Rattle.proxy_lanes.specs.Lane.{IsLane, IsNewLane, posted, taken}
+use Rattle.proxy_lanes.specs.Ends.{HandsOver}
+use Rattle.proxy_lanes.specs.Lane.{IsNewLane, posted, taken}
 use Rattle.proxy_lanes.specs.Beside.{AreBeside, IsInStep}
 use Rattle.proxy_turns.specs.declared.newcomer.Newcomer.{Newcomer}
 use Rattle.proxy_turns.specs.Worker.{new_worker}
@@ -22,7 +22,7 @@ use Rattle.proxy_turns.specs.CarrierModel.{CarrierModel, new_carrier}
 use Rattle.proxy_engine.specs.Together.{AreTogether}
 use Rattle.proxy_engine.specs.EngineModel.{EngineModel, HandsClient, IsInOrder, IsNewEngine}
 use Rattle.proxy_engine.proofs.Pairs.{pairs-changed, pairs-from, some-same}
-use Rattle.proxy_engine.proofs.Ends.{SameOutlet, front-after, front-itself, inlet-itself, outlet-itself, posts-there}
+use Rattle.proxy_engine.proofs.Ends.{SameOutlet, front-after, inlet-itself, outlet-itself, posts-there}
 use Rattle.proxy_engine.proofs.Carrying.{SameLane, SameLanes, changes, down-itself}
 
 -- ---- new lanes

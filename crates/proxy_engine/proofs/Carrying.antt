@@ -1,5 +1,5 @@
 -- The carrier's events keep its ends of the lanes, and what it published only grows.
-use Rattle.std.proofs.Common.{◌≡◌, ◌⊎◌, ⊎_elim, ℕ, zero, suc, List, [], ◌∷◌, Bool, true, false, Option, Some, None, Result, Ok, Err, refl, sym, ap, ◌∙◌, subst, length}
+use Rattle.std.proofs.Common.{◌≡◌, ◌⊎◌, ⊎_elim, ℕ, List, [], ◌∷◌, Bool, true, false, Option, Some, None, Result, Ok, Err, refl, sym, ap, ◌∙◌, subst}
 use Rattle.std.specs.List.{FoldsTo}
 use mathlib.Core.List.{IsPrefix}
 use Rattle.resp_wire.specs.declared.fault.NoMemory.{NoMemory}
@@ -21,7 +21,7 @@ use Rattle.proxy_turns.specs.Backend.{BackendContext, BackendDoes, Starves}
 use Rattle.proxy_turns.specs.PendingRun.{ComesBack, Delivers, GiveOutcome, TakeOutcome, TellOutcome, WaitsToGive, WaitsToTell}
 use Rattle.proxy_turns.specs.CarrierModel.{CarrierModel, CarrierDoes, CarrierEvent, CarrierGoes, CarrierTurns, AtBackend, Starved, WorkerAdded, BackendAdded, Looked, Took, Opened, Refused, Missed, SeedReached, Sought, Reached, NotFound, Sent, Gave, GaveUnsent}
 use Rattle.proxy_engine.proofs.Pairs.{Pairs, pairs-after, pairs-changed, pairs-itself}
-use Rattle.proxy_engine.proofs.Ends.{SameOutlet, SameInlet, outlet-itself, inlet-itself, outlet-after, inlet-after, posts-there, takes-there, front-itself, front-after, same-front}
+use Rattle.proxy_engine.proofs.Ends.{SameOutlet, SameInlet, outlet-itself, inlet-itself, outlet-after, inlet-after, posts-there, takes-there, front-after, same-front}
 
 abbrev Pair : Type 0
 Pair = Ticket × Told

@@ -1,5 +1,5 @@
 -- An engine whose worker takes no client and reads no request.
-use Rattle.std.proofs.Common.{◌≡◌, ◌∙◌, Bool, true, false, List, Result, Ok, Err, inl, inr, sym, ap, subst}
+use Rattle.std.proofs.Common.{◌∙◌, Bool, true, false, List, Result, Ok, Err, inl, inr, sym, ap, subst}
 use Rattle.std.specs.FinMap.{get}
 use Rattle.proxy_lanes.specs.declared.ends.lane_ends.LaneEnds.{LaneEnds}
 use Rattle.proxy_lanes.specs.declared.ends.lane_ends.LeftInLanes.{LeftInLanes}

@@ -1,5 +1,5 @@
 -- A turn as events alone.
-use Rattle.std.proofs.Common.{◌≡◌, ℕ, Bool, List, Option, [], ◌∷◌, Result, Ok, Err, refl, sym, ap, ◌∙◌, subst, ⊎_elim}
+use Rattle.std.proofs.Common.{ℕ, Bool, List, Option, [], ◌∷◌, Ok, Err, refl, sym, ap, subst, ⊎_elim}
 use Rattle.std.specs.List.{FoldsTo}
 use Rattle.resp_wire.specs.declared.value.Value.{Value}
 use Rattle.key_split.specs.Requests.{Request}
@@ -8,13 +8,12 @@ use Rattle.proxy_turns.specs.declared.newcomer.Newcomer.{Newcomer}
 use Rattle.proxy_turns.specs.Port.{Moves}
 use Rattle.proxy_turns.specs.WorkerModel.{WorkerDoes, WorkerEvent, WorkerModel}
 use Rattle.proxy_turns.specs.CarrierModel.{CarrierDoes, CarrierEvent, CarrierGoes, CarrierModel}
-use Rattle.proxy_engine.specs.declared.turned.Turned.{Turned}
 use Rattle.proxy_engine.specs.declared.turned.EngineFault.{EngineFault}
 use Rattle.proxy_engine.specs.declared.turned.EngineFault.TheVariants as fault
-use Rattle.proxy_engine.specs.EngineModel.{CarrierPart, EngineModel, EngineTurns, IsInOrder, PartEnds, WorkerPart}
+use Rattle.proxy_engine.specs.EngineModel.{CarrierPart, EngineModel, IsInOrder, PartEnds, WorkerPart}
 use Rattle.proxy_engine.specs.Along.{HoldsAlong}
 use Rattle.proxy_engine.specs.Unseen.{CarrierKnows, WorkerKnows}
-use Rattle.proxy_engine.specs.Events.{EngineKnows, IsEventsTo, IsSound, TurnsAreEvents}
+use Rattle.proxy_engine.specs.Events.{EngineKnows, IsEventsTo, TurnsAreEvents}
 use Rattle.proxy_engine.proofs.Growing.{carrier-stays, worker-stays}
 use Rattle.proxy_engine.proofs.Knowing.{engine-after, looks-know, order-known}
 use Rattle.proxy_engine.proofs.Unseen.{worker-unseen}

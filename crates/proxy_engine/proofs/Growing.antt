@@ -1,17 +1,12 @@
 -- Where an engine is in order before and after some events of one of the two, it is after each.
-use Rattle.std.proofs.Common.{◌≡◌, ℕ, List, [], ◌∷◌, Option, Some, None, refl, sym, ap, ◌∙◌}
+use Rattle.std.proofs.Common.{ℕ, List, [], ◌∷◌, Option, sym, ap, ◌∙◌}
 use Rattle.std.specs.Prelude.{slice_get}
 use Rattle.std.specs.List.{FoldsTo}
 use mathlib.Core.List.{IsPrefix}
 use Rattle.resp_wire.specs.declared.value.Value.{Value}
 use Rattle.key_split.specs.Requests.{Request}
-use Rattle.key_split.specs.declared.travel.Ticket.{Ticket}
-use Rattle.key_split.specs.declared.travel.Told.{Told}
 use Rattle.slot_map.specs.Table.{Endpoint}
-use Rattle.proxy_lanes.specs.declared.ring.Outlet.{Outlet}
-use Rattle.proxy_lanes.specs.declared.ends.lane_ends.LaneEnds.{LaneEnds}
 use Rattle.proxy_lanes.specs.Lane.{posted, taken}
-use Rattle.proxy_lanes.specs.Beside.{IsInStep}
 use Rattle.proxy_turns.specs.declared.newcomer.Newcomer.{Newcomer}
 use Rattle.proxy_turns.specs.Port.{Moves}
 use Rattle.proxy_turns.specs.WorkerModel.{WorkerModel, WorkerEvent, WorkerDoes}
@@ -20,7 +15,7 @@ use Rattle.proxy_engine.specs.Along.{CarrierStaysInOrder, HoldsAlong, WorkerStay
 use Rattle.proxy_engine.specs.EngineModel.{EngineModel, IsInOrder}
 use Rattle.proxy_engine.proofs.Ends.{front-after, front-itself}
 use Rattle.proxy_engine.proofs.Working.{KeepsEnds, ends-after, ends-themselves, worker-event, worker-events}
-use Rattle.proxy_engine.proofs.Carrying.{SameLanes, lanes-after, lanes-themselves, carrier-event, carrier-events, published-event, published-events}
+use Rattle.proxy_engine.proofs.Carrying.{SameLanes, lanes-after, lanes-themselves, carrier-event, carrier-events, published-event}
 use Rattle.proxy_engine.proofs.Together.{came-from, goes-to, down-back}
 
 module _ {C J P : Type 0} where

@@ -2,7 +2,6 @@
 use Rattle.std.proofs.Common.{◌≡◌, ℕ, zero, suc, Bool, List, [], ◌∷◌, ◌++◌, Option, Some, None, refl, sym, ap, ◌∙◌, subst}
 use Rattle.std.specs.Prelude.{slice_get, slice_set}
 use mathlib.Core.List.{IsPrefix}
-use Rattle.key_split.specs.Runs.{RunModel}
 use Rattle.key_split.specs.declared.travel.Ticket.{Ticket}
 use Rattle.key_split.specs.declared.travel.Told.{Told}
 use Rattle.proxy_lanes.specs.declared.ring.Outlet.{Outlet}
@@ -16,10 +15,10 @@ use Rattle.proxy_turns.specs.Beside.{LooksAt}
 use Rattle.proxy_turns.specs.WorkerModel.{WorkerModel}
 use Rattle.proxy_turns.specs.CarrierModel.{CarrierModel}
 use Rattle.proxy_engine.specs.EngineModel.{EngineModel, IsInOrder, Looks}
-use Rattle.proxy_engine.specs.Unseen.{CarrierKnows, DownKnows, KnowsItems, KnowsPlaces, LaneKnows, LanesKnow, WorkerKnows}
+use Rattle.proxy_engine.specs.Unseen.{DownKnows, KnowsItems, KnowsPlaces, LaneKnows, LanesKnow, WorkerKnows}
 use Rattle.proxy_engine.specs.Events.{EngineKnows}
 use Rattle.proxy_engine.proofs.Ends.{front-after}
-use Rattle.proxy_engine.proofs.Pairs.{none-some, nothing-there, one-there, some-same}
+use Rattle.proxy_engine.proofs.Pairs.{none-some, nothing-there, some-same}
 use Rattle.proxy_engine.proofs.Looking.{outcome-looks}
 use Rattle.proxy_engine.proofs.Unseen.{consumers-after, items-themselves, producers-after}
 use Rattle.proxy_engine.proofs.UnseenCarrier.{lane-themselves}

@@ -17,7 +17,7 @@ use Rattle.proxy_turns.specs.Backend.{fresh_link, new_backend}
 use Rattle.proxy_turns.specs.RefusedRun.{tickets_in}
 use Rattle.proxy_turns.specs.PendingRun.{ComesBack, Delivers, GiveOutcome, TakeOutcome, TellOutcome, WaitsToGive, WaitsToTell, no_pending_run}
 use Rattle.proxy_turns.specs.CarrierModel.{CarrierModel, CarrierDoes, CarrierEvent, AtBackend, Starved, WorkerAdded, BackendAdded, Looked, Took, Opened, Refused, Missed, SeedReached, Sought, Reached, NotFound, Sent, Gave, GaveUnsent}
-use Rattle.proxy_engine.specs.Unseen.{CarrierDoesUnseen, CarrierKnows, DownKnows, KnowsPlaces, LaneKnows, LanesKnow}
+use Rattle.proxy_engine.specs.Unseen.{CarrierDoesUnseen, CarrierKnows, DownKnows, LaneKnows, LanesKnow}
 use Rattle.proxy_engine.proofs.Pairs.{nothing-there, some-same}
 use Rattle.proxy_engine.proofs.Unseen.{items-themselves, places-themselves, posts-unseen, takes-unseen}
 

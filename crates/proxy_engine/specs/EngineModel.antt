@@ -1,12 +1,10 @@
 -- What a worker and its carrier do as one value.
 -- A turn is the worker's and then the carrier's, as each of their contracts has it; then the ends of their lanes look at each other. So
 -- what each end took is a front of what the other put in, and the worker sees a front of the slot map that was published.
-use Rattle.std.specs.Prelude.{◌≡◌, ◌≢◌, ◌⊎◌, ◌||◌, ℕ, List, [], ◌∷◌, Bool, true, false, Option, Result, Ok, Err, ⊤, length, slice_get}
+use Rattle.std.specs.Prelude.{◌≡◌, ◌≢◌, ◌⊎◌, ◌||◌, ℕ, List, [], ◌∷◌, Bool, false, Option, Result, Ok, Err, ⊤, length, slice_get}
 use Rattle.std.specs.Option.{ForSome}
 use mathlib.Core.List.{IsPrefix}
 use Rattle.resp_wire.specs.declared.fault.NoMemory.{NoMemory}
-use Rattle.resp_wire.specs.declared.value.Value.{Value}
-use Rattle.key_split.specs.Requests.{Request}
 use Rattle.slot_map.specs.Table.{Endpoint}
 use Rattle.node_link.specs.LinkModel.{LinkModel}
 use Rattle.proxy_lanes.specs.declared.ends.lane_ends.LaneEnds.{LaneEnds}
@@ -21,7 +19,7 @@ use Rattle.proxy_turns.specs.Beside.{HavePlacesAt, LookOutcome}
 use Rattle.proxy_turns.specs.WorkerModel.{WorkerModel, WorkerGoes}
 use Rattle.proxy_turns.specs.Worker.{new_worker}
 use Rattle.proxy_turns.specs.WorkerRest.{IsWorkerAtRest}
-use Rattle.proxy_turns.specs.CarrierModel.{CarrierModel, CarrierGoes, IsAtRest, new_carrier}
+use Rattle.proxy_turns.specs.CarrierModel.{CarrierModel, IsAtRest, new_carrier}
 use Rattle.proxy_engine.specs.declared.turned.Turned.{Turned}
 use Rattle.proxy_engine.specs.declared.turned.EngineFault.{EngineFault}
 use Rattle.proxy_engine.specs.declared.turned.EngineFault.TheVariants as fault

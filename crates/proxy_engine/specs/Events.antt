@@ -7,7 +7,7 @@ use Rattle.key_split.specs.Requests.{Request}
 use Rattle.slot_map.specs.Table.{Endpoint}
 use Rattle.proxy_turns.specs.declared.newcomer.Newcomer.{Newcomer}
 use Rattle.proxy_turns.specs.Port.{Moves}
-use Rattle.proxy_turns.specs.WorkerModel.{WorkerDoes, WorkerEvent, WorkerModel}
+use Rattle.proxy_turns.specs.WorkerModel.{WorkerDoes, WorkerEvent}
 use Rattle.proxy_turns.specs.CarrierModel.{CarrierDoes, CarrierEvent, CarrierGoes, CarrierModel}
 use Rattle.proxy_engine.specs.declared.turned.Turned.{Turned}
 use Rattle.proxy_engine.specs.declared.turned.EngineFault.{EngineFault}

@@ -1,5 +1,5 @@
 use Rattle.std.proofs.Common.{◌≡◌, ◌++◌, take, map}
-use Rattle.std.specs.List.{flat_map, range_with_len}
+use Rattle.std.specs.List.{flat_map}
 use Rattle.admin_page.specs.Text.{sample_text}
 use Rattle.admin_page.specs.Page.{thread_sample}
 use Rattle.admin_page.proofs.families.push_workers.Given as goal

@@ -1,5 +1,5 @@
 use Rattle.std.proofs.Common.{◌≡◌, ◌++◌, take, map}
-use Rattle.std.specs.List.{flat_map, range_with_len}
+use Rattle.std.specs.List.{flat_map}
 use Rattle.admin_page.specs.Health.{missing_line}
 use Rattle.admin_page.proofs.health.push_missing.Given as goal
 

@@ -1,8 +1,8 @@
-use Rattle.std.proofs.Common.{ℕ, List, [], ◌∷◌, ◌++◌, map}
+use Rattle.std.proofs.Common.{ℕ, List, [], ◌++◌}
 use Rattle.std.specs.Prelude.{codes}
-use Rattle.admin_page.specs.Text.{escaped, family_text, head_text, line_text, sample_text}
-use Rattle.admin_page.specs.Page.{build_info, by_thread, counter, gauge, known_gauge, labelled, node_up, plain, redirects}
-use Rattle.admin_page.specs.declared.figures.WorkerFigure.TheVariants.{ClientsGone, Requests, Parts, GaveUp, Lost, BytesIn, BytesOut}
+use Rattle.admin_page.specs.Text.{family_text}
+use Rattle.admin_page.specs.Page.{by_thread, counter, gauge}
+use Rattle.admin_page.specs.declared.figures.WorkerFigure.TheVariants.{ClientsGone, Requests, BytesIn, BytesOut}
 use Rattle.admin_page.proofs.Texts.{after, the_last}
 use Rattle.admin_page.proofs.page.push_clients.Goals as goal
 

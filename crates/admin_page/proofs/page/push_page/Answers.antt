@@ -1,5 +1,4 @@
 use Rattle.std.proofs.Common.{◌≡◌, ℕ, List, ◌++◌}
-use Rattle.std.specs.Prelude.{codes}
 use Rattle.admin_page.specs.Page.{build_families, client_families, families_text, node_families, part_families, time_families}
 use Rattle.admin_page.proofs.Texts.{after, both}
 use Rattle.admin_page.proofs.page.push_page.Goals as goal

@@ -1,4 +1,4 @@
-use Rattle.admin_page.proofs.Texts.{after, the_last}
+use Rattle.admin_page.proofs.Texts.{the_last}
 use Rattle.admin_page.proofs.page.push_times.Goals as goal
 
 pub returns : goal.returns

@@ -1,4 +1,3 @@
-use Rattle.std.proofs.Common.{sym}
 use Rattle.proxy_lanes.specs.Carrier.{lanes_of}
 use Rattle.proxy_turns.specs.CarrierModel.{ends_of}
 use Rattle.proxy_turns.specs.Worker.{worker_model}
