@@ -32,7 +32,7 @@ deb: $(program)
 # tried on themselves; then, by that build, the program on whole inputs, beside rows of the layers, the example and a real cluster.
 test:
 	@$(MAKE) --no-print-directory --jobs=2 rounds proofs
-	@$(MAKE) --no-print-directory --jobs=2 inputs cluster start
+	@$(MAKE) --no-print-directory --jobs=2 inputs cluster start rows
 	@tests/edits/run --took
 
 rounds:
@@ -47,8 +47,8 @@ inputs:
 start:
 	tests/start/run
 
-# (One after another: what is timed before a real cluster has one other test beside it, not two.)
-cluster: rows
+# (Behind one another: what is timed before a real cluster has one other test beside it, not two.)
+cluster:
 	examples/run --once
 	tests/real/run
 

@@ -39,7 +39,7 @@ class Crates(unittest.TestCase):
         self.assertIn("world_laws", needed)
         for name in needed:
             self.assertTrue(set(needed[name].uses) <= set(needed), name)
-        self.assertFalse(set(needed) & {"shared_laws", "turn_laws", "turn_play", "layer_rows", "turn_rows", "layer_tests"})
+        self.assertFalse(set(needed) & {"shared_laws", "turn_laws", "turn_play", "layer_rows", "layer_tests"})
 
     def test_chains(self):
         """A crate's chain is longer than that of each crate above it."""
