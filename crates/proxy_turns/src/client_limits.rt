@@ -8,8 +8,6 @@ pub(crate) const MAX_UNPUSHED: usize = 64 * 1024;
 pub(crate) const MAX_DRAINED: usize = 64 * 1024;
 /// Bytes of replies that may be under way or wait, from which on no part is begun but of the oldest request.
 pub(crate) const MAX_REPLIES: usize = 256 * 1024;
-/// Bytes held for all clients of a worker, from which on each has its oldest request under way, and few parts behind it.
-pub(crate) const MAX_TOGETHER: usize = 32 * 1024 * 1024;
 /// A buffer that is larger is given back where it is empty.
 pub(crate) const KEPT: usize = 256 * 1024;
 /// How many requests are read in one turn.

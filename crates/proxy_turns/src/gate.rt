@@ -2,6 +2,9 @@
 
 ghost use Rattle.std.specs.Prelude.{ℕ, Bool, Option, ⊤};
 
+/// Bytes of replies that wait or are under way for all clients of one worker, where a gate says nothing else.
+pub const MOST_HELD: usize = 32 * 1024 * 1024;
+
 /// Asked before each turn of a worker and once after the last, and told of turns that moved nothing.
 pub trait Gate {
     /// It answered so to the worker of the first number, of whose parts the second had ended.
@@ -24,6 +27,12 @@ pub trait Gate {
     /// for which there is nothing else to do: it has none where this says no.
     fn has_news(&self, _port: usize) -> bool {
         true
+    }
+
+    /// How many bytes of replies may wait or be under way for the worker's clients together. Past it, each client has its oldest
+    /// request under way, and few parts behind it. Asked before each turn.
+    fn most_held(&self) -> usize {
+        MOST_HELD
     }
 
     /// The count of batches that the worker has posted so far. Told after each turn that was not its last.

@@ -60,7 +60,7 @@ mod worker_state;
 pub use backend::{Backend, PendingTold};
 pub use backend_step::BackendStep;
 pub use carrier::Carrier;
-pub use gate::Gate;
+pub use gate::{Gate, MOST_HELD};
 pub use newcomer::Newcomer;
 pub use node_link::{Dial, DialFault};
 pub use pending_run::PendingRun;

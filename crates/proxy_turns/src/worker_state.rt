@@ -355,7 +355,7 @@ impl<C: ClientPort + Drop, J: Naming> WorkerState<C, J> {
     {
         let mut moved = false;
         let round = self.round;
-        self.room.begin_round();
+        self.room.begin_round(gate.most_held());
         let count = self.clients.len();
         for step in 0..count {
             moved |= self.serve_client_at(round.place(step, count), gate)?;

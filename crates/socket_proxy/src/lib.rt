@@ -38,6 +38,7 @@ mod resting;
 mod run;
 mod seat;
 mod setup;
+mod share;
 mod shared;
 mod socket_gate;
 mod unfinished;

@@ -1,17 +1,24 @@
 //! A worker's gate over sockets.
 
+use crate::share::share_of;
 use proxy_runtime::ReadySet;
-use proxy_turns::Gate;
+use proxy_turns::{Gate, MOST_HELD};
 
 /// Tells a worker the time of its thread, and of which sockets there is news.
 #[derive(Drop)]
 pub(crate) struct SocketGate<'b> {
     ready: &'b ReadySet,
+    /// Its share of what may wait for the clients of all workers.
+    most_held: usize,
 }
 
 impl<'b> SocketGate<'b> {
-    pub(crate) fn new(ready: &'b ReadySet) -> SocketGate<'b> {
-        SocketGate { ready }
+    /// The gate of one of so many workers.
+    pub(crate) fn new(ready: &'b ReadySet, workers: usize) -> SocketGate<'b> {
+        SocketGate {
+            ready,
+            most_held: share_of(MOST_HELD as u64, workers as u64) as usize,
+        }
     }
 }
 
@@ -22,6 +29,10 @@ impl Gate for SocketGate<'_> {
 
     fn has_news(&self, port: usize) -> bool {
         self.ready.may_read(port)
+    }
+
+    fn most_held(&self) -> usize {
+        self.most_held
     }
 
     fn time(&self) -> Option<u64> {

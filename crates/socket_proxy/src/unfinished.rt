@@ -1,8 +1,9 @@
 //! Requests of which not all has come.
 
-ghost use Rattle.std.specs.Prelude.{◌≢◌, ◌<◌, ◌≤◌, ◌+◌, ◌*◌, ◌↔◌, ◌∷◌, ℕ, List, IsTrue};
+ghost use Rattle.std.specs.Prelude.{◌≢◌, ◌<◌, ◌≤◌, ◌+◌, ◌↔◌, ◌∷◌, ℕ, List, IsTrue};
 ghost use Rattle.socket_proxy.specs.Unfinished.{IsHeld, IsMost};
 
+use crate::share::share_of;
 use resp_wire::NoMemory;
 use std::alloc::Global;
 use std::cell::{Cell, RefCell};
@@ -54,7 +55,7 @@ impl Unfinished {
     pub(crate) fn new(alloc: Global, workers: usize) -> Result<SharedUnfinished, NoMemory> {
         let unfinished = Unfinished {
             alloc,
-            most: share_of(workers as u64),
+            most: share_of(MAX_UNFINISHED, workers as u64),
             together: Cell::new(0),
             known: Cell::new(0),
             requests: RefCell::new(Vec::new(alloc)),
@@ -121,16 +122,6 @@ impl Unfinished {
         self.together.set(together.saturating_sub(bytes));
         self.known.set(0);
     }
-}
-
-/// What each of so many workers may hold, which together hold no more than all may.
-fn share_of(workers: u64) -> u64
-    ensures { workers * result ≤ MAX_UNFINISHED }
-{
-    if workers == 0 {
-        return MAX_UNFINISHED;
-    }
-    MAX_UNFINISHED / workers
 }
 
 /// Whether more than `most` bytes are held beside the largest request.

@@ -191,7 +191,7 @@ where
         + 'static,
     requires name { book_of opened ≡ J.book }
 {
-    let gate = SocketGate::new(seat.ready());
+    let gate = SocketGate::new(seat.ready(), shared.workers.len());
     let dial = upstream.dial(rt, alloc, seat.handle, &seat.poller, &seat.look_ups)?;
     let nodes = seat.next_table(alloc, upstream)?;
     let count = count_nodes(&nodes);
