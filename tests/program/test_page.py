@@ -159,6 +159,15 @@ class Answers(unittest.TestCase):
             self.assertEqual(get(self.page, "/healthz")[0], 503)
 
 
+def refuses(port):
+    """Whether nobody listens there."""
+    try:
+        socket.create_connection(("127.0.0.1", port), PATIENCE).close()
+    except ConnectionRefusedError:
+        return True
+    return False
+
+
 class Drains(unittest.TestCase):
     """An end of the run that the page is asked for."""
 
@@ -194,8 +203,7 @@ class Drains(unittest.TestCase):
                 self.assertEqual(get(page, "/drain", "POST")[0], 202)
                 self.assertEqual(plain.recv(64), b"")
                 self.assertEqual(get(page, "/healthz")[::2], (503, b"draining\n"))
-                with self.assertRaises(ConnectionRefusedError):
-                    socket.create_connection(("127.0.0.1", client[0]), PATIENCE)
+                until(lambda: refuses(client[0]))
             self.assertEqual(self.ended(page[1]), 0)
 
     def test_what_does_not_leave_is_cut(self):

@@ -109,14 +109,8 @@ impl<'c, R: Wait> NodePort for LocalPort<'c, R> {
     ghost use Rattle.std.proofs.lemmas.List.{append-nil};
     ghost use Rattle.local_cluster.specs.Conversation.{Converses};
 
-    ghost failures = { λ _. 0 };
-
-    ghost is_garbled = { λ _. ⊥ };
-
-    ghost exchange = { Converses };
-
-    // No request waits.
-    ghost gives_none = { λ p. p.waiting ≡ [] };
+    // It never fails, and gives none where no request waits.
+    ghost calls = { record { failures = λ _. 0; is_garbled = λ _. ⊥; exchange = Converses; gives_none = λ p. p.waiting ≡ [] } };
 
     ghost still = { λ p. ([], append-nil p.waiting, refl, refl) };
 

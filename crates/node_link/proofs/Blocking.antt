@@ -14,10 +14,11 @@ use Rattle.node_link.specs.declared.port.PortFault.{PortFault}
 use Rattle.node_link.specs.declared.port.PortFault.TheVariants.{NoMemory, Failed, BadWire}
 use Rattle.node_link.specs.declared.replies.Awaited.{Awaited}
 use Rattle.node_link.specs.declared.replies.Awaited.TheVariants as awaited
+use Rattle.node_link.specs.declared.stream.Flow.{Flow}
 use Rattle.node_link.specs.declared.stream.Gone.{Gone}
 use Rattle.node_link.specs.Bytes.{FlushOutcome, OutboxModel, UnsentModel, spelled}
 use Rattle.node_link.specs.Waiting.{GaveNone, IsWaiting}
-use Rattle.node_link.specs.Blocks.{BlockExchanges, BlockPortModel, blocked, GoesAs, IsBlockGarbled, IsPlainRequest, IsShort, Item, Plain, Block, RepliesModel, Settles, awaited_by, items_for, items_of, sent_for, spelled_block, still_settles, tells-nothing, written_as}
+use Rattle.node_link.specs.Blocks.{BlockExchanges, BlockPortModel, block_calls, blocked, GoesAs, IsPlainRequest, IsShort, Item, Plain, Block, RepliesModel, Settles, awaited_by, items_for, items_of, sent_for, spelled_block, still_settles, tells-nothing, written_as}
 use Rattle.node_link.specs.Collecting.{Collects, ValueOutcome, await_each}
 use Rattle.node_link.specs.Port.{NextOutcome}
 use Rattle.node_link.proofs.Moves.{appended, flushed}
@@ -225,22 +226,23 @@ module _ {S : Type 0} (failures : S → ℕ) (moved : S → List ℕ → List �
     All-nil IsPlainRequest,
   )
 
+module _ {S : Type 0} (failures : S → ℕ) (moved : S → List ℕ → List ℕ → S → Type 0) (asked : S → ℕ → Flow → S → Type 0) (offered : S → List ℕ → Flow → S → Type 0) where
   -- what a port gives after these bytes were moved, by what the replies gave
   pub next_from : (old new : BlockPortModel S) (written read : List ℕ) (result : Result (Option Value) PortFault) → moved old.bytes.stream written read new.bytes.stream
       → old.bytes.unsent ++ [] ≡ written ++ new.bytes.unsent
       → ValueOutcome (record old.bytes.input { unread = old.bytes.input.unread ++ read }) old.replies result new.bytes.input new.replies → new.takes_blocks ≡ old.takes_blocks
-      → NextOutcome (λ (p : BlockPortModel S). failures p.bytes.stream) IsBlockGarbled (BlockExchanges moved) old result new
+      → NextOutcome (block_calls failures moved asked offered) old result new
   next_from old new written read (Ok (Some value)) m u v blocks = (v.0, (written, read, m, u, v.1, v.2), v.3, blocks, All-nil IsPlainRequest)
-  next_from old new written read (Ok None) m u v blocks = collects old new written read m u v.0 blocks
+  next_from old new written read (Ok None) m u v blocks = collects failures moved old new written read m u v.0 blocks
   next_from old new written read (Err NoMemory) m u v blocks = (v.0, (written, read, m, u, v.1, v.2), v.3, blocks, All-nil IsPlainRequest)
-  next_from old new written read (Err BadWire) m u v blocks = (v.1, collects old new written read m u v.0 blocks)
+  next_from old new written read (Err BadWire) m u v blocks = (v.1, collects failures moved old new written read m u v.0 blocks)
   next_from old new written read (Err Failed) m u v blocks = absurd v
 
   -- the same where nothing was read
   pub next_unread : (old new : BlockPortModel S) (flow : Result (Unit {0}) Gone) (result : Result (Option Value) PortFault)
       → FlushOutcome failures moved old.bytes.stream old.bytes.unsent flow new.bytes.stream new.bytes.unsent
       → ValueOutcome old.bytes.input old.replies result new.bytes.input new.replies → new.takes_blocks ≡ old.takes_blocks
-      → NextOutcome (λ (p : BlockPortModel S). failures p.bytes.stream) IsBlockGarbled (BlockExchanges moved) old result new
+      → NextOutcome (block_calls failures moved asked offered) old result new
   next_unread old new flow result flush v blocks =
       let f = flushed failures moved flow old.bytes.stream new.bytes.stream old.bytes.unsent new.bytes.unsent flush in
       let all = subst (λ (u : List ℕ). ValueOutcome (record old.bytes.input { unread = u }) old.replies result new.bytes.input new.replies) (sym (append-nil old.bytes.input.unread)) v in
@@ -251,7 +253,7 @@ module _ {S : Type 0} (failures : S → ℕ) (moved : S → List ℕ → List �
       → (old new : BlockPortModel S) (between : S) (flow : Result (Unit {0}) Gone) (read : List ℕ) (result : Result (Option Value) PortFault)
       → FlushOutcome failures moved old.bytes.stream old.bytes.unsent flow between new.bytes.unsent → moved between [] read new.bytes.stream
       → ValueOutcome (record old.bytes.input { unread = old.bytes.input.unread ++ read }) old.replies result new.bytes.input new.replies → new.takes_blocks ≡ old.takes_blocks
-      → NextOutcome (λ (p : BlockPortModel S). failures p.bytes.stream) IsBlockGarbled (BlockExchanges moved) old result new
+      → NextOutcome (block_calls failures moved asked offered) old result new
   next_read joined old new between flow read result flush m v blocks =
       let f = flushed failures moved flow old.bytes.stream between old.bytes.unsent new.bytes.unsent flush in
       let both = joined old.bytes.stream between new.bytes.stream f.0 [] [] read f.1 m in
@@ -270,16 +272,16 @@ module _ {S : Type 0} (failures : S → ℕ) (moved : S → List ℕ → List �
   pub next_unread_at : (before old new : BlockPortModel S) (flow : Result (Unit {0}) Gone) (result : Result (Option Value) PortFault) → before ≡ old
       → FlushOutcome failures moved before.bytes.stream before.bytes.unsent flow new.bytes.stream new.bytes.unsent
       → ValueOutcome before.bytes.input before.replies result new.bytes.input new.replies → new.takes_blocks ≡ before.takes_blocks
-      → NextOutcome (λ (p : BlockPortModel S). failures p.bytes.stream) IsBlockGarbled (BlockExchanges moved) old result new
+      → NextOutcome (block_calls failures moved asked offered) old result new
   next_unread_at before old new flow result is flush v blocks =
-      subst (λ (o : BlockPortModel S). NextOutcome (λ (p : BlockPortModel S). failures p.bytes.stream) IsBlockGarbled (BlockExchanges moved) o result new) is
+      subst (λ (o : BlockPortModel S). NextOutcome (block_calls failures moved asked offered) o result new) is
       (next_unread before new flow result flush v blocks)
 
   pub next_read_at : ((a b c : S) (w r w' r' : List ℕ) → moved a w r b → moved b w' r' c → moved a (w ++ w') (r ++ r') c)
       → (before old new : BlockPortModel S) (between : S) (flow : Result (Unit {0}) Gone) (read : List ℕ) (result : Result (Option Value) PortFault) → before ≡ old
       → FlushOutcome failures moved before.bytes.stream before.bytes.unsent flow between new.bytes.unsent → moved between [] read new.bytes.stream
       → ValueOutcome (record before.bytes.input { unread = before.bytes.input.unread ++ read }) before.replies result new.bytes.input new.replies → new.takes_blocks ≡ before.takes_blocks
-      → NextOutcome (λ (p : BlockPortModel S). failures p.bytes.stream) IsBlockGarbled (BlockExchanges moved) old result new
+      → NextOutcome (block_calls failures moved asked offered) old result new
   next_read_at joined before old new between flow read result is flush m v blocks =
-      subst (λ (o : BlockPortModel S). NextOutcome (λ (p : BlockPortModel S). failures p.bytes.stream) IsBlockGarbled (BlockExchanges moved) o result new) is
+      subst (λ (o : BlockPortModel S). NextOutcome (block_calls failures moved asked offered) o result new) is
       (next_read joined before new between flow read result flush m v blocks)

@@ -9,6 +9,7 @@ use Rattle.node_link.specs.declared.link.Due.{Due}
 use Rattle.node_link.specs.LinkModel.{LinkModel}
 use Rattle.node_link.specs.LinkCalls.{due_of}
 use Rattle.node_link.specs.Laws.{StandsFor, AnswersDue, MatchesReplies}
+use Rattle.node_link.specs.Port.{PortCalls}
 
 map_more : (a b : List Request) → map due_of (a ++ b) ≡ map due_of a ++ map due_of b
 map_more [] b = refl
@@ -44,8 +45,8 @@ module _ {P : Type 0} where
   abbrev due_in : LinkModel P → List Due
   due_in link = link.due
 
-  pub replies_match : (failures : P → ℕ) (is_garbled : P → Type 0) (exchange : P → List Request → List Value → P → Type 0) → MatchesReplies failures is_garbled exchange
-  replies_match failures is_garbled exchange = record {
+  pub replies_match : (calls : PortCalls P) → MatchesReplies calls
+  replies_match calls = record {
     sent = λ requests more values old new s does. sent_behind requests more values old new s (ap due_in does.2);
     told = λ requests values old new before after ticket told s does. (does.0, came requests values old new _ does.0 s does.3, does.4);
     slots = λ requests values old new before after value s does. came requests values old new _ value s does.2;

@@ -20,16 +20,16 @@ appended old written rest last new o n = rw (o, n) (append_assoc written rest la
 
 -- what is read stands behind what was read
 pub filled_unread : (old taken room last : InboxModel) → (input_of taken).unread ≡ (input_of old).unread → taken.unfed ≡ []
-    → last.fed ≡ room.fed → room ≡ taken → (input_of last).unread ≡ (input_of old).unread ++ last.unfed
+    → last.fed ≡ room.fed → room.fed ≡ taken.fed → (input_of last).unread ≡ (input_of old).unread ++ last.unfed
 filled_unread old taken room last unread none l r =
-    let fed : last.fed.unread ≡ taken.fed.unread = ap (λ (i : ReaderModel). i.unread) (l ∙ ap (λ (i : InboxModel). i.fed) r) in
+    let fed : last.fed.unread ≡ taken.fed.unread = ap (λ (i : ReaderModel). i.unread) (l ∙ r) in
     let all : taken.fed.unread ≡ (input_of old).unread =
     sym (append-nil taken.fed.unread) ∙ ap (λ (e : List ℕ). taken.fed.unread ++ e) (sym none) ∙ unread in
     ap (λ (bytes : List ℕ). bytes ++ last.unfed) (fed ∙ all)
 
-pub filled_bounds : (old taken room last : InboxModel) → (input_of taken).bounds ≡ (input_of old).bounds → last.fed ≡ room.fed → room ≡ taken
+pub filled_bounds : (old taken room last : InboxModel) → (input_of taken).bounds ≡ (input_of old).bounds → last.fed ≡ room.fed → room.fed ≡ taken.fed
     → (input_of last).bounds ≡ (input_of old).bounds
-filled_bounds old taken room last bounds l r = ap (λ (i : ReaderModel). i.bounds) (l ∙ ap (λ (i : InboxModel). i.fed) r) ∙ bounds
+filled_bounds old taken room last bounds l r = ap (λ (i : ReaderModel). i.bounds) (l ∙ r) ∙ bounds
 
 module _ {S : Type 0} (failures : S → ℕ) (moved : S → List ℕ → List ℕ → S → Type 0) where
   -- what was written, whether or not the stream failed at it

@@ -8,7 +8,6 @@ use Rattle.resp_wire.specs.declared.value.Value.TheVariants as value
 use Rattle.key_split.specs.declared.travel.Told.{Told}
 use Rattle.key_split.specs.declared.travel.Told.TheVariants.{Reply, Moved, Ask, TryAgain, ClusterDown, Unclear}
 use Rattle.slot_map.specs.Table.{Endpoint, Numbered, numbered_at, same_endpoint, host_of, Grows}
-use Rattle.key_split.specs.Requests.{Request}
 use Rattle.node_link.specs.declared.link.Got.{Got}
 use Rattle.node_link.specs.declared.link.Got.TheVariants as got
 use Rattle.node_link.specs.declared.link.LinkFault.{LinkFault}
@@ -17,6 +16,7 @@ use Rattle.node_link.specs.LinkModel.{LinkModel}
 use Rattle.node_link.specs.LinkCalls.{Receives}
 use Rattle.node_link.specs.Line.{Target, first_word, other_words, target_in}
 use Rattle.node_link.specs.Telling.{sent_on, redirected, refusal_or_reply, told_by, endpoint_meant, TellOutcome}
+use Rattle.node_link.specs.Port.{PortCalls}
 
 same : (old new : List Endpoint) → new ≡ old → Grows old new
 same old new is = ([], is ∙ sym (append-nil old))
@@ -78,9 +78,9 @@ pub tell_grows : (said : Value) (asked : ℕ) (old : List Endpoint) (result : Re
 tell_grows said asked old (Ok told) new is = told_grows said asked old told new is
 tell_grows said asked old (Err back) new does = same old new does.1
 
-module _ {P : Type 0} (failures : P → ℕ) (is_garbled : P → Type 0) (exchange : P → List Request → List Value → P → Type 0) where
+module _ {P : Type 0} (calls : PortCalls P) where
   pub receives_grow : (old : LinkModel P) (table : List Endpoint) (result : Result (Option Got) LinkFault) (new : LinkModel P) (table' : List Endpoint)
-      → Receives failures is_garbled exchange old table result new table' → Grows table table'
+      → Receives calls old table result new table' → Grows table table'
   receives_grow old table (Ok (Some (got.Ticket ticket told))) new table' does = told_grows does.0 old.node table told table' does.4
   receives_grow old table (Ok (Some (got.Slots value))) new table' does = same table table' does.3
   receives_grow old table (Ok None) new table' does = same table table' does.1

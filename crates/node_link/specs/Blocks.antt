@@ -15,6 +15,7 @@ use Rattle.node_link.specs.declared.replies.Awaited.{Awaited}
 use Rattle.node_link.specs.declared.replies.Awaited.TheVariants as awaited
 use Rattle.node_link.specs.declared.stream.Flow.{Flow}
 use Rattle.node_link.specs.Bytes.{Carries, IsGarbled, PortBytes, spelled, spelled_words, words_in}
+use Rattle.node_link.specs.Port.{PortCalls}
 use Rattle.node_link.specs.Runs.{IsToldByBlock, is_answer}
 use Rattle.node_link.specs.Waiting.{GivesNone}
 
@@ -140,8 +141,18 @@ abbrev pub IsBlockGarbled : {S : Type 0} → BlockPortModel S → Type 0
 IsBlockGarbled port = IsGarbled port.bytes ⊎ HasBadBlock port.replies
 
 -- what a port that gave none is left with
-abbrev pub BlockGivesNone : {S : Type 0} → (S → Flow → S → Type 0) → (S → List ℕ → Flow → S → Type 0) → BlockPortModel S → Type 0
+abbrev pub BlockGivesNone : {S : Type 0} → (S → ℕ → Flow → S → Type 0) → (S → List ℕ → Flow → S → Type 0) → BlockPortModel S → Type 0
 BlockGivesNone asked offered port = GivesNone asked offered port.bytes × IsShort port.replies
+
+-- what the port says of its calls, over a stream of which this is said
+abbrev pub block_calls : {S : Type 0} → (S → ℕ) → (S → List ℕ → List ℕ → S → Type 0) → (S → ℕ → Flow → S → Type 0) → (S → List ℕ → Flow → S → Type 0)
+    → PortCalls (BlockPortModel S)
+block_calls failures moved asked offered = record {
+  failures = λ port. failures port.bytes.stream;
+  is_garbled = IsBlockGarbled;
+  exchange = BlockExchanges moved;
+  gives_none = BlockGivesNone asked offered;
+}
 
 -- where nothing is sent and nothing comes, all is awaited still
 pub tells-nothing : (awaited : List Awaited) (replies : List Value) → Tells awaited replies [] awaited replies

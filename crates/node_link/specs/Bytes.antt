@@ -97,6 +97,10 @@ MayWait unsent quiet_reads = (unsent ≡ []) ⊎ (quiet_reads < flush_after_read
 abbrev pub CountsRead : ℕ → ℕ → Type 0
 CountsRead before now = (now ≡ before + 1) ⊎ ((flush_after_reads < before) × (now ≡ before))
 
+-- one read is made, into some room
+abbrev pub IsAsked : {S : Type 0} → (S → ℕ → Flow → S → Type 0) → S → S → Type 0
+IsAsked asked old new = (room : ℕ) × (0 < room) × (given : Flow) × asked old room given new
+
 module _ {S : Type 0} (offered : S → List ℕ → Flow → S → Type 0) where
   -- what a call that sends asks of its stream: bytes that were refused are offered again before anything else; where nothing was sent
   -- the reads count on
@@ -106,11 +110,11 @@ module _ {S : Type 0} (offered : S → List ℕ → Flow → S → Type 0) where
 
   -- what a call for a value asks of it: the same, and bytes that waited long enough are offered too; after the write comes one
   -- read, which is counted, or none
-  abbrev pub OffersThenReads : (S → Flow → S → Type 0) → PortBytes S → PortBytes S → Type 0
+  abbrev pub OffersThenReads : (S → ℕ → Flow → S → Type 0) → PortBytes S → PortBytes S → Type 0
   OffersThenReads asked old new =
       (between : S) × Offers offered (MayWait old.unsent old.quiet_reads) old.stream old.unsent old.refused between new.refused
       × (((new.stream ≡ between) × (new.quiet_reads ≡ old.quiet_reads))
-      ⊎ ((given : Flow) × asked between given new.stream × CountsRead old.quiet_reads new.quiet_reads))
+      ⊎ (IsAsked asked between new.stream × CountsRead old.quiet_reads new.quiet_reads))
 
 -- the bytes of whole requests that wait, how many of them the stream left of those that it was offered last, and how many reads came
 -- since the last request
@@ -129,10 +133,11 @@ abbrev pub FlushOutcome : {S : Type 0} → (S → ℕ) → (S → List ℕ → L
 FlushOutcome failures moved old unsent (Ok _) new rest = (written : List ℕ) × moved old written [] new × (unsent ≡ written ++ rest)
 FlushOutcome failures moved old unsent (Err _) new rest = Rose (failures old) (failures new) × moved old [] [] new × (rest ≡ unsent)
 
--- the bytes that were read: those that the reader was fed, and those that it was not
+-- the bytes that were read: those that the reader was fed, and those that it was not; and for how many more there is room
 pub record InboxModel : Type 0 where
   pub fed : ReaderModel
   pub unfed : List ℕ
+  pub room : ℕ
 
 -- all bytes that no value was made of
 abbrev pub input_of : InboxModel → ReaderModel
@@ -152,7 +157,7 @@ IsShortWhere said input = said ≡ true → (front input.bounds input.unread ≡
 -- some bytes were read
 abbrev pub FillOutcome : {S : Type 0} → (S → ℕ) → (S → List ℕ → List ℕ → S → Type 0) → S → InboxModel → Result (Unit {0}) Gone → S → InboxModel → Type 0
 FillOutcome failures moved old before (Ok _) new after = moved old [] after.unfed new × (after.fed ≡ before.fed)
-FillOutcome failures moved old before (Err _) new after = Rose (failures old) (failures new) × moved old [] [] new × (after ≡ before)
+FillOutcome failures moved old before (Err _) new after = Rose (failures old) (failures new) × moved old [] [] new × (input_of after ≡ input_of before)
 
 abbrev pub ReadChunkOutcome : {S : Type 0} → (S → ℕ) → (S → List ℕ → List ℕ → S → Type 0) → S → Result ℕ Gone → S → List ℕ → Type 0
 ReadChunkOutcome failures moved old (Ok count) new chunk = (count ≤ length chunk) × moved old [] (take count chunk) new

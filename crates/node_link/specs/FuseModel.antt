@@ -1,10 +1,9 @@
 -- A port that passes a given number of calls on, and then fails.
 -- For tests of a connection that breaks at each of its calls.
-use Rattle.std.specs.Prelude.{◌≡◌, ◌⊎◌, ◌+◌, ◌-◌, ◌^◌, ◌≤◌, ℕ, Bool, true, false, List, Result, Err}
-use Rattle.resp_wire.specs.declared.value.Value.{Value}
-use Rattle.key_split.specs.Requests.{Request}
+use Rattle.std.specs.Prelude.{◌≡◌, ◌⊎◌, ◌+◌, ◌-◌, ◌^◌, ◌≤◌, ℕ, Bool, true, false, Result, Err}
 use Rattle.node_link.specs.declared.port.PortFault.{PortFault}
 use Rattle.node_link.specs.declared.port.PortFault.TheVariants.{Failed}
+use Rattle.node_link.specs.Port.{PortCalls}
 
 pub record FuseModel (P : Type 0) : Type 0 where
   pub port : P
@@ -13,17 +12,14 @@ pub record FuseModel (P : Type 0) : Type 0 where
   -- how many calls it has failed
   pub blown : ℕ
 
--- the failures of the port, and its own
-abbrev pub failures_with : {P : Type 0} → (P → ℕ) → FuseModel P → ℕ
-failures_with failures fused = failures fused.port + fused.blown
-
--- what holds of the port
-abbrev pub Inside : {P : Type 0} → (P → Type 0) → FuseModel P → Type 0
-Inside holds fused = holds fused.port
-
--- what the port exchanged
-abbrev pub ExchangesInside : {P : Type 0} → (P → List Request → List Value → P → Type 0) → FuseModel P → List Request → List Value → FuseModel P → Type 0
-ExchangesInside exchange old requests values new = exchange old.port requests values new.port
+-- what it says of its calls is what the port says, and its own failures are counted too
+abbrev pub calls_inside : {P : Type 0} → PortCalls P → PortCalls (FuseModel P)
+calls_inside calls = record {
+  failures = λ fused. calls.failures fused.port + fused.blown;
+  is_garbled = λ fused. calls.is_garbled fused.port;
+  exchange = λ old requests values new. calls.exchange old.port requests values new.port;
+  gives_none = λ fused. calls.gives_none fused.port;
+}
 
 -- a count that is kept in 64 bits rose by one; one that stands at their last value stays
 abbrev pub RoseByOne : ℕ → ℕ → Type 0

@@ -1,7 +1,7 @@
 -- A connection: the requests sent and the values got are two lists, and the k-th value belongs to the k-th request.
 -- RESP2 specification, "Request-response model": a server answers the requests of a connection in order. The reply to
 -- ASKING is awaited too, and nobody is told it.
-use Rattle.std.specs.Prelude.{◌≡◌, ◌⊎◌, List, [], ◌∷◌, ◌++◌, ℕ, Option, Some, None, Result, Ok, Err, map}
+use Rattle.std.specs.Prelude.{◌≡◌, ◌⊎◌, List, [], ◌∷◌, ◌++◌, Option, Some, None, Result, Ok, Err, map}
 use Rattle.resp_wire.specs.declared.value.Value.{Value}
 use Rattle.key_split.specs.declared.travel.Ticket.{Ticket}
 use Rattle.key_split.specs.Requests.{Request, Asking, Command, Slots}
@@ -14,7 +14,7 @@ use Rattle.node_link.specs.declared.link.Failure.{Failure}
 use Rattle.node_link.specs.declared.link.Failure.TheVariants as failure
 use Rattle.node_link.specs.declared.link.LinkFault.{LinkFault}
 use Rattle.node_link.specs.declared.link.LinkFault.TheVariants.{NoMemory, PortFailed, Stray, BadWire}
-use Rattle.node_link.specs.Port.{Rose, SendsAllOrNone}
+use Rattle.node_link.specs.Port.{PortCalls, Rose, SendsAllOrNone}
 use Rattle.node_link.specs.LinkModel.{LinkModel}
 use Rattle.node_link.specs.Telling.{told_by, IsToNewNode}
 
@@ -58,28 +58,28 @@ LinkGives value old table (Err Stray) new table' = (old.due ≡ []) × (table' �
 LinkGives value old table (Err PortFailed) new table' = ⊥
 LinkGives value old table (Err BadWire) new table' = ⊥
 
-module _ {P : Type 0} (failures : P → ℕ) (is_garbled : P → Type 0) (exchange : P → List Request → List Value → P → Type 0) where
+module _ {P : Type 0} (calls : PortCalls P) where
   -- what a call that sends requests does
   abbrev pub Sends : LinkModel P → List Request → Result (Unit {0}) LinkFault → LinkModel P → Type 0
   Sends old requests (Ok _) new =
-      (old.failure ≡ None) × exchange old.port requests [] new.port
+      (old.failure ≡ None) × calls.exchange old.port requests [] new.port
       × (new ≡ record old { port = new.port; due = old.due ++ map due_of requests })
   -- nothing was sent, and nothing waits
   Sends old requests (Err NoMemory) new =
-      (old.failure ≡ None) × exchange old.port [] [] new.port × (new ≡ record old { port = new.port })
+      (old.failure ≡ None) × calls.exchange old.port [] [] new.port × (new ≡ record old { port = new.port })
   -- the requests were sent, once, or none was; so they wait
-  Sends old requests (Err PortFailed) new = Fails old failure.PortFailed (Rose (failures old.port) (failures new.port)
-      × SendsAllOrNone exchange old.port requests new.port
+  Sends old requests (Err PortFailed) new = Fails old failure.PortFailed (Rose (calls.failures old.port) (calls.failures new.port)
+      × SendsAllOrNone calls.exchange old.port requests new.port
       × (new ≡ record old { port = new.port; due = old.due ++ map due_of requests; failure = new.failure })) new
-  Sends old requests (Err BadWire) new = Fails old failure.BadWire (is_garbled new.port
-      × SendsAllOrNone exchange old.port requests new.port
+  Sends old requests (Err BadWire) new = Fails old failure.BadWire (calls.is_garbled new.port
+      × SendsAllOrNone calls.exchange old.port requests new.port
       × (new ≡ record old { port = new.port; due = old.due ++ map due_of requests; failure = new.failure })) new
   Sends old requests (Err Stray) new = (old.failure ≡ Some failure.Stray) × (new ≡ old)
 
   -- the value that is next: one that was kept, or else one that the port gives
   abbrev pub Comes : LinkModel P → Option Value → P → Type 0
-  Comes old (Some value) port = ((old.kept ≡ Some value) × (port ≡ old.port)) ⊎ ((old.kept ≡ None) × exchange old.port [] (value ∷ []) port)
-  Comes old None port = (old.kept ≡ None) × exchange old.port [] [] port
+  Comes old (Some value) port = ((old.kept ≡ Some value) × (port ≡ old.port)) ⊎ ((old.kept ≡ None) × calls.exchange old.port [] (value ∷ []) port)
+  Comes old None port = (old.kept ≡ None) × calls.exchange old.port [] [] port
 
   -- what a call that receives does to the connection and to the table of nodes
   abbrev pub Receives : LinkModel P → List Endpoint → Result (Option Got) LinkFault → LinkModel P → List Endpoint → Type 0
@@ -102,10 +102,10 @@ module _ {P : Type 0} (failures : P → ℕ) (is_garbled : P → Type 0) (exchan
       × (new ≡ record old { port = new.port; kept = Some value })))
   -- no value came, and none that was kept was given
   Receives old table (Err PortFailed) new table' = (table' ≡ table) × Fails old failure.PortFailed
-      (Rose (failures old.port) (failures new.port) × Comes old None new.port
+      (Rose (calls.failures old.port) (calls.failures new.port) × Comes old None new.port
       × (new ≡ record old { port = new.port; failure = new.failure })) new
   Receives old table (Err BadWire) new table' = (table' ≡ table) × Fails old failure.BadWire
-      (is_garbled new.port × Comes old None new.port
+      (calls.is_garbled new.port × Comes old None new.port
       × (new ≡ record old { port = new.port; failure = new.failure })) new
   -- a value came that nothing waits for
   Receives old table (Err Stray) new table' = (table' ≡ table) × Fails old failure.Stray

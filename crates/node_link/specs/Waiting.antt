@@ -1,6 +1,6 @@
 -- What it means that a port over bytes gives no value: its stream was read and is not gone, nothing whole waits in what came, and
 -- what waits to be written was offered before or has not waited long.
-use Rattle.std.specs.Prelude.{◌≡◌, ◌≤◌, ◌⊎◌, ◌++◌, ⊤, List, [], ◌∷◌, ℕ, take, Bool, true, false, Option, Some, None, Result, Ok, Err}
+use Rattle.std.specs.Prelude.{◌≡◌, ◌<◌, ◌≤◌, ◌⊎◌, ◌++◌, ⊤, List, [], ◌∷◌, ℕ, take, Bool, true, false, Option, Some, None, Result, Ok, Err}
 use Rattle.resp_wire.specs.FirstValue.{front, Partial}
 use Rattle.resp_wire.specs.ReaderModel.{ReaderModel}
 use Rattle.resp_wire.specs.declared.value.Value.{Value}
@@ -28,9 +28,9 @@ is_gone (flow.Bytes count) = false
 is_gone flow.Nothing = false
 is_gone flow.Gone = true
 
--- the last call on the stream was a read, and it did not say that the stream failed or ended
-abbrev pub WasRead : {S : Type 0} → (S → Flow → S → Type 0) → S → S → Type 0
-WasRead asked before stream = (given : Flow) × asked before given stream × (is_gone given ≡ false)
+-- the last call on the stream was a read into some room, and it did not say that the stream failed or ended
+abbrev pub WasRead : {S : Type 0} → (S → ℕ → Flow → S → Type 0) → S → S → Type 0
+WasRead asked before stream = (room : ℕ) × (0 < room) × (given : Flow) × asked before room given stream × (is_gone given ≡ false)
 
 -- nothing waits to be written; or no more reads came with nothing sent than it is held back for; or it was offered by a write that
 -- led to this state of the stream, and what was written of it is gone
@@ -41,7 +41,7 @@ WasOffered {S} offered port written_at =
     × offered before.stream (take count before.unsent) given written_at × (written : List ℕ) × (before.unsent ≡ written ++ port.unsent)))
 
 -- what a port that gave none is left with
-abbrev pub GivesNone : {S : Type 0} → (S → Flow → S → Type 0) → (S → List ℕ → Flow → S → Type 0) → PortBytes S → Type 0
+abbrev pub GivesNone : {S : Type 0} → (S → ℕ → Flow → S → Type 0) → (S → List ℕ → Flow → S → Type 0) → PortBytes S → Type 0
 GivesNone {S} asked offered port =
     IsWaiting port.input × (between : S) × WasRead asked between port.stream × WasOffered offered port between
 

@@ -4,7 +4,7 @@ ghost use Rattle.std.specs.Prelude.{◌≡◌, ◌≤◌, ◌<◌, ◌∷◌, []
 ghost use Rattle.std.specs.List.{list_any};
 ghost use Rattle.key_split.specs.Requests.{Slots, requests_of};
 ghost use Rattle.key_split.specs.Runs.{IsTogether, count_in, requests_of_run};
-ghost use Rattle.node_link.specs.Blocks.{Block, BlockExchanges, BlockGivesNone, GoesAs, IsBlockGarbled, IsPlainRequest, Plain, is_block, items_of, longest_at, spelled_block};
+ghost use Rattle.node_link.specs.Blocks.{Block, BlockGivesNone, GoesAs, IsPlainRequest, Plain, block_calls, is_block, items_of, longest_at, spelled_block};
 ghost use Rattle.node_link.specs.Bytes.{OffersFirst, OffersThenReads, spelled};
 ghost use Rattle.node_link.specs.Collecting.{DraftOutcome, await_each};
 ghost use Rattle.node_link.specs.Port.{SendOutcome, NextOutcome};
@@ -108,20 +108,14 @@ impl<S: Stream> NodePort for BlockPort<S> {
     ghost use Rattle.std.proofs.lemmas.List.{append-nil};
     ghost use Rattle.std.proofs.lemmas.List.Elements.{All-nil};
     ghost use Rattle.std.specs.Prelude.{refl};
-    ghost use Rattle.node_link.specs.Blocks.{BlockPortModel, IsPlainRequest, still_settles};
+    ghost use Rattle.node_link.specs.Blocks.{IsPlainRequest, still_settles};
 
-    ghost failures = { λ p. S.failures p.bytes.stream };
-
-    ghost is_garbled = { IsBlockGarbled };
-
-    ghost exchange = { BlockExchanges S.moved };
-
-    ghost gives_none = { BlockGivesNone S.asked S.offered };
+    ghost calls = { block_calls S.failures S.moved S.asked S.offered };
 
     ghost still = { λ p. ([], ([], [], S.still p.bytes.stream, append-nil p.bytes.unsent, append-nil p.bytes.input.unread, refl), still_settles p.replies, refl, All-nil IsPlainRequest) };
 
     fn send(&mut self, batch: &Batch) -> Result<(), PortFault>
-        ensures does { SendOutcome (λ (p : BlockPortModel S). S.failures p.bytes.stream) IsBlockGarbled (BlockExchanges S.moved) self.old (requests_of batch.now) result self.new }
+        ensures does { SendOutcome (block_calls S.failures S.moved S.asked S.offered) self.old (requests_of batch.now) result self.new }
         ensures goes { OnOk result (GoesAs S.moved self.old (map Plain (requests_of batch.now)) self.new) }
         ensures count { S.failures self.old.bytes.stream ≤ S.failures self.new.bytes.stream }
         ensures offers { OffersFirst S.offered self.old.bytes result self.new.bytes }
@@ -143,7 +137,7 @@ impl<S: Stream> NodePort for BlockPort<S> {
     }
 
     fn ask_slots(&mut self) -> Result<(), PortFault>
-        ensures does { SendOutcome (λ (p : BlockPortModel S). S.failures p.bytes.stream) IsBlockGarbled (BlockExchanges S.moved) self.old (Slots ∷ []) result self.new }
+        ensures does { SendOutcome (block_calls S.failures S.moved S.asked S.offered) self.old (Slots ∷ []) result self.new }
         ensures count { S.failures self.old.bytes.stream ≤ S.failures self.new.bytes.stream }
         ensures offers { OffersFirst S.offered self.old.bytes result self.new.bytes }
     {
@@ -168,7 +162,7 @@ impl<S: Stream> NodePort for BlockPort<S> {
     }
 
     fn next(&mut self) -> Result<Option<Value>, PortFault>
-        ensures does { NextOutcome (λ (p : BlockPortModel S). S.failures p.bytes.stream) IsBlockGarbled (BlockExchanges S.moved) self.old result self.new }
+        ensures does { NextOutcome (block_calls S.failures S.moved S.asked S.offered) self.old result self.new }
         ensures count { S.failures self.old.bytes.stream ≤ S.failures self.new.bytes.stream }
         ensures offers { OffersThenReads S.offered S.asked self.old.bytes self.new.bytes }
         ensures none { GaveNone result → BlockGivesNone S.asked S.offered self.new }
@@ -194,8 +188,6 @@ impl<S: Stream> NodePort for BlockPort<S> {
 }
 
 impl<S: Stream> RunPort for BlockPort<S> {
-    ghost use Rattle.node_link.specs.Blocks.{BlockPortModel};
-
     ghost longest = { longest_at };
 
     fn longest_run(&self) -> usize {
@@ -204,7 +196,7 @@ impl<S: Stream> RunPort for BlockPort<S> {
 
     fn send_run(&mut self, run: &Run) -> Result<(), PortFault>
         requires { count_in run.now ≤ longest_at self.old }
-        ensures does { SendOutcome (λ (p : BlockPortModel S). S.failures p.bytes.stream) IsBlockGarbled (BlockExchanges S.moved) self.old (requests_of_run run.now) result self.new }
+        ensures does { SendOutcome (block_calls S.failures S.moved S.asked S.offered) self.old (requests_of_run run.now) result self.new }
         ensures goes { OnOk result (GoesAs S.moved self.old (items_of run.now) self.new) }
         ensures count { S.failures self.old.bytes.stream ≤ S.failures self.new.bytes.stream }
         ensures offers { OffersFirst S.offered self.old.bytes result self.new.bytes }
@@ -217,14 +209,12 @@ impl<S: Stream> RunPort for BlockPort<S> {
 }
 
 impl<S: Stream> BlockPort<S> {
-    ghost use Rattle.node_link.specs.Blocks.{BlockPortModel};
-
     // Sends the commands of a run as a block.
     fn send_block(&mut self, run: &Run) -> Result<(), PortFault>
         requires together { IsTogether run.now }
         requires several { 0 < length run.now.later }
         requires few { count_in run.now ≤ 64 }
-        ensures does { SendOutcome (λ (p : BlockPortModel S). S.failures p.bytes.stream) IsBlockGarbled (BlockExchanges S.moved) self.old (requests_of_run run.now) result self.new }
+        ensures does { SendOutcome (block_calls S.failures S.moved S.asked S.offered) self.old (requests_of_run run.now) result self.new }
         ensures goes { OnOk result (GoesAs S.moved self.old (Block (requests_of_run run.now) ∷ []) self.new) }
         ensures count { S.failures self.old.bytes.stream ≤ S.failures self.new.bytes.stream }
         ensures offers { OffersFirst S.offered self.old.bytes result self.new.bytes }

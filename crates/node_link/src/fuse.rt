@@ -57,22 +57,16 @@ impl<P> Fuse<P> {
 }
 
 impl<P: NodePort> NodePort for Fuse<P> {
-    ghost use Rattle.node_link.specs.FuseModel.{FuseOutcome, failures_with, Inside, ExchangesInside};
+    ghost use Rattle.node_link.specs.FuseModel.{FuseOutcome, calls_inside};
 
-    ghost failures = { failures_with P.failures };
-
-    ghost is_garbled = { Inside P.is_garbled };
-
-    ghost exchange = { ExchangesInside P.exchange };
-
-    ghost gives_none = { Inside P.gives_none };
+    ghost calls = { calls_inside P.calls };
 
     ghost still = { λ f. P.still f.port };
 
     fn send(&mut self, batch: &Batch) -> Result<(), PortFault>
-        ensures does { SendOutcome (failures_with P.failures) (Inside P.is_garbled) (ExchangesInside P.exchange) self.old (requests_of batch.now) result self.new }
-        ensures count { failures_with P.failures self.old ≤ failures_with P.failures self.new }
-        ensures fuse { FuseOutcome (λ old given new. SendOutcome P.failures P.is_garbled P.exchange old (requests_of batch.now) given new) self.old result self.new }
+        ensures does { SendOutcome (calls_inside P.calls) self.old (requests_of batch.now) result self.new }
+        ensures count { (calls_inside P.calls).failures self.old ≤ (calls_inside P.calls).failures self.new }
+        ensures fuse { FuseOutcome (λ old given new. SendOutcome P.calls old (requests_of batch.now) given new) self.old result self.new }
     {
         if !self.passes() {
             return Err(PortFault::Failed);
@@ -81,9 +75,9 @@ impl<P: NodePort> NodePort for Fuse<P> {
     }
 
     fn ask_slots(&mut self) -> Result<(), PortFault>
-        ensures does { SendOutcome (failures_with P.failures) (Inside P.is_garbled) (ExchangesInside P.exchange) self.old (Slots ∷ []) result self.new }
-        ensures count { failures_with P.failures self.old ≤ failures_with P.failures self.new }
-        ensures fuse { FuseOutcome (λ old given new. SendOutcome P.failures P.is_garbled P.exchange old (Slots ∷ []) given new) self.old result self.new }
+        ensures does { SendOutcome (calls_inside P.calls) self.old (Slots ∷ []) result self.new }
+        ensures count { (calls_inside P.calls).failures self.old ≤ (calls_inside P.calls).failures self.new }
+        ensures fuse { FuseOutcome (λ old given new. SendOutcome P.calls old (Slots ∷ []) given new) self.old result self.new }
     {
         if !self.passes() {
             return Err(PortFault::Failed);
@@ -96,10 +90,10 @@ impl<P: NodePort> NodePort for Fuse<P> {
     }
 
     fn next(&mut self) -> Result<Option<Value>, PortFault>
-        ensures does { NextOutcome (failures_with P.failures) (Inside P.is_garbled) (ExchangesInside P.exchange) self.old result self.new }
-        ensures count { failures_with P.failures self.old ≤ failures_with P.failures self.new }
-        ensures fuse { FuseOutcome (NextOutcome P.failures P.is_garbled P.exchange) self.old result self.new }
-        ensures none { GaveNone result → Inside P.gives_none self.new }
+        ensures does { NextOutcome (calls_inside P.calls) self.old result self.new }
+        ensures count { (calls_inside P.calls).failures self.old ≤ (calls_inside P.calls).failures self.new }
+        ensures fuse { FuseOutcome (NextOutcome P.calls) self.old result self.new }
+        ensures none { GaveNone result → (calls_inside P.calls).gives_none self.new }
     {
         if !self.passes() {
             return Err(PortFault::Failed);
@@ -109,7 +103,7 @@ impl<P: NodePort> NodePort for Fuse<P> {
 }
 
 impl<P: RunPort> RunPort for Fuse<P> {
-    ghost use Rattle.node_link.specs.FuseModel.{FuseOutcome, failures_with, Inside, ExchangesInside};
+    ghost use Rattle.node_link.specs.FuseModel.{FuseOutcome, calls_inside};
 
     ghost longest = { λ f. P.longest f.port };
 
@@ -119,9 +113,9 @@ impl<P: RunPort> RunPort for Fuse<P> {
 
     fn send_run(&mut self, run: &Run) -> Result<(), PortFault>
         requires { count_in run.now ≤ P.longest self.old.port }
-        ensures does { SendOutcome (failures_with P.failures) (Inside P.is_garbled) (ExchangesInside P.exchange) self.old (requests_of_run run.now) result self.new }
-        ensures count { failures_with P.failures self.old ≤ failures_with P.failures self.new }
-        ensures fuse { FuseOutcome (λ old given new. SendOutcome P.failures P.is_garbled P.exchange old (requests_of_run run.now) given new) self.old result self.new }
+        ensures does { SendOutcome (calls_inside P.calls) self.old (requests_of_run run.now) result self.new }
+        ensures count { (calls_inside P.calls).failures self.old ≤ (calls_inside P.calls).failures self.new }
+        ensures fuse { FuseOutcome (λ old given new. SendOutcome P.calls old (requests_of_run run.now) given new) self.old result self.new }
     {
         if !self.passes() {
             return Err(PortFault::Failed);

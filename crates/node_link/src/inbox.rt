@@ -1,8 +1,7 @@
 //! The bytes that were read and make no value yet.
 
-ghost use Rattle.std.specs.Prelude.{◌≡◌, ◌≤◌, [], None, OnOk, IfErr, Err, length, take};
-ghost use Rattle.node_link.specs.declared.stream.Flow.{Flow};
-ghost use Rattle.node_link.specs.Bytes.{input_of, FillOutcome, ReadChunkOutcome, TakeOutcome};
+ghost use Rattle.std.specs.Prelude.{◌≡◌, ◌<◌, ◌≤◌, [], None, OnOk, IfErr, Err, length, take};
+ghost use Rattle.node_link.specs.Bytes.{input_of, FillOutcome, IsAsked, ReadChunkOutcome, TakeOutcome};
 ghost use Rattle.node_link.specs.Waiting.{WasRead};
 
 use crate::port::PortFault;
@@ -45,14 +44,14 @@ impl Model for Inbox {
 
     ghost Value = { InboxModel };
 
-    ghost view = { λ a. record { fed = a.reader; unfed = take a.filled a.chunk.items } };
+    ghost view = { λ a. record { fed = a.reader; unfed = take a.filled a.chunk.items; room = length a.chunk.items } };
 
     ghost invariant = { λ a. (a.filled ≤ length a.chunk.items) × IsFaultFirst a.reader (take a.filled a.chunk.items) × IsShortWhere a.is_short a.reader };
 }
 
 impl Inbox {
     pub fn new(alloc: Global, limits: Limits) -> Inbox
-        ensures { result ≡ record { fed = record { bounds = limits; unread = []; fault = None }; unfed = [] } }
+        ensures { result ≡ record { fed = record { bounds = limits; unread = []; fault = None }; unfed = []; room = 0 } }
     {
         Inbox {
             reader: Reader::new(alloc, limits),
@@ -106,7 +105,8 @@ impl Inbox {
     /// Makes room for what will be read.
     pub fn make_room(&mut self) -> Result<(), NoMemory>
         requires { self.old.unfed ≡ [] }
-        ensures { self.new ≡ self.old }
+        ensures kept { self.new ≡ record self.old { room = self.new.room } }
+        ensures made { OnOk result (0 < self.new.room) }
     {
         if self.chunk.len() >= CHUNK {
             return Ok(());
@@ -122,9 +122,10 @@ impl Inbox {
     pub fn fill<S: Stream>(&mut self, stream: &mut S) -> Result<(), Gone>
         requires empty { self.old.unfed ≡ [] }
         requires sound { self.old.fed.fault ≡ None }
+        requires room { 0 < self.old.room }
         ensures read { FillOutcome S.failures S.moved stream.old self.old result stream.new self.new }
         ensures count { S.failures stream.old ≤ S.failures stream.new }
-        ensures asked { (given : Flow) × S.asked stream.old given stream.new }
+        ensures asked { IsAsked S.asked stream.old stream.new }
         ensures read_now { OnOk result (WasRead S.asked stream.old stream.new) }
     {
         match read_chunk(stream, &mut self.chunk) {
@@ -139,9 +140,10 @@ impl Inbox {
 
 // Reads some bytes to the front of the chunk.
 fn read_chunk<S: Stream>(stream: &mut S, chunk: &mut Vec<u8>) -> Result<usize, Gone>
+    requires { 0 < length chunk.old.items }
     ensures read { ReadChunkOutcome S.failures S.moved stream.old result stream.new chunk.new.items }
     ensures count { S.failures stream.old ≤ S.failures stream.new }
-    ensures asked { (given : Flow) × S.asked stream.old given stream.new }
+    ensures asked { IsAsked S.asked stream.old stream.new }
     ensures read_now { OnOk result (WasRead S.asked stream.old stream.new) }
 {
     match stream.read(chunk) {

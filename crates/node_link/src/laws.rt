@@ -6,5 +6,5 @@ use crate::port::NodePort;
 
 /// The k-th value belongs to the k-th request, in whatever order requests are sent and values come.
 pub fn replies_match<P: NodePort>()
-    ensures { MatchesReplies P.failures P.is_garbled P.exchange }
+    ensures { MatchesReplies P.calls }
 {}

@@ -142,7 +142,7 @@ impl<P: NodePort> Link<P> {
 
     /// Sends a batch, whose ticket waits from then on.
     pub fn send(&mut self, batch: &Batch) -> Result<(), LinkFault>
-        ensures { Sends P.failures P.is_garbled P.exchange self.old (requests_of batch.now) result self.new }
+        ensures { Sends P.calls self.old (requests_of batch.now) result self.new }
     {
         if let Some(failure) = self.failure {
             return Err(failure.fault());
@@ -169,7 +169,7 @@ impl<P: NodePort> Link<P> {
 
     /// Asks which nodes serve which slots.
     pub fn ask_slots(&mut self) -> Result<(), LinkFault>
-        ensures { Sends P.failures P.is_garbled P.exchange self.old (Slots ∷ []) result self.new }
+        ensures { Sends P.calls self.old (Slots ∷ []) result self.new }
     {
         if let Some(failure) = self.failure {
             return Err(failure.fault());
@@ -198,8 +198,8 @@ impl<P: NodePort> Link<P> {
     /// come, or that it was the reply to ASKING.
     pub fn receive(&mut self, table: &mut NodeTable) -> Result<Option<Got>, LinkFault>
         requires { self.old.node < length table.old }
-        ensures does { Receives P.failures P.is_garbled P.exchange self.old table.old result self.new table.new }
-        ensures none { ReceivesNone P.gives_none self.old result self.new }
+        ensures does { Receives P.calls self.old table.old result self.new table.new }
+        ensures none { ReceivesNone P.calls.gives_none self.old result self.new }
         ensures grown { Grows table.old table.new }
     {
         self.receive_next(table)
@@ -207,8 +207,8 @@ impl<P: NodePort> Link<P> {
 
     fn receive_next(&mut self, table: &mut NodeTable) -> Result<Option<Got>, LinkFault>
         requires { self.old.node < length table.old }
-        ensures does { Receives P.failures P.is_garbled P.exchange self.old table.old result self.new table.new }
-        ensures none { ReceivesNone P.gives_none self.old result self.new }
+        ensures does { Receives P.calls self.old table.old result self.new table.new }
+        ensures none { ReceivesNone P.calls.gives_none self.old result self.new }
     {
         if let Some(failure) = self.failure {
             return Err(failure.fault());
@@ -306,7 +306,7 @@ impl<P: RunPort> Link<P> {
     /// Sends a run, whose tickets wait from then on.
     pub fn send_run(&mut self, run: &Run) -> Result<(), LinkFault>
         requires { count_in run.now ≤ P.longest self.old.port }
-        ensures { Sends P.failures P.is_garbled P.exchange self.old (requests_of_run run.now) result self.new }
+        ensures { Sends P.calls self.old (requests_of_run run.now) result self.new }
     {
         if let Some(failure) = self.failure {
             return Err(failure.fault());

@@ -20,6 +20,6 @@ pub trait RunPort: NodePort {
     /// Sends the commands of a run, with nothing between them.
     fn send_run(&mut self, run: &Run) -> Result<(), PortFault>
         requires { count_in run.now ≤ longest self.old }
-        ensures does { SendOutcome Self.failures Self.is_garbled Self.exchange self.old (requests_of_run run.now) result self.new }
-        ensures count { Self.failures self.old ≤ Self.failures self.new };
+        ensures does { SendOutcome Self.calls self.old (requests_of_run run.now) result self.new }
+        ensures count { Self.calls.failures self.old ≤ Self.calls.failures self.new };
 }

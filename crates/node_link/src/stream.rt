@@ -23,9 +23,9 @@ pub trait Stream {
     /// From the first state to the second these bytes were written and these were read, each in order.
     ghost moved: { Self → List ℕ → List ℕ → Self → Type 0 };
 
-    /// One read, which was answered so, led from the first state to the second. Code that is generic in the stream has this
-    /// fact from a read alone, so where it stands a read was made.
-    ghost asked: { Self → Flow → Self → Type 0 } = { λ _ _ _. Unit {0} };
+    /// One read into room for this many bytes, which was answered so, led from the first state to the second. Code that is
+    /// generic in the stream has this fact from a read alone, so where it stands a read was made.
+    ghost asked: { Self → ℕ → Flow → Self → Type 0 } = { λ _ _ _ _. Unit {0} };
 
     /// One write, which was offered these bytes and answered so, led from the first state to the second. Code that is
     /// generic in the stream has this fact from a write alone, so where it stands a write was made.
@@ -38,7 +38,7 @@ pub trait Stream {
     fn read(&mut self, buffer: &mut [u8]) -> Flow
         ensures read { ReadOutcome failures moved self.old buffer.new result self.new }
         ensures count { failures self.old ≤ failures self.new }
-        ensures asked { asked self.old result self.new };
+        ensures asked { asked self.old (length buffer.old) result self.new };
 
     /// Writes some bytes off the front of two slices, which stand one behind the other.
     fn write(&mut self, first: &[u8], second: &[u8]) -> Flow

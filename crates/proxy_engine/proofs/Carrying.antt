@@ -3,15 +3,14 @@ use Rattle.std.proofs.Common.{◌≡◌, ◌⊎◌, ⊎_elim, ℕ, List, [], ◌
 use Rattle.std.specs.List.{FoldsTo}
 use mathlib.Core.List.{IsPrefix}
 use Rattle.resp_wire.specs.declared.fault.NoMemory.{NoMemory}
-use Rattle.resp_wire.specs.declared.value.Value.{Value}
 use Rattle.key_split.specs.Runs.{RunModel}
-use Rattle.key_split.specs.Requests.{Request}
 use Rattle.key_split.specs.declared.travel.Ticket.{Ticket}
 use Rattle.key_split.specs.declared.travel.Told.{Told}
 use Rattle.slot_map.specs.Table.{Endpoint}
 use Rattle.proxy_lanes.specs.declared.ring.Outlet.{Outlet}
 use Rattle.proxy_lanes.specs.declared.ends.lane_ends.LaneEnds.{LaneEnds}
 use Rattle.proxy_lanes.specs.Ends.{ChangesAt, Gives, GivesDown, TakesUp}
+use Rattle.node_link.specs.Port.{PortCalls}
 use Rattle.proxy_turns.specs.declared.pending_run.PendingRun.{PendingRun}
 use Rattle.proxy_turns.specs.declared.backend.Backend.{Backend}
 use Rattle.proxy_turns.specs.declared.backend.PendingTold.{PendingTold}
@@ -105,14 +104,14 @@ module _ {H : Type 0} where
 
 -- ---- what was published
 
-module _ {P : Type 0} (failures : P → ℕ) (is_garbled : P → Type 0) (exchange : P → List Request → List Value → P → Type 0) (gives_none : P → Type 0) where
+module _ {P : Type 0} (calls : PortCalls P) where
   abbrev More : BackendContext P → BackendContext P → Type 0
   More old new = IsPrefix old.published new.published
 
   seen-alike : (old new mid : BackendContext P) → new ≡ mid → mid.published ≡ old.published → More old new
   seen-alike old new mid e same = same-front old.published new.published (ap (λ (c : BackendContext P). c.published) e ∙ same)
 
-  step-more : (unanswered : Bool) (step : BackendStep) (old new : BackendContext P) → BackendDoes failures is_garbled exchange gives_none unanswered old step new → More old new
+  step-more : (unanswered : Bool) (step : BackendStep) (old new : BackendContext P) → BackendDoes calls unanswered old step new → More old new
   step-more unanswered Idle old new d = seen-alike old new _ d refl
   step-more unanswered Waited old new d = seen-alike old new _ d.4 refl
   step-more unanswered Broke old new d = seen-alike old new _ d.5 refl
@@ -127,17 +126,17 @@ module _ {P : Type 0} (failures : P → ℕ) (is_garbled : P → Type 0) (exchan
   step-more unanswered Unread old new d = seen-alike old new _ d.3 refl
   step-more unanswered Renewed old new d = (d.0, sym (ap (λ (c : BackendContext P). c.published) d.2))
 
-  starved-more : (old new : BackendContext P) → Starves failures is_garbled exchange old new → More old new
+  starved-more : (old new : BackendContext P) → Starves calls old new → More old new
   starved-more old new s = ⊎_elim (λ e. seen-alike old new _ e refl) (λ c. seen-alike old new _ c.4 refl) s
 
 -- ---- each event
 
-module _ (H : Type 0) {P : Type 0} (failures : P → ℕ) (is_garbled : P → Type 0) (exchange : P → List Request → List Value → P → Type 0) (gives_none : P → Type 0) (opens : Endpoint → Option P → ℕ → ℕ → Type 0) (longest : P → ℕ) where
+module _ (H : Type 0) {P : Type 0} (calls : PortCalls P) (opens : Endpoint → Option P → ℕ → ℕ → Type 0) (longest : P → ℕ) where
   abbrev Model : Type 0
   Model = CarrierModel H P
 
   abbrev Does : Model → CarrierEvent → Model → Type 0
-  Does = CarrierDoes failures is_garbled exchange gives_none opens longest
+  Does = CarrierDoes calls opens longest
 
   -- nothing is done at the lanes
   elsewhere : (old new mid : Model) → new ≡ mid → mid.lanes ≡ old.lanes → SameLanes old.lanes new.lanes
@@ -166,10 +165,10 @@ module _ (H : Type 0) {P : Type 0} (failures : P → ℕ) (is_garbled : P → Ty
   carrier-events [] old new f = unchanged old.lanes new.lanes (ap (λ (c : Model). c.lanes) (sym f))
   carrier-events (event ∷ events) old new f = lanes-after old.lanes f.0.lanes new.lanes (carrier-event event old f.0 f.1) (carrier-events events f.0 new f.2)
 
-  pub carrier-goes : (old new : Model) (moved : Bool) → CarrierGoes failures is_garbled exchange gives_none opens longest old moved new → SameLanes old.lanes new.lanes
+  pub carrier-goes : (old new : Model) (moved : Bool) → CarrierGoes calls opens longest old moved new → SameLanes old.lanes new.lanes
   carrier-goes old new moved g = carrier-events g.0 old new g.1
 
-  pub carrier-turns : (old new : Model) (result : Result Bool NoMemory) → CarrierTurns failures is_garbled exchange gives_none opens longest old result new → SameLanes old.lanes new.lanes
+  pub carrier-turns : (old new : Model) (result : Result Bool NoMemory) → CarrierTurns calls opens longest old result new → SameLanes old.lanes new.lanes
   carrier-turns old new (Ok moved) t = carrier-goes old new moved t
   carrier-turns old new (Err refused) t = carrier-goes old new t.0 t.1
 
@@ -178,8 +177,8 @@ module _ (H : Type 0) {P : Type 0} (failures : P → ℕ) (is_garbled : P → Ty
   untold old new mid e same = same-front old.published new.published (ap (λ (c : Model). c.published) e ∙ same)
 
   pub published-event : (event : CarrierEvent) (old new : Model) → Does old event new → IsPrefix old.published new.published
-  published-event (AtBackend step) old new d = step-more failures is_garbled exchange gives_none _ step _ _ d.4
-  published-event Starved old new d = ⊎_elim (λ c. starved-more failures is_garbled exchange gives_none _ _ c.4) (λ c. untold old new _ c.7 refl) d
+  published-event (AtBackend step) old new d = step-more calls _ step _ _ d.4
+  published-event Starved old new d = ⊎_elim (λ c. starved-more calls _ _ c.4) (λ c. untold old new _ c.7 refl) d
   published-event WorkerAdded old new d = untold old new _ d refl
   published-event BackendAdded old new d = untold old new _ d refl
   published-event Looked old new d = untold old new _ d.0 refl

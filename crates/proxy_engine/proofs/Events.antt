@@ -1,9 +1,8 @@
 -- A turn as events alone.
 use Rattle.std.proofs.Common.{ℕ, Bool, List, Option, [], ◌∷◌, Ok, Err, refl, sym, ap, subst, ⊎_elim}
 use Rattle.std.specs.List.{FoldsTo}
-use Rattle.resp_wire.specs.declared.value.Value.{Value}
-use Rattle.key_split.specs.Requests.{Request}
 use Rattle.slot_map.specs.Table.{Endpoint}
+use Rattle.node_link.specs.Port.{PortCalls}
 use Rattle.proxy_turns.specs.declared.newcomer.Newcomer.{Newcomer}
 use Rattle.proxy_turns.specs.Port.{Moves}
 use Rattle.proxy_turns.specs.WorkerModel.{WorkerDoes, WorkerEvent, WorkerModel}
@@ -27,18 +26,18 @@ module _ {C J : Type 0} (moves : Moves C) where
       let later = workers-unseen events one.0 f.0 new one.2 f.2 in
       (later.0, (one.0, one.1, later.1), later.2)
 
-module _ (H : Type 0) {P : Type 0} (failures : P → ℕ) (is_garbled : P → Type 0) (exchange : P → List Request → List Value → P → Type 0) (gives_none : P → Type 0) (opens : Endpoint → Option P → ℕ → ℕ → Type 0) (longest : P → ℕ) where
-  carriers-unseen : (events : List CarrierEvent) (less old new : CarrierModel H P) → CarrierKnows less old → FoldsTo (CarrierDoes failures is_garbled exchange gives_none opens longest) old events new
-      → (after : CarrierModel H P) × FoldsTo (CarrierDoes failures is_garbled exchange gives_none opens longest) less events after × CarrierKnows after new
+module _ (H : Type 0) {P : Type 0} (calls : PortCalls P) (opens : Endpoint → Option P → ℕ → ℕ → Type 0) (longest : P → ℕ) where
+  carriers-unseen : (events : List CarrierEvent) (less old new : CarrierModel H P) → CarrierKnows less old → FoldsTo (CarrierDoes calls opens longest) old events new
+      → (after : CarrierModel H P) × FoldsTo (CarrierDoes calls opens longest) less events after × CarrierKnows after new
   carriers-unseen [] less old new k f = (less, refl, subst (λ (c : CarrierModel H P). CarrierKnows less c) f k)
   carriers-unseen (event ∷ events) less old new k f =
-      let one = carrier-unseen H failures is_garbled exchange gives_none opens longest less old f.0 event k f.1 in
+      let one = carrier-unseen H calls opens longest less old f.0 event k f.1 in
       let later = carriers-unseen events one.0 f.0 new one.2 f.2 in
       (later.0, (one.0, one.1, later.1), later.2)
 
-module _ (C J : Type 0) {P : Type 0} (moves : Moves C) (failures : P → ℕ) (is_garbled : P → Type 0) (exchange : P → List Request → List Value → P → Type 0) (gives_none : P → Type 0) (opens : Endpoint → Option P → ℕ → ℕ → Type 0) (longest : P → ℕ) where
+module _ (C J : Type 0) {P : Type 0} (moves : Moves C) (calls : PortCalls P) (opens : Endpoint → Option P → ℕ → ℕ → Type 0) (longest : P → ℕ) where
   abbrev Comes : EngineModel C J P → List WorkerEvent → List CarrierEvent → EngineModel C J P → Type 0
-  Comes = IsEventsTo C J moves failures is_garbled exchange gives_none opens longest
+  Comes = IsEventsTo C J moves calls opens longest
 
   abbrev Reaches : EngineModel C J P → EngineModel C J P → Type 0
   Reaches less new = (worked : List WorkerEvent) × (carried : List CarrierEvent) × (after : EngineModel C J P) × Comes less worked carried after × EngineKnows after new
@@ -48,7 +47,7 @@ module _ (C J : Type 0) {P : Type 0} (moves : Moves C) (failures : P → ℕ) (i
   ReachesAlone less new = (worked : List WorkerEvent) × (after : EngineModel C J P) × Comes less worked [] after × EngineKnows after new
 
   abbrev Acts : CarrierModel (Newcomer C J) P → CarrierEvent → CarrierModel (Newcomer C J) P → Type 0
-  Acts = CarrierDoes failures is_garbled exchange gives_none opens longest
+  Acts = CarrierDoes calls opens longest
 
   worker-part : (less old new : EngineModel C J P) (moved : Bool) → EngineKnows less old → IsInOrder less → WorkerPart moves old moved new → IsInOrder new → ReachesAlone less new
   worker-part less old new moved k first p last =
@@ -60,23 +59,23 @@ module _ (C J : Type 0) {P : Type 0} (moves : Moves C) (failures : P → ℕ) (i
       (p.3.0, after, record { works = unseen.1; orderly = worker-stays moves less p.3.0 unseen.0 unseen.1 first order; carries = refl; later = tt; in_order = order }, whole)
 
   -- the carrier's part, behind such a one of the worker's
-  carrier-part : (start mid old new : EngineModel C J P) (moved : Bool) (worked : List WorkerEvent) → Comes start worked [] mid → EngineKnows mid old → CarrierPart (CarrierGoes failures is_garbled exchange gives_none opens longest) old moved new → IsInOrder new → Reaches start new
+  carrier-part : (start mid old new : EngineModel C J P) (moved : Bool) (worked : List WorkerEvent) → Comes start worked [] mid → EngineKnows mid old → CarrierPart (CarrierGoes calls opens longest) old moved new → IsInOrder new → Reaches start new
   carrier-part start mid old new moved worked before k p last =
-      let unseen = carriers-unseen (Newcomer C J) failures is_garbled exchange gives_none opens longest p.3.0 mid.carrier old.carrier p.0.carrier k.1 p.3.1 in
+      let unseen = carriers-unseen (Newcomer C J) calls opens longest p.3.0 mid.carrier old.carrier p.0.carrier k.1 p.3.1 in
       let after : EngineModel C J P = record mid { carrier = unseen.0 } in
       let known : EngineKnows after p.0 = (subst (λ (w : WorkerModel C J). WorkerKnows mid.worker w) (sym (ap (λ (e : EngineModel C J P). e.worker) p.4)) k.0, unseen.2) in
       let whole = engine-after after p.0 new known (looks-know p.0 new p.2 p.5) in
       let order = order-known after new whole last in
-      let stays = carrier-stays failures is_garbled exchange gives_none opens longest mid p.3.0 unseen.0 unseen.1 before.in_order order in
+      let stays = carrier-stays calls opens longest mid p.3.0 unseen.0 unseen.1 before.in_order order in
       let goes : (f : FoldsTo Acts start.carrier p.3.0 unseen.0) × HoldsAlong Acts (λ carrier. IsInOrder (record after { carrier = carrier })) start.carrier p.3.0 unseen.0 f =
       subst (λ (c : CarrierModel (Newcomer C J) P). (f : FoldsTo Acts c p.3.0 unseen.0) × HoldsAlong Acts (λ carrier. IsInOrder (record after { carrier = carrier })) c p.3.0 unseen.0 f) (sym before.carries) (unseen.1, stays) in
       (worked, p.3.0, after, record { works = before.works; orderly = before.orderly; carries = goes.0; later = goes.1; in_order = order }, whole)
 
   -- both, or what was done before memory ran out
   abbrev Goes : CarrierModel (Newcomer C J) P → Bool → CarrierModel (Newcomer C J) P → Type 0
-  Goes = CarrierGoes failures is_garbled exchange gives_none opens longest
+  Goes = CarrierGoes calls opens longest
 
-  pub turns-are-events : TurnsAreEvents C J moves failures is_garbled exchange gives_none opens longest
+  pub turns-are-events : TurnsAreEvents C J moves calls opens longest
   turns-are-events less old new (Ok turned) k first t sound =
       let w = worker-part less old t.0 t.1 k first t.3.0 t.3.1 in
       carrier-part less w.1 t.0 new t.2 w.0 w.2 w.3 t.4.0 t.4.1

@@ -3,10 +3,9 @@ use Rattle.std.proofs.Common.{ℕ, List, [], ◌∷◌, Option, sym, ap, ◌∙�
 use Rattle.std.specs.Prelude.{slice_get}
 use Rattle.std.specs.List.{FoldsTo}
 use mathlib.Core.List.{IsPrefix}
-use Rattle.resp_wire.specs.declared.value.Value.{Value}
-use Rattle.key_split.specs.Requests.{Request}
 use Rattle.slot_map.specs.Table.{Endpoint}
 use Rattle.proxy_lanes.specs.Lane.{posted, taken}
+use Rattle.node_link.specs.Port.{PortCalls}
 use Rattle.proxy_turns.specs.declared.newcomer.Newcomer.{Newcomer}
 use Rattle.proxy_turns.specs.Port.{Moves}
 use Rattle.proxy_turns.specs.WorkerModel.{WorkerModel, WorkerEvent, WorkerDoes}
@@ -55,15 +54,15 @@ module _ {C J P : Type 0} where
         view = front-after w.view.known engine.carrier.published mid.published first.view published;
       }
 
-  module _ (failures : P → ℕ) (is_garbled : P → Type 0) (exchange : P → List Request → List Value → P → Type 0) (gives_none : P → Type 0) (opens : Endpoint → Option P → ℕ → ℕ → Type 0) (longest : P → ℕ) where
-    along-carriers : (engine : EngineModel C J P) (events : List CarrierEvent) (old new : CarrierModel (Newcomer C J) P) (f : FoldsTo (CarrierDoes failures is_garbled exchange gives_none opens longest) old events new) → SameLanes engine.carrier.lanes old.lanes → IsPrefix engine.carrier.published old.published
-        → IsInOrder engine → IsInOrder (record engine { carrier = new }) → HoldsAlong (CarrierDoes failures is_garbled exchange gives_none opens longest) (λ carrier. IsInOrder (record engine { carrier = carrier })) old events new f
+  module _ (calls : PortCalls P) (opens : Endpoint → Option P → ℕ → ℕ → Type 0) (longest : P → ℕ) where
+    along-carriers : (engine : EngineModel C J P) (events : List CarrierEvent) (old new : CarrierModel (Newcomer C J) P) (f : FoldsTo (CarrierDoes calls opens longest) old events new) → SameLanes engine.carrier.lanes old.lanes → IsPrefix engine.carrier.published old.published
+        → IsInOrder engine → IsInOrder (record engine { carrier = new }) → HoldsAlong (CarrierDoes calls opens longest) (λ carrier. IsInOrder (record engine { carrier = carrier })) old events new f
     along-carriers engine [] old new f lanes published first last = tt
     along-carriers engine (event ∷ events) old new f lanes published first last =
-        let next = lanes-after engine.carrier.lanes old.lanes f.0.lanes lanes (carrier-event (Newcomer C J) failures is_garbled exchange gives_none opens longest event old f.0 f.1) in
-        let more = front-after engine.carrier.published old.published f.0.published published (published-event (Newcomer C J) failures is_garbled exchange gives_none opens longest event old f.0 f.1) in
-        (between-carriers engine f.0 new next (carrier-events (Newcomer C J) failures is_garbled exchange gives_none opens longest events f.0 new f.2) more first last, along-carriers engine events f.0 new f.2 next more first last)
+        let next = lanes-after engine.carrier.lanes old.lanes f.0.lanes lanes (carrier-event (Newcomer C J) calls opens longest event old f.0 f.1) in
+        let more = front-after engine.carrier.published old.published f.0.published published (published-event (Newcomer C J) calls opens longest event old f.0 f.1) in
+        (between-carriers engine f.0 new next (carrier-events (Newcomer C J) calls opens longest events f.0 new f.2) more first last, along-carriers engine events f.0 new f.2 next more first last)
 
-    pub carrier-stays : CarrierStaysInOrder C J failures is_garbled exchange gives_none opens longest
+    pub carrier-stays : CarrierStaysInOrder C J calls opens longest
     carrier-stays engine events new f first last =
         along-carriers engine events engine.carrier new f (lanes-themselves engine.carrier.lanes) (front-itself engine.carrier.published) first last

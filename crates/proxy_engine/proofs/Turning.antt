@@ -1,11 +1,10 @@
 -- The two parts of a turn.
-use Rattle.std.proofs.Common.{◌≡◌, ◌||◌, ℕ, List, Option, Bool, true, false, Result, Ok, Err, refl, sym, ap, ◌∙◌, subst, inl, inr}
+use Rattle.std.proofs.Common.{◌≡◌, ◌||◌, ℕ, Option, Bool, true, false, Result, Ok, Err, refl, sym, ap, ◌∙◌, subst, inl, inr}
 use Rattle.std.specs.Prelude.{IfOk}
 use Rattle.resp_wire.specs.declared.fault.NoMemory.{NoMemory}
-use Rattle.resp_wire.specs.declared.value.Value.{Value}
-use Rattle.key_split.specs.Requests.{Request}
 use Rattle.slot_map.specs.Table.{Endpoint}
 use Rattle.node_link.specs.LinkModel.{LinkModel}
+use Rattle.node_link.specs.Port.{PortCalls}
 use Rattle.proxy_turns.specs.declared.newcomer.Newcomer.{Newcomer}
 use Rattle.proxy_turns.specs.Port.{Moves}
 use Rattle.proxy_turns.specs.ClientRest.{IfStill}
@@ -52,9 +51,9 @@ module _ {C J P : Type 0} where
 
   -- ---- the carrier's
 
-  module _ (failures : P → ℕ) (is_garbled : P → Type 0) (exchange : P → List Request → List Value → P → Type 0) (gives_none : P → Type 0) (opens : Endpoint → Option P → ℕ → ℕ → Type 0) (longest : P → ℕ) where
+  module _ (calls : PortCalls P) (opens : Endpoint → Option P → ℕ → ℕ → Type 0) (longest : P → ℕ) where
     pub carrier-ends : (old mid new : EngineModel C J P) (went : Result Bool NoMemory) (result : Result Bool EngineFault) → mid ≡ record old { carrier = mid.carrier }
-        → CarrierTurns failures is_garbled exchange gives_none opens longest old.carrier went mid.carrier → LookAfter mid went result new → PartEnds (CarrierPart (CarrierGoes failures is_garbled exchange gives_none opens longest)) old result new
+        → CarrierTurns calls opens longest old.carrier went mid.carrier → LookAfter mid went result new → PartEnds (CarrierPart (CarrierGoes calls opens longest)) old result new
     carrier-ends old mid new (Ok went) (Ok moved) same t l = ((mid, went, l.0, t, same, l.1, l.3), l.2)
     carrier-ends old mid new (Ok went) (Err fault.NoMemory) same t l = absurd l
     carrier-ends old mid new (Ok went) (Err fault.OutOfOrder) same t l = (went || l.0, (mid, went, l.0, t, same, l.1, refl), l.2)

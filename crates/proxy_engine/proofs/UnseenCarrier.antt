@@ -1,15 +1,14 @@
 -- What a carrier does whose ends know more, one does whose ends know less.
 use Rattle.std.proofs.Common.{◌≡◌, ◌⊎◌, ⊎_elim, inl, inr, ℕ, zero, suc, List, [], ◌∷◌, ◌++◌, Bool, true, false, Option, Some, None, Result, Ok, Err, refl, sym, ap, ◌∙◌, subst, length, ◌≤◌}
 use Rattle.std.specs.Prelude.{slice_get, slice_set}
-use Rattle.resp_wire.specs.declared.value.Value.{Value}
 use Rattle.key_split.specs.Runs.{RunModel}
-use Rattle.key_split.specs.Requests.{Request}
 use Rattle.key_split.specs.declared.travel.Ticket.{Ticket}
 use Rattle.key_split.specs.declared.travel.Told.{Told}
 use Rattle.slot_map.specs.Table.{Endpoint}
 use Rattle.proxy_lanes.specs.declared.ring.Outlet.{Outlet}
 use Rattle.proxy_lanes.specs.declared.ends.lane_ends.LaneEnds.{LaneEnds}
 use Rattle.proxy_lanes.specs.Ends.{ChangesAt, Gives, GivesDown, TakesUp}
+use Rattle.node_link.specs.Port.{PortCalls}
 use Rattle.proxy_turns.specs.declared.pending_run.PendingRun.{PendingRun}
 use Rattle.proxy_turns.specs.declared.backend.Backend.{Backend}
 use Rattle.proxy_turns.specs.declared.backend.PendingTold.{PendingTold}
@@ -123,15 +122,15 @@ module _ {H : Type 0} where
       (λ c. let a = changes _ (takes-up None) less more new k p c.1 in (a.0, (t.0, inr (c.0, a.1)), a.2))
       t.1
 
-module _ (H : Type 0) {P : Type 0} (failures : P → ℕ) (is_garbled : P → Type 0) (exchange : P → List Request → List Value → P → Type 0) (gives_none : P → Type 0) (opens : Endpoint → Option P → ℕ → ℕ → Type 0) (longest : P → ℕ) where
+module _ (H : Type 0) {P : Type 0} (calls : PortCalls P) (opens : Endpoint → Option P → ℕ → ℕ → Type 0) (longest : P → ℕ) where
   abbrev Unseen : CarrierModel H P → CarrierEvent → CarrierModel H P → Type 0
-  Unseen less event new = (after : CarrierModel H P) × CarrierDoes failures is_garbled exchange gives_none opens longest less event after × CarrierKnows after new
+  Unseen less event new = (after : CarrierModel H P) × CarrierDoes calls opens longest less event after × CarrierKnows after new
 
   -- nothing is done at the lanes
   elsewhere : (after new mid : CarrierModel H P) (more : List (LaneEnds H)) → LanesKnow after.lanes more → new ≡ mid → mid ≡ record after { lanes = more } → CarrierKnows after new
   elsewhere after new mid more p e same = subst (λ (c : CarrierModel H P). CarrierKnows after c) (sym (e ∙ same)) (p, refl)
 
-  ends-know : (less : CarrierModel H P) (more : List (LaneEnds H)) (event : CarrierEvent) (new : CarrierModel H P) → LanesKnow less.lanes more → CarrierDoes failures is_garbled exchange gives_none opens longest (record less { lanes = more }) event new → Unseen less event new
+  ends-know : (less : CarrierModel H P) (more : List (LaneEnds H)) (event : CarrierEvent) (new : CarrierModel H P) → LanesKnow less.lanes more → CarrierDoes calls opens longest (record less { lanes = more }) event new → Unseen less event new
   ends-know less more (AtBackend step) new p d =
       let after : CarrierModel H P = record less { backends = slice_set less.backends d.0 d.2; nodes = new.nodes; published = new.published } in
       (after, (d.0, d.1, d.2, d.3, d.4, refl), elsewhere after new _ more p d.5 refl)
@@ -185,5 +184,5 @@ module _ (H : Type 0) {P : Type 0} (failures : P → ℕ) (is_garbled : P → Ty
       let after : CarrierModel H P = record less { lanes = a.0; pending_runs = slice_set less.pending_runs d.0 d.2 } in
       (after, (d.0, d.1, d.2, d.3, a.1, refl), elsewhere after new _ new.lanes a.2 d.5 refl)
 
-  pub carrier-unseen : CarrierDoesUnseen H failures is_garbled exchange gives_none opens longest
-  carrier-unseen less old new event k d = ends-know less old.lanes event new k.0 (subst (λ (c : CarrierModel H P). CarrierDoes failures is_garbled exchange gives_none opens longest c event new) k.1 d)
+  pub carrier-unseen : CarrierDoesUnseen H calls opens longest
+  carrier-unseen less old new event k d = ends-know less old.lanes event new k.0 (subst (λ (c : CarrierModel H P). CarrierDoes calls opens longest c event new) k.1 d)

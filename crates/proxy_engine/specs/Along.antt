@@ -2,9 +2,8 @@
 -- What was taken and what was seen only grow, and so does what was posted and published.
 use Rattle.std.specs.Prelude.{ℕ, List, Option, [], ◌∷◌}
 use Rattle.std.specs.List.{FoldsTo}
-use Rattle.resp_wire.specs.declared.value.Value.{Value}
-use Rattle.key_split.specs.Requests.{Request}
 use Rattle.slot_map.specs.Table.{Endpoint}
+use Rattle.node_link.specs.Port.{PortCalls}
 use Rattle.proxy_turns.specs.declared.newcomer.Newcomer.{Newcomer}
 use Rattle.proxy_turns.specs.Port.{Moves}
 use Rattle.proxy_turns.specs.WorkerModel.{WorkerDoes, WorkerEvent, WorkerModel}
@@ -21,8 +20,8 @@ module _ (C J P : Type 0) (moves : Moves C) where
   WorkerStaysInOrder = (engine : EngineModel C J P) (events : List WorkerEvent) (new : WorkerModel C J) (f : FoldsTo (WorkerDoes moves) engine.worker events new)
       → IsInOrder engine → IsInOrder (record engine { worker = new }) → HoldsAlong (WorkerDoes moves) (λ worker. IsInOrder (record engine { worker = worker })) engine.worker events new f
 
-module _ (C J : Type 0) {P : Type 0} (failures : P → ℕ) (is_garbled : P → Type 0) (exchange : P → List Request → List Value → P → Type 0) (gives_none : P → Type 0) (opens : Endpoint → Option P → ℕ → ℕ → Type 0) (longest : P → ℕ) where
+module _ (C J : Type 0) {P : Type 0} (calls : PortCalls P) (opens : Endpoint → Option P → ℕ → ℕ → Type 0) (longest : P → ℕ) where
   abbrev pub CarrierStaysInOrder : Type 0
-  CarrierStaysInOrder = (engine : EngineModel C J P) (events : List CarrierEvent) (new : CarrierModel (Newcomer C J) P) (f : FoldsTo (CarrierDoes failures is_garbled exchange gives_none opens longest) engine.carrier events new)
+  CarrierStaysInOrder = (engine : EngineModel C J P) (events : List CarrierEvent) (new : CarrierModel (Newcomer C J) P) (f : FoldsTo (CarrierDoes calls opens longest) engine.carrier events new)
       → IsInOrder engine → IsInOrder (record engine { carrier = new })
-      → HoldsAlong (CarrierDoes failures is_garbled exchange gives_none opens longest) (λ carrier. IsInOrder (record engine { carrier = carrier })) engine.carrier events new f
+      → HoldsAlong (CarrierDoes calls opens longest) (λ carrier. IsInOrder (record engine { carrier = carrier })) engine.carrier events new f

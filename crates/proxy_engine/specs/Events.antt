@@ -2,9 +2,8 @@
 -- lanes and the slot map are in order after each of them. No premise is asked but that they were in order before.
 use Rattle.std.specs.Prelude.{ℕ, List, Option, Result, Ok, Err, ⊤}
 use Rattle.std.specs.List.{FoldsTo}
-use Rattle.resp_wire.specs.declared.value.Value.{Value}
-use Rattle.key_split.specs.Requests.{Request}
 use Rattle.slot_map.specs.Table.{Endpoint}
+use Rattle.node_link.specs.Port.{PortCalls}
 use Rattle.proxy_turns.specs.declared.newcomer.Newcomer.{Newcomer}
 use Rattle.proxy_turns.specs.Port.{Moves}
 use Rattle.proxy_turns.specs.WorkerModel.{WorkerDoes, WorkerEvent}
@@ -27,9 +26,9 @@ module _ {C J P : Type 0} where
   abbrev pub EngineKnows : EngineModel C J P → EngineModel C J P → Type 0
   EngineKnows less more = WorkerKnows less.worker more.worker × CarrierKnows less.carrier more.carrier
 
-module _ (C J : Type 0) {P : Type 0} (moves : Moves C) (failures : P → ℕ) (is_garbled : P → Type 0) (exchange : P → List Request → List Value → P → Type 0) (gives_none : P → Type 0) (opens : Endpoint → Option P → ℕ → ℕ → Type 0) (longest : P → ℕ) where
+module _ (C J : Type 0) {P : Type 0} (moves : Moves C) (calls : PortCalls P) (opens : Endpoint → Option P → ℕ → ℕ → Type 0) (longest : P → ℕ) where
   abbrev pub CarrierActs : CarrierModel (Newcomer C J) P → CarrierEvent → CarrierModel (Newcomer C J) P → Type 0
-  CarrierActs = CarrierDoes failures is_garbled exchange gives_none opens longest
+  CarrierActs = CarrierDoes calls opens longest
 
   -- these events lead from the one to the other, and all is in order after each
   pub record IsEventsTo (old : EngineModel C J P) (worked : List WorkerEvent) (carried : List CarrierEvent) (new : EngineModel C J P) : Type 0 where
@@ -41,5 +40,5 @@ module _ (C J : Type 0) {P : Type 0} (moves : Moves C) (failures : P → ℕ) (i
 
   -- an engine whose ends know less, which was in order, comes by such events to one that is like the engine after the turn
   abbrev pub TurnsAreEvents : Type 0
-  TurnsAreEvents = (less old new : EngineModel C J P) (result : Result Turned EngineFault) → EngineKnows less old → IsInOrder less → EngineTurns moves (CarrierGoes failures is_garbled exchange gives_none opens longest) old result new → IsSound result
+  TurnsAreEvents = (less old new : EngineModel C J P) (result : Result Turned EngineFault) → EngineKnows less old → IsInOrder less → EngineTurns moves (CarrierGoes calls opens longest) old result new → IsSound result
       → (worked : List WorkerEvent) × (carried : List CarrierEvent) × (after : EngineModel C J P) × IsEventsTo less worked carried after × EngineKnows after new

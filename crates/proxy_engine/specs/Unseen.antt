@@ -3,8 +3,6 @@
 use Rattle.std.specs.Prelude.{◌≡◌, ℕ, List, [], ◌∷◌, Option, Some, None}
 use mathlib.Core.List.{IsPrefix}
 use Rattle.rtrb.specs.Ring.{SameConsumer, SameProducer}
-use Rattle.resp_wire.specs.declared.value.Value.{Value}
-use Rattle.key_split.specs.Requests.{Request}
 use Rattle.key_split.specs.declared.travel.Ticket.{Ticket}
 use Rattle.key_split.specs.declared.travel.Told.{Told}
 use Rattle.slot_map.specs.Table.{Endpoint}
@@ -12,6 +10,7 @@ use Rattle.proxy_lanes.specs.declared.ring.Outlet.{Outlet}
 use Rattle.proxy_lanes.specs.declared.ring.Inlet.{Inlet}
 use Rattle.proxy_lanes.specs.declared.ends.lane_ends.LaneEnds.{LaneEnds}
 use Rattle.proxy_lanes.specs.Lane.{held, posted, taken}
+use Rattle.node_link.specs.Port.{PortCalls}
 use Rattle.proxy_turns.specs.Port.{Moves}
 use Rattle.proxy_turns.specs.WorkerModel.{WorkerDoes, WorkerEvent, WorkerModel}
 use Rattle.proxy_turns.specs.CarrierModel.{CarrierDoes, CarrierEvent, CarrierModel}
@@ -53,8 +52,8 @@ module _ (C J : Type 0) (moves : Moves C) where
   WorkerDoesUnseen = (less old new : WorkerModel C J) (event : WorkerEvent) → WorkerKnows less old → WorkerDoes moves old event new
       → (after : WorkerModel C J) × WorkerDoes moves less event after × WorkerKnows after new
 
-module _ (H : Type 0) {P : Type 0} (failures : P → ℕ) (is_garbled : P → Type 0) (exchange : P → List Request → List Value → P → Type 0) (gives_none : P → Type 0) (opens : Endpoint → Option P → ℕ → ℕ → Type 0) (longest : P → ℕ) where
+module _ (H : Type 0) {P : Type 0} (calls : PortCalls P) (opens : Endpoint → Option P → ℕ → ℕ → Type 0) (longest : P → ℕ) where
   -- and so does a carrier
   abbrev pub CarrierDoesUnseen : Type 0
-  CarrierDoesUnseen = (less old new : CarrierModel H P) (event : CarrierEvent) → CarrierKnows less old → CarrierDoes failures is_garbled exchange gives_none opens longest old event new
-      → (after : CarrierModel H P) × CarrierDoes failures is_garbled exchange gives_none opens longest less event after × CarrierKnows after new
+  CarrierDoesUnseen = (less old new : CarrierModel H P) (event : CarrierEvent) → CarrierKnows less old → CarrierDoes calls opens longest old event new
+      → (after : CarrierModel H P) × CarrierDoes calls opens longest less event after × CarrierKnows after new

@@ -90,8 +90,8 @@ where
     /// The worker's turn and then the carrier's. Whatever it answers but OutOfOrder, what was done stands, and the lanes and the
     /// slot map are in order between their two ends, behind each of the two. One that moved nothing has left nothing to do.
     pub fn turn(&mut self) -> Result<Turned, EngineFault>
-        ensures turns { EngineTurns C.moves (CarrierGoes P.failures P.is_garbled P.exchange P.gives_none D.opens P.longest) (engine_model D.failures self.old) result (engine_model D.failures self.new) }
-        ensures rests { EngineRests C.gives_none C.takes_none (GaveNone P.failures P.is_garbled P.exchange P.gives_none) result (engine_model D.failures self.new) }
+        ensures turns { EngineTurns C.moves (CarrierGoes P.calls D.opens P.longest) (engine_model D.failures self.old) result (engine_model D.failures self.new) }
+        ensures rests { EngineRests C.gives_none C.takes_none (GaveNone P.calls) result (engine_model D.failures self.new) }
         ensures served { IfOk result (λ turned. IsTrue turned.served ↔ AreAllServed (engine_model D.failures self.new).worker) }
         ensures due { IfOk result (λ turned. IsFirstDue (waiting_in self.new) turned.next_due) }
         ensures later { IfOk result (λ turned. turned.moved ≡ false → AreAllLater (G.tells self.old.worker.gate.now) (waiting_in self.new)) }
@@ -153,8 +153,8 @@ where
     }
 
     fn turn_carrier(&mut self) -> Result<bool, EngineFault>
-        ensures ends { PartEnds (CarrierPart (CarrierGoes P.failures P.is_garbled P.exchange P.gives_none D.opens P.longest)) (engine_model D.failures self.old) result (engine_model D.failures self.new) }
-        ensures rests { PartRests (λ left. CarrierRests (GaveNone P.failures P.is_garbled P.exchange P.gives_none) left × IsDrainedOf left) result (engine_model D.failures self.new) }
+        ensures ends { PartEnds (CarrierPart (CarrierGoes P.calls D.opens P.longest)) (engine_model D.failures self.old) result (engine_model D.failures self.new) }
+        ensures rests { PartRests (λ left. CarrierRests (GaveNone P.calls) left × IsDrainedOf left) result (engine_model D.failures self.new) }
         ensures waiting { waiting_in self.new ≡ waiting_in self.old }
     {
         let carried = self.carrier.turn();

@@ -7,13 +7,12 @@ use Rattle.slot_map.specs.declared.fault.MapFault.TheVariants.{NoMemory}
 use Rattle.slot_map.specs.declared.ops.MapOp.{MapOp}
 use Rattle.slot_map.specs.Slots.{SlotsReading, ReadsAs}
 use Rattle.slot_map.specs.Table.{Endpoint}
-use Rattle.resp_wire.specs.declared.value.Value.{Value}
-use Rattle.key_split.specs.Requests.{Request}
 use Rattle.key_split.specs.Runs.{RunModel, count_in}
 use Rattle.node_link.specs.LinkModel.{LinkModel}
 use Rattle.node_link.specs.LinkCalls.{Receives}
 use Rattle.node_link.specs.declared.link.Got.{Got}
 use Rattle.node_link.specs.declared.link.Got.TheVariants as got
+use Rattle.node_link.specs.Port.{PortCalls}
 use Rattle.proxy_turns.specs.Backend.{HoldOutcome, BackendFetches}
 use Rattle.proxy_turns.specs.Sending.{IsTooLong}
 use Rattle.proxy_turns.specs.declared.backend.Backend.{Backend}
@@ -57,24 +56,24 @@ too_long_for longest run (Some other) link is open_still long several =
     subst Q same (open_still, long, several)
 
 -- a link on which a call waited has not failed
-pub waits : {P : Type 0} (failures : P → ℕ) (is_garbled : P → Type 0) (exchange : P → List Request → List Value → P → Type 0) (link link' : LinkModel P) (nodes nodes' : List Endpoint)
-    → Receives failures is_garbled exchange link nodes (Ok None) link' nodes' → is_some link'.failure ≡ false
-waits failures is_garbled exchange link link' nodes nodes' (none, table, (inl came)) = ap (λ (l : LinkModel _). is_some l.failure) came.1 ∙ ap (λ f. is_some f) none
-waits failures is_garbled exchange link link' nodes nodes' (none, table, (inr (value, comes, owed, is))) = ap (λ (l : LinkModel _). is_some l.failure) is ∙ ap (λ f. is_some f) none
+pub waits : {P : Type 0} (calls : PortCalls P) (link link' : LinkModel P) (nodes nodes' : List Endpoint)
+    → Receives calls link nodes (Ok None) link' nodes' → is_some link'.failure ≡ false
+waits calls link link' nodes nodes' (none, table, (inl came)) = ap (λ (l : LinkModel _). is_some l.failure) came.1 ∙ ap (λ f. is_some f) none
+waits calls link link' nodes nodes' (none, table, (inr (value, comes, owed, is))) = ap (λ (l : LinkModel _). is_some l.failure) is ∙ ap (λ f. is_some f) none
 
 -- what a link gave is held
-module _ {P : Type 0} (failures : P → ℕ) (is_garbled : P → Type 0) (exchange : P → List Request → List Value → P → Type 0) (gives_none : P → Type 0) where
+module _ {P : Type 0} (calls : PortCalls P) where
   pub holds : (unanswered : Bool) (old new : Backend P) (link link' : LinkModel P) (nodes nodes' : List Endpoint) (published : List MapOp) (got : Got) (step : BackendStep)
       → old.link ≡ Some link → old.pending_told ≡ None → old.answer ≡ None
-      → Receives failures is_garbled exchange link nodes (Ok (Some got)) link' nodes'
+      → Receives calls link nodes (Ok (Some got)) link' nodes'
       → HoldOutcome (record old { link = Some link' }) got step new
-      → BackendFetches failures is_garbled exchange gives_none unanswered
+      → BackendFetches calls unanswered
       (record { backend = old; nodes = nodes; published = published }) (Ok step) (record { backend = new; nodes = nodes'; published = published })
   holds unanswered old new link link' nodes nodes' published (got.Ticket ticket told) step is pending_told answer receives (fetched, now) =
-      let P : BackendStep → Type 0 = λ s. BackendFetches failures is_garbled exchange gives_none unanswered
+      let P : BackendStep → Type 0 = λ s. BackendFetches calls unanswered
       (record { backend = old; nodes = nodes; published = published }) (Ok s) (record { backend = new; nodes = nodes'; published = published }) in
       subst P (sym fetched) ((link, link', ticket, told, pending_told, (is, receives), λ i. record { backend = now i; nodes = nodes'; published = published }), refl, λ still. absurd (false≢true (sym still)))
   holds unanswered old new link link' nodes nodes' published (got.Slots value) step is pending_told answer receives (answered, now) =
-      let P : BackendStep → Type 0 = λ s. BackendFetches failures is_garbled exchange gives_none unanswered
+      let P : BackendStep → Type 0 = λ s. BackendFetches calls unanswered
       (record { backend = old; nodes = nodes; published = published }) (Ok s) (record { backend = new; nodes = nodes'; published = published }) in
       subst P (sym answered) ((link, link', value, answer, (is, receives), λ i. record { backend = now i; nodes = nodes'; published = published }), refl, λ still. absurd (false≢true (sym still)))

@@ -3,13 +3,12 @@ use Rattle.std.proofs.Common.{◌≡◌, ◌∙◌, ◌≤◌, inl, inr, ℕ, Li
 use Rattle.std.specs.Prelude.{◌⊎◌, ◌-◌, ◌^◌, slice_get, slice_set}
 use Rattle.std.specs.List.{FoldsTo, list_all, list_any}
 use Rattle.std.proofs.lemmas.List.{length-set}
-use Rattle.resp_wire.specs.declared.value.Value.{Value}
 use Rattle.key_split.specs.declared.travel.Ticket.{Ticket}
 use Rattle.key_split.specs.declared.travel.Told.{Told}
-use Rattle.key_split.specs.Requests.{Request}
 use Rattle.slot_map.specs.Table.{Endpoint}
 use Rattle.node_link.specs.LinkModel.{LinkModel}
 use Rattle.node_link.specs.LinkCalls.{Receives}
+use Rattle.node_link.specs.Port.{PortCalls}
 use Rattle.proxy_lanes.specs.declared.ends.lane_ends.LaneEnds.{LaneEnds}
 use Rattle.proxy_lanes.specs.declared.ring.Outlet.{Outlet}
 use Rattle.proxy_lanes.specs.Lane.{held, free_places}
@@ -177,17 +176,17 @@ module _ {H P : Type 0} where
   with_lanes old new is quiet = let Q : CarrierModel H P → Type 0 = λ c. Quiet old c in subst Q (sym is) quiet
 
 -- a link that gave nothing has not failed
-waited_link : {P : Type 0} (failures : P → ℕ) (is_garbled : P → Type 0) (exchange : P → List Request → List Value → P → Type 0) (link link' : LinkModel P) (nodes nodes' : List Endpoint) → Receives failures is_garbled exchange link nodes (Ok None) link' nodes' → link'.failure ≡ link.failure
-waited_link failures is_garbled exchange link link' nodes nodes' (none, table, (inl came)) = ap (λ (l : LinkModel _). l.failure) came.1
-waited_link failures is_garbled exchange link link' nodes nodes' (none, table, (inr (value, comes, owed, is))) = ap (λ (l : LinkModel _). l.failure) is
+waited_link : {P : Type 0} (calls : PortCalls P) (link link' : LinkModel P) (nodes nodes' : List Endpoint) → Receives calls link nodes (Ok None) link' nodes' → link'.failure ≡ link.failure
+waited_link calls link link' nodes nodes' (none, table, (inl came)) = ap (λ (l : LinkModel _). l.failure) came.1
+waited_link calls link link' nodes nodes' (none, table, (inr (value, comes, owed, is))) = ap (λ (l : LinkModel _). l.failure) is
 
-module _ {H P : Type 0} (failures : P → ℕ) (is_garbled : P → Type 0) (exchange : P → List Request → List Value → P → Type 0) (gives_none : P → Type 0) (opens : Endpoint → Option P → ℕ → ℕ → Type 0) (longest : P → ℕ) where
-  waited : (old new : CarrierModel H P) → CarrierDoes failures is_garbled exchange gives_none opens longest old (AtBackend step.Waited) new → Quiet old new
+module _ {H P : Type 0} (calls : PortCalls P) (opens : Endpoint → Option P → ℕ → ℕ → Type 0) (longest : P → ℕ) where
+  waited : (old new : CarrierModel H P) → CarrierDoes calls opens longest old (AtBackend step.Waited) new → Quiet old new
   waited old new (k, backend, backend', at, (link, link', (there, receives), none, context), is) =
       let now : backend' ≡ record backend { link = Some link' } = ap (λ (c : BackendContext P). c.backend) context in
       let L : Option (LinkModel P) → Type 0 = λ o. LinkStays o (Some link') in
       let B : Backend P → Type 0 = λ b. BackendStays (Some backend) (Some b) in
-      let stays : BackendStays (Some backend) (Some backend') = subst B (sym now) (refl, subst L (sym there) (waited_link failures is_garbled exchange link link' old.nodes new.nodes receives)) in
+      let stays : BackendStays (Some backend) (Some backend') = subst B (sym now) (refl, subst L (sym there) (waited_link calls link link' old.nodes new.nodes receives)) in
       let Q : CarrierModel H P → Type 0 = λ c. Quiet old c in
       subst Q (sym is) (record {
         seed = refl;
@@ -197,7 +196,7 @@ module _ {H P : Type 0} (failures : P → ℕ) (is_garbled : P → Type 0) (exch
         backends = set_stays BackendStays backend_same old.backends k backend backend' at stays;
       })
 
-  idle : (old new : CarrierModel H P) → CarrierDoes failures is_garbled exchange gives_none opens longest old (AtBackend step.Idle) new → Quiet old new
+  idle : (old new : CarrierModel H P) → CarrierDoes calls opens longest old (AtBackend step.Idle) new → Quiet old new
   idle old new (k, backend, backend', at, context, is) =
       let same : backend' ≡ backend = ap (λ (c : BackendContext P). c.backend) context in
       let back : slice_set old.backends k backend' ≡ old.backends = ap (λ x. slice_set old.backends k x) same ∙ set-itself old.backends k backend at in
@@ -211,12 +210,12 @@ module _ {H P : Type 0} (failures : P → ℕ) (is_garbled : P → Type 0) (exch
         backends = λ k. backend_same (slice_get old.backends k);
       }))
 
-  looked : (old new : CarrierModel H P) → CarrierDoes failures is_garbled exchange gives_none opens longest old Looked new → Quiet old new
+  looked : (old new : CarrierModel H P) → CarrierDoes calls opens longest old Looked new → Quiet old new
   looked old new (is, inl (k, backend, at, (same, gives))) = with_lanes old new is (gives_nothing old new.lanes backend.pending_told gives)
   looked old new (is, inr (k, pending_run, at, inl (same, tells))) = with_lanes old new is (tells_none old new.lanes pending_run.refused tells)
   looked old new (is, inr (k, pending_run, at, inr takes)) = with_lanes old new is (takes_none old new.lanes k pending_run takes)
 
-  added : (old new : CarrierModel H P) → CarrierDoes failures is_garbled exchange gives_none opens longest old BackendAdded new → Quiet old new
+  added : (old new : CarrierModel H P) → CarrierDoes calls opens longest old BackendAdded new → Quiet old new
   added old new is =
       let Q : CarrierModel H P → Type 0 = λ c. Quiet old c in
       subst Q (sym is) (record {
@@ -228,7 +227,7 @@ module _ {H P : Type 0} (failures : P → ℕ) (is_garbled : P → Type 0) (exch
       })
 
   event_quiet : (old : CarrierModel H P) (event : CarrierEvent) (new : CarrierModel H P) → adds_worker event ≡ false → is_carrier_move event ≡ false
-      → CarrierDoes failures is_garbled exchange gives_none opens longest old event new → Quiet old new
+      → CarrierDoes calls opens longest old event new → Quiet old new
   event_quiet old (AtBackend step.Idle) new few still does = idle old new does
   event_quiet old (AtBackend step.Waited) new few still does = waited old new does
   event_quiet old (AtBackend step.Broke) new few still does = absurd (cc)
@@ -259,7 +258,7 @@ module _ {H P : Type 0} (failures : P → ℕ) (is_garbled : P → Type 0) (exch
   event_quiet old GaveUnsent new few still does = absurd (cc)
 
   events_quiet : (may : CarrierEvent → Bool) → ((event : CarrierEvent) → may event ≡ true → adds_worker event ≡ false) → (old : CarrierModel H P) (events : List CarrierEvent) (new : CarrierModel H P)
-      → list_all may events ≡ true → list_any is_carrier_move events ≡ false → FoldsTo (CarrierDoes failures is_garbled exchange gives_none opens longest) old events new → Quiet old new
+      → list_all may events ≡ true → list_any is_carrier_move events ≡ false → FoldsTo (CarrierDoes calls opens longest) old events new → Quiet old new
   events_quiet may few old [] new all still same = let Q : CarrierModel H P → Type 0 = λ c. Quiet old c in subst Q same (quiet_same old)
   events_quiet may few old (event ∷ events) new all still (mid, does, rest) =
       let both = and_both (may event) (list_all may events) all in
@@ -268,7 +267,7 @@ module _ {H P : Type 0} (failures : P → ℕ) (is_garbled : P → Type 0) (exch
 
   -- a call that moved nothing was quiet
   stays_quiet : (may : CarrierEvent → Bool) → ((event : CarrierEvent) → may event ≡ true → adds_worker event ≡ false) → (old : CarrierModel H P) (moved : Bool) (new : CarrierModel H P)
-      → moved ≡ false → CarrierGoesBy failures is_garbled exchange gives_none opens longest may old moved new → Quiet old new
+      → moved ≡ false → CarrierGoesBy calls opens longest may old moved new → Quiet old new
   stays_quiet may few old moved new still (events, folds, is, all) = events_quiet may few old events new all (sym is ∙ still) folds
 
 -- ---- calls
@@ -292,8 +291,8 @@ no_worker may none Sent kind = refl
 no_worker may none Gave kind = refl
 no_worker may none GaveUnsent kind = refl
 
-module _ {H P : Type 0} (failures : P → ℕ) (is_garbled : P → Type 0) (exchange : P → List Request → List Value → P → Type 0) (gives_none : P → Type 0) (opens : Endpoint → Option P → ℕ → ℕ → Type 0) (longest : P → ℕ) where
+module _ {H P : Type 0} (calls : PortCalls P) (opens : Endpoint → Option P → ℕ → ℕ → Type 0) (longest : P → ℕ) where
   -- a call that moved nothing was quiet
   pub quiet_by : (may : CarrierEvent → Bool) → may WorkerAdded ≡ false → (old : CarrierModel H P) (moved : Bool) (new : CarrierModel H P)
-      → moved ≡ false → CarrierGoesBy failures is_garbled exchange gives_none opens longest may old moved new → Quiet old new
-  quiet_by may none old moved new still goes = stays_quiet failures is_garbled exchange gives_none opens longest may (no_worker may none) old moved new still goes
+      → moved ≡ false → CarrierGoesBy calls opens longest may old moved new → Quiet old new
+  quiet_by may none old moved new still goes = stays_quiet calls opens longest may (no_worker may none) old moved new still goes

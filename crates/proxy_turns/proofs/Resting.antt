@@ -7,10 +7,10 @@ use Rattle.resp_wire.specs.declared.value.Value.{Value}
 use Rattle.key_split.specs.Runs.{RunModel}
 use Rattle.key_split.specs.declared.travel.Ticket.{Ticket}
 use Rattle.key_split.specs.declared.travel.Told.{Told}
-use Rattle.key_split.specs.Requests.{Request}
 use Rattle.slot_map.specs.Table.{Endpoint}
 use Rattle.node_link.specs.LinkModel.{LinkModel}
 use Rattle.node_link.specs.declared.link.Failure.{Failure}
+use Rattle.node_link.specs.Port.{PortCalls}
 use Rattle.proxy_lanes.specs.declared.ends.lane_ends.LaneEnds.{LaneEnds}
 use Rattle.proxy_lanes.specs.Lane.{held}
 use Rattle.proxy_turns.specs.declared.backend.Backend.{Backend}
@@ -316,8 +316,8 @@ module _ {H P : Type 0} where
         backends = λ node. backend_rests_on gave_none s3 s4 q3 keeps node (backends node);
       }
 
-module _ {H P : Type 0} (failures : P → ℕ) (is_garbled : P → Type 0) (exchange : P → List Request → List Value → P → Type 0) (gives_none : P → Type 0) (opens : Endpoint → Option P → ℕ → ℕ → Type 0) (longest : P → ℕ) where
-  pub rests_after : (old : CarrierModel H P) (result : Result Bool NoMemory) (new : CarrierModel H P) → TakesTurn failures is_garbled exchange gives_none opens longest old result new → RestsAfter (GaveNone failures is_garbled exchange gives_none) result new
+module _ {H P : Type 0} (calls : PortCalls P) (opens : Endpoint → Option P → ℕ → ℕ → Type 0) (longest : P → ℕ) where
+  pub rests_after : (old : CarrierModel H P) (result : Result Bool NoMemory) (new : CarrierModel H P) → TakesTurn calls opens longest old result new → RestsAfter (GaveNone calls) result new
   rests_after old (Ok moved) new (goes, rests) = rests
   rests_after old (Err e) new gives = tt
 

@@ -7,12 +7,11 @@ use Rattle.std.proofs.lemmas.Bool.Decides.{nat_tests}
 use Rattle.std.proofs.lemmas.List.Sums.{passes_at_first}
 use Rattle.std.proofs.lemmas.Option.{slice_get_cases}
 use Rattle.resp_wire.specs.declared.fault.NoMemory.{NoMemory}
-use Rattle.resp_wire.specs.declared.value.Value.{Value}
-use Rattle.key_split.specs.Requests.{Request}
 use Rattle.slot_map.specs.Table.{Endpoint}
 use Rattle.proxy_turns.specs.declared.backend.Backend.{Backend}
 use Rattle.proxy_turns.specs.declared.backend.Dialled.TheVariants as dialled
 use Rattle.node_link.specs.LinkModel.{LinkModel}
+use Rattle.node_link.specs.Port.{PortCalls}
 use Rattle.proxy_turns.specs.Backend.{GaveNone, has_failed, has_open_link, is_open, is_unanswered}
 use Rattle.proxy_turns.specs.Sending.{DialOutcome}
 use Rattle.proxy_turns.specs.CarrierModel.{CarrierModel, CarrierGoesBy, CarrierTurns, IsAtRest, IsSought, RestsAfter, SeekOutcome, SeeksByDial, TakesTurn, adds_backend, seeks_by_dial, seeks_by_link}
@@ -95,99 +94,99 @@ true_last : (b : Bool) → (b || true) ≡ false → ⊥
 true_last true e = absurd (cc)
 true_last false e = absurd (cc)
 
-module _ {H P : Type 0} (failures : P → ℕ) (is_garbled : P → Type 0) (exchange : P → List Request → List Value → P → Type 0) (gives_none : P → Type 0) (opens : Endpoint → Option P → ℕ → ℕ → Type 0) (longest : P → ℕ) where
+module _ {H P : Type 0} (calls : PortCalls P) (opens : Endpoint → Option P → ℕ → ℕ → Type 0) (longest : P → ℕ) where
   -- the dial gave a link
   pub reached : (old : CarrierModel H P) (n node : ℕ) (backend backend' : Backend P) (failures' : ℕ)
       → list_any has_open_link old.backends ≡ false → slice_get old.backends n ≡ Some backend → n ≡ node → DialOutcome opens node old.nodes backend old.failures (Ok dialled.Opened) backend' failures'
-      → CarrierGoesBy failures is_garbled exchange gives_none opens longest seeks_by_dial old true (record old { backends = slice_set old.backends n (record backend' { to_ask = true }); failures = failures' })
+      → CarrierGoesBy calls opens longest seeks_by_dial old true (record old { backends = slice_set old.backends n (record backend' { to_ask = true }); failures = failures' })
   reached old n node backend backend' failures' closed at is (there, port, none, listed, is_new, new) =
       let Q : ℕ → Type 0 = λ m. slice_get old.backends m ≡ Some backend
-      → CarrierGoesBy failures is_garbled exchange gives_none opens longest seeks_by_dial old true (record old { backends = slice_set old.backends m (record backend' { to_ask = true }); failures = failures' }) in
-      subst Q (sym is) (λ here. goes_by failures is_garbled exchange gives_none opens longest seeks_by_dial old Reached (record old { backends = slice_set old.backends node (record backend' { to_ask = true }); failures = failures' }) refl
+      → CarrierGoesBy calls opens longest seeks_by_dial old true (record old { backends = slice_set old.backends m (record backend' { to_ask = true }); failures = failures' }) in
+      subst Q (sym is) (λ here. goes_by calls opens longest seeks_by_dial old Reached (record old { backends = slice_set old.backends node (record backend' { to_ask = true }); failures = failures' }) refl
       (node, backend, there, port, here, none, closed, listed, is_new, λ i. record old { backends = slice_set old.backends node (record (new i) { to_ask = true }); failures = failures' })) at
 
   -- the dial failed
   pub unfound : (old : CarrierModel H P) (n node : ℕ) (backend backend' : Backend P) (failures' : ℕ)
       → list_any has_open_link old.backends ≡ false → slice_get old.backends n ≡ Some backend → DialOutcome opens node old.nodes backend old.failures (Ok dialled.Unreached) backend' failures'
-      → CarrierGoesBy failures is_garbled exchange gives_none opens longest seeks_by_dial old true (record old { backends = slice_set old.backends n backend'; failures = failures' })
+      → CarrierGoesBy calls opens longest seeks_by_dial old true (record old { backends = slice_set old.backends n backend'; failures = failures' })
   unfound old n node backend backend' failures' closed at (none, same, unreached) =
       let back : slice_set old.backends n backend' ≡ old.backends = ap (λ x. slice_set old.backends n x) same ∙ set-itself old.backends n backend at in
-      goes_by failures is_garbled exchange gives_none opens longest seeks_by_dial old NotFound (record old { backends = slice_set old.backends n backend'; failures = failures' }) refl
+      goes_by calls opens longest seeks_by_dial old NotFound (record old { backends = slice_set old.backends n backend'; failures = failures' }) refl
       (node, closed, (λ i. record old { backends = back i; failures = failures' }), inl unreached)
 
   -- there is a link: it has failed
   pub still_linked : (old : CarrierModel H P) (n node : ℕ) (backend backend' : Backend P) (failures' : ℕ)
       → list_any has_open_link old.backends ≡ false → slice_get old.backends n ≡ Some backend → DialOutcome opens node old.nodes backend old.failures (Ok dialled.Present) backend' failures'
-      → CarrierGoesBy failures is_garbled exchange gives_none opens longest seeks_by_dial old true (record old { backends = slice_set old.backends n backend'; failures = failures' })
+      → CarrierGoesBy calls opens longest seeks_by_dial old true (record old { backends = slice_set old.backends n backend'; failures = failures' })
   still_linked old n node backend backend' failures' closed at (some, same, kept) =
       let back : slice_set old.backends n backend' ≡ old.backends = ap (λ x. slice_set old.backends n x) same ∙ set-itself old.backends n backend at in
-      goes_by failures is_garbled exchange gives_none opens longest seeks_by_dial old NotFound (record old { backends = slice_set old.backends n backend'; failures = failures' }) refl
+      goes_by calls opens longest seeks_by_dial old NotFound (record old { backends = slice_set old.backends n backend'; failures = failures' }) refl
       (n, closed, (λ i. record old { backends = back i; failures = failures' }), inr ((backend, at, failed_where_closed backend.link some (closed_at old.backends n backend closed at)), kept))
 
   -- where backends are made, no link is opened
-  pub added_closed : (old new : CarrierModel H P) → CarrierGoesBy failures is_garbled exchange gives_none opens longest adds_backend old false new
+  pub added_closed : (old new : CarrierModel H P) → CarrierGoesBy calls opens longest adds_backend old false new
       → list_any has_open_link old.backends ≡ false → list_any has_open_link new.backends ≡ false
-  added_closed old new goes closed = stays_closed old.backends new.backends (quiet_by failures is_garbled exchange gives_none opens longest adds_backend refl old false new refl goes).backends closed
+  added_closed old new goes closed = stays_closed old.backends new.backends (quiet_by calls opens longest adds_backend refl old false new refl goes).backends closed
 
   -- one with an open link is to be asked
   pub found : (is_calm : Type 0) (old : CarrierModel H P) (n : ℕ) (backend read : Backend P) (failures' : ℕ) (result : Result Bool NoMemory)
       → slice_get old.backends n ≡ Some backend → has_open_link backend ≡ true → list_any is_unanswered old.backends ≡ false → read ≡ backend
       → failures' ≡ old.failures → result ≡ Ok true
-      → SeekOutcome failures is_garbled exchange gives_none opens longest is_calm old result (record old { backends = slice_set old.backends n (record read { to_ask = true }); failures = failures' })
+      → SeekOutcome calls opens longest is_calm old result (record old { backends = slice_set old.backends n (record read { to_ask = true }); failures = failures' })
   found is_calm old n backend read failures' result at is_open none same kept is =
       let new : CarrierModel H P = record old { backends = slice_set old.backends n (record read { to_ask = true }); failures = failures' } in
-      let Q : Result Bool NoMemory → Type 0 = λ r. SeekOutcome failures is_garbled exchange gives_none opens longest is_calm old r new in
-      subst Q (sym is) (inl (goes_by failures is_garbled exchange gives_none opens longest seeks_by_link old Sought new refl
+      let Q : Result Bool NoMemory → Type 0 = λ r. SeekOutcome calls opens longest is_calm old r new in
+      subst Q (sym is) (inl (goes_by calls opens longest seeks_by_link old Sought new refl
       (n, backend, at, is_open, none, λ i. record old { backends = slice_set old.backends n (record (same i) { to_ask = true }); failures = kept i })))
 
   -- where no link is open, a dial after the answer of which the carrier is as it was
   pub sought_by_dial : (is_calm : Type 0) (old mid : CarrierModel H P) (result : Result Bool NoMemory) (new : CarrierModel H P) → mid ≡ old
-      → list_any has_open_link old.backends ≡ false → SeeksByDial failures is_garbled exchange gives_none opens longest mid result new
-      → SeekOutcome failures is_garbled exchange gives_none opens longest is_calm old result new
+      → list_any has_open_link old.backends ≡ false → SeeksByDial calls opens longest mid result new
+      → SeekOutcome calls opens longest is_calm old result new
   sought_by_dial is_calm old mid (Ok true) new same none (goes, left) =
-      let Q : CarrierModel H P → Type 0 = λ o. CarrierGoesBy failures is_garbled exchange gives_none opens longest seeks_by_dial o true new in inr (none, subst Q same goes)
+      let Q : CarrierModel H P → Type 0 = λ o. CarrierGoesBy calls opens longest seeks_by_dial o true new in inr (none, subst Q same goes)
   sought_by_dial is_calm old mid (Ok false) new same none (goes, left) = absurd (left refl)
   sought_by_dial is_calm old mid (Err e) new same none (moved, goes) =
-      let Q : CarrierModel H P → Type 0 = λ o. CarrierGoesBy failures is_garbled exchange gives_none opens longest seeks_by_dial o moved new in (moved, subst Q same goes)
+      let Q : CarrierModel H P → Type 0 = λ o. CarrierGoesBy calls opens longest seeks_by_dial o moved new in (moved, subst Q same goes)
 
   -- what is sought is a part of a turn
-  sought_in_turn : (is_calm : Type 0) (mid : CarrierModel H P) (sought : Bool) (new : CarrierModel H P) → SeekOutcome failures is_garbled exchange gives_none opens longest is_calm mid (Ok sought) new
-      → CarrierGoesBy failures is_garbled exchange gives_none opens longest every mid sought new
-  sought_in_turn is_calm mid true new (inl goes) = goes_wider failures is_garbled exchange gives_none opens longest every seeks_by_link (in_turn seeks_by_link) mid true new goes
-  sought_in_turn is_calm mid true new (inr (none, goes)) = goes_wider failures is_garbled exchange gives_none opens longest every seeks_by_dial (in_turn seeks_by_dial) mid true new goes
+  sought_in_turn : (is_calm : Type 0) (mid : CarrierModel H P) (sought : Bool) (new : CarrierModel H P) → SeekOutcome calls opens longest is_calm mid (Ok sought) new
+      → CarrierGoesBy calls opens longest every mid sought new
+  sought_in_turn is_calm mid true new (inl goes) = goes_wider calls opens longest every seeks_by_link (in_turn seeks_by_link) mid true new goes
+  sought_in_turn is_calm mid true new (inr (none, goes)) = goes_wider calls opens longest every seeks_by_dial (in_turn seeks_by_dial) mid true new goes
   sought_in_turn is_calm mid false new (same, why) =
-      let Q : CarrierModel H P → Type 0 = λ n. CarrierGoesBy failures is_garbled exchange gives_none opens longest every mid false n in subst Q (sym same) ([], refl, refl, refl)
+      let Q : CarrierModel H P → Type 0 = λ n. CarrierGoesBy calls opens longest every mid false n in subst Q (sym same) ([], refl, refl, refl)
 
   -- a turn, and then what is sought
   pub turns_and_seeks : (is_calm : Type 0) (old mid : CarrierModel H P) (moved sought : Bool) (new : CarrierModel H P)
-      → TakesTurn failures is_garbled exchange gives_none opens longest old (Ok moved) mid → SeekOutcome failures is_garbled exchange gives_none opens longest is_calm mid (Ok sought) new
-      → CarrierTurns failures is_garbled exchange gives_none opens longest old (Ok (moved || sought)) new
+      → TakesTurn calls opens longest old (Ok moved) mid → SeekOutcome calls opens longest is_calm mid (Ok sought) new
+      → CarrierTurns calls opens longest old (Ok (moved || sought)) new
   turns_and_seeks is_calm old mid moved sought new (goes, left) seeks =
-      goes_of failures is_garbled exchange gives_none opens longest every old (moved || sought) new
-      (goes_then failures is_garbled exchange gives_none opens longest every old moved mid sought new goes (sought_in_turn is_calm mid sought new seeks))
+      goes_of calls opens longest every old (moved || sought) new
+      (goes_then calls opens longest every old moved mid sought new goes (sought_in_turn is_calm mid sought new seeks))
 
   pub turns_and_starves : (is_calm : Type 0) (old mid : CarrierModel H P) (moved : Bool) (e e' : NoMemory) (result : Result Bool NoMemory) (new : CarrierModel H P)
-      → TakesTurn failures is_garbled exchange gives_none opens longest old (Ok moved) mid → SeekOutcome failures is_garbled exchange gives_none opens longest is_calm mid (Err e) new → result ≡ Err e'
-      → CarrierTurns failures is_garbled exchange gives_none opens longest old result new
+      → TakesTurn calls opens longest old (Ok moved) mid → SeekOutcome calls opens longest is_calm mid (Err e) new → result ≡ Err e'
+      → CarrierTurns calls opens longest old result new
   turns_and_starves is_calm old mid moved e e' result new (goes, left) (sought, more) is =
-      let Q : Result Bool NoMemory → Type 0 = λ r. CarrierTurns failures is_garbled exchange gives_none opens longest old r new in
+      let Q : Result Bool NoMemory → Type 0 = λ r. CarrierTurns calls opens longest old r new in
       subst Q (sym is) (
         moved || sought,
-        goes_of failures is_garbled exchange gives_none opens longest every old (moved || sought) new
-            (goes_then failures is_garbled exchange gives_none opens longest every old moved mid sought new goes
-            (goes_wider failures is_garbled exchange gives_none opens longest every seeks_by_dial (in_turn seeks_by_dial) mid sought new more)),
+        goes_of calls opens longest every old (moved || sought) new
+            (goes_then calls opens longest every old moved mid sought new goes
+            (goes_wider calls opens longest every seeks_by_dial (in_turn seeks_by_dial) mid sought new more)),
       )
 
   -- where neither moved anything, the carrier is at rest
   pub rests_unsought : (is_calm : Type 0) (old mid : CarrierModel H P) (moved sought : Bool) (new : CarrierModel H P)
-      → TakesTurn failures is_garbled exchange gives_none opens longest old (Ok moved) mid → SeekOutcome failures is_garbled exchange gives_none opens longest is_calm mid (Ok sought) new
-      → RestsAfter (GaveNone failures is_garbled exchange gives_none) (Ok (moved || sought)) new
+      → TakesTurn calls opens longest old (Ok moved) mid → SeekOutcome calls opens longest is_calm mid (Ok sought) new
+      → RestsAfter (GaveNone calls) (Ok (moved || sought)) new
   rests_unsought is_calm old mid moved true new takes seeks still = absurd (true_last moved still)
   rests_unsought is_calm old mid moved false new (goes, left) (same, why) still =
-      let Q : CarrierModel H P → Type 0 = λ n. IsAtRest (GaveNone failures is_garbled exchange gives_none) n in subst Q (sym same) (left (or_false moved false still).0)
+      let Q : CarrierModel H P → Type 0 = λ n. IsAtRest (GaveNone calls) n in subst Q (sym same) (left (or_false moved false still).0)
 
   pub unsought : (is_calm : Type 0) (mid : CarrierModel H P) (moved sought : Bool) (new : CarrierModel H P)
-      → SeekOutcome failures is_garbled exchange gives_none opens longest is_calm mid (Ok sought) new → IsSought is_calm (Ok (moved || sought)) new
+      → SeekOutcome calls opens longest is_calm mid (Ok sought) new → IsSought is_calm (Ok (moved || sought)) new
   unsought is_calm mid moved true new seeks still = absurd (true_last moved still)
   unsought is_calm mid moved false new (same, why) still =
       let Q : CarrierModel H P → Type 0 = λ n. (list_any is_unanswered n.backends ≡ true) ⊎ is_calm in subst Q (sym same) why

@@ -21,6 +21,7 @@ use Rattle.node_link.specs.declared.link.Got.{Got}
 use Rattle.node_link.specs.declared.link.Got.TheVariants as got
 use Rattle.node_link.specs.declared.link.LinkFault.{LinkFault}
 use Rattle.node_link.specs.declared.link.LinkFault.TheVariants as fault
+use Rattle.node_link.specs.Port.{PortCalls}
 use Rattle.proxy_turns.specs.declared.backend.Backend.{Backend}
 use Rattle.proxy_turns.specs.declared.backend.PendingTold.{PendingTold}
 use Rattle.proxy_turns.specs.declared.backend.MapTask.{MapTask}
@@ -144,43 +145,42 @@ pub record BackendContext (P : Type 0) : Type 0 where
   pub nodes : List Endpoint
   pub published : List MapOp
 
-module _ {P : Type 0} (failures : P → ℕ) (is_garbled : P → Type 0) (exchange : P → List Request → List Value → P → Type 0) where
+module _ {P : Type 0} (calls : PortCalls P) where
   -- a call that receives took the link and the table to these
   abbrev pub Fetches : BackendContext P → LinkModel P → Result (Option Got) LinkFault → LinkModel P → List Endpoint → Type 0
-  Fetches old link given link' nodes = (old.backend.link ≡ Some link) × Receives failures is_garbled exchange link old.nodes given link' nodes
+  Fetches old link given link' nodes = (old.backend.link ≡ Some link) × Receives calls link old.nodes given link' nodes
 
   -- the requests went over an open link, or it broke at them and they may have been sent
   abbrev pub GoesOut : LinkModel P → List Request → LinkModel P → Type 0
   GoesOut link requests link' = (given : Result (Unit {0}) LinkFault)
-      × (link.failure ≡ None) × (given ≢ Err fault.NoMemory) × Sends failures is_garbled exchange link requests given link'
+      × (link.failure ≡ None) × (given ≢ Err fault.NoMemory) × Sends calls link requests given link'
 
   -- memory ran out: nothing changed, or the link alone went on, and what it took it keeps
   abbrev pub Starves : BackendContext P → BackendContext P → Type 0
   Starves old new = (new ≡ old) ⊎ ((link : LinkModel P) × (link' : LinkModel P) × (old.backend.link ≡ Some link)
-      × (Receives failures is_garbled exchange link old.nodes (Err fault.NoMemory) link' new.nodes
-      ⊎ (((requests : List Request) × Sends failures is_garbled exchange link requests (Err fault.NoMemory) link') × (new.nodes ≡ old.nodes)))
+      × (Receives calls link old.nodes (Err fault.NoMemory) link' new.nodes
+      ⊎ (((requests : List Request) × Sends calls link requests (Err fault.NoMemory) link') × (new.nodes ≡ old.nodes)))
       × (new ≡ record old { backend = record old.backend { link = Some link' }; nodes = new.nodes }))
 
-module _ {P : Type 0} (failures : P → ℕ) (is_garbled : P → Type 0) (exchange : P → List Request → List Value → P → Type 0) (gives_none : P → Type 0) where
   -- the last call that received over the link gave nothing: the port gave none, or the reply to ASKING came
   abbrev pub GaveNone : LinkModel P → Type 0
   GaveNone link = (before : LinkModel P) × (nodes : List Endpoint) × (nodes' : List Endpoint)
-      × Receives failures is_garbled exchange before nodes (Ok None) link nodes' × ReceivesNone gives_none before (Ok None) link
+      × Receives calls before nodes (Ok None) link nodes' × ReceivesNone calls.gives_none before (Ok None) link
 
   -- what a step does, where CLUSTER SLOTS is unanswered on some open link or is not
   abbrev pub BackendDoes : Bool → BackendContext P → BackendStep → BackendContext P → Type 0
   BackendDoes unanswered old Idle new = new ≡ old
-  BackendDoes unanswered old Waited new = (link : LinkModel P) × (link' : LinkModel P) × Fetches failures is_garbled exchange old link (Ok None) link' new.nodes
-      × ReceivesNone gives_none link (Ok None) link'
+  BackendDoes unanswered old Waited new = (link : LinkModel P) × (link' : LinkModel P) × Fetches old link (Ok None) link' new.nodes
+      × ReceivesNone calls.gives_none link (Ok None) link'
       × (new ≡ record old { backend = record old.backend { link = Some link' }; nodes = new.nodes })
   BackendDoes unanswered old Broke new = (link : LinkModel P) × (link' : LinkModel P) × (why : LinkFault) × (why ≢ fault.NoMemory)
-      × Fetches failures is_garbled exchange old link (Err why) link' new.nodes
+      × Fetches old link (Err why) link' new.nodes
       × (new ≡ record old { backend = record old.backend { link = Some link' }; nodes = new.nodes })
   BackendDoes unanswered old Fetched new = (link : LinkModel P) × (link' : LinkModel P) × (ticket : Ticket) × (told : Told)
-      × (old.backend.pending_told ≡ None) × Fetches failures is_garbled exchange old link (Ok (Some (got.Ticket ticket told))) link' new.nodes
+      × (old.backend.pending_told ≡ None) × Fetches old link (Ok (Some (got.Ticket ticket told))) link' new.nodes
       × (new ≡ record old { backend = record old.backend { link = Some link'; pending_told = Some (new_pending_told ticket told) }; nodes = new.nodes })
   BackendDoes unanswered old Answered new = (link : LinkModel P) × (link' : LinkModel P) × (value : Value)
-      × (old.backend.answer ≡ None) × Fetches failures is_garbled exchange old link (Ok (Some (got.Slots value))) link' new.nodes
+      × (old.backend.answer ≡ None) × Fetches old link (Ok (Some (got.Slots value))) link' new.nodes
       × (new ≡ record old { backend = record old.backend { link = Some link'; answer = Some value; asked = false }; nodes = new.nodes })
   BackendDoes unanswered old GaveUp new = (link : LinkModel P) × (link' : LinkModel P) × (ticket : Ticket)
       × (old.backend.pending_told ≡ None) × (old.backend.link ≡ Some link) × IsSome link.failure
@@ -197,7 +197,7 @@ module _ {P : Type 0} (failures : P → ℕ) (is_garbled : P → Type 0) (exchan
       })
       × IsPublished old.published op new.published
   BackendDoes unanswered old Asked new = (link : LinkModel P) × (link' : LinkModel P)
-      × (old.backend.to_ask ≡ true) × (unanswered ≡ false) × (old.backend.link ≡ Some link) × GoesOut failures is_garbled exchange link (Slots ∷ []) link'
+      × (old.backend.to_ask ≡ true) × (unanswered ≡ false) × (old.backend.link ≡ Some link) × GoesOut link (Slots ∷ []) link'
       × (new ≡ record old { backend = record old.backend { link = Some link'; to_ask = false; asked = true } })
   BackendDoes unanswered old Spared new =
       (old.backend.to_ask ≡ true) × ((unanswered ≡ true) ⊎ (is_open old.backend.link ≡ false))
@@ -216,10 +216,10 @@ module _ {P : Type 0} (failures : P → ℕ) (is_garbled : P → Type 0) (exchan
   BackendFetches unanswered old (Ok step) new =
       BackendDoes unanswered old step new × (is_fetch_step step ≡ true)
       × (is_backend_move step ≡ false → HasNoneToTake new.backend × HasReceived GaveNone new.nodes new.backend)
-  BackendFetches unanswered old (Err _) new = Starves failures is_garbled exchange old new
+  BackendFetches unanswered old (Err _) new = Starves old new
 
   -- a task for the slot map is done by one step, or none of it is left, or memory ran out
   abbrev pub BackendRenews : MapTask → Bool → BackendContext P → Result BackendStep NoMemory → BackendContext P → Type 0
   BackendRenews which unanswered old (Ok step) new =
       BackendDoes unanswered old step new × (is_map_step step ≡ true) × (is_backend_move step ≡ false → IsDone which new.backend)
-  BackendRenews which unanswered old (Err _) new = Starves failures is_garbled exchange old new
+  BackendRenews which unanswered old (Err _) new = Starves old new

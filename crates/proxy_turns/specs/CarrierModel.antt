@@ -5,12 +5,11 @@ use Rattle.std.specs.Prelude.{◌||◌, ◌≡◌, ◌++◌, ◌∷◌, [], ◌�
 use Rattle.std.specs.List.{FoldsTo, list_all, list_any}
 use Rattle.std.specs.Option.{ForSome}
 use Rattle.resp_wire.specs.declared.fault.NoMemory.{NoMemory}
-use Rattle.resp_wire.specs.declared.value.Value.{Value}
 use Rattle.key_split.specs.Runs.{RunModel}
-use Rattle.key_split.specs.Requests.{Request}
 use Rattle.slot_map.specs.Table.{Endpoint}
 use Rattle.slot_map.specs.declared.ops.MapOp.{MapOp}
 use Rattle.node_link.specs.LinkModel.{LinkModel}
+use Rattle.node_link.specs.Port.{PortCalls}
 use Rattle.proxy_lanes.specs.declared.ends.lane_ends.LaneEnds.{LaneEnds}
 use Rattle.proxy_lanes.specs.declared.ends.CarrierEnds.{CarrierEnds}
 use Rattle.proxy_lanes.specs.Carrier.{lanes_of}
@@ -252,13 +251,13 @@ ChangesBackend {H} {P} old new R = (k : ℕ) × (backend : Backend P) × (backen
     × R (context_of old backend) (context_of new backend')
     × (new ≡ record old { backends = slice_set old.backends k backend'; nodes = new.nodes; published = new.published })
 
-module _ {H P : Type 0} (failures : P → ℕ) (is_garbled : P → Type 0) (exchange : P → List Request → List Value → P → Type 0) (gives_none : P → Type 0) (opens : Endpoint → Option P → ℕ → ℕ → Type 0) (longest : P → ℕ) where
+module _ {H P : Type 0} (calls : PortCalls P) (opens : Endpoint → Option P → ℕ → ℕ → Type 0) (longest : P → ℕ) where
   abbrev pub CarrierDoes : CarrierModel H P → CarrierEvent → CarrierModel H P → Type 0
   CarrierDoes old (AtBackend step) new =
-      ChangesBackend old new (λ context context'. BackendDoes failures is_garbled exchange gives_none (list_any is_unanswered old.backends) context step context')
-  CarrierDoes old Starved new = ChangesBackend old new (Starves failures is_garbled exchange)
+      ChangesBackend old new (λ context context'. BackendDoes calls (list_any is_unanswered old.backends) context step context')
+  CarrierDoes old Starved new = ChangesBackend old new (Starves calls)
       ⊎ ((k : ℕ) × (backend : Backend P) × (backend' : Backend P) × (run : RunModel) × (e : NoMemory) × (slice_get old.backends k ≡ Some backend)
-      × SendOutcome failures is_garbled exchange longest backend run (Err e) backend'
+      × SendOutcome calls longest backend run (Err e) backend'
       × (new ≡ record old { backends = slice_set old.backends k backend' }))
   CarrierDoes old WorkerAdded new = new ≡ record old { pending_runs = old.pending_runs ++ no_pending_run ∷ [] }
   CarrierDoes old BackendAdded new = new ≡ record old { backends = old.backends ++ new_backend ∷ [] }
@@ -296,7 +295,7 @@ module _ {H P : Type 0} (failures : P → ℕ) (is_garbled : P → Type 0) (exch
       × (IsUnreached opens k old.nodes old.failures new.failures ⊎ (HasFailedLink old.backends k × (new.failures ≡ old.failures)))
   CarrierDoes old Sent new = (k : ℕ) × (pending_run : PendingRun) × (run : RunModel) × (backend : Backend P) × (backend' : Backend P)
       × (slice_get old.pending_runs k ≡ Some pending_run) × (pending_run.run ≡ Some run) × (slice_get old.backends run.first.node ≡ Some backend)
-      × SendOutcome failures is_garbled exchange longest backend run (Ok run_step.Sent) backend'
+      × SendOutcome calls longest backend run (Ok run_step.Sent) backend'
       × (new ≡ record old { pending_runs = slice_set old.pending_runs k (record pending_run { run = None }); backends = slice_set old.backends run.first.node backend' })
   CarrierDoes old Gave new = (k : ℕ) × (backend : Backend P) × (backend' : Backend P) × (slice_get old.backends k ≡ Some backend)
       × GiveOutcome backend old.lanes true backend' new.lanes
@@ -347,7 +346,7 @@ module _ {H P : Type 0} (failures : P → ℕ) (is_garbled : P → Type 0) (exch
   -- a reply is fetched from a backend
   abbrev pub FetchesReply : ℕ → CarrierModel H P → Result Bool NoMemory → CarrierModel H P → Type 0
   FetchesReply node = CarrierTurnsBy fetches (λ left. ForSome (slice_get left.backends node) (λ backend.
-      HasNoneToTake backend × HasReceived (GaveNone failures is_garbled exchange gives_none) left.nodes backend))
+      HasNoneToTake backend × HasReceived (GaveNone calls) left.nodes backend))
 
   -- a pending run is sent, or refused
   abbrev pub SendsRun : ℕ → CarrierModel H P → Result Bool NoMemory → CarrierModel H P → Type 0
@@ -355,11 +354,11 @@ module _ {H P : Type 0} (failures : P → ℕ) (is_garbled : P → Type 0) (exch
 
   -- a backend has its turn
   abbrev pub ServesBackend : ℕ → CarrierModel H P → Result Bool NoMemory → CarrierModel H P → Type 0
-  ServesBackend node = CarrierTurnsBy serves_backend (λ left. ForSome (slice_get left.backends node) (BackendRests (GaveNone failures is_garbled exchange gives_none) left.nodes left.lanes))
+  ServesBackend node = CarrierTurnsBy serves_backend (λ left. ForSome (slice_get left.backends node) (BackendRests (GaveNone calls) left.nodes left.lanes))
 
   -- all backends have their turns
   abbrev pub ServesBackends : CarrierModel H P → Result Bool NoMemory → CarrierModel H P → Type 0
-  ServesBackends = CarrierTurnsBy serves_backend (λ left. (node : ℕ) → ForSome (slice_get left.backends node) (BackendRests (GaveNone failures is_garbled exchange gives_none) left.nodes left.lanes))
+  ServesBackends = CarrierTurnsBy serves_backend (λ left. (node : ℕ) → ForSome (slice_get left.backends node) (BackendRests (GaveNone calls) left.nodes left.lanes))
 
   -- a worker's lanes have their turn
   abbrev pub ServesLane : ℕ → CarrierModel H P → Result Bool NoMemory → CarrierModel H P → Type 0
@@ -373,7 +372,7 @@ module _ {H P : Type 0} (failures : P → ℕ) (is_garbled : P → Type 0) (exch
 
   -- a whole turn
   abbrev pub TakesTurn : CarrierModel H P → Result Bool NoMemory → CarrierModel H P → Type 0
-  TakesTurn = CarrierTurnsBy (λ event. true) (λ left. IsAtRest (GaveNone failures is_garbled exchange gives_none) left)
+  TakesTurn = CarrierTurnsBy (λ event. true) (λ left. IsAtRest (GaveNone calls) left)
 
   -- after a loss the next node is dialled; that moves something
   abbrev pub SeeksByDial : CarrierModel H P → Result Bool NoMemory → CarrierModel H P → Type 0

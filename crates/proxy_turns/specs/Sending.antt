@@ -3,13 +3,12 @@
 -- command of a run Unsent.
 use Rattle.std.specs.Prelude.{◌≡◌, ◌⊎◌, ◌<◌, ◌≤◌, ℕ, List, false, Option, Some, None, Result, Ok, Err, IsSome, IsSomeAnd, length, slice_get}
 use Rattle.resp_wire.specs.declared.fault.NoMemory.{NoMemory}
-use Rattle.resp_wire.specs.declared.value.Value.{Value}
 use Rattle.key_split.specs.Runs.{RunModel, count_in, requests_of_run}
-use Rattle.key_split.specs.Requests.{Request}
 use Rattle.slot_map.specs.Table.{Endpoint}
 use Rattle.node_link.specs.LinkModel.{LinkModel}
 use Rattle.node_link.specs.LinkCalls.{Sends}
 use Rattle.node_link.specs.declared.link.LinkFault.TheVariants as fault
+use Rattle.node_link.specs.Port.{PortCalls}
 use Rattle.proxy_turns.specs.declared.backend.Backend.{Backend}
 use Rattle.proxy_turns.specs.declared.backend.Dialled.{Dialled}
 use Rattle.proxy_turns.specs.declared.backend.Dialled.TheVariants.{Present, Opened, Unreached}
@@ -39,12 +38,12 @@ abbrev pub IsRefused : {P : Type 0} → (Endpoint → Option P → ℕ → ℕ �
 IsRefused opens longest run link nodes before now =
     ((link ≡ None) × IsUnreached opens run.first.node nodes before now) ⊎ (IsTooLong longest run link × (now ≡ before))
 
-module _ {P : Type 0} (failures : P → ℕ) (is_garbled : P → Type 0) (exchange : P → List Request → List Value → P → Type 0) (longest : P → ℕ) where
+module _ {P : Type 0} (calls : PortCalls P) (longest : P → ℕ) where
   -- the run goes out as one item, where a link is open whose port takes one as long
   abbrev pub SendOutcome : Backend P → RunModel → Result RunStep NoMemory → Backend P → Type 0
   SendOutcome old run (Ok Sent) new = (link : LinkModel P) × (link' : LinkModel P) × (old.link ≡ Some link) × (count_in run ≤ longest link.port)
-      × GoesOut failures is_garbled exchange link (requests_of_run run) link' × (new ≡ record old { link = Some link' })
+      × GoesOut calls link (requests_of_run run) link' × (new ≡ record old { link = Some link' })
   SendOutcome old run (Ok TooLong) new = (new ≡ old) × IsTooLong longest run old.link
   SendOutcome old run (Ok NoLink) new = (new ≡ old) × (is_open old.link ≡ false)
   SendOutcome old run (Err _) new = (link : LinkModel P) × (link' : LinkModel P) × (old.link ≡ Some link)
-      × Sends failures is_garbled exchange link (requests_of_run run) (Err fault.NoMemory) link' × (new ≡ record old { link = Some link' })
+      × Sends calls link (requests_of_run run) (Err fault.NoMemory) link' × (new ≡ record old { link = Some link' })

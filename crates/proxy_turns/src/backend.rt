@@ -247,7 +247,7 @@ impl<P: NodePort + Drop> Backend<P> {
 
     /// Takes one reply, or one ticket that is lost, off the link, where the carrier holds none of it.
     pub(crate) fn fetch(&mut self, nodes: &mut NodeTable) -> Result<BackendStep, NoMemory>
-        ensures { (unanswered : Bool) (published : List MapOp) → BackendFetches P.failures P.is_garbled P.exchange P.gives_none unanswered
+        ensures { (unanswered : Bool) (published : List MapOp) → BackendFetches P.calls unanswered
             (record { backend = self.old; nodes = nodes.old; published = published }) result
             (record { backend = self.new; nodes = nodes.new; published = published }) }
     {
@@ -296,7 +296,7 @@ impl<P: NodePort + Drop> Backend<P> {
     fn give_up(&mut self) -> BackendStep
         requires owes_nothing { self.old.pending_told ≡ None }
         requires failed { IsSomeAnd self.old.link (λ link. IsSome link.failure) }
-        ensures { (unanswered : Bool) (nodes : List Endpoint) (published : List MapOp) → BackendFetches P.failures P.is_garbled P.exchange P.gives_none unanswered
+        ensures { (unanswered : Bool) (nodes : List Endpoint) (published : List MapOp) → BackendFetches P.calls unanswered
             (record { backend = self.old; nodes = nodes; published = published }) (Ok result)
             (record { backend = self.new; nodes = nodes; published = published }) }
     {
@@ -318,7 +318,7 @@ impl<P: NodePort + Drop> Backend<P> {
         &mut self,
         map: &mut Publisher<J, R>,
     ) -> Result<BackendStep, NoMemory>
-        ensures { (unanswered : Bool) (nodes : List Endpoint) → BackendRenews P.failures P.is_garbled P.exchange P.gives_none map_task.Publish unanswered
+        ensures { (unanswered : Bool) (nodes : List Endpoint) → BackendRenews P.calls map_task.Publish unanswered
             (record { backend = self.old; nodes = nodes; published = map.old }) result
             (record { backend = self.new; nodes = nodes; published = map.new }) }
     {
@@ -336,7 +336,7 @@ impl<P: NodePort + Drop> Backend<P> {
 
     /// Asks the node for CLUSTER SLOTS, where it is to be asked, and no such request is unanswered.
     pub(crate) fn ask(&mut self, unanswered: bool) -> Result<BackendStep, NoMemory>
-        ensures { (nodes : List Endpoint) (published : List MapOp) → BackendRenews P.failures P.is_garbled P.exchange P.gives_none map_task.Ask unanswered
+        ensures { (nodes : List Endpoint) (published : List MapOp) → BackendRenews P.calls map_task.Ask unanswered
             (record { backend = self.old; nodes = nodes; published = published }) result
             (record { backend = self.new; nodes = nodes; published = published }) }
     {
@@ -370,7 +370,7 @@ impl<P: NodePort + Drop> Backend<P> {
         nodes: &mut NodeTable,
         dial: &D,
     ) -> Result<BackendStep, NoMemory>
-        ensures { (unanswered : Bool) (published : List MapOp) → BackendRenews P.failures P.is_garbled P.exchange P.gives_none map_task.Read unanswered
+        ensures { (unanswered : Bool) (published : List MapOp) → BackendRenews P.calls map_task.Read unanswered
             (record { backend = self.old; nodes = nodes.old; published = published }) result
             (record { backend = self.new; nodes = nodes.new; published = published }) }
     {
@@ -410,7 +410,7 @@ impl<P: NodePort + Drop> Backend<P> {
         &mut self,
         map: &mut Publisher<J, R>,
     ) -> Result<BackendStep, NoMemory>
-        ensures { (unanswered : Bool) (nodes : List Endpoint) → BackendRenews P.failures P.is_garbled P.exchange P.gives_none map_task.Renew unanswered
+        ensures { (unanswered : Bool) (nodes : List Endpoint) → BackendRenews P.calls map_task.Renew unanswered
             (record { backend = self.old; nodes = nodes; published = map.old }) result
             (record { backend = self.new; nodes = nodes; published = map.new }) }
     {
@@ -494,7 +494,7 @@ impl<P: NodePort + Drop> Backend<P> {
         map: &mut Publisher<J, R>,
         dial: &D,
     ) -> Result<BackendStep, NoMemory>
-        ensures { BackendRenews P.failures P.is_garbled P.exchange P.gives_none task unanswered
+        ensures { BackendRenews P.calls task unanswered
             (record { backend = self.old; nodes = nodes.old; published = map.old }) result
             (record { backend = self.new; nodes = nodes.new; published = map.new }) }
     {
@@ -524,7 +524,7 @@ impl<P: RunPort + Drop> Backend<P> {
 
     /// Sends a run over the link, where there is one that has not failed, and the run is not too long for it.
     pub(crate) fn send(&mut self, run: &Run) -> Result<RunStep, NoMemory>
-        ensures { SendOutcome P.failures P.is_garbled P.exchange P.longest self.old run.now result self.new }
+        ensures { SendOutcome P.calls P.longest self.old run.now result self.new }
     {
         let Some(link) = &mut self.link else {
             return Ok(RunStep::NoLink);

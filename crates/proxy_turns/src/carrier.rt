@@ -145,7 +145,7 @@ where
 
     // Does one task at a backend.
     fn run_map_task(&mut self, at: usize, task: MapTask) -> Result<bool, NoMemory>
-        ensures { DoesMapTask P.failures P.is_garbled P.exchange P.gives_none D.opens P.longest task at (carrier_model D.failures self.old) result (carrier_model D.failures self.new) }
+        ensures { DoesMapTask P.calls D.opens P.longest task at (carrier_model D.failures self.old) result (carrier_model D.failures self.new) }
     {
         if at >= self.backends.len() {
             return Ok(false);
@@ -159,7 +159,7 @@ where
 
     // Takes what a backend replied.
     fn fetch_from(&mut self, at: usize) -> Result<bool, NoMemory>
-        ensures { FetchesReply P.failures P.is_garbled P.exchange P.gives_none D.opens P.longest at (carrier_model D.failures self.old) result (carrier_model D.failures self.new) }
+        ensures { FetchesReply P.calls D.opens P.longest at (carrier_model D.failures self.old) result (carrier_model D.failures self.new) }
     {
         if at >= self.backends.len() {
             return Ok(false);
@@ -184,7 +184,7 @@ where
 
     // Gives a worker what a backend has for it.
     fn give_from(&mut self, at: usize) -> bool
-        ensures { GivesReply P.failures P.is_garbled P.exchange P.gives_none D.opens P.longest at (carrier_model D.failures self.old) result (carrier_model D.failures self.new) }
+        ensures { GivesReply P.calls D.opens P.longest at (carrier_model D.failures self.old) result (carrier_model D.failures self.new) }
     {
         if at >= self.backends.len() {
             return false;
@@ -194,7 +194,7 @@ where
 
     // Takes the next run of a worker's lane.
     fn take_from(&mut self, at: usize) -> bool
-        ensures { TakesRun P.failures P.is_garbled P.exchange P.gives_none D.opens P.longest at (carrier_model D.failures self.old) result (carrier_model D.failures self.new) }
+        ensures { TakesRun P.calls D.opens P.longest at (carrier_model D.failures self.old) result (carrier_model D.failures self.new) }
     {
         if at >= self.pending_runs.len() {
             return false;
@@ -210,7 +210,7 @@ where
 
     // Tells a worker that a command of a refused run is unsent.
     fn tell_unsent_of(&mut self, at: usize) -> bool
-        ensures { TellsUnsent P.failures P.is_garbled P.exchange P.gives_none D.opens P.longest at (carrier_model D.failures self.old) result (carrier_model D.failures self.new) }
+        ensures { TellsUnsent P.calls D.opens P.longest at (carrier_model D.failures self.old) result (carrier_model D.failures self.new) }
     {
         if at >= self.pending_runs.len() {
             return false;
@@ -220,7 +220,7 @@ where
 
     // Sends a pending run. One that is too long for its link is refused.
     fn send_for(&mut self, worker: usize) -> Result<bool, NoMemory>
-        ensures { SendsRun P.failures P.is_garbled P.exchange P.gives_none D.opens P.longest worker (carrier_model D.failures self.old) result (carrier_model D.failures self.new) }
+        ensures { SendsRun P.calls D.opens P.longest worker (carrier_model D.failures self.old) result (carrier_model D.failures self.new) }
     {
         if worker >= self.pending_runs.len() {
             return Ok(false);
@@ -252,7 +252,7 @@ where
 
     // Publishes what a backend says of the slot map, where it says anything: each task in order.
     fn renew_map(&mut self, at: usize) -> Result<bool, NoMemory>
-        ensures { RenewsMap P.failures P.is_garbled P.exchange P.gives_none D.opens P.longest at (carrier_model D.failures self.old) result (carrier_model D.failures self.new) }
+        ensures { RenewsMap P.calls D.opens P.longest at (carrier_model D.failures self.old) result (carrier_model D.failures self.new) }
     {
         if at >= self.backends.len() {
             return Ok(false);
@@ -269,7 +269,7 @@ where
 
     // A backend's turn: several replies are taken and given, as long as something moves.
     fn serve_backend(&mut self, at: usize) -> Result<bool, NoMemory>
-        ensures { ServesBackend P.failures P.is_garbled P.exchange P.gives_none D.opens P.longest at (carrier_model D.failures self.old) result (carrier_model D.failures self.new) }
+        ensures { ServesBackend P.calls D.opens P.longest at (carrier_model D.failures self.old) result (carrier_model D.failures self.new) }
     {
         for passed in 0..REPLIES_PER_TURN {
             let moved = self.pass_reply(at)?;
@@ -283,7 +283,7 @@ where
     // What a backend says of the slot map goes on, then one reply is taken, and given where nothing of it is to be published
     // first.
     fn pass_reply(&mut self, at: usize) -> Result<bool, NoMemory>
-        ensures { ServesBackend P.failures P.is_garbled P.exchange P.gives_none D.opens P.longest at (carrier_model D.failures self.old) result (carrier_model D.failures self.new) }
+        ensures { ServesBackend P.calls D.opens P.longest at (carrier_model D.failures self.old) result (carrier_model D.failures self.new) }
     {
         let renewed = self.renew_map(at)?;
         let fetched = self.fetch_from(at)?;
@@ -292,7 +292,7 @@ where
     }
 
     fn serve_backends(&mut self) -> Result<bool, NoMemory>
-        ensures { ServesBackends P.failures P.is_garbled P.exchange P.gives_none D.opens P.longest (carrier_model D.failures self.old) result (carrier_model D.failures self.new) }
+        ensures { ServesBackends P.calls D.opens P.longest (carrier_model D.failures self.old) result (carrier_model D.failures self.new) }
     {
         let mut moved = false;
         for at in 0..self.backends.len() {
@@ -303,7 +303,7 @@ where
 
     // Dials the node of a run that is still pending, where there is no link to it.
     fn connect(&mut self, worker: usize) -> Result<bool, NoMemory>
-        ensures { Connects P.failures P.is_garbled P.exchange P.gives_none D.opens P.longest worker (carrier_model D.failures self.old) result (carrier_model D.failures self.new) }
+        ensures { Connects P.calls D.opens P.longest worker (carrier_model D.failures self.old) result (carrier_model D.failures self.new) }
     {
         if worker >= self.pending_runs.len() {
             return Ok(false);
@@ -326,7 +326,7 @@ where
 
     // The turn of a worker's lanes: several runs are carried, as long as something moves.
     fn serve_lane(&mut self, worker: usize) -> Result<bool, NoMemory>
-        ensures { ServesLane P.failures P.is_garbled P.exchange P.gives_none D.opens P.longest worker (carrier_model D.failures self.old) result (carrier_model D.failures self.new) }
+        ensures { ServesLane P.calls D.opens P.longest worker (carrier_model D.failures self.old) result (carrier_model D.failures self.new) }
     {
         for carried in 0..RUNS_PER_TURN {
             let moved = self.carry_run(worker)?;
@@ -339,7 +339,7 @@ where
 
     // Carries one run of a worker, or tells it that one was refused.
     fn carry_run(&mut self, worker: usize) -> Result<bool, NoMemory>
-        ensures { ServesLane P.failures P.is_garbled P.exchange P.gives_none D.opens P.longest worker (carrier_model D.failures self.old) result (carrier_model D.failures self.new) }
+        ensures { ServesLane P.calls D.opens P.longest worker (carrier_model D.failures self.old) result (carrier_model D.failures self.new) }
     {
         let told = self.tell_unsent_of(worker);
         let took = self.take_from(worker);
@@ -349,7 +349,7 @@ where
     }
 
     fn serve_lanes(&mut self) -> Result<bool, NoMemory>
-        ensures { ServesLanes P.failures P.is_garbled P.exchange P.gives_none D.opens P.longest (carrier_model D.failures self.old) result (carrier_model D.failures self.new) }
+        ensures { ServesLanes P.calls D.opens P.longest (carrier_model D.failures self.old) result (carrier_model D.failures self.new) }
     {
         let mut moved = false;
         for worker in 0..self.pending_runs.len() {
@@ -361,8 +361,8 @@ where
     /// Takes up to 64 replies off each link, then carries up to 16 runs of each worker. True exactly where something moved.
     /// After NoMemory what was done stands, and the item at which memory ran out stays where it was.
     pub fn turn(&mut self) -> Result<bool, NoMemory>
-        ensures turns { CarrierTurns P.failures P.is_garbled P.exchange P.gives_none D.opens P.longest (carrier_model D.failures self.old) result (carrier_model D.failures self.new) }
-        ensures rests { RestsAfter (GaveNone P.failures P.is_garbled P.exchange P.gives_none) result (carrier_model D.failures self.new) }
+        ensures turns { CarrierTurns P.calls D.opens P.longest (carrier_model D.failures self.old) result (carrier_model D.failures self.new) }
+        ensures rests { RestsAfter (GaveNone P.calls) result (carrier_model D.failures self.new) }
         ensures sought { IsSought (D.is_calm self.new.dial) result (carrier_model D.failures self.new) }
     {
         let moved = self.take_turn()?;
@@ -371,7 +371,7 @@ where
     }
 
     fn take_turn(&mut self) -> Result<bool, NoMemory>
-        ensures { TakesTurn P.failures P.is_garbled P.exchange P.gives_none D.opens P.longest (carrier_model D.failures self.old) result (carrier_model D.failures self.new) }
+        ensures { TakesTurn P.calls D.opens P.longest (carrier_model D.failures self.old) result (carrier_model D.failures self.new) }
     {
         add_places(&mut self.pending_runs, self.ends.workers())?;
         let connected = self.connect_seed()?;
@@ -382,7 +382,7 @@ where
 
     // Has a node asked for CLUSTER SLOTS, where one was lost: one that has an open link, else the next of the table.
     fn seek(&mut self) -> Result<bool, NoMemory>
-        ensures { SeekOutcome P.failures P.is_garbled P.exchange P.gives_none D.opens P.longest (D.is_calm self.new.dial) (carrier_model D.failures self.old) result (carrier_model D.failures self.new) }
+        ensures { SeekOutcome P.calls D.opens P.longest (D.is_calm self.new.dial) (carrier_model D.failures self.old) result (carrier_model D.failures self.new) }
     {
         if any_unanswered(&self.backends) {
             return Ok(false);
@@ -402,7 +402,7 @@ where
     // Dials the next node of the table, which is then to be asked.
     fn dial_next(&mut self) -> Result<bool, NoMemory>
         requires closed { list_any has_open_link self.old.backends.items ≡ false }
-        ensures { SeeksByDial P.failures P.is_garbled P.exchange P.gives_none D.opens P.longest (carrier_model D.failures self.old) result (carrier_model D.failures self.new) }
+        ensures { SeeksByDial P.calls D.opens P.longest (carrier_model D.failures self.old) result (carrier_model D.failures self.new) }
     {
         let node = next_node(&mut self.next_dialled, &self.nodes);
         let at = place_of(node);
@@ -420,7 +420,7 @@ where
 
     // Dials the seed, which is then to be asked for CLUSTER SLOTS.
     fn connect_seed(&mut self) -> Result<bool, NoMemory>
-        ensures { ConnectsSeed P.failures P.is_garbled P.exchange P.gives_none D.opens P.longest (carrier_model D.failures self.old) result (carrier_model D.failures self.new) }
+        ensures { ConnectsSeed P.calls D.opens P.longest (carrier_model D.failures self.old) result (carrier_model D.failures self.new) }
     {
         if !self.seed_to_dial {
             return Ok(false);

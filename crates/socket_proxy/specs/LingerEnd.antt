@@ -8,10 +8,10 @@ is_gone (Bytes n) = false
 is_gone Nothing = false
 is_gone Gone = true
 
-module _ {S : Type 0} (asked : S → Flow → S → Type 0) where
+module _ {S : Type 0} (asked : S → ℕ → Flow → S → Type 0) where
   -- what the last read of the stream said: whether the other end has closed it
   abbrev pub SaysGone : Bool → S → Type 0
-  SaysGone gone new = (before : S) × (flow : Flow) × asked before flow new × (gone ≡ is_gone flow)
+  SaysGone gone new = (before : S) × (room : ℕ) × (flow : Flow) × asked before room flow new × (gone ≡ is_gone flow)
 
   -- it is closed where its time is over, and before that just where a read said that the other end has closed it
   abbrev pub Closes : ℕ → ℕ → Bool → S → Type 0

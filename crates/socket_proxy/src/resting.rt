@@ -27,8 +27,8 @@ where
     D: Dial<Port = P> + Drop,
     P: RunPort + Drop,
     G: Gate,
-    requires turned { EngineRests C.gives_none C.takes_none (GaveNone P.failures P.is_garbled P.exchange P.gives_none) (Ok turned.now) (engine_model D.failures engine.now) }
-    ensures rests { result ≡ Next.Sleep → IsEngineAtRest C.gives_none C.takes_none (GaveNone P.failures P.is_garbled P.exchange P.gives_none) (engine_model D.failures engine.now) }
+    requires turned { EngineRests C.gives_none C.takes_none (GaveNone P.calls) (Ok turned.now) (engine_model D.failures engine.now) }
+    ensures rests { result ≡ Next.Sleep → IsEngineAtRest C.gives_none C.takes_none (GaveNone P.calls) (engine_model D.failures engine.now) }
 {
     pace.after(moved | turned.moved)
 }

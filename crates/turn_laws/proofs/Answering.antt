@@ -13,12 +13,12 @@ use Rattle.proxy_turns.specs.declared.backend_step.BackendStep.TheVariants.{Answ
 use Rattle.proxy_turns.specs.Backend.{BackendContext}
 use Rattle.proxy_turns.specs.CarrierModel.{CarrierModel, AtBackend}
 use Rattle.world_laws.specs.State.{WorldModel, Link}
-use Rattle.turn_laws.specs.Wire.{Wire, Exchanges}
+use Rattle.turn_laws.specs.Wire.{Wire}
 use Rattle.turn_laws.specs.System.{System}
 use Rattle.turn_laws.specs.Shadow.{IsShadow, LinksShadow, LaneShadow, BackendShadow, OpenShadow, IsIdle, IsUnnumbered, Numbers, requests_in, dues_in, SeenIn}
 use Rattle.turn_laws.specs.Underway.{IsWorking, coming, coming_of}
 use Rattle.turn_laws.specs.Steps.{CarrierStep}
-use Rattle.turn_laws.specs.PortsMay.{any_failures, any_garbled}
+use Rattle.turn_laws.specs.PortsMay.{any_calls}
 use Rattle.turn_laws.proofs.Frames.{same-seats, down-fits, carrier-frame}
 use Rattle.turn_laws.proofs.Fetching.{fetched-shadow, comes-first, waits-first}
 use Rattle.turn_laws.proofs.Waiting.{now, same-closed, same-opened, same-bag}
@@ -76,7 +76,7 @@ drop-first : (dues rest : List Due) (d : Due) → dues ≡ d ∷ rest → All (�
 drop-first dues rest d e all = λ j x lt. subst (All (λ x. x ≡ due.Slots)) e all (suc j) x (omega (arith, lt))
 
 -- an idle connection stays idle when its first value is read
-idle-still : (link link' : LinkModel Wire) (d : Due) (value : Value) → IsIdle link → Comes any_failures any_garbled Exchanges link (Some value) link'.port → link.due ≡ d ∷ link'.due
+idle-still : (link link' : LinkModel Wire) (d : Due) (value : Value) → IsIdle link → Comes any_calls link (Some value) link'.port → link.due ≡ d ∷ link'.due
     → link' ≡ record link { port = link'.port; due = link'.due; kept = None } → IsIdle link'
 idle-still link link' d value h comes dues is =
     let c = comes-first link link'.port value comes in

@@ -25,7 +25,7 @@ use Rattle.turn_laws.specs.System.{System}
 use Rattle.turn_laws.specs.Shadow.{IsShadow, LinksShadow, LaneShadow, OpenShadow, IsKnown, requests_in}
 use Rattle.turn_laws.specs.Underway.{IsWorking}
 use Rattle.turn_laws.specs.Steps.{AtCarrier, CarrierStep}
-use Rattle.turn_laws.specs.PortsMay.{any_failures, any_garbled}
+use Rattle.turn_laws.specs.PortsMay.{any_calls}
 use Rattle.turn_laws.specs.Refines.{Simulates}
 use Rattle.turn_laws.proofs.Frames.{same-seats, down-fits, carrier-frame}
 use Rattle.turn_laws.proofs.Waiting.{now, same-closed, same-opened, same-bag}
@@ -145,7 +145,7 @@ module _ {C J : Type 0} (s s' : System C J) (w : WorldModel) (h : IsShadow s w) 
         (λ x. subst (λ (p : Wire). All (IsKnown commands) p.items) (sym x.1) (subst (All (IsKnown commands)) (sym (append-nil link.port.items)) all)) sends;
   })
 
-  cases : (given : Result (Unit {0}) LinkFault) → given ≢ Err fault.NoMemory → Sends any_failures any_garbled Exchanges link (Slots ∷ []) given link' → Simulated
+  cases : (given : Result (Unit {0}) LinkFault) → given ≢ Err fault.NoMemory → Sends any_calls link (Slots ∷ []) given link' → Simulated
   cases (Ok _) ne x = writes (x.1, x.2)
   cases (Err fault.NoMemory) ne x = absurd (ne refl)
   cases (Err fault.PortFailed) ne x = ⊎_elim (λ y. absurd (failed-not link.failure failure.PortFailed worked y.0)) (λ y. breaks failure.PortFailed y.1 y.2.1 (ap (λ (l : LinkModel Wire). l.due) y.2.2)) x

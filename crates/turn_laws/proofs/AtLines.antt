@@ -16,12 +16,12 @@ use Rattle.proxy_turns.specs.Backend.{BackendContext, BackendDoes, is_unanswered
 use Rattle.proxy_turns.specs.CarrierModel.{CarrierModel, context_of, AtBackend, SeedReached, Sought}
 use Rattle.world_laws.specs.State.{WorldModel}
 use Rattle.world_laws.specs.Places.{total}
-use Rattle.turn_laws.specs.Wire.{Wire, Exchanges}
+use Rattle.turn_laws.specs.Wire.{Wire}
 use Rattle.turn_laws.specs.System.{System}
 use Rattle.turn_laws.specs.Shadow.{IsShadow}
 use Rattle.turn_laws.specs.Underway.{told_in, lost_in, lost_by}
 use Rattle.turn_laws.specs.Steps.{CarrierStep}
-use Rattle.turn_laws.specs.PortsMay.{any_failures, any_garbled, any_none}
+use Rattle.turn_laws.specs.PortsMay.{any_calls}
 use Rattle.turn_laws.proofs.Downs.{Pair, SameBag}
 use Rattle.turn_laws.proofs.Bags.{line_downs}
 use Rattle.turn_laws.proofs.Carriers.{IsDown, StaysDown, backend-stutter}
@@ -47,7 +47,7 @@ module _ {C J : Type 0} where
   -- of one backend's step
   abbrev OneLine : BackendStep → System C J → System C J → Type 0
   OneLine step s s' = (k : ℕ) × (backend : Backend Wire) × (backend' : Backend Wire) × (slice_get s.carrier.backends k ≡ Some backend)
-      × BackendDoes any_failures any_garbled Exchanges any_none (list_any is_unanswered s.carrier.backends) (context_of s.carrier backend) step (context_of s'.carrier backend')
+      × BackendDoes any_calls (list_any is_unanswered s.carrier.backends) (context_of s.carrier backend) step (context_of s'.carrier backend')
       × (s'.carrier ≡ record s.carrier { backends = slice_set s.carrier.backends k backend'; nodes = s'.carrier.nodes; published = s'.carrier.published })
 
   -- a step that leaves the link, or that finds and leaves it down

@@ -18,12 +18,12 @@ use Rattle.proxy_turns.specs.CarrierModel.{CarrierModel, AtBackend}
 use Rattle.world_laws.specs.State.{WorldModel, Link}
 use Rattle.world_laws.specs.declared.event.Event.{Event}
 use Rattle.turn_laws.specs.Walks.{Walk, IsSharedWalked}
-use Rattle.turn_laws.specs.Wire.{Wire, Exchanges}
+use Rattle.turn_laws.specs.Wire.{Wire}
 use Rattle.turn_laws.specs.System.{System}
 use Rattle.turn_laws.specs.Shadow.{IsShadow, OpenShadow, IsIdle, IsUnnumbered, Numbers, requests_in, IsKnown}
 use Rattle.turn_laws.specs.Underway.{told_in}
 use Rattle.turn_laws.specs.Steps.{AtCarrier, CarrierStep}
-use Rattle.turn_laws.specs.PortsMay.{any_failures, any_garbled}
+use Rattle.turn_laws.specs.PortsMay.{any_calls}
 use Rattle.turn_laws.specs.Refines.{Simulates}
 use Rattle.turn_laws.proofs.Carriers.{backend-stutter}
 use Rattle.turn_laws.proofs.AtLines.{same-owing}
@@ -35,7 +35,7 @@ pub some-failure : (o : Option Failure) (why : Failure) → o ≡ Some why → I
 some-failure o why e = subst IsSome (sym e) refl
 
 -- the port gave nothing
-gave-nothing : (link : LinkModel Wire) (port : Wire) → Comes any_failures any_garbled Exchanges link None port → port ≡ link.port
+gave-nothing : (link : LinkModel Wire) (port : Wire) → Comes any_calls link None port → port ≡ link.port
 gave-nothing link port c = c.1.1 ∙ (λ i. record (link.port) { items = append-nil link.port.items i; values = sym c.1.0 i })
 
 none-waits : (answered rest : List Due) (n : ℕ) → [] ≡ answered ++ rest → length answered ≡ suc n → ⊥
@@ -116,7 +116,7 @@ module _ {C J : Type 0} (s s' : System C J) (w : WorldModel) (h : IsShadow s w) 
   })
 
   -- a value came that nothing waits for: of a connection that works each is waited for
-  astray : (value : Value) → link.failure ≡ None → Comes any_failures any_garbled Exchanges link (Some value) link'.port → link.due ≡ [] → ⊥
+  astray : (value : Value) → link.failure ≡ None → Comes any_calls link (Some value) link'.port → link.due ≡ [] → ⊥
   astray value worked comes none =
       let first = (comes-first link link'.port value comes).0 in ⊎_elim
       (λ (x : (i : ℕ) × (l : Link) × Numbers (h.links).ids link.port.id i × (slice_get w.links i ≡ Some l) × OpenShadow s.nodes w.commands link l).
@@ -125,7 +125,7 @@ module _ {C J : Type 0} (s s' : System C J) (w : WorldModel) (h : IsShadow s w) 
       none-waits (x.1).answered _ (length link'.port.values) (sym none ∙ (x.1).due) ((x.1).matched ∙ ap length first))
       ((h.links).backends k link (backend, on.does.3, was, worked)).2
 
-  cases : (why : LinkFault) → why ≢ fault.NoMemory → Receives any_failures any_garbled Exchanges link s.carrier.nodes (Err why) link' s'.carrier.nodes → Simulated
+  cases : (why : LinkFault) → why ≢ fault.NoMemory → Receives any_calls link s.carrier.nodes (Err why) link' s'.carrier.nodes → Simulated
   cases fault.NoMemory ne r = absurd (ne refl)
   cases fault.PortFailed ne r = ⊎_elim (λ x. before x.1)
       (λ x. breaks failure.PortFailed x.0 x.1 (gave-nothing link link'.port x.2.1) (ap (λ (l : LinkModel Wire). l.due) x.2.2)) r.1

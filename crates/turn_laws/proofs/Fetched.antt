@@ -20,12 +20,12 @@ use Rattle.world_laws.specs.declared.event.Event.TheVariants.{Fetch}
 use Rattle.world_laws.specs.Places.{total}
 use Rattle.world_laws.proofs.Tally.{total-append}
 use Rattle.turn_laws.specs.Walks.{Walk, IsSharedWalked}
-use Rattle.turn_laws.specs.Wire.{Wire, Exchanges, plain_told}
+use Rattle.turn_laws.specs.Wire.{Wire, plain_told}
 use Rattle.turn_laws.specs.System.{System}
 use Rattle.turn_laws.specs.Shadow.{IsShadow, LinksShadow, LaneShadow, OpenShadow, IsIdle, IsUnnumbered, Numbers}
 use Rattle.turn_laws.specs.Underway.{IsWorking, downs_of, downs_in, told_in, lost_in, lost_by}
 use Rattle.turn_laws.specs.Steps.{AtCarrier, CarrierStep}
-use Rattle.turn_laws.specs.PortsMay.{any_failures, any_garbled}
+use Rattle.turn_laws.specs.PortsMay.{any_calls}
 use Rattle.turn_laws.specs.Refines.{Simulates}
 use Rattle.turn_laws.proofs.Downs.{SameBag, total-set-flat}
 use Rattle.turn_laws.proofs.Frames.{same-seats, down-fits}
@@ -90,7 +90,7 @@ module _ {C J : Type 0} (s s' : System C J) (w : WorldModel) (h : IsShadow s w) 
   worked : link.failure ≡ None
   worked = on.does.4.5.1.1
 
-  comes : Comes any_failures any_garbled Exchanges link (Some value) link'.port
+  comes : Comes any_calls link (Some value) link'.port
   comes = on.does.4.5.1.2
 
   dues : link.due ≡ due.Command ticket ∷ link'.due

@@ -14,10 +14,10 @@ use Rattle.world_laws.specs.Places.{is}
 use Rattle.turn_laws.specs.Wire.{Wire, Exchanges}
 use Rattle.turn_laws.specs.Shadow.{OpenShadow, backs_in, back_of, requests_in, dues_in, IsKnown}
 use Rattle.turn_laws.specs.Underway.{coming, coming_of}
-use Rattle.turn_laws.specs.PortsMay.{any_failures, any_garbled}
+use Rattle.turn_laws.specs.PortsMay.{any_calls}
 
 -- the value that is next stands first among those that come
-pub comes-first : (link : LinkModel Wire) (port : Wire) (value : Value) → Comes any_failures any_garbled Exchanges link (Some value) port
+pub comes-first : (link : LinkModel Wire) (port : Wire) (value : Value) → Comes any_calls link (Some value) port
     → (coming link ≡ value ∷ port.values) × (port ≡ record (link.port) { values = port.values })
 comes-first link port value c = ⊎_elim
     (λ (x : (link.kept ≡ Some value) × (port ≡ link.port)). (
@@ -41,7 +41,7 @@ waits-first (x ∷ more) rest due' d value values e n =
 
 -- the link after the first value was read, and its shadow: what it says was fetched
 pub fetched-shadow : (table : List Endpoint) (commands : List Arrival) (link link' : LinkModel Wire) (l : Link) (d : Due) (value : Value)
-    → OpenShadow table commands link l → Comes any_failures any_garbled Exchanges link (Some value) link'.port → link.due ≡ d ∷ link'.due
+    → OpenShadow table commands link l → Comes any_calls link (Some value) link'.port → link.due ≡ d ∷ link'.due
     → link' ≡ record link { port = link'.port; due = link'.due; kept = None }
     → (rest : List LinkReply) × (l.backs ≡ back_of table link.node d value ++ rest) × OpenShadow table commands link' (record l { backs = rest })
 fetched-shadow table commands link link' l d value h comes dues is =

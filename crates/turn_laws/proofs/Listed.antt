@@ -6,13 +6,13 @@ use Rattle.std.proofs.lemmas.Option.{slice_get_within}
 use Rattle.resp_wire.specs.declared.value.Value.{Value}
 use Rattle.resp_wire.specs.declared.value.Value.TheVariants as value
 use Rattle.resp_wire.specs.Data.{Data}
-use Rattle.key_split.specs.Requests.{Request}
 use Rattle.slot_map.specs.declared.fault.MapFault.{MapFault}
 use Rattle.slot_map.specs.Table.{Endpoint, Numbered, numbered, numbered_at, same_endpoint, host_of, Grows}
 use Rattle.slot_map.specs.Slots.{SlotsReading, ReadStep, SlotRangeModel, endpoint_meant, before, go_on, range_in, step_at, step_from, read_entries, read_slots}
 use Rattle.node_link.specs.LinkModel.{LinkModel}
 use Rattle.node_link.specs.declared.link.Got.TheVariants as got
 use Rattle.node_link.specs.declared.link.LinkFault.TheVariants as fault
+use Rattle.node_link.specs.Port.{PortCalls}
 use Rattle.node_link.proofs.Telling.{receives_grow}
 use Rattle.proxy_turns.specs.declared.backend.Backend.{Backend}
 use Rattle.proxy_turns.specs.declared.backend_step.BackendStep.{BackendStep}
@@ -23,8 +23,7 @@ use Rattle.world_laws.proofs.Recorded.{at-set, at-last}
 use Rattle.turn_laws.specs.System.{System}
 use Rattle.turn_laws.specs.Shadow.{AreListed}
 use Rattle.turn_laws.specs.Steps.{CarrierStep, Opens}
-use Rattle.turn_laws.specs.PortsMay.{any_failures, any_garbled, any_none}
-use Rattle.turn_laws.specs.Wire.{Exchanges}
+use Rattle.turn_laws.specs.PortsMay.{any_calls}
 
 -- ---- the table only grows
 
@@ -113,13 +112,13 @@ module _ {H P : Type 0} where
 
 -- ---- the steps of a backend
 
-module _ {P : Type 0} (failures : P → ℕ) (is_garbled : P → Type 0) (exchange : P → List Request → List Value → P → Type 0) (gives_none : P → Type 0) where
-  grown : (unanswered : Bool) (old : BackendContext P) (step : BackendStep) (new : BackendContext P) → BackendDoes failures is_garbled exchange gives_none unanswered old step new → length old.nodes ≤ length new.nodes
+module _ {P : Type 0} (calls : PortCalls P) where
+  grown : (unanswered : Bool) (old : BackendContext P) (step : BackendStep) (new : BackendContext P) → BackendDoes calls unanswered old step new → length old.nodes ≤ length new.nodes
   grown unanswered old Idle new x = omega (arith, ap (λ (c : BackendContext P). length c.nodes) x)
-  grown unanswered old Waited new x = no-shorter old.nodes new.nodes (receives_grow failures is_garbled exchange x.0 old.nodes (Ok None) x.1 new.nodes x.2.1)
-  grown unanswered old Broke new x = no-shorter old.nodes new.nodes (receives_grow failures is_garbled exchange x.0 old.nodes (Err x.2) x.1 new.nodes x.4.1)
-  grown unanswered old Fetched new x = no-shorter old.nodes new.nodes (receives_grow failures is_garbled exchange x.0 old.nodes (Ok (Some (got.Ticket x.2 x.3))) x.1 new.nodes x.5.1)
-  grown unanswered old Answered new x = no-shorter old.nodes new.nodes (receives_grow failures is_garbled exchange x.0 old.nodes (Ok (Some (got.Slots x.2))) x.1 new.nodes x.4.1)
+  grown unanswered old Waited new x = no-shorter old.nodes new.nodes (receives_grow calls x.0 old.nodes (Ok None) x.1 new.nodes x.2.1)
+  grown unanswered old Broke new x = no-shorter old.nodes new.nodes (receives_grow calls x.0 old.nodes (Err x.2) x.1 new.nodes x.4.1)
+  grown unanswered old Fetched new x = no-shorter old.nodes new.nodes (receives_grow calls x.0 old.nodes (Ok (Some (got.Ticket x.2 x.3))) x.1 new.nodes x.5.1)
+  grown unanswered old Answered new x = no-shorter old.nodes new.nodes (receives_grow calls x.0 old.nodes (Ok (Some (got.Slots x.2))) x.1 new.nodes x.4.1)
   grown unanswered old GaveUp new x = omega (arith, ap (λ (c : BackendContext P). length c.nodes) x.8)
   grown unanswered old Closed new x = omega (arith, ap (λ (c : BackendContext P). length c.nodes) x.5)
   grown unanswered old Published new x = omega (arith, ap (λ (c : BackendContext P). length c.nodes) x.4)
@@ -130,7 +129,7 @@ module _ {P : Type 0} (failures : P → ℕ) (is_garbled : P → Type 0) (exchan
   grown unanswered old Renewed new x = omega (arith, ap (λ (c : BackendContext P). length c.nodes) x.2)
 
   -- no step makes a link
-  had-link : (unanswered : Bool) (old : BackendContext P) (step : BackendStep) (new : BackendContext P) → BackendDoes failures is_garbled exchange gives_none unanswered old step new
+  had-link : (unanswered : Bool) (old : BackendContext P) (step : BackendStep) (new : BackendContext P) → BackendDoes calls unanswered old step new
       → (link' : LinkModel P) → new.backend.link ≡ Some link' → (link : LinkModel P) × (old.backend.link ≡ Some link)
   had-link unanswered old Idle new x link' e = (link', ap (λ (c : BackendContext P). c.backend.link) (sym x) ∙ e)
   had-link unanswered old Waited new x link' e = (x.0, x.2.0)
@@ -148,8 +147,8 @@ module _ {P : Type 0} (failures : P → ℕ) (is_garbled : P → Type 0) (exchan
 
 -- ---- the events of the carrier
 
-module _ {H P : Type 0} (failures : P → ℕ) (is_garbled : P → Type 0) (exchange : P → List Request → List Value → P → Type 0) (gives_none : P → Type 0) (opens : Endpoint → Option P → ℕ → ℕ → Type 0) (longest : P → ℕ) where
-  starved : (old new : CarrierModel H P) → ChangesBackend old new (Starves failures is_garbled exchange) → AreListed old → AreListed new
+module _ {H P : Type 0} (calls : PortCalls P) (opens : Endpoint → Option P → ℕ → ℕ → Type 0) (longest : P → ℕ) where
+  starved : (old new : CarrierModel H P) → ChangesBackend old new (Starves calls) → AreListed old → AreListed new
   starved old new d h = ⊎_elim
       (λ (x : context_of new d.2 ≡ context_of old d.1).
       set-listed old new d.0 d.1 d.2 d.3 (ap (λ (c : CarrierModel H P). c.backends) d.5) (omega (arith, ap (λ (c : BackendContext P). length c.nodes) x))
@@ -157,17 +156,17 @@ module _ {H P : Type 0} (failures : P → ℕ) (is_garbled : P → Type 0) (exch
       (λ x.
       set-listed old new d.0 d.1 d.2 d.3 (ap (λ (c : CarrierModel H P). c.backends) d.5)
       (⊎_elim
-      (λ y. no-shorter old.nodes new.nodes (receives_grow failures is_garbled exchange x.0 old.nodes (Err fault.NoMemory) x.1 new.nodes y))
+      (λ y. no-shorter old.nodes new.nodes (receives_grow calls x.0 old.nodes (Err fault.NoMemory) x.1 new.nodes y))
       (λ y. omega (arith, ap length y.1))
       x.3)
       (λ link' e. inl (x.0, x.2)) h)
       d.4
 
-  pub does-listed : (old : CarrierModel H P) (event : CarrierEvent) (new : CarrierModel H P) → CarrierDoes failures is_garbled exchange gives_none opens longest old event new → AreListed old → AreListed new
+  pub does-listed : (old : CarrierModel H P) (event : CarrierEvent) (new : CarrierModel H P) → CarrierDoes calls opens longest old event new → AreListed old → AreListed new
   does-listed old (AtBackend step) new d h =
       set-listed old new d.0 d.1 d.2 d.3 (ap (λ (c : CarrierModel H P). c.backends) d.5)
-      (grown failures is_garbled exchange gives_none (list_any is_unanswered old.backends) (context_of old d.1) step (context_of new d.2) d.4)
-      (λ link' e. inl (had-link failures is_garbled exchange gives_none (list_any is_unanswered old.backends) (context_of old d.1) step (context_of new d.2) d.4 link' e)) h
+      (grown calls (list_any is_unanswered old.backends) (context_of old d.1) step (context_of new d.2) d.4)
+      (λ link' e. inl (had-link calls (list_any is_unanswered old.backends) (context_of old d.1) step (context_of new d.2) d.4 link' e)) h
   does-listed old Starved new d h = ⊎_elim
       (λ x. starved old new x h)
       (λ x. set-listed old new x.0 x.1 x.2 x.5 (ap (λ (c : CarrierModel H P). c.backends) x.7) (omega (arith, ap (λ (c : CarrierModel H P). length c.nodes) x.7)) (λ link' e. inl (x.6.0, x.6.2)) h)
@@ -201,4 +200,4 @@ module _ {H P : Type 0} (failures : P → ℕ) (is_garbled : P → Type 0) (exch
 
 module _ {C J : Type 0} where
   pub still-listed : (event : CarrierEvent) (s s' : System C J) → CarrierStep s event s' → AreListed s.carrier → AreListed s'.carrier
-  still-listed event s s' on h = does-listed any_failures any_garbled Exchanges any_none (Opens s) on.longest s.carrier event s'.carrier on.does h
+  still-listed event s s' on h = does-listed any_calls (Opens s) on.longest s.carrier event s'.carrier on.does h

@@ -3,8 +3,6 @@ use Rattle.std.proofs.Common.{◌≡◌, ◌≢◌, ◌⊎◌, ⊎_elim, inl, in
 use Rattle.std.specs.Prelude.{slice_get, slice_set, Option, Ok, All}
 use Rattle.std.specs.List.{list_any}
 use Rattle.std.proofs.lemmas.List.Elements.{All-nil, All-cons, All-append}
-use Rattle.resp_wire.specs.declared.value.Value.{Value}
-use Rattle.key_split.specs.Requests.{Request}
 use Rattle.key_split.specs.declared.travel.Ticket.{Ticket}
 use Rattle.key_split.specs.declared.travel.Told.{Told}
 use Rattle.key_split.specs.declared.travel.Told.TheVariants.{Reply, Moved, Ask, TryAgain, ClusterDown, Unclear, Lost, Unsent}
@@ -14,6 +12,7 @@ use Rattle.slot_map.specs.Table.{Endpoint}
 use Rattle.proxy_lanes.specs.declared.ends.lane_ends.LaneEnds.{LaneEnds}
 use Rattle.proxy_lanes.specs.Ends.{ChangesAt, GivesDown, TakesUp}
 use Rattle.proxy_lanes.specs.Publishing.{IsPublished}
+use Rattle.node_link.specs.Port.{PortCalls}
 use Rattle.proxy_turns.specs.declared.newcomer.Newcomer.{Newcomer}
 use Rattle.proxy_turns.specs.declared.pending_run.PendingRun.{PendingRun}
 use Rattle.proxy_turns.specs.declared.backend.Backend.{Backend}
@@ -84,8 +83,8 @@ module _ {P : Type 0} (n : ℕ) where
       → PendsOneOf n old.backend × All (SetsOneOf n) old.published → PendsOneOf n new.backend × All (SetsOneOf n) new.published
   fine-still old new told changes published h = (pends-still n old.backend new.backend told changes h.0, subst (All (SetsOneOf n)) (sym published) h.1)
 
-module _ {P : Type 0} (failures : P → ℕ) (is_garbled : P → Type 0) (exchange : P → List Request → List Value → P → Type 0) (gives_none : P → Type 0) (n : ℕ) where
-  pub step-names : (unanswered : Bool) (old : BackendContext P) (step : BackendStep) (new : BackendContext P) → BackendDoes failures is_garbled exchange gives_none unanswered old step new
+module _ {P : Type 0} (calls : PortCalls P) (n : ℕ) where
+  pub step-names : (unanswered : Bool) (old : BackendContext P) (step : BackendStep) (new : BackendContext P) → BackendDoes calls unanswered old step new
       → length new.nodes ≤ n → PendsOneOf n old.backend × All (SetsOneOf n) old.published → PendsOneOf n new.backend × All (SetsOneOf n) new.published
   step-names unanswered old Idle new x few h = fine-still n old new (ap (λ (c : BackendContext P). c.backend.pending_told) x) (ap (λ (c : BackendContext P). c.backend.changes) x) (ap (λ (c : BackendContext P). c.published) x) h
   step-names unanswered old Waited new x few h = fine-still n old new (ap (λ (c : BackendContext P). c.backend.pending_told) x.4) (ap (λ (c : BackendContext P). c.backend.changes) x.4) (ap (λ (c : BackendContext P). c.published) x.4) h
@@ -212,16 +211,16 @@ module _ {C J : Type 0} (n : ℕ) (workers : List (WorkerModel C J)) where
       → BackendsPend backends → BackendsPend (slice_set backends k backend')
   link-pends backends k backend backend' at told changes h = set-pends backends k backend' (pends-still n backend backend' told changes (h k backend at)) h
 
-module _ {C J : Type 0} (failures : Wire → ℕ) (is_garbled : Wire → Type 0) (exchange : Wire → List Request → List Value → Wire → Type 0) (gives_none : Wire → Type 0) (opens : Endpoint → Option Wire → ℕ → ℕ → Type 0) (longest : Wire → ℕ)
+module _ {C J : Type 0} (calls : PortCalls Wire) (opens : Endpoint → Option Wire → ℕ → ℕ → Type 0) (longest : Wire → ℕ)
     (n : ℕ) (workers : List (WorkerModel C J)) (old new : CarrierModel (Newcomer C J) Wire) (few : length new.nodes ≤ n)
     (steps : (k : ℕ) (model : WorkerModel C J) (lane : LaneEnds (Newcomer C J)) → slice_get workers k ≡ Some model → slice_get old.lanes k ≡ Some lane → DownInStep lane model)
     (h : CarrierNames n workers old) where
-  at-backend : (step : BackendStep) → ChangesBackend old new (λ context context'. BackendDoes failures is_garbled exchange gives_none (list_any is_unanswered old.backends) context step context') → CarrierNames n workers new
+  at-backend : (step : BackendStep) → ChangesBackend old new (λ context context'. BackendDoes calls (list_any is_unanswered old.backends) context step context') → CarrierNames n workers new
   at-backend step d =
-      let r = step-names failures is_garbled exchange gives_none n (list_any is_unanswered old.backends) (context_of old d.1) step (context_of new d.2) d.4 few (h.1 d.0 d.1 d.3, h.0) in
+      let r = step-names calls n (list_any is_unanswered old.backends) (context_of old d.1) step (context_of new d.2) d.4 few (h.1 d.0 d.1 d.3, h.0) in
       subst (CarrierNames n workers) (sym d.5) (r.1, set-pends n workers old.backends d.0 d.2 r.0 h.1, h.2)
 
-  starved : ChangesBackend old new (Starves failures is_garbled exchange) → CarrierNames n workers new
+  starved : ChangesBackend old new (Starves calls) → CarrierNames n workers new
   starved d = ⊎_elim
       (λ (x : context_of new d.2 ≡ context_of old d.1).
       subst (CarrierNames n workers) (sym d.5) (
@@ -243,7 +242,7 @@ module _ {C J : Type 0} (failures : Wire → ℕ) (is_garbled : Wire → Type 0)
       (λ (z : (k ≡ length old.backends) × (b ≡ new_backend)). subst (PendsOneOf n) (sym z.1) (pends-new n))
       (at-last old.backends new_backend k b e)
 
-  pub does-names : (event : CarrierEvent) → CarrierDoes failures is_garbled exchange gives_none opens longest old event new → CarrierNames n workers new
+  pub does-names : (event : CarrierEvent) → CarrierDoes calls opens longest old event new → CarrierNames n workers new
   does-names (AtBackend step) d = at-backend step d
   does-names Starved d = ⊎_elim (λ x. starved x)
       (λ x. subst (CarrierNames n workers) (sym x.7) (

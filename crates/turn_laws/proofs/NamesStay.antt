@@ -17,13 +17,13 @@ use Rattle.world_laws.specs.declared.event.Event.{Event}
 use Rattle.world_laws.specs.declared.event.Event.TheVariants as core
 use Rattle.world_laws.proofs.Nodes.{set-size, runs-size}
 use Rattle.world_laws.proofs.Recorded.{at-set}
-use Rattle.turn_laws.specs.Wire.{Wire, Exchanges, Execution, ServesNext, parts_in}
+use Rattle.turn_laws.specs.Wire.{Wire, Execution, ServesNext, parts_in}
 use Rattle.turn_laws.specs.System.{System}
 use Rattle.turn_laws.specs.Shadow.{IsShadow}
 use Rattle.turn_laws.specs.Underway.{down_in}
 use Rattle.turn_laws.specs.Naming.{NamesNodes, PendsOneOf}
 use Rattle.turn_laws.specs.Steps.{WorkerStep, CarrierStep, Opens, Serves, ServesLate, Discards, MovesOn, AtWorker, AtCarrier, Handed, AtNode, AtBroken, Thrown, Moved}
-use Rattle.turn_laws.specs.PortsMay.{any_moves, any_failures, any_garbled, any_none}
+use Rattle.turn_laws.specs.PortsMay.{any_moves, any_calls}
 use Rattle.turn_laws.specs.Refines.{NamesStay}
 use Rattle.turn_laws.proofs.NamedCarrier.{CarrierNames, AllSay, pends-still, does-names}
 use Rattle.turn_laws.proofs.RunsLead.{ClientsWant}
@@ -68,7 +68,7 @@ module _ {C J : Type 0} where
   carrier-stays event s s' w h names on =
       let n : ℕ = length s.nodes in
       let r : CarrierNames n s.workers s'.carrier =
-      does-names any_failures any_garbled Exchanges any_none (Opens s) on.longest n s.workers s.carrier s'.carrier (few-nodes s s' on.table) h.down_steps (names.published, names.backends, names.downs) event on.does in
+      does-names any_calls (Opens s) on.longest n s.workers s.carrier s'.carrier (few-nodes s s' on.table) h.down_steps (names.published, names.backends, names.downs) event on.does in
       subst NamesNodes (sym on.leaves) (record { seed = names.seed; each = names.each; published = r.0; backends = r.1; downs = r.2; posted = names.posted })
 
   wants : (s : System C J) → NamesNodes s → (k : ℕ) (model : WorkerModel C J) → slice_get s.workers k ≡ Some model → ClientsWant (length s.nodes) model.clients

@@ -2,19 +2,18 @@
 use Rattle.std.proofs.Common.{◌≡◌, inl, inr, ⊎_elim, ℕ, zero, suc, ◌||◌, ◌&&◌, Bool, true, false, List, [], ◌∷◌, ◌++◌, Option, Some, None, refl, sym, ap, ◌∙◌, subst, length}
 use Rattle.std.specs.Prelude.{slice_get, slice_set}
 use Rattle.std.specs.List.{list_any}
-use Rattle.resp_wire.specs.declared.value.Value.{Value}
-use Rattle.key_split.specs.Requests.{Request}
 use Rattle.key_split.specs.Runs.{count_in}
 use Rattle.slot_map.specs.Table.{Endpoint}
 use Rattle.proxy_lanes.specs.declared.ends.lane_ends.LaneEnds.{LaneEnds}
+use Rattle.node_link.specs.Port.{PortCalls}
 use Rattle.proxy_turns.specs.declared.backend.Backend.{Backend}
 use Rattle.proxy_turns.specs.Backend.{BackendContext, BackendDoes, Starves, fresh_link, has_open_link, is_unanswered, new_backend}
 use Rattle.proxy_turns.specs.PendingRun.{GiveOutcome}
 use Rattle.proxy_turns.specs.Resting.{HasFailedLink}
 use Rattle.proxy_turns.specs.Sending.{IsUnreached}
 use Rattle.proxy_turns.specs.CarrierModel.{CarrierModel, CarrierEvent, AtBackend, Starved, WorkerAdded, BackendAdded, Looked, Took, Opened, Refused, Missed, SeedReached, Sought, Reached, NotFound, Sent, Gave, GaveUnsent, CarrierDoes, ChangesBackend, context_of}
-use Rattle.turn_laws.specs.Wire.{Wire, Exchanges, Dials, new_wire}
-use Rattle.turn_laws.specs.PortsMay.{any_failures, any_garbled, any_none}
+use Rattle.turn_laws.specs.Wire.{Wire, Dials, new_wire}
+use Rattle.turn_laws.specs.PortsMay.{any_calls}
 use Rattle.turn_laws.specs.AnyPort.{StandsFor, OpensWires, IsWired, AreWired, AnyPorts, link_over, over_backend, over_backends, over_wires}
 use Rattle.turn_laws.proofs.OverBackends.{over_context, open-over, failed-over, does-over, starves-over, sent-over, starved-over, refused-over, unreached-over}
 
@@ -76,11 +75,11 @@ give-over : {H P : Type 0} (backend backend' : Backend P) (wire : Wire) (lanes l
 give-over backend backend' wire lanes lanes' true x = (ap (λ (b : Backend _). b.link) x.4, (x.0, x.1, x.2, x.3, λ i. over_backend (x.4 i) wire))
 give-over backend backend' wire lanes lanes' false x = (ap (λ (b : Backend _). b.link) x.0, ((λ i. over_backend (x.0 i) wire), x.1))
 
-module _ {H P : Type 0} (wired : P → Wire → Type 0) (failures : P → ℕ) (is_garbled : P → Type 0) (exchange : P → List Request → List Value → P → Type 0) (gives_none : P → Type 0) (opens : Endpoint → Option P → ℕ → ℕ → Type 0) (longest : P → ℕ)
-    (stands : StandsFor wired exchange) where
+module _ {H P : Type 0} (wired : P → Wire → Type 0) (calls : PortCalls P) (opens : Endpoint → Option P → ℕ → ℕ → Type 0) (longest : P → ℕ)
+    (stands : StandsFor wired calls.exchange) where
   module _ (old new : CarrierModel H P) (wires : List Wire) (opened : ℕ) (on : AreWired wired old.backends wires) (dials : OpensWires wired old.nodes opened opens) where
     abbrev Done : CarrierEvent → Type 0
-    Done event = (wires' : List Wire) × AreWired wired new.backends wires' × (far : Wire → ℕ) × CarrierDoes any_failures any_garbled Exchanges any_none (Dials old.nodes opened) far (over_wires old wires) event (over_wires new wires')
+    Done event = (wires' : List Wire) × AreWired wired new.backends wires' × (far : Wire → ℕ) × CarrierDoes any_calls (Dials old.nodes opened) far (over_wires old wires) event (over_wires new wires')
 
     -- how long a run may be, where none goes out
     abbrev none : Wire → ℕ
@@ -116,14 +115,14 @@ module _ {H P : Type 0} (wired : P → Wire → Type 0) (failures : P → ℕ) (
           ),
         )
 
-    starved : CarrierDoes failures is_garbled exchange gives_none opens longest old Starved new → Done Starved
+    starved : CarrierDoes calls opens longest old Starved new → Done Starved
     starved (inl x) =
-        let r = changed (Starves failures is_garbled exchange) (Starves any_failures any_garbled Exchanges)
-        (λ backend backend' wire is y. starves-over wired failures is_garbled exchange stands (context_of old backend) (context_of new backend') wire is y) x in
+        let r = changed (Starves calls) (Starves any_calls)
+        (λ backend backend' wire is y. starves-over wired calls stands (context_of old backend) (context_of new backend') wire is y) x in
         (r.0, r.1, none, inl r.2)
     starved (inr x) =
         let here = wire-at wired old.backends wires on x.0 x.1 x.5 in
-        let r = starved-over wired failures is_garbled exchange stands longest x.1 x.2 here.0 here.1 x.3 x.4 x.6 in (
+        let r = starved-over wired calls stands longest x.1 x.2 here.0 here.1 x.3 x.4 x.6 in (
           slice_set wires x.0 r.0,
           changes x.0 x.2 r.0 (ap (λ (c : CarrierModel H P). c.backends) x.7) r.1,
           none,
@@ -139,7 +138,7 @@ module _ {H P : Type 0} (wired : P → Wire → Type 0) (failures : P → ℕ) (
           ),
         )
 
-    looked : CarrierDoes failures is_garbled exchange gives_none opens longest old Looked new → Done Looked
+    looked : CarrierDoes calls opens longest old Looked new → Done Looked
     looked x = (
       wires,
       stays (ap (λ (c : CarrierModel H P). c.backends) x.0),
@@ -155,7 +154,7 @@ module _ {H P : Type 0} (wired : P → Wire → Type 0) (failures : P → ℕ) (
       ),
     )
 
-    gave : CarrierDoes failures is_garbled exchange gives_none opens longest old Gave new → Done Gave
+    gave : CarrierDoes calls opens longest old Gave new → Done Gave
     gave x =
         let here = wire-at wired old.backends wires on x.0 x.1 x.3 in
         let g = give-over x.1 x.2 here.0 old.lanes new.lanes true x.4 in
@@ -173,7 +172,7 @@ module _ {H P : Type 0} (wired : P → Wire → Type 0) (failures : P → ℕ) (
           ),
         )
 
-    opened-at : CarrierDoes failures is_garbled exchange gives_none opens longest old Opened new → Done Opened
+    opened-at : CarrierDoes calls opens longest old Opened new → Done Opened
     opened-at x =
         let here = wire-at wired old.backends wires on x.0 x.1 x.4 in
         let wire : Wire = new_wire opened x.0 in
@@ -194,7 +193,7 @@ module _ {H P : Type 0} (wired : P → Wire → Type 0) (failures : P → ℕ) (
           ),
         )
 
-    reached-at : CarrierDoes failures is_garbled exchange gives_none opens longest old Reached new → Done Reached
+    reached-at : CarrierDoes calls opens longest old Reached new → Done Reached
     reached-at x =
         let here = wire-at wired old.backends wires on x.0 x.1 x.4 in
         let wire : Wire = new_wire opened x.0 in
@@ -216,10 +215,10 @@ module _ {H P : Type 0} (wired : P → Wire → Type 0) (failures : P → ℕ) (
           ),
         )
 
-    sent-at : CarrierDoes failures is_garbled exchange gives_none opens longest old Sent new → Done Sent
+    sent-at : CarrierDoes calls opens longest old Sent new → Done Sent
     sent-at x =
         let here = wire-at wired old.backends wires on (x.2).first.node x.3 x.7 in
-        let r = sent-over wired failures is_garbled exchange stands longest x.3 x.4 here.0 here.1 x.2 x.8 in (
+        let r = sent-over wired calls stands longest x.3 x.4 here.0 here.1 x.2 x.8 in (
           slice_set wires (x.2).first.node r.0,
           changes (x.2).first.node x.4 r.0 (ap (λ (c : CarrierModel H P). c.backends) x.9) r.1,
           (λ _. count_in x.2),
@@ -238,14 +237,14 @@ module _ {H P : Type 0} (wired : P → Wire → Type 0) (failures : P → ℕ) (
           ),
         )
 
-    pub does-so : (event : CarrierEvent) → CarrierDoes failures is_garbled exchange gives_none opens longest old event new → Done event
+    pub does-so : (event : CarrierEvent) → CarrierDoes calls opens longest old event new → Done event
     does-so (AtBackend step) x =
         let r = changed
-        (λ context context'. BackendDoes failures is_garbled exchange gives_none (list_any is_unanswered old.backends) context step context')
-        (λ context context'. BackendDoes any_failures any_garbled Exchanges any_none (list_any is_unanswered (over_backends old.backends wires)) context step context')
+        (λ context context'. BackendDoes calls (list_any is_unanswered old.backends) context step context')
+        (λ context context'. BackendDoes any_calls (list_any is_unanswered (over_backends old.backends wires)) context step context')
         (λ backend backend' wire is y.
-        let r = does-over wired failures is_garbled exchange stands (context_of old backend) (context_of new backend') wire is gives_none (list_any is_unanswered old.backends) step y in
-        (r.0, r.1, subst (λ b. BackendDoes any_failures any_garbled Exchanges any_none b (over_context (context_of old backend) wire) step (over_context (context_of new backend') r.0)) (sym (unanswered-any wired old.backends wires on)) r.2)) x in
+        let r = does-over wired calls stands (context_of old backend) (context_of new backend') wire is (list_any is_unanswered old.backends) step y in
+        (r.0, r.1, subst (λ b. BackendDoes any_calls b (over_context (context_of old backend) wire) step (over_context (context_of new backend') r.0)) (sym (unanswered-any wired old.backends wires on)) r.2)) x in
         (r.0, r.1, none, r.2)
     does-so Starved x = starved x
     does-so WorkerAdded x = (wires, stays (ap (λ (c : CarrierModel H P). c.backends) x), none, λ i. over_wires (x i) wires)
@@ -315,7 +314,7 @@ module _ {H P : Type 0} (wired : P → Wire → Type 0) (failures : P → ℕ) (
     does-so Gave x = gave x
     does-so GaveUnsent x = (wires, stays (ap (λ (c : CarrierModel H P). c.backends) x.5), none, (x.0, x.1, x.2, x.3, x.4, λ i. over_wires (x.5 i) wires))
 
-module _ {H P : Type 0} (wired : P → Wire → Type 0) (failures : P → ℕ) (is_garbled : P → Type 0) (exchange : P → List Request → List Value → P → Type 0) (gives_none : P → Type 0) (opens : Endpoint → Option P → ℕ → ℕ → Type 0) (longest : P → ℕ)
-    (stands : StandsFor wired exchange) where
-  pub any-ports : AnyPorts wired H failures is_garbled exchange gives_none opens longest
-  any-ports event old new wires opened on dials x = does-so wired failures is_garbled exchange gives_none opens longest stands old new wires opened on dials event x
+module _ {H P : Type 0} (wired : P → Wire → Type 0) (calls : PortCalls P) (opens : Endpoint → Option P → ℕ → ℕ → Type 0) (longest : P → ℕ)
+    (stands : StandsFor wired calls.exchange) where
+  pub any-ports : AnyPorts wired H calls opens longest
+  any-ports event old new wires opened on dials x = does-so wired calls opens longest stands old new wires opened on dials event x

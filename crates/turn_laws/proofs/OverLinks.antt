@@ -1,10 +1,10 @@
 -- A link over ports of any kind: what its calls do, they do over the wire for which its port stands.
-use Rattle.std.proofs.Common.{◌≡◌, inl, inr, ⊎_elim, ℕ, List, [], ◌∷◌, ◌++◌, map, Some, None, Result, Ok, Err, refl, sym, subst, arith}
+use Rattle.std.proofs.Common.{◌≡◌, inl, inr, ⊎_elim, List, [], ◌∷◌, ◌++◌, map, Some, None, Result, Ok, Err, refl, sym, subst, arith}
 use Rattle.std.specs.Prelude.{Option}
 use Rattle.resp_wire.specs.declared.value.Value.{Value}
 use Rattle.key_split.specs.Requests.{Request}
 use Rattle.slot_map.specs.Table.{Endpoint}
-use Rattle.node_link.specs.Port.{SendsAllOrNone, Rose}
+use Rattle.node_link.specs.Port.{PortCalls, SendsAllOrNone, Rose}
 use Rattle.node_link.specs.LinkModel.{LinkModel}
 use Rattle.node_link.specs.LinkCalls.{due_of, Fails, Sends, Comes, Receives, WantsMemory}
 use Rattle.node_link.specs.declared.link.Due.TheVariants as due
@@ -16,11 +16,11 @@ use Rattle.node_link.specs.declared.link.LinkFault.{LinkFault}
 use Rattle.node_link.specs.declared.link.LinkFault.TheVariants.{NoMemory, PortFailed, Stray, BadWire}
 use Rattle.proxy_turns.specs.Backend.{GoesOut}
 use Rattle.turn_laws.specs.Wire.{Wire, Exchanges}
-use Rattle.turn_laws.specs.PortsMay.{any_failures, any_garbled}
+use Rattle.turn_laws.specs.PortsMay.{any_calls}
 use Rattle.turn_laws.specs.AnyPort.{StandsFor, over_link}
 
-module _ {P : Type 0} (wired : P → Wire → Type 0) (failures : P → ℕ) (is_garbled : P → Type 0) (exchange : P → List Request → List Value → P → Type 0)
-    (stands : StandsFor wired exchange) where
+module _ {P : Type 0} (wired : P → Wire → Type 0) (calls : PortCalls P)
+    (stands : StandsFor wired calls.exchange) where
   -- the port stands for a wire again, of which this holds
   abbrev pub Over : P → (Wire → Type 0) → Type 0
   Over port holds = (wire : Wire) × wired port wire × holds wire
@@ -39,67 +39,67 @@ module _ {P : Type 0} (wired : P → Wire → Type 0) (failures : P → ℕ) (is
         (λ (y : (link.failure ≡ None) × (link'.failure ≡ Some why) × now). let r = go y.2 in (r.0, r.1, inr (y.0, y.1, r.2)))
         x
 
-    all-or-none : (requests : List Request) → SendsAllOrNone exchange link.port requests link'.port → Over link'.port (λ w. SendsAllOrNone Exchanges wire requests w)
+    all-or-none : (requests : List Request) → SendsAllOrNone calls.exchange link.port requests link'.port → Over link'.port (λ w. SendsAllOrNone Exchanges wire requests w)
     all-or-none requests x = ⊎_elim
-        (λ (y : exchange link.port requests [] link'.port). let r = stands link.port link'.port wire requests [] on y in (r.0, r.2, inl r.1))
-        (λ (y : exchange link.port [] [] link'.port). let r = stands link.port link'.port wire [] [] on y in (r.0, r.2, inr r.1))
+        (λ (y : calls.exchange link.port requests [] link'.port). let r = stands link.port link'.port wire requests [] on y in (r.0, r.2, inl r.1))
+        (λ (y : calls.exchange link.port [] [] link'.port). let r = stands link.port link'.port wire [] [] on y in (r.0, r.2, inr r.1))
         x
 
-    pub sends-over : (requests : List Request) (given : Result (Unit {0}) LinkFault) → Sends failures is_garbled exchange link requests given link'
-        → Over link'.port (λ w. Sends any_failures any_garbled Exchanges old requests given (over_link link' w))
+    pub sends-over : (requests : List Request) (given : Result (Unit {0}) LinkFault) → Sends calls link requests given link'
+        → Over link'.port (λ w. Sends any_calls old requests given (over_link link' w))
     sends-over requests (Ok _) x = let r = stands link.port link'.port wire requests [] on x.1 in (r.0, r.2, (x.0, r.1, λ i. over_link (x.2 i) r.0))
     sends-over requests (Err NoMemory) x = let r = stands link.port link'.port wire [] [] on x.1 in (r.0, r.2, (x.0, r.1, λ i. over_link (x.2 i) r.0))
     sends-over requests (Err PortFailed) x =
-        fails failure.PortFailed (Rose (failures link.port) (failures link'.port) × SendsAllOrNone exchange link.port requests link'.port × (link' ≡ record link { port = link'.port; due = link.due ++ map due_of requests; failure = link'.failure }))
-        (λ w. Rose (any_failures wire) (any_failures w) × SendsAllOrNone Exchanges wire requests w × (over_link link' w ≡ record old { port = w; due = link.due ++ map due_of requests; failure = link'.failure }))
+        fails failure.PortFailed (Rose (calls.failures link.port) (calls.failures link'.port) × SendsAllOrNone calls.exchange link.port requests link'.port × (link' ≡ record link { port = link'.port; due = link.due ++ map due_of requests; failure = link'.failure }))
+        (λ w. Rose (any_calls.failures wire) (any_calls.failures w) × SendsAllOrNone Exchanges wire requests w × (over_link link' w ≡ record old { port = w; due = link.due ++ map due_of requests; failure = link'.failure }))
         (λ y. let r = all-or-none requests y.1 in (r.0, r.1, (inr (omega arith), r.2, λ i. over_link (y.2 i) r.0))) x
     sends-over requests (Err BadWire) x =
-        fails failure.BadWire (is_garbled link'.port × SendsAllOrNone exchange link.port requests link'.port × (link' ≡ record link { port = link'.port; due = link.due ++ map due_of requests; failure = link'.failure }))
-        (λ w. any_garbled w × SendsAllOrNone Exchanges wire requests w × (over_link link' w ≡ record old { port = w; due = link.due ++ map due_of requests; failure = link'.failure }))
+        fails failure.BadWire (calls.is_garbled link'.port × SendsAllOrNone calls.exchange link.port requests link'.port × (link' ≡ record link { port = link'.port; due = link.due ++ map due_of requests; failure = link'.failure }))
+        (λ w. any_calls.is_garbled w × SendsAllOrNone Exchanges wire requests w × (over_link link' w ≡ record old { port = w; due = link.due ++ map due_of requests; failure = link'.failure }))
         (λ y. let r = all-or-none requests y.1 in (r.0, r.1, (tt, r.2, λ i. over_link (y.2 i) r.0))) x
     sends-over requests (Err Stray) x = (wire, same-port x.1, (x.0, λ i. over_link (x.1 i) wire))
 
-    pub goes-out : (requests : List Request) → GoesOut failures is_garbled exchange link requests link' → Over link'.port (λ w. GoesOut any_failures any_garbled Exchanges old requests (over_link link' w))
+    pub goes-out : (requests : List Request) → GoesOut calls link requests link' → Over link'.port (λ w. GoesOut any_calls old requests (over_link link' w))
     goes-out requests x = let r = sends-over requests x.0 x.3 in (r.0, r.1, (x.0, x.1, x.2, r.2))
 
-    comes : (next : Option Value) → Comes failures is_garbled exchange link next link'.port → Over link'.port (λ w. Comes any_failures any_garbled Exchanges old next w)
+    comes : (next : Option Value) → Comes calls link next link'.port → Over link'.port (λ w. Comes any_calls old next w)
     comes (Some value) x = ⊎_elim
         (λ (y : (link.kept ≡ Some value) × (link'.port ≡ link.port)). (wire, subst (λ p. wired p wire) (sym y.1) on, inl (y.0, refl)))
-        (λ (y : (link.kept ≡ None) × exchange link.port [] (value ∷ []) link'.port). let r = stands link.port link'.port wire [] (value ∷ []) on y.1 in (r.0, r.2, inr (y.0, r.1)))
+        (λ (y : (link.kept ≡ None) × calls.exchange link.port [] (value ∷ []) link'.port). let r = stands link.port link'.port wire [] (value ∷ []) on y.1 in (r.0, r.2, inr (y.0, r.1)))
         x
     comes None x = let r = stands link.port link'.port wire [] [] on x.1 in (r.0, r.2, (x.0, r.1))
 
     abbrev Received : List Endpoint → Result (Option Got) LinkFault → List Endpoint → Type 0
-    Received table given table' = Over link'.port (λ w. Receives any_failures any_garbled Exchanges old table given (over_link link' w) table')
+    Received table given table' = Over link'.port (λ w. Receives any_calls old table given (over_link link' w) table')
 
-    nothing-came : Comes failures is_garbled exchange link None link'.port → link' ≡ record link { port = link'.port }
-        → Over link'.port (λ w. Comes any_failures any_garbled Exchanges old None w × (over_link link' w ≡ record old { port = w }))
+    nothing-came : Comes calls link None link'.port → link' ≡ record link { port = link'.port }
+        → Over link'.port (λ w. Comes any_calls old None w × (over_link link' w ≡ record old { port = w }))
     nothing-came x e = let r = comes None x in (r.0, r.1, (r.2, λ i. over_link (e i) r.0))
 
-    pub receives-over : (table : List Endpoint) (given : Result (Option Got) LinkFault) (table' : List Endpoint) → Receives failures is_garbled exchange link table given link' table' → Received table given table'
+    pub receives-over : (table : List Endpoint) (given : Result (Option Got) LinkFault) (table' : List Endpoint) → Receives calls link table given link' table' → Received table given table'
     receives-over table (Ok (Some (got.Ticket ticket told))) table' x =
         let r = comes (Some x.0) x.2 in (r.0, r.1, (x.0, x.1, r.2, x.3, x.4, λ i. over_link (x.5 i) r.0))
     receives-over table (Ok (Some (got.Slots value))) table' x =
         let r = comes (Some value) x.1 in (r.0, r.1, (x.0, r.2, x.2, x.3, λ i. over_link (x.4 i) r.0))
     receives-over table (Ok None) table' x = ⊎_elim
-        (λ (y : Comes failures is_garbled exchange link None link'.port × (link' ≡ record link { port = link'.port })). let r = nothing-came y.0 y.1 in (r.0, r.1, (x.0, x.1, inl r.2)))
-        (λ (y : (value : Value) × Comes failures is_garbled exchange link (Some value) link'.port × (link.due ≡ due.Asking ∷ link'.due) × (link' ≡ record link { port = link'.port; due = link'.due; kept = None })).
+        (λ (y : Comes calls link None link'.port × (link' ≡ record link { port = link'.port })). let r = nothing-came y.0 y.1 in (r.0, r.1, (x.0, x.1, inl r.2)))
+        (λ (y : (value : Value) × Comes calls link (Some value) link'.port × (link.due ≡ due.Asking ∷ link'.due) × (link' ≡ record link { port = link'.port; due = link'.due; kept = None })).
         let r = comes (Some y.0) y.1 in (r.0, r.1, (x.0, x.1, inr (y.0, r.2, y.2, λ i. over_link (y.3 i) r.0))))
         x.2
     receives-over table (Err NoMemory) table' x = ⊎_elim
-        (λ (y : Comes failures is_garbled exchange link None link'.port × (link' ≡ record link { port = link'.port })). let r = nothing-came y.0 y.1 in (r.0, r.1, (x.0, x.1, inl r.2)))
-        (λ (y : (value : Value) × Comes failures is_garbled exchange link (Some value) link'.port × WantsMemory value link table × (link' ≡ record link { port = link'.port; kept = Some value })).
+        (λ (y : Comes calls link None link'.port × (link' ≡ record link { port = link'.port })). let r = nothing-came y.0 y.1 in (r.0, r.1, (x.0, x.1, inl r.2)))
+        (λ (y : (value : Value) × Comes calls link (Some value) link'.port × WantsMemory value link table × (link' ≡ record link { port = link'.port; kept = Some value })).
         let r = comes (Some y.0) y.1 in (r.0, r.1, (x.0, x.1, inr (y.0, r.2, y.2, λ i. over_link (y.3 i) r.0))))
         x.2
     receives-over table (Err PortFailed) table' x =
-        let r = fails failure.PortFailed (Rose (failures link.port) (failures link'.port) × Comes failures is_garbled exchange link None link'.port × (link' ≡ record link { port = link'.port; failure = link'.failure }))
-        (λ w. Rose (any_failures wire) (any_failures w) × Comes any_failures any_garbled Exchanges old None w × (over_link link' w ≡ record old { port = w; failure = link'.failure }))
+        let r = fails failure.PortFailed (Rose (calls.failures link.port) (calls.failures link'.port) × Comes calls link None link'.port × (link' ≡ record link { port = link'.port; failure = link'.failure }))
+        (λ w. Rose (any_calls.failures wire) (any_calls.failures w) × Comes any_calls old None w × (over_link link' w ≡ record old { port = w; failure = link'.failure }))
         (λ y. let r = comes None y.1 in (r.0, r.1, (inr (omega arith), r.2, λ i. over_link (y.2 i) r.0))) x.1 in (r.0, r.1, (x.0, r.2))
     receives-over table (Err BadWire) table' x =
-        let r = fails failure.BadWire (is_garbled link'.port × Comes failures is_garbled exchange link None link'.port × (link' ≡ record link { port = link'.port; failure = link'.failure }))
-        (λ w. any_garbled w × Comes any_failures any_garbled Exchanges old None w × (over_link link' w ≡ record old { port = w; failure = link'.failure }))
+        let r = fails failure.BadWire (calls.is_garbled link'.port × Comes calls link None link'.port × (link' ≡ record link { port = link'.port; failure = link'.failure }))
+        (λ w. any_calls.is_garbled w × Comes any_calls old None w × (over_link link' w ≡ record old { port = w; failure = link'.failure }))
         (λ y. let r = comes None y.1 in (r.0, r.1, (tt, r.2, λ i. over_link (y.2 i) r.0))) x.1 in (r.0, r.1, (x.0, r.2))
     receives-over table (Err Stray) table' x =
-        let r = fails failure.Stray ((value : Value) × Comes failures is_garbled exchange link (Some value) link'.port × (link.due ≡ []) × (link' ≡ record link { port = link'.port; kept = None; failure = link'.failure }))
-        (λ w. (value : Value) × Comes any_failures any_garbled Exchanges old (Some value) w × (link.due ≡ []) × (over_link link' w ≡ record old { port = w; kept = None; failure = link'.failure }))
+        let r = fails failure.Stray ((value : Value) × Comes calls link (Some value) link'.port × (link.due ≡ []) × (link' ≡ record link { port = link'.port; kept = None; failure = link'.failure }))
+        (λ w. (value : Value) × Comes any_calls old (Some value) w × (link.due ≡ []) × (over_link link' w ≡ record old { port = w; kept = None; failure = link'.failure }))
         (λ y. let r = comes (Some y.0) y.1 in (r.0, r.1, (y.0, r.2, y.2, λ i. over_link (y.3 i) r.0))) x.1 in (r.0, r.1, (x.0, r.2))

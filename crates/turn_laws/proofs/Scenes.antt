@@ -23,11 +23,11 @@ use Rattle.proxy_turns.specs.ClientModel.{ClientModel}
 use Rattle.proxy_turns.specs.ClientTurn.{ClientEvent, ClientDoes}
 use Rattle.proxy_turns.specs.WorkerModel.{WorkerModel, WorkerEvent, Did, WorkerDoes}
 use Rattle.proxy_turns.specs.CarrierModel.{CarrierModel, CarrierEvent, CarrierDoes}
-use Rattle.turn_laws.specs.Wire.{Wire, Exchanges, Dials}
+use Rattle.turn_laws.specs.Wire.{Wire, Dials}
 use Rattle.turn_laws.specs.System.{System, Mark, IsInStep}
 use Rattle.turn_laws.specs.Underway.{DownInStep}
 use Rattle.turn_laws.specs.Steps.{WorkerStep, CarrierStep, Hands, IsSeen, UpsInStep, opened_by, seen_at}
-use Rattle.turn_laws.specs.PortsMay.{any_moves, any_failures, any_garbled, any_none}
+use Rattle.turn_laws.specs.PortsMay.{any_moves, any_calls}
 use Rattle.turn_laws.proofs.Elements.{nothing-there}
 use Rattle.turn_laws.proofs.ScriptFacts.{table}
 
@@ -139,7 +139,7 @@ module _ {C J : Type 0} where
         at-worker lane (seen_at event client.session client'.session) at (client, client', is, does, refl) (client, client', is, put-in, refl) down front
 
   pub at-carrier : {worker : WorkerModel C J} {old new : CarrierModel (Newcomer C J) Wire} {closed : List Wire} {opened : ℕ} {cluster : ClusterModel} {log : List Mark} {event : CarrierEvent} (lane : LaneEnds (Newcomer C J))
-      → CarrierDoes any_failures any_garbled Exchanges any_none (Dials old.nodes opened) some_length old event new
+      → CarrierDoes any_calls (Dials old.nodes opened) some_length old event new
       → AllWork new.backends → new.lanes ≡ lane ∷ [] → IsInStep worker.outlet lane.up → take (length new.nodes) table ≡ new.nodes
       → CarrierStep (scene worker old closed opened cluster log) event (scene worker new closed (opened_by event opened) cluster log)
   at-carrier {worker} {old} {new} {closed} {opened} {cluster} {log} {event} lane does work only up first = record {
@@ -153,7 +153,7 @@ module _ {C J : Type 0} where
 
   -- where a connection failed before
   pub past-failure : {worker : WorkerModel C J} {old new : CarrierModel (Newcomer C J) Wire} {closed : List Wire} {opened : ℕ} {cluster : ClusterModel} {log : List Mark} {event : CarrierEvent} (lane : LaneEnds (Newcomer C J))
-      → CarrierDoes any_failures any_garbled Exchanges any_none (Dials old.nodes opened) some_length old event new
+      → CarrierDoes any_calls (Dials old.nodes opened) some_length old event new
       → Steady old.backends new.backends → new.lanes ≡ lane ∷ [] → IsInStep worker.outlet lane.up → take (length new.nodes) table ≡ new.nodes
       → CarrierStep (scene worker old closed opened cluster log) event (scene worker new closed (opened_by event opened) cluster log)
   past-failure {worker} {old} {new} {closed} {opened} {cluster} {log} {event} lane does steady only up first = record {
@@ -181,7 +181,7 @@ module _ {C J : Type 0} where
   -- where one fails
   pub breaking : {worker : WorkerModel C J} {old new : CarrierModel (Newcomer C J) Wire} {closed : List Wire} {opened : ℕ} {cluster : ClusterModel} {log : List Mark} {event : CarrierEvent} (lane : LaneEnds (Newcomer C J))
       (k : ℕ) (b b' : Backend Wire) (link link' : LinkModel Wire)
-      → CarrierDoes any_failures any_garbled Exchanges any_none (Dials old.nodes opened) some_length old event new
+      → CarrierDoes any_calls (Dials old.nodes opened) some_length old event new
       → slice_get old.backends k ≡ Some b → b.link ≡ Some link → link.failure ≡ None → slice_get new.backends k ≡ Some b' → b'.link ≡ Some link' → IsSome link'.failure
       → new.lanes ≡ lane ∷ [] → IsInStep worker.outlet lane.up → take (length new.nodes) table ≡ new.nodes
       → CarrierStep (scene worker old closed opened cluster log) event (scene worker new (closed ++ record link'.port { values = [] } ∷ []) (opened_by event opened) cluster log)

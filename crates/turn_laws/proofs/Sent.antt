@@ -23,7 +23,7 @@ use Rattle.turn_laws.specs.Wire.{Wire, Exchanges, items_of}
 use Rattle.turn_laws.specs.System.{System}
 use Rattle.turn_laws.specs.Shadow.{IsShadow, IsKnown, requests_in}
 use Rattle.turn_laws.specs.Steps.{AtCarrier, CarrierStep}
-use Rattle.turn_laws.specs.PortsMay.{any_failures, any_garbled}
+use Rattle.turn_laws.specs.PortsMay.{any_calls}
 use Rattle.turn_laws.specs.Refines.{Simulates}
 use Rattle.turn_laws.proofs.Waiting.{same-closed}
 use Rattle.turn_laws.proofs.Walks.{walked-on, walks_join}
@@ -207,7 +207,7 @@ module _ {C J : Type 0} (s s' : System C J) (w : WorldModel) (h : IsShadow s w) 
           (λ x. ([], append-nil (requests_in link2.port.items) ∙ ap (λ (p : Wire). requests_in p.items) x.1))
           (λ x. (requests_in (items_of (requests_of_run held)), ap (λ rs. rs ++ requests_in (items_of (requests_of_run held))) (ap (λ (p : Wire). requests_in p.items) x.1 ∙ ap requests_in (append-nil link.port.items)) ∙ sym (requests-append link.port.items (items_of (requests_of_run held)))))
 
-  cases : (given : Result (Unit {0}) LinkFault) → given ≢ Err fault.NoMemory → Sends any_failures any_garbled Exchanges link (requests_of_run held) given link2 → Result'
+  cases : (given : Result (Unit {0}) LinkFault) → given ≢ Err fault.NoMemory → Sends any_calls link (requests_of_run held) given link2 → Result'
   cases (Ok _) ne x = written (x.1, x.2)
   cases (Err fault.NoMemory) ne x = absurd (ne refl)
   cases (Err fault.PortFailed) ne x = ⊎_elim (λ y. absurd (failed-not link.failure failure.PortFailed worked y.0)) (λ y. breaks failure.PortFailed y.1 y.2.1 (ap (λ (l : LinkModel Wire). l.due) y.2.2)) x

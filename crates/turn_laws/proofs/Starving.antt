@@ -18,7 +18,7 @@ use Rattle.turn_laws.specs.System.{System}
 use Rattle.turn_laws.specs.Shadow.{IsShadow, LinksShadow, LaneShadow, OpenShadow, IsIdle, IsKnown, requests_in, dues_in, backs_in}
 use Rattle.turn_laws.specs.Underway.{IsWorking, coming, coming_of, told_in}
 use Rattle.turn_laws.specs.Steps.{CarrierStep}
-use Rattle.turn_laws.specs.PortsMay.{any_failures, any_garbled}
+use Rattle.turn_laws.specs.PortsMay.{any_calls}
 use Rattle.turn_laws.proofs.Frames.{same-seats, down-fits, carrier-frame}
 use Rattle.turn_laws.proofs.Carriers.{backend-stutter}
 use Rattle.turn_laws.proofs.AtLines.{same-owing}
@@ -35,7 +35,7 @@ nothing-went link link' x e =
 
 -- a value is kept
 kept-open : (table : List Endpoint) (commands : List Arrival) (link link' : LinkModel Wire) (l : Link) (value : Value)
-    → Comes any_failures any_garbled Exchanges link (Some value) link'.port → link' ≡ record link { port = link'.port; kept = Some value }
+    → Comes any_calls link (Some value) link'.port → link' ≡ record link { port = link'.port; kept = Some value }
     → OpenShadow table commands link l → OpenShadow table commands link' l
 kept-open table commands link link' l value comes e h =
     let c = comes-first link link'.port value comes in
@@ -56,7 +56,7 @@ kept-open table commands link link' l value comes e h =
     }
 
 kept-idle : (link link' : LinkModel Wire) (value : Value)
-    → Comes any_failures any_garbled Exchanges link (Some value) link'.port → link' ≡ record link { port = link'.port; kept = Some value }
+    → Comes any_calls link (Some value) link'.port → link' ≡ record link { port = link'.port; kept = Some value }
     → IsIdle link → IsIdle link'
 kept-idle link link' value comes e h =
     let c = comes-first link link'.port value comes in
@@ -82,7 +82,7 @@ module _ {C J : Type 0} (s s' : System C J) (w : WorldModel) (h : IsShadow s w) 
 
   kept : (k : ℕ) (backend backend' : Backend Wire) (link link' : LinkModel Wire) (value : Value) → slice_get s.carrier.backends k ≡ Some backend → Lines k backend'
       → backend.link ≡ Some link → backend'.link ≡ Some link' → backend'.pending_told ≡ backend.pending_told → link.failure ≡ None
-      → Comes any_failures any_garbled Exchanges link (Some value) link'.port → link' ≡ record link { port = link'.port; kept = Some value } → IsShadow s' w
+      → Comes any_calls link (Some value) link'.port → link' ≡ record link { port = link'.port; kept = Some value } → IsShadow s' w
   kept k backend backend' link link' value at e was is pending_told worked comes goes =
       let works : link'.failure ≡ None = ap (λ (c : LinkModel Wire). c.failure) goes ∙ worked in
       let working : IsWorking s.carrier k link = (backend, at, was, worked) in
@@ -103,7 +103,7 @@ module _ {C J : Type 0} (s s' : System C J) (w : WorldModel) (h : IsShadow s w) 
       (same-bag Starved s s' on refl k backend backend' link link' at e.0 was is worked works e.1 e.2 pending_told)
       (λ j model lane p q. subst (LaneShadow w j model lane) (sym (ap (λ xs. slice_get xs j) e.2)) (h.lanes j model lane p (sym (ap (λ xs. slice_get xs j) e.1) ∙ q)))
 
-  at-context : ChangesBackend s.carrier s'.carrier (Starves any_failures any_garbled Exchanges) → IsShadow s' w
+  at-context : ChangesBackend s.carrier s'.carrier (Starves any_calls) → IsShadow s' w
   at-context d =
       let k : ℕ = d.0 in
       let backend : Backend Wire = d.1 in

@@ -19,12 +19,12 @@ use Rattle.world_laws.specs.declared.event.Event.TheVariants.{Fetch}
 use Rattle.world_laws.specs.Places.{total}
 use Rattle.world_laws.proofs.Recorded.{at-set}
 use Rattle.turn_laws.specs.Walks.{ticked, Walk}
-use Rattle.turn_laws.specs.Wire.{Wire, Exchanges}
+use Rattle.turn_laws.specs.Wire.{Wire}
 use Rattle.turn_laws.specs.System.{System}
 use Rattle.turn_laws.specs.Shadow.{IsShadow, LinksShadow, LaneShadow, OpenShadow, IsIdle, IsUnnumbered, Numbers}
 use Rattle.turn_laws.specs.Underway.{IsWorking, downs_of, downs_in, told_in, lost_in, lost_by}
 use Rattle.turn_laws.specs.Steps.{AtCarrier, CarrierStep, FailsAt, opened_by}
-use Rattle.turn_laws.specs.PortsMay.{any_failures, any_garbled}
+use Rattle.turn_laws.specs.PortsMay.{any_calls}
 use Rattle.turn_laws.specs.Refines.{Simulates}
 use Rattle.turn_laws.proofs.Downs.{SameBag, total-set-flat}
 use Rattle.turn_laws.proofs.Frames.{same-seats, still-closed, still-opened, link-frame, down-fits}
@@ -133,7 +133,7 @@ module _ {C J : Type 0} (s s' : System C J) (w : WorldModel) (h : IsShadow s w) 
   worked = on.does.4.2.1.0
 
   -- the port gave none
-  nothing : Comes any_failures any_garbled Exchanges link None link'.port → link' ≡ record link { port = link'.port } → IsShadow s' w
+  nothing : Comes any_calls link None link'.port → link' ≡ record link { port = link'.port } → IsShadow s' w
   nothing comes e =
       let port : link'.port ≡ link.port = comes.1.1 ∙ (λ i. record (link.port) { items = append-nil link.port.items i; values = sym comes.1.0 i }) in
       let same : link' ≡ link = e ∙ (λ i. record link { port = port i }) in
@@ -141,7 +141,7 @@ module _ {C J : Type 0} (s s' : System C J) (w : WorldModel) (h : IsShadow s w) 
       backend-stutter (AtBackend Waited) s s' w k backend backend' h on refl on.does.3 backends lanes pending_runs (inl stays) (same-owing backend backend' stays (ap told_in pending_told))
 
   -- the reply to ASKING came: the machine fetches it
-  module _ (value : Value) (comes : Comes any_failures any_garbled Exchanges link (Some value) link'.port) (dues : link.due ≡ due.Asking ∷ link'.due)
+  module _ (value : Value) (comes : Comes any_calls link (Some value) link'.port) (dues : link.due ≡ due.Asking ∷ link'.due)
       (e : link' ≡ record link { port = link'.port; due = link'.due; kept = None }) where
     works : link'.failure ≡ None
     works = ap (λ (c : LinkModel Wire). c.failure) e ∙ worked
@@ -182,7 +182,7 @@ module _ {C J : Type 0} (s s' : System C J) (w : WorldModel) (h : IsShadow s w) 
               (λ j model lane p q. subst (LaneShadow w j model lane) (sym (ap (λ xs. slice_get xs j) pending_runs)) (h.lanes j model lane p (sym (ap (λ xs. slice_get xs j) lanes) ∙ q))),
         )
       where
-        same-id : (value : Value) → Comes any_failures any_garbled Exchanges link (Some value) link'.port → link'.port.id ≡ link.port.id
+        same-id : (value : Value) → Comes any_calls link (Some value) link'.port → link'.port.id ≡ link.port.id
         same-id value comes = ap (λ (x : Wire). x.id) (comes-first link link'.port value comes).1
 
     welcome : Fetched
@@ -196,8 +196,8 @@ module _ {C J : Type 0} (s s' : System C J) (w : WorldModel) (h : IsShadow s w) 
 
   pub waits : Simulated
   waits = ⊎_elim
-      (λ (x : Comes any_failures any_garbled Exchanges link None link'.port × (link' ≡ record link { port = link'.port })). ([], w, refl, nothing x.0 x.1))
-      (λ (x : (value : Value) × Comes any_failures any_garbled Exchanges link (Some value) link'.port × (link.due ≡ due.Asking ∷ link'.due) × (link' ≡ record link { port = link'.port; due = link'.due; kept = None })).
+      (λ (x : Comes any_calls link None link'.port × (link' ≡ record link { port = link'.port })). ([], w, refl, nothing x.0 x.1))
+      (λ (x : (value : Value) × Comes any_calls link (Some value) link'.port × (link.due ≡ due.Asking ∷ link'.due) × (link' ≡ record link { port = link'.port; due = link'.due; kept = None })).
       let r = welcome x.0 x.1 x.2 x.3 in
       let w' : WorldModel = record w { links = r.2; moment = w.moment + 1 } in (Fetch r.0 ∷ [], w', (w', r.3, refl), r.4))
       on.does.4.2.1.2

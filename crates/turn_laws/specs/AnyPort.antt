@@ -8,13 +8,14 @@ use Rattle.resp_wire.specs.declared.value.Value.{Value}
 use Rattle.key_split.specs.Requests.{Request}
 use Rattle.slot_map.specs.Table.{Endpoint}
 use Rattle.node_link.specs.LinkModel.{LinkModel}
+use Rattle.node_link.specs.Port.{PortCalls}
 use Rattle.proxy_turns.specs.declared.backend.Backend.{Backend}
 use Rattle.proxy_turns.specs.Port.{Moves}
 use Rattle.proxy_turns.specs.WorkerModel.{WorkerModel, WorkerEvent, WorkerDoes, WorkerTurns}
 use Rattle.proxy_turns.specs.CarrierModel.{CarrierModel, CarrierEvent, CarrierDoes}
 use Rattle.turn_laws.specs.Wire.{Wire, Exchanges, Dials, new_wire}
 use Rattle.turn_laws.specs.Endpoints.{AreApart}
-use Rattle.turn_laws.specs.PortsMay.{any_moves, any_failures, any_garbled, any_none}
+use Rattle.turn_laws.specs.PortsMay.{any_moves, any_calls}
 
 -- ---- a worker
 
@@ -86,13 +87,13 @@ module _ {P : Type 0} (wired : P → Wire → Type 0) where
   AreWired (backend ∷ backends) [] = ⊥
   AreWired (backend ∷ backends) (wire ∷ wires) = IsWired backend.link wire × AreWired backends wires
 
-  module _ (H : Type 0) (failures : P → ℕ) (is_garbled : P → Type 0) (exchange : P → List Request → List Value → P → Type 0) (gives_none : P → Type 0) (opens : Endpoint → Option P → ℕ → ℕ → Type 0) (longest : P → ℕ) where
+  module _ (H : Type 0) (calls : PortCalls P) (opens : Endpoint → Option P → ℕ → ℕ → Type 0) (longest : P → ℕ) where
     -- each event of the carrier's turn is, over the wires of its ports, one that a step of the system may have
     abbrev pub AnyPorts : Type 0
     AnyPorts = (event : CarrierEvent) (old new : CarrierModel H P) (wires : List Wire) (opened : ℕ) → AreWired old.backends wires → OpensWires old.nodes opened opens
-        → CarrierDoes failures is_garbled exchange gives_none opens longest old event new
+        → CarrierDoes calls opens longest old event new
         → (wires' : List Wire) × AreWired new.backends wires' × (longest' : Wire → ℕ)
-        × CarrierDoes any_failures any_garbled Exchanges any_none (Dials old.nodes opened) longest' (over_wires old wires) event (over_wires new wires')
+        × CarrierDoes any_calls (Dials old.nodes opened) longest' (over_wires old wires) event (over_wires new wires')
 
 -- What is asked of ports can be had: a wire stands for itself, and one that is dialled at a node's endpoint is new and leads there.
 pub record WiresStand : Type 0 where

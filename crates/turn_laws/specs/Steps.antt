@@ -24,9 +24,9 @@ use Rattle.proxy_turns.specs.WorkerModel.{WorkerModel, WorkerEvent, Did, Finishe
 use Rattle.proxy_turns.specs.CarrierModel.{CarrierEvent, Opened as OpenedLink, Reached, CarrierDoes as CarrierDoes}
 use Rattle.world_laws.specs.declared.event.Event.{Event}
 use Rattle.world_laws.specs.declared.event.Event.TheVariants as core
-use Rattle.turn_laws.specs.Wire.{Wire, Exchanges, Dials, ServesNext, Execution}
+use Rattle.turn_laws.specs.Wire.{Wire, Dials, ServesNext, Execution}
 use Rattle.turn_laws.specs.System.{System, Mark, Arrived, Executed, Answered, IsInStep}
-use Rattle.turn_laws.specs.PortsMay.{any_moves, any_failures, any_garbled, any_none}
+use Rattle.turn_laws.specs.PortsMay.{any_moves, any_calls}
 use Rattle.turn_laws.specs.Underway.{IsWorking, DownInStep}
 use Rattle.turn_laws.specs.Asking.{NoneAsksIn}
 
@@ -131,7 +131,7 @@ module _ {C J : Type 0} where
   -- What happens at the carrier: an event of its turn, as its contract says, and what the clauses below leave open.
   pub record CarrierStep (s : System C J) (event : CarrierEvent) (s' : System C J) : Type 0 where
     pub longest : Wire → ℕ
-    pub does : CarrierDoes any_failures any_garbled Exchanges any_none (Opens s) longest s.carrier event s'.carrier
+    pub does : CarrierDoes any_calls (Opens s) longest s.carrier event s'.carrier
     pub breaks : Breaks s s'
     pub leaves : s' ≡ record s { carrier = s'.carrier; closed = s'.closed; opened = opened_by event s.opened }
     -- A premise: a lane is in order between its two ends (as above).

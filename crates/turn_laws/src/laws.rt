@@ -88,7 +88,7 @@ pub fn any_client<C: ClientPort + Drop, J: Naming>()
 
 /// What a carrier does over ports that stand for wires is, over these wires, what the carrier of the system may do.
 pub fn any_port<H: Drop, P: WiredPort, D: Dial<Port = P>>()
-    ensures { AnyPorts P.wired H P.failures P.is_garbled P.exchange P.gives_none D.opens P.longest }
+    ensures { AnyPorts P.wired H P.calls D.opens P.longest }
 {}
 
 /// A port over bytes stands for a wire (`BlockPort` is a `WiredPort`), from its beginning on, and still does when the node at the other

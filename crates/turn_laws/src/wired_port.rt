@@ -11,5 +11,5 @@ pub trait WiredPort: RunPort {
     ghost wired: { Self → Wire → Type 0 };
 
     /// What goes over it goes over its wire: so the values that come are those that the node's serving put there.
-    ghost stands: { StandsFor wired Self.exchange };
+    ghost stands: { StandsFor wired Self.calls.exchange };
 }

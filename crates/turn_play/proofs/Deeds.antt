@@ -8,7 +8,7 @@ use Rattle.turn_play.specs.declared.order.Order.{Order}
 use Rattle.turn_play.specs.Beside.{AreGivenBeside, LeadsBeside, PlaysRefineBeside, StepBeside}
 use Rattle.turn_play.specs.Obeying.{Obeys, ObeysAll, StaysInOrder}
 use Rattle.turn_play.specs.Playing.{PlayModel, Shows}
-use Rattle.turn_play.specs.Port.{IsEnd, IsFresh, IsGarbled, PortExchanges, PortGivesNone, failures_at, longest_run}
+use Rattle.turn_play.specs.Port.{IsEnd, IsFresh, longest_run, port_calls}
 use Rattle.turn_play.specs.Turns.{EnginesPlay}
 use Rattle.turn_play.specs.Deeds.{AreDeeds, AreGranted, Deed, IsEventOf, IsGranted, ObeyedPlaysOn, left_by, steps_of}
 use Rattle.turn_play.proofs.ServedWires.{ByteLaws}
@@ -47,7 +47,7 @@ module _ (C J : Type 0) (moves : Moves C) (gives_none takes_none : C → Type 0)
     λ given. premises-join s steps s' [] leads (premises s steps (may given.0) given.1) tt,
   )
 
-  module _ (engines : EnginesPlay C J moves IsEnd failures_at IsGarbled PortExchanges PortGivesNone IsFresh longest_run) (laws : ByteLaws) where
+  module _ (engines : EnginesPlay C J moves IsEnd port_calls IsFresh longest_run) (laws : ByteLaws) where
     pub did-all : (orders : List Order) (old : PlayModel C J) (result : Result (Unit {0}) PlayFault) (new : PlayModel C J) → ObeysAll moves gives_none takes_none old orders result new → StaysInOrder result → (s : System C J) → Shows old s
         → (deeds : List (Deed C J)) × DidAll old orders result new s deeds
     did-all [] old result new x stays s shows = ([], (x, subst (λ (p : PlayModel C J). Shows p s) (sym x.1) shows, refl, λ given. tt))

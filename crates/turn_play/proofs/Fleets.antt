@@ -22,7 +22,7 @@ use Rattle.turn_play.specs.May.{HearsItsNodes, MayMoveNow, MayNow}
 use Rattle.turn_play.specs.Moving.{event_of}
 use Rattle.turn_play.specs.Beside.{AreGivenBeside, LeadsBeside, MayNowBeside, MayStepBeside, StepBeside}
 use Rattle.turn_play.specs.Playing.{PlayModel, Shows}
-use Rattle.turn_play.specs.Port.{IsEnd, IsFresh, IsGarbled, PortExchanges, PortGivesNone, failures_at, longest_run}
+use Rattle.turn_play.specs.Port.{IsEnd, IsFresh, longest_run, port_calls}
 use Rattle.turn_play.specs.Turns.{EnginesPlay, IsTurns}
 use Rattle.turn_play.specs.Obeying.{IsOurs}
 use Rattle.turn_play.specs.Deeds.{AreDeeds, Deed, IsEventOf, left_by, steps_of}
@@ -249,7 +249,7 @@ module _ (C J : Type 0) (heard : WrittenIsHeard) (stand : FleetsStand C J) (foll
         λ start before reached. fleet-goes plays p new f shows start before reached one.1.0 one.0 one.1.1 one.2 (handed-given client.number one.1.0 (f p) one.1.3) waits,
       )
 
-  module _ (moves : Moves C) (gives_none takes_none : C → Type 0) (engines : EnginesPlay C J moves IsEnd failures_at IsGarbled PortExchanges PortGivesNone IsFresh longest_run) (laws : ByteLaws) where
+  module _ (moves : Moves C) (gives_none takes_none : C → Type 0) (engines : EnginesPlay C J moves IsEnd port_calls IsFresh longest_run) (laws : ByteLaws) where
     pub plays-are-fleets : PlaysAreFleets C J moves gives_none takes_none
     plays-are-fleets plays p orders result new ours x stays f shows =
         let did = did-all C J moves gives_none takes_none engines laws orders (plays p) result new x stays (f p) (shows p) in (

@@ -27,7 +27,7 @@ use Rattle.turn_laws.specs.Sharing.{SharedEvent}
 use Rattle.turn_play.specs.Beside.{PlaysRefineBeside}
 use Rattle.turn_play.specs.Deeds.{IsEventOf, IsEventOfOthers, IsGranted, IsServing}
 use Rattle.turn_play.specs.Playing.{PlayModel, PlaysTo, PlaysToBeside, Shows}
-use Rattle.turn_play.specs.Port.{IsEnd, IsFresh, IsGarbled, PortExchanges, PortGivesNone, failures_at, longest_run}
+use Rattle.turn_play.specs.Port.{IsEnd, IsFresh, longest_run, port_calls}
 use Rattle.turn_play.specs.Connection.{broken, cut_to}
 use Rattle.turn_play.specs.Turns.{EnginesPlay, IsTurns}
 use Rattle.turn_play.proofs.ServedWires.{ByteLaws, port-opens}
@@ -95,7 +95,7 @@ sound-turn : (cause : EngineFault) (why : PlayFault) → why ≡ of_turn cause �
 sound-turn cause_of.NoMemory why is stays = tt
 sound-turn cause_of.OutOfOrder why is stays = subst (λ w. StaysInOrder (Err w)) is stays
 
-module _ (C J : Type 0) (moves : Moves C) (gives_none takes_none : C → Type 0) (engines : EnginesPlay C J moves IsEnd failures_at IsGarbled PortExchanges PortGivesNone IsFresh longest_run) (laws : ByteLaws) where
+module _ (C J : Type 0) (moves : Moves C) (gives_none takes_none : C → Type 0) (engines : EnginesPlay C J moves IsEnd port_calls IsFresh longest_run) (laws : ByteLaws) where
   turned : (old : PlayModel C J) (result : Result Turned EngineFault) (new : PlayModel C J) → IsTurned moves gives_none takes_none old result new → engine.IsSound result → PlaysWhere Any IsTurns old new
   turned old result new x sound = subst (PlaysWhere Any IsTurns old) (sym x.2) (engine-turned old new.engine (λ s shows. engines (port-opens laws) s old.engine new.engine result shows x.0 sound))
 

@@ -154,10 +154,10 @@ reads-outcome old new buffer (flow.Bytes count) x = (x.0, x.1)
 reads-outcome old new buffer flow.Nothing x = still-there old new x.1
 reads-outcome old new buffer flow.Gone x = (inr (omega arith), still-there old new x)
 
-pub reads-asked : (old new : StreamModel) (buffer : List ℕ) (given : Flow) → ReadsSome old buffer given new → StreamAsked old given new
-reads-asked old new buffer (flow.Bytes count) x = x.2
-reads-asked old new buffer flow.Nothing x = x
-reads-asked old new buffer flow.Gone x = x
+pub reads-asked : (old new : StreamModel) (buffer : List ℕ) (room : ℕ) (given : Flow) → ReadsSome old buffer given new → StreamAsked old room given new
+reads-asked old new buffer room (flow.Bytes count) x = x.2
+reads-asked old new buffer room flow.Nothing x = x
+reads-asked old new buffer room flow.Gone x = x
 
 pub writes-outcome : (old new : StreamModel) (bytes : List ℕ) (given : Flow) → WritesSome old bytes given new → WriteOutcome no_failures StreamMoves old bytes given new
 writes-outcome old new bytes (flow.Bytes count) x = (x.0, x.1)

@@ -7,11 +7,10 @@ use Rattle.std.specs.Ordering.{nat_cmp}
 use Rattle.std.specs.FinMap.{FinMap, get, insert, get-insert}
 use Rattle.std.specs.Cmp.{nat_cmp_total}
 use mathlib.Core.List.{IsPrefix}
-use Rattle.resp_wire.specs.declared.value.Value.{Value}
-use Rattle.key_split.specs.Requests.{Request}
 use Rattle.slot_map.specs.Table.{Endpoint}
 use Rattle.slot_map.specs.declared.ops.MapOp.{MapOp}
 use Rattle.proxy_lanes.specs.declared.ends.lane_ends.LaneEnds.{LaneEnds}
+use Rattle.node_link.specs.Port.{PortCalls}
 use Rattle.proxy_turns.specs.declared.newcomer.Newcomer.{Newcomer}
 use Rattle.proxy_turns.specs.Port.{Moves}
 use Rattle.proxy_turns.specs.WorkerModel.{WorkerModel, WorkerEvent, Did, Finished, Took, FoundNone, Came, TurnedAway, FoundNobody, Left, WorkerDoes}
@@ -20,11 +19,11 @@ use Rattle.proxy_engine.specs.Along.{HoldsAlong}
 use Rattle.proxy_engine.specs.EngineModel.{EngineModel, IsInOrder}
 use Rattle.proxy_engine.specs.Events.{IsEventsTo, TurnsAreEvents}
 use Rattle.proxy_engine.proofs.Working.{worker-event}
-use Rattle.turn_laws.specs.Wire.{Wire, Exchanges, Dials}
+use Rattle.turn_laws.specs.Wire.{Wire, Dials}
 use Rattle.turn_laws.specs.System.{System, Mark, IsInStep}
 use Rattle.turn_laws.specs.Underway.{DownInStep}
 use Rattle.turn_laws.specs.Steps.{AtWorker, AtCarrier, IsSeen, UpsInStep, opened_by, seen_at}
-use Rattle.turn_laws.specs.PortsMay.{any_moves, any_failures, any_garbled, any_none}
+use Rattle.turn_laws.specs.PortsMay.{any_moves, any_calls}
 use Rattle.turn_laws.specs.AnyPort.{AnyClients, AnyPorts, OpensWires, over_wires}
 use Rattle.turn_play.specs.May.{WorkerMay, CarrierMay}
 use Rattle.turn_play.specs.Played.{Step, Leads}
@@ -120,13 +119,13 @@ module _ {C J P : Type 0} (moves : Moves C) (any : AnyClients C J moves) (engine
 
 -- ---- the carrier's
 
-module _ (C J : Type 0) {P : Type 0} (wired : P → Wire → Type 0) (failures : P → ℕ) (is_garbled : P → Type 0) (exchange : P → List Request → List Value → P → Type 0) (gives_none : P → Type 0) (opens : Endpoint → Option P → ℕ → ℕ → Type 0) (longest : P → ℕ)
-    (any : AnyPorts wired (Newcomer C J) failures is_garbled exchange gives_none opens longest) (dials : (nodes : List Endpoint) (opened : ℕ) → OpensWires wired nodes opened opens) (engine : EngineModel C J P) (first : engine.worker.worker ≡ 0) where
+module _ (C J : Type 0) {P : Type 0} (wired : P → Wire → Type 0) (calls : PortCalls P) (opens : Endpoint → Option P → ℕ → ℕ → Type 0) (longest : P → ℕ)
+    (any : AnyPorts wired (Newcomer C J) calls opens longest) (dials : (nodes : List Endpoint) (opened : ℕ) → OpensWires wired nodes opened opens) (engine : EngineModel C J P) (first : engine.worker.worker ≡ 0) where
   abbrev Model : Type 0
   Model = CarrierModel (Newcomer C J) P
 
   abbrev Does : Model → CarrierEvent → Model → Type 0
-  Does = CarrierDoes failures is_garbled exchange gives_none opens longest
+  Does = CarrierDoes calls opens longest
 
   abbrev OrderAt : Model → Type 0
   OrderAt carrier = IsInOrder (record engine { carrier = carrier })
@@ -153,7 +152,7 @@ module _ (C J : Type 0) {P : Type 0} (wired : P → Wire → Type 0) (failures :
         next,
         record {
           longest = r.2;
-          does = subst (λ (c : CarrierModel (Newcomer C J) Wire). CarrierDoes any_failures any_garbled Exchanges any_none (Dials c.nodes s.opened) r.2 c event carrier) (sym shows.2) r.3;
+          does = subst (λ (c : CarrierModel (Newcomer C J) Wire). CarrierDoes any_calls (Dials c.nodes s.opened) r.2 c event carrier) (sym shows.2) r.3;
           breaks = b.1;
           leaves = refl;
           in_step = ups-in-step new r.0 next beside refl order;
@@ -186,19 +185,19 @@ module _ {C J : Type 0} where
       two ∙ (λ i. record (one i) { carrier = new.carrier; closed = new.closed; opened = new.opened })
       ∙ (λ i. record s { workers = sym (ap (λ (t : System C J). t.workers) two) i; carrier = new.carrier; closed = new.closed; opened = new.opened; log = sym (ap (λ (t : System C J). t.log) two) i })
 
-module _ (C J : Type 0) {P : Type 0} (moves : Moves C) (wired : P → Wire → Type 0) (failures : P → ℕ) (is_garbled : P → Type 0) (exchange : P → List Request → List Value → P → Type 0) (gives_none : P → Type 0) (opens : Endpoint → Option P → ℕ → ℕ → Type 0) (longest : P → ℕ)
-    (clients : AnyClients C J moves) (ports : AnyPorts wired (Newcomer C J) failures is_garbled exchange gives_none opens longest) (turns : TurnsAreEvents C J moves failures is_garbled exchange gives_none opens longest) where
-  pub engines-play : EnginesPlay C J moves wired failures is_garbled exchange gives_none opens longest
+module _ (C J : Type 0) {P : Type 0} (moves : Moves C) (wired : P → Wire → Type 0) (calls : PortCalls P) (opens : Endpoint → Option P → ℕ → ℕ → Type 0) (longest : P → ℕ)
+    (clients : AnyClients C J moves) (ports : AnyPorts wired (Newcomer C J) calls opens longest) (turns : TurnsAreEvents C J moves calls opens longest) where
+  pub engines-play : EnginesPlay C J moves wired calls opens longest
   engines-play dials s old new result shows t sound =
       let less = shows.less in
       let x = turns less old new result shows.knows shows.in_order t sound in
       let after : EngineModel C J P = x.2 in
-      let e : IsEventsTo C J moves failures is_garbled exchange gives_none opens longest less x.0 x.1 after = x.3 in
+      let e : IsEventsTo C J moves calls opens longest less x.0 x.1 after = x.3 in
       let lanes : s.carrier.lanes ≡ less.carrier.lanes = ap (λ (c : CarrierModel (Newcomer C J) Wire). c.lanes) shows.carrier.2 in
       let published : s.carrier.published ≡ less.carrier.published = ap (λ (c : CarrierModel (Newcomer C J) Wire). c.published) shows.carrier.2 in
       let one = worker-plays moves clients less x.0 s less.worker after.worker e.works (shows.first, shows.workers, lanes, published) e.orderly in
       let mid : ShowsCarrier wired less.carrier one.0 = (shows.carrier.0, shows.carrier.1, ap (λ (t : System C J). t.carrier) one.3 ∙ shows.carrier.2) in
-      let two = carrier-plays C J wired failures is_garbled exchange gives_none opens longest ports dials after one.2.0 x.1 one.0 less.carrier after.carrier e.carries mid one.2.1 e.later in (
+      let two = carrier-plays C J wired calls opens longest ports dials after one.2.0 x.1 one.0 less.carrier after.carrier e.carries mid one.2.1 e.later in (
         two.0,
         turns-join s one.0 two.0 one.1 two.1,
         record { less = after; knows = x.4; in_order = e.in_order; first = one.2.0; workers = ap (λ (t : System C J). t.workers) two.3 ∙ one.2.1; carrier = two.2 },

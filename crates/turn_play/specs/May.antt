@@ -20,12 +20,12 @@ use Rattle.proxy_turns.specs.CarrierModel.{CarrierEvent, CarrierDoes}
 use Rattle.world_laws.specs.World.{NamesNode}
 use Rattle.world_laws.specs.declared.event.Event.{Event}
 use Rattle.world_laws.specs.declared.event.Event.TheVariants as core
-use Rattle.turn_laws.specs.Wire.{Wire, Item, Part, Asks, Runs, Lists, Exchanges, Execution, executions, parts_in}
+use Rattle.turn_laws.specs.Wire.{Wire, Item, Part, Asks, Runs, Lists, Execution, executions, parts_in}
 use Rattle.turn_laws.specs.System.{System, Mark}
 use Rattle.turn_laws.specs.Underway.{DownInStep}
 use Rattle.turn_laws.specs.Asking.{NoneAsksIn}
 use Rattle.turn_laws.specs.Steps.{SystemEvent, AtWorker, AtCarrier, Handed, AtNode, AtBroken, Thrown, Moved, IsSeen, Opens, Hands, Breaks, UpsInStep, ServesLate, Discards, opened_by, log_of}
-use Rattle.turn_laws.specs.PortsMay.{any_moves, any_failures, any_garbled, any_none}
+use Rattle.turn_laws.specs.PortsMay.{any_moves, any_calls}
 use Rattle.turn_laws.specs.Writing.{AreWritten, CanBeNamed, StandsAtItsNodes}
 
 -- ---- what a node writes of a run
@@ -87,7 +87,7 @@ module _ {C J : Type 0} where
   -- an event of the carrier's turn
   pub record CarrierMay (s : System C J) (event : CarrierEvent) (s' : System C J) : Type 0 where
     pub longest : Wire → ℕ
-    pub does : CarrierDoes any_failures any_garbled Exchanges any_none (Opens s) longest s.carrier event s'.carrier
+    pub does : CarrierDoes any_calls (Opens s) longest s.carrier event s'.carrier
     pub breaks : Breaks s s'
     pub leaves : s' ≡ record s { carrier = s'.carrier; closed = s'.closed; opened = opened_by event s.opened }
     -- what it took was posted, in that order

@@ -16,7 +16,7 @@ use Rattle.turn_play.specs.declared.order.Order.{Order}
 use Rattle.turn_play.specs.declared.order.Order.TheVariants as order
 use Rattle.turn_play.specs.Faults.{of_turn}
 use Rattle.turn_play.specs.Moving.{MovesOrNot}
-use Rattle.turn_play.specs.Port.{IsFresh, IsGarbled, PortExchanges, PortGivesNone, failures_at, longest_run}
+use Rattle.turn_play.specs.Port.{IsFresh, longest_run, port_calls}
 use Rattle.turn_play.specs.Stream.{StreamModel}
 use Rattle.turn_play.specs.Connection.{ChangesStream, ServesAt, broken, cut_to}
 use Rattle.turn_play.specs.Others.{AreServed, CannotCome}
@@ -27,8 +27,8 @@ module _ {C J : Type 0} where
     -- the engine had its turn: its worker and then its carrier, and it rests where nothing moved
     abbrev pub IsTurned : PlayModel C J → Result Turned EngineFault → PlayModel C J → Type 0
     IsTurned old result new =
-        EngineTurns moves (CarrierGoes failures_at IsGarbled PortExchanges PortGivesNone IsFresh longest_run) old.engine result new.engine
-        × EngineRests gives_none takes_none (GaveNone failures_at IsGarbled PortExchanges PortGivesNone) result new.engine
+        EngineTurns moves (CarrierGoes port_calls IsFresh longest_run) old.engine result new.engine
+        × EngineRests gives_none takes_none (GaveNone port_calls) result new.engine
         × (new ≡ record old { engine = new.engine })
 
     abbrev pub TurnsEngine : PlayModel C J → Result (Unit {0}) PlayFault → PlayModel C J → Type 0

@@ -1,11 +1,10 @@
 -- A port of a play: the carrier's end of a connection in bytes, with a stream in memory, at whose other end a node of the play reads and
 -- writes.
-use Rattle.std.specs.Prelude.{◌≡◌, ℕ, List, Bool, true, Option, Some, None}
+use Rattle.std.specs.Prelude.{◌≡◌, ℕ, Bool, true, Option, Some, None}
 use Rattle.resp_wire.specs.LimitsModel.{full}
-use Rattle.resp_wire.specs.declared.value.Value.{Value}
-use Rattle.key_split.specs.Requests.{Request}
 use Rattle.slot_map.specs.Table.{Endpoint}
-use Rattle.node_link.specs.Blocks.{BlockExchanges, BlockGivesNone, BlockPortModel, IsBlockGarbled, longest_at}
+use Rattle.node_link.specs.Blocks.{BlockPortModel, block_calls, longest_at}
+use Rattle.node_link.specs.Port.{PortCalls}
 use Rattle.turn_laws.specs.Wire.{Wire}
 use Rattle.turn_laws.specs.ByteWires.{IsWiredTo, new_port}
 use Rattle.turn_play.specs.Stream.{StreamAsked, StreamModel, StreamMoves, StreamOffered, far_end, new_stream, no_failures}
@@ -17,19 +16,9 @@ PortModel = BlockPortModel StreamModel
 abbrev pub IsEnd : PortModel → Wire → Type 0
 IsEnd port wire = IsWiredTo far_end port wire
 
--- ---- what its calls do: those of any port over bytes, at its stream
-
-abbrev pub failures_at : PortModel → ℕ
-failures_at port = no_failures port.bytes.stream
-
-abbrev pub IsGarbled : PortModel → Type 0
-IsGarbled port = IsBlockGarbled port
-
-abbrev pub PortExchanges : PortModel → List Request → List Value → PortModel → Type 0
-PortExchanges old requests values new = BlockExchanges StreamMoves old requests values new
-
-abbrev pub PortGivesNone : PortModel → Type 0
-PortGivesNone port = BlockGivesNone StreamAsked StreamOffered port
+-- what it says of its calls: what any port over bytes does, of its stream
+abbrev pub port_calls : PortCalls PortModel
+port_calls = block_calls no_failures StreamMoves StreamAsked StreamOffered
 
 abbrev pub longest_run : PortModel → ℕ
 longest_run port = longest_at port

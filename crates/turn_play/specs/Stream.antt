@@ -53,10 +53,10 @@ abbrev pub no_failures : StreamModel → ℕ
 no_failures stream = 2 ^ 64 - 1
 
 -- a read that moved nothing found nothing to read
-abbrev pub StreamAsked : StreamModel → Flow → StreamModel → Type 0
-StreamAsked old (flow.Bytes count) new = 0 < count
-StreamAsked old flow.Nothing new = (old.unread ≡ []) × (new ≡ old)
-StreamAsked old flow.Gone new = new ≡ old
+abbrev pub StreamAsked : StreamModel → ℕ → Flow → StreamModel → Type 0
+StreamAsked old room (flow.Bytes count) new = 0 < count
+StreamAsked old room flow.Nothing new = (old.unread ≡ []) × (new ≡ old)
+StreamAsked old room flow.Gone new = new ≡ old
 
 -- a write of some bytes moves some
 abbrev pub StreamOffered : StreamModel → List ℕ → Flow → StreamModel → Type 0

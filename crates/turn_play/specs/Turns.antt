@@ -1,9 +1,8 @@
 -- What turns of the code are steps of a system: an engine's turn is the events of its worker and then of its carrier, over ports that stand
 -- for wires.
 use Rattle.std.specs.Prelude.{◌≡◌, ℕ, List, [], ◌∷◌, All, Option, Result}
-use Rattle.resp_wire.specs.declared.value.Value.{Value}
-use Rattle.key_split.specs.Requests.{Request}
 use Rattle.slot_map.specs.Table.{Endpoint}
+use Rattle.node_link.specs.Port.{PortCalls}
 use Rattle.proxy_turns.specs.declared.newcomer.Newcomer.{Newcomer}
 use Rattle.proxy_turns.specs.Port.{Moves}
 use Rattle.proxy_turns.specs.CarrierModel.{CarrierModel, CarrierGoes}
@@ -48,10 +47,10 @@ module _ {C J : Type 0} where
     PlaysEngine s new = (s' : System C J) × PlaysBy IsTurns s s' × ShowsEngine new s'
         × (s' ≡ record s { workers = s'.workers; carrier = s'.carrier; closed = s'.closed; opened = s'.opened; log = s'.log })
 
-module _ (C J : Type 0) {P : Type 0} (moves : Moves C) (wired : P → Wire → Type 0) (failures : P → ℕ) (is_garbled : P → Type 0) (exchange : P → List Request → List Value → P → Type 0) (gives_none : P → Type 0) (opens : Endpoint → Option P → ℕ → ℕ → Type 0) (longest : P → ℕ) where
+module _ (C J : Type 0) {P : Type 0} (moves : Moves C) (wired : P → Wire → Type 0) (calls : PortCalls P) (opens : Endpoint → Option P → ℕ → ℕ → Type 0) (longest : P → ℕ) where
   -- An engine's turn is steps of a system that shows it, where a port that is opened stands for a new wire. Nothing is asked of the lanes and
   -- the slot map.
   abbrev pub EnginesPlay : Type 0
   EnginesPlay = ((nodes : List Endpoint) (opened : ℕ) → OpensWires wired nodes opened opens)
       → (s : System C J) (old new : EngineModel C J P) (result : Result Turned EngineFault) → ShowsEngine wired old s
-      → EngineTurns moves (CarrierGoes failures is_garbled exchange gives_none opens longest) old result new → IsSound result → PlaysEngine wired s new
+      → EngineTurns moves (CarrierGoes calls opens longest) old result new → IsSound result → PlaysEngine wired s new

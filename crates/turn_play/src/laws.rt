@@ -52,7 +52,7 @@ pub fn plays_refine_beside<C: Drop, J: Naming>()
 /// An engine's turn, over ports that stand for wires, is steps of a system that shows it: of its worker and then of its carrier. It
 /// shows the engine after the turn, and nothing is asked of the lanes and the slot map.
 pub fn engines_play<C: ClientPort + Drop, J: Naming, P: WiredPort + Drop, D: Dial<Port = P>>()
-    ensures { EnginesPlay C J C.moves P.wired P.failures P.is_garbled P.exchange P.gives_none D.opens P.longest }
+    ensures { EnginesPlay C J C.moves P.wired P.calls D.opens P.longest }
 {
     any_client::<C, J>();
     any_port::<Newcomer<C, J>, P, D>();

@@ -94,11 +94,7 @@ fn sent(served: Result<(), NoMemory>) -> Result<(), PortFault> {
 
 impl NodePort for MemoryPort {
     // It promises nothing: the rows look at what comes.
-    ghost failures = { λ _. 2 ^ 64 };
-
-    ghost is_garbled = { λ _. Unit {0} };
-
-    ghost exchange = { λ old requests values new. Unit {0} };
+    ghost calls = { record { failures = λ _. 2 ^ 64; is_garbled = λ _. Unit {0}; exchange = λ old requests values new. Unit {0}; gives_none = λ _. Unit {0} } };
 
     ghost still = { λ _. tt };
 

@@ -2,4 +2,4 @@ use Rattle.node_link.proofs.Matching as matching
 use Rattle.node_link.proofs.laws.replies_match.Goals as goal
 
 pub returns : goal.returns
-returns g c = matching.replies_match g.P.NodePort.failures g.P.NodePort.is_garbled g.P.NodePort.exchange
+returns g c = matching.replies_match g.P.NodePort.calls

@@ -8,4 +8,4 @@ returns-clause-worker g c = worker-unseen g.C.ClientPort.moves
 
 pub returns-clause-carrier : goal.returns-clause-carrier
 returns-clause-carrier g c =
-    carrier-unseen (Newcomer g.row.C.Denot g.row.J.Denot) g.P.NodePort.failures g.P.NodePort.is_garbled g.P.NodePort.exchange g.P.NodePort.gives_none g.D.Dial.opens g.P.RunPort.longest
+    carrier-unseen (Newcomer g.row.C.Denot g.row.J.Denot) g.P.NodePort.calls g.D.Dial.opens g.P.RunPort.longest

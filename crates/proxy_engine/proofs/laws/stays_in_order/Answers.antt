@@ -5,4 +5,4 @@ pub returns-clause-worker : goal.returns-clause-worker
 returns-clause-worker g c = worker-stays g.C.ClientPort.moves
 
 pub returns-clause-carrier : goal.returns-clause-carrier
-returns-clause-carrier g c = carrier-stays g.P.NodePort.failures g.P.NodePort.is_garbled g.P.NodePort.exchange g.P.NodePort.gives_none g.D.Dial.opens g.P.RunPort.longest
+returns-clause-carrier g c = carrier-stays g.P.NodePort.calls g.D.Dial.opens g.P.RunPort.longest

@@ -3,4 +3,4 @@ use Rattle.proxy_engine.proofs.laws.turns_are_events.Goals as goal
 
 pub returns : goal.returns
 returns g c =
-    turns-are-events g.row.C.Denot g.row.J.Denot g.C.ClientPort.moves g.P.NodePort.failures g.P.NodePort.is_garbled g.P.NodePort.exchange g.P.NodePort.gives_none g.D.Dial.opens g.P.RunPort.longest
+    turns-are-events g.row.C.Denot g.row.J.Denot g.C.ClientPort.moves g.P.NodePort.calls g.D.Dial.opens g.P.RunPort.longest

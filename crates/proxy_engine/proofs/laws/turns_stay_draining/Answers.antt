@@ -5,4 +5,4 @@ use Rattle.proxy_engine.proofs.laws.turns_stay_draining.Goals as goal
 pub returns : goal.returns
 returns g c =
     let node = g.P.NodePort in
-    turns-stay-draining g.C.ClientPort.moves (CarrierGoes node.failures node.is_garbled node.exchange node.gives_none g.D.Dial.opens g.P.RunPort.longest)
+    turns-stay-draining g.C.ClientPort.moves (CarrierGoes node.calls g.D.Dial.opens g.P.RunPort.longest)

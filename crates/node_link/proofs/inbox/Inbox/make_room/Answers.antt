@@ -1,7 +1,7 @@
 use Rattle.std.proofs.Common.{◌≡◌, ◌≤◌, ◌∙◌, List, ℕ, [], ap, arith, length, subst, sym, take}
 use Rattle.std.proofs.lemmas.List.{length-take-le}
 use Rattle.resp_wire.specs.ReaderModel.{ReaderModel}
-use Rattle.node_link.specs.Bytes.{IsFaultFirst, IsShortWhere}
+use Rattle.node_link.specs.Bytes.{InboxModel, IsFaultFirst, IsShortWhere}
 use Rattle.node_link.specs.contracts.inbox.Inbox.{the_view}
 use Rattle.node_link.proofs.inbox.Inbox.make_room.Goals as goal
 
@@ -23,10 +23,11 @@ invariant_of-self c =
       subst (λ (reader : ReaderModel). IsShortWhere c.self.inside.is_short reader) (sym c.give_room.ensures) c.self.invariant.2,
     )
 
-pub returns : goal.returns
-returns c =
+pub returns-clause-kept : goal.returns-clause-kept
+returns-clause-kept c =
     let none = rw (← c.self.view_is) at c.requires in
     let same = as_before c.self.inside.filled c.self.inside.chunk.items c.resize.new.self.items c.self.invariant.0 none in
-    let now : the_view (record c.self.inside { reader = c.give_room.new.self; chunk = c.resize.new.self }) ≡ the_view c.self.inside =
-    λ i. record { fed = c.give_room.ensures i; unfed = same i } in
-    now ∙ c.self.view_is
+    let room = length c.resize.new.self.items in
+    let now : the_view (record c.self.inside { reader = c.give_room.new.self; chunk = c.resize.new.self }) ≡ record (the_view c.self.inside) { room = room } =
+    λ i. record { fed = c.give_room.ensures i; unfed = same i; room = room } in
+    now ∙ ap (λ (inbox : InboxModel). record inbox { room = room }) c.self.view_is

@@ -12,7 +12,7 @@ returns-in_err-worked-clause-turns g c =
     let node = g.P.NodePort in
     let was : c.turn_worker.result ≡ Err c.in_err-worked.field-0.0 = search rules in
     let is : c.from_residual.result ≡ Err c.in_err-worked.field-0.0 = search rules in
-    worker-failed g.C.ClientPort.moves (CarrierGoes node.failures node.is_garbled node.exchange node.gives_none g.D.Dial.opens g.P.RunPort.longest) (engine_model f c.args.self.now) (engine_model f c.turn_worker.new.self) c.turn_worker.result _ c.from_residual.result
+    worker-failed g.C.ClientPort.moves (CarrierGoes node.calls g.D.Dial.opens g.P.RunPort.longest) (engine_model f c.args.self.now) (engine_model f c.turn_worker.new.self) c.turn_worker.result _ c.from_residual.result
     was is c.turn_worker.ensures.ends
 
 pub returns-in_err-carried-clause-turns : goal.returns-in_err-carried-clause-turns
@@ -22,7 +22,7 @@ returns-in_err-carried-clause-turns g c =
     let was : c.turn_worker.result ≡ Ok c.in_ok-worked.worked = search rules in
     let then : c.turn_carrier.result ≡ Err c.in_err-carried.field-0.0 = search rules in
     let is : c.from_residual-in_err-carried.result ≡ Err c.in_err-carried.field-0.0 = search rules in
-    carrier-failed g.C.ClientPort.moves (CarrierGoes node.failures node.is_garbled node.exchange node.gives_none g.D.Dial.opens g.P.RunPort.longest) (engine_model f c.args.self.now) (engine_model f c.turn_worker.new.self) (engine_model f c.turn_carrier.new.self)
+    carrier-failed g.C.ClientPort.moves (CarrierGoes node.calls g.D.Dial.opens g.P.RunPort.longest) (engine_model f c.args.self.now) (engine_model f c.turn_worker.new.self) (engine_model f c.turn_carrier.new.self)
     c.turn_worker.result c.turn_carrier.result c.in_ok-worked.worked _ c.from_residual-in_err-carried.result was then is c.turn_worker.ensures.ends c.turn_carrier.ensures.ends
 
 pub returns-clause-turns : goal.returns-clause-turns
@@ -31,7 +31,7 @@ returns-clause-turns g c =
     let node = g.P.NodePort in
     let was : c.turn_worker.result ≡ Ok c.in_ok-worked.worked = search rules in
     let then : c.turn_carrier.result ≡ Ok c.in_ok-carried.carried = search rules in
-    both-turned g.C.ClientPort.moves (CarrierGoes node.failures node.is_garbled node.exchange node.gives_none g.D.Dial.opens g.P.RunPort.longest) (engine_model f c.args.self.now) (engine_model f c.turn_worker.new.self) (engine_model f c.turn_carrier.new.self)
+    both-turned g.C.ClientPort.moves (CarrierGoes node.calls g.D.Dial.opens g.P.RunPort.longest) (engine_model f c.args.self.now) (engine_model f c.turn_worker.new.self) (engine_model f c.turn_carrier.new.self)
     c.turn_worker.result c.turn_carrier.result c.in_ok-worked.worked c.in_ok-carried.carried (record { moved = c.in_ok-worked.worked || c.in_ok-carried.carried; next_due = c.next_due.result; served = c.is_served.result }) was then refl c.turn_worker.ensures.ends c.turn_carrier.ensures.ends
 
 pub returns-clause-rests : goal.returns-clause-rests
@@ -41,7 +41,7 @@ returns-clause-rests g c =
     let ports = g.C.ClientPort in
     let was : c.turn_worker.result ≡ Ok c.in_ok-worked.worked = search rules in
     let then : c.turn_carrier.result ≡ Ok c.in_ok-carried.carried = search rules in
-    λ none. engine-rests ports.gives_none ports.takes_none (GaveNone node.failures node.is_garbled node.exchange node.gives_none) (CarrierGoes node.failures node.is_garbled node.exchange node.gives_none g.D.Dial.opens g.P.RunPort.longest)
+    λ none. engine-rests ports.gives_none ports.takes_none (GaveNone node.calls) (CarrierGoes node.calls g.D.Dial.opens g.P.RunPort.longest)
     (engine_model f c.turn_worker.new.self) (engine_model f c.turn_carrier.new.self) c.turn_worker.result c.turn_carrier.result c.in_ok-worked.worked c.in_ok-carried.carried was then c.turn_worker.ensures.rests c.turn_carrier.ensures.ends c.turn_carrier.ensures.rests none
 
 pub returns-clause-later : goal.returns-clause-later

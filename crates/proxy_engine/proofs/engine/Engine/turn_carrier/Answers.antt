@@ -16,19 +16,19 @@ invariant_of-self g c =
     let old = c.args.self.now.carrier in
     let new = c.turn-carried.new.self in
     let node = g.P.NodePort in
-    let kept = carrier-turns (Newcomer g.row.C.Denot g.row.J.Denot) node.failures node.is_garbled node.exchange node.gives_none g.D.Dial.opens g.P.RunPort.longest (carrier_model f old) (carrier_model f new) c.turn-carried.result c.turn-carried.ensures.turns in
+    let kept = carrier-turns (Newcomer g.row.C.Denot g.row.J.Denot) node.calls g.D.Dial.opens g.P.RunPort.longest (carrier_model f old) (carrier_model f new) c.turn-carried.result c.turn-carried.ensures.turns in
     record { together = lanes-kept (worker_model c.args.self.now.worker) (lanes_of (ends_of old)) (lanes_of (ends_of new)) kept c.args.self.now.together }
 
 pub returns-clause-ends : goal.returns-clause-ends
 returns-clause-ends g c =
     let f = g.D.Dial.failures in
     let node = g.P.NodePort in
-    carrier-ends node.failures node.is_garbled node.exchange node.gives_none g.D.Dial.opens g.P.RunPort.longest (engine_model f c.args.self.now) (record { worker = worker_model c.args.self.now.worker; carrier = carrier_model f c.turn-carried.new.self }) (engine_model f c.look_after.new.self)
+    carrier-ends node.calls g.D.Dial.opens g.P.RunPort.longest (engine_model f c.args.self.now) (record { worker = worker_model c.args.self.now.worker; carrier = carrier_model f c.turn-carried.new.self }) (engine_model f c.look_after.new.self)
     c.turn-carried.result c.look_after.result refl c.turn-carried.ensures.turns c.look_after.ensures.looks
 
 pub returns-clause-rests : goal.returns-clause-rests
 returns-clause-rests g c =
     let f = g.D.Dial.failures in
     let node = g.P.NodePort in
-    carrier-rests (GaveNone node.failures node.is_garbled node.exchange node.gives_none) (record { worker = worker_model c.args.self.now.worker; carrier = carrier_model f c.turn-carried.new.self }) (engine_model f c.look_after.new.self) c.turn-carried.result c.look_after.result
+    carrier-rests (GaveNone node.calls) (record { worker = worker_model c.args.self.now.worker; carrier = carrier_model f c.turn-carried.new.self }) (engine_model f c.look_after.new.self) c.turn-carried.result c.look_after.result
     c.turn-carried.ensures.rests c.look_after.ensures.looks

@@ -14,13 +14,13 @@ use Rattle.proxy_turns.proofs.carrier.Carrier+H+Publisher+J+R+D+P.send_for.Goals
 pub returns-then-worker-len : goal.returns-then-worker-len
 returns-then-worker-len g c =
     let le : length c.args.self.now.pending_runs.items ≤ c.args.worker = omega (arith, c.len.ensures, c.if-worker-len.true) in
-    (stays g.P.NodePort.failures g.P.NodePort.is_garbled g.P.NodePort.exchange g.P.NodePort.gives_none g.D.Dial.opens g.P.RunPort.longest sends (carrier_model g.D.Dial.failures c.args.self.now), λ still. past _ c.args.self.now.pending_runs.items c.args.worker le)
+    (stays g.P.NodePort.calls g.D.Dial.opens g.P.RunPort.longest sends (carrier_model g.D.Dial.failures c.args.self.now), λ still. past _ c.args.self.now.pending_runs.items c.args.worker le)
 
 pub returns-then-is_refused : goal.returns-then-is_refused
 returns-then-is_refused g c =
     let within : c.args.worker < length c.args.self.now.pending_runs.items = omega (arith, c.len.ensures, c.if-worker-len.false) in
     let one : slice_get c.args.self.now.pending_runs.items c.args.worker ≡ Some c.index_mut-pending_run.result.now = at-place c.args.self.now.pending_runs.items c.args.worker c.index_mut-pending_run.result.now within c.index_mut-pending_run.ensures.value in (
-      same_pending g.P.NodePort.failures g.P.NodePort.is_garbled g.P.NodePort.exchange g.P.NodePort.gives_none g.D.Dial.opens g.P.RunPort.longest sends (carrier_model g.D.Dial.failures c.args.self.now) c.args.worker c.index_mut-pending_run.result.now one,
+      same_pending g.P.NodePort.calls g.D.Dial.opens g.P.RunPort.longest sends (carrier_model g.D.Dial.failures c.args.self.now) c.args.worker c.index_mut-pending_run.result.now one,
       λ still. set_at (HasNoOpenLink c.args.self.now.backends.items) c.args.self.now.pending_runs.items c.args.worker c.index_mut-pending_run.result.now c.index_mut-pending_run.result.now one (no_way c.args.self.now.backends.items c.index_mut-pending_run.result.now (c.if-is_refused.ensures.0 refl)),
     )
 
@@ -28,7 +28,7 @@ pub returns-in_default : goal.returns-in_default
 returns-in_default g c =
     let within : c.args.worker < length c.args.self.now.pending_runs.items = omega (arith, c.len.ensures, c.if-worker-len.false) in
     let one : slice_get c.args.self.now.pending_runs.items c.args.worker ≡ Some c.index_mut-pending_run.result.now = at-place c.args.self.now.pending_runs.items c.args.worker c.index_mut-pending_run.result.now within c.index_mut-pending_run.ensures.value in (
-      same_pending g.P.NodePort.failures g.P.NodePort.is_garbled g.P.NodePort.exchange g.P.NodePort.gives_none g.D.Dial.opens g.P.RunPort.longest sends (carrier_model g.D.Dial.failures c.args.self.now) c.args.worker c.index_mut-pending_run.result.now one,
+      same_pending g.P.NodePort.calls g.D.Dial.opens g.P.RunPort.longest sends (carrier_model g.D.Dial.failures c.args.self.now) c.args.worker c.index_mut-pending_run.result.now one,
       λ still. set_at (HasNoOpenLink c.args.self.now.backends.items) c.args.self.now.pending_runs.items c.args.worker c.index_mut-pending_run.result.now c.index_mut-pending_run.result.now one (no_run c.args.self.now.backends.items c.index_mut-pending_run.result.now c.in_default.is),
     )
 
@@ -38,7 +38,7 @@ returns-then-at-len g c =
     let one : slice_get c.args.self.now.pending_runs.items c.args.worker ≡ Some c.index_mut-pending_run.result.now = at-place c.args.self.now.pending_runs.items c.args.worker c.index_mut-pending_run.result.now within c.index_mut-pending_run.ensures.value in
     let named : c.place_of-at.result ≡ c.in-Some.run'.first.node = c.place_of-at.ensures.value ∙ ap (λ (b : Batch). b.node) c.first.ensures in
     let le : length c.args.self.now.backends.items ≤ c.in-Some.run'.first.node = omega (arith, c.len-2.ensures, c.if-at-len.true, named) in (
-      same_pending g.P.NodePort.failures g.P.NodePort.is_garbled g.P.NodePort.exchange g.P.NodePort.gives_none g.D.Dial.opens g.P.RunPort.longest sends (carrier_model g.D.Dial.failures c.args.self.now) c.args.worker c.index_mut-pending_run.result.now one,
+      same_pending g.P.NodePort.calls g.D.Dial.opens g.P.RunPort.longest sends (carrier_model g.D.Dial.failures c.args.self.now) c.args.worker c.index_mut-pending_run.result.now one,
       λ still. set_at (HasNoOpenLink c.args.self.now.backends.items) c.args.self.now.pending_runs.items c.args.worker c.index_mut-pending_run.result.now c.index_mut-pending_run.result.now one (not_open c.args.self.now.backends.items c.index_mut-pending_run.result.now c.in-Some.run' c.in-Some.is (past _ c.args.self.now.backends.items c.in-Some.run'.first.node le)),
     )
 
@@ -51,7 +51,7 @@ returns-in-NoLink g c =
     let named : c.place_of-at.result ≡ c.in-Some.run'.first.node = c.place_of-at.ensures.value ∙ ap (λ (b : Batch). b.node) c.first.ensures in
     let says = rw c.in-NoLink.is at c.in_ok-send.ensures in
     let new = slice_set c.args.self.now.backends.items c.place_of-at.result c.send.new.self in (
-      unsent g.P.NodePort.failures g.P.NodePort.is_garbled g.P.NodePort.exchange g.P.NodePort.gives_none g.D.Dial.opens g.P.RunPort.longest sends (carrier_model g.D.Dial.failures c.args.self.now) c.args.worker c.place_of-at.result c.index_mut-pending_run.result.now c.index_mut.result.now c.send.new.self one there says.0,
+      unsent g.P.NodePort.calls g.D.Dial.opens g.P.RunPort.longest sends (carrier_model g.D.Dial.failures c.args.self.now) c.args.worker c.place_of-at.result c.index_mut-pending_run.result.now c.index_mut.result.now c.send.new.self one there says.0,
       λ still. set_at (HasNoOpenLink new) c.args.self.now.pending_runs.items c.args.worker c.index_mut-pending_run.result.now c.index_mut-pending_run.result.now one
           (not_open_set c.args.self.now.backends.items c.place_of-at.result c.index_mut-pending_run.result.now c.in-Some.run' c.index_mut.result.now c.send.new.self c.in-Some.is named there says.0 says.1),
     )
@@ -63,7 +63,7 @@ returns-in-TooLong g c =
     let within : c.args.worker < length c.args.self.now.pending_runs.items = omega (arith, c.len.ensures, c.if-worker-len.false) in
     let one : slice_get c.args.self.now.pending_runs.items c.args.worker ≡ Some c.index_mut-pending_run.result.now = at-place c.args.self.now.pending_runs.items c.args.worker c.index_mut-pending_run.result.now within c.index_mut-pending_run.ensures.value in
     let named : c.place_of-at.result ≡ c.in-Some.run'.first.node = c.place_of-at.ensures.value ∙ ap (λ (b : Batch). b.node) c.first.ensures in
-    (too_long g.P.NodePort.failures g.P.NodePort.is_garbled g.P.NodePort.exchange g.P.NodePort.gives_none g.D.Dial.opens g.P.RunPort.longest sends refl (carrier_model g.D.Dial.failures c.args.self.now) c.args.worker c.place_of-at.result c.index_mut-pending_run.result.now c.refuse.new.self c.in-Some.run' c.index_mut.result.now c.send.new.self one c.in-Some.is (none_left c.index_mut-pending_run.result.now.refused c.if-is_refused.ensures.1) named there (rw c.in-TooLong.is at c.in_ok-send.ensures) c.refuse.ensures, λ still. absurd (cc))
+    (too_long g.P.NodePort.calls g.D.Dial.opens g.P.RunPort.longest sends refl (carrier_model g.D.Dial.failures c.args.self.now) c.args.worker c.place_of-at.result c.index_mut-pending_run.result.now c.refuse.new.self c.in-Some.run' c.index_mut.result.now c.send.new.self one c.in-Some.is (none_left c.index_mut-pending_run.result.now.refused c.if-is_refused.ensures.1) named there (rw c.in-TooLong.is at c.in_ok-send.ensures) c.refuse.ensures, λ still. absurd (cc))
 
 pub returns-in_err-send : goal.returns-in_err-send
 returns-in_err-send g c =
@@ -71,7 +71,7 @@ returns-in_err-send g c =
     let there : slice_get c.args.self.now.backends.items c.place_of-at.result ≡ Some c.index_mut.result.now = at-place c.args.self.now.backends.items c.place_of-at.result c.index_mut.result.now lt c.index_mut.ensures.value in
     let within : c.args.worker < length c.args.self.now.pending_runs.items = omega (arith, c.len.ensures, c.if-worker-len.false) in
     let one : slice_get c.args.self.now.pending_runs.items c.args.worker ≡ Some c.index_mut-pending_run.result.now = at-place c.args.self.now.pending_runs.items c.args.worker c.index_mut-pending_run.result.now within c.index_mut-pending_run.ensures.value in
-    not_sent g.P.NodePort.failures g.P.NodePort.is_garbled g.P.NodePort.exchange g.P.NodePort.gives_none g.D.Dial.opens g.P.RunPort.longest sends _ refl (carrier_model g.D.Dial.failures c.args.self.now) c.args.worker c.place_of-at.result c.index_mut-pending_run.result.now c.in-Some.run' c.index_mut.result.now c.send.new.self _ _ c.from_residual.result one there c.in_err-send.ensures (err_from_is_err_and c.from_residual.result c.from_residual.ensures.1).1
+    not_sent g.P.NodePort.calls g.D.Dial.opens g.P.RunPort.longest sends _ refl (carrier_model g.D.Dial.failures c.args.self.now) c.args.worker c.place_of-at.result c.index_mut-pending_run.result.now c.in-Some.run' c.index_mut.result.now c.send.new.self _ _ c.from_residual.result one there c.in_err-send.ensures (err_from_is_err_and c.from_residual.result c.from_residual.ensures.1).1
 
 pub returns-in-Sent : goal.returns-in-Sent
 returns-in-Sent g c =
@@ -80,6 +80,6 @@ returns-in-Sent g c =
     let within : c.args.worker < length c.args.self.now.pending_runs.items = omega (arith, c.len.ensures, c.if-worker-len.false) in
     let one : slice_get c.args.self.now.pending_runs.items c.args.worker ≡ Some c.index_mut-pending_run.result.now = at-place c.args.self.now.pending_runs.items c.args.worker c.index_mut-pending_run.result.now within c.index_mut-pending_run.ensures.value in
     let named : c.place_of-at.result ≡ c.in-Some.run'.first.node = c.place_of-at.ensures.value ∙ ap (λ (b : Batch). b.node) c.first.ensures in
-    let Q : Option RunModel → Type 0 = λ run. CarrierGoesBy g.P.NodePort.failures g.P.NodePort.is_garbled g.P.NodePort.exchange g.P.NodePort.gives_none g.D.Dial.opens g.P.RunPort.longest sends (carrier_model g.D.Dial.failures c.args.self.now) true
+    let Q : Option RunModel → Type 0 = λ run. CarrierGoesBy g.P.NodePort.calls g.D.Dial.opens g.P.RunPort.longest sends (carrier_model g.D.Dial.failures c.args.self.now) true
     (record (carrier_model g.D.Dial.failures c.args.self.now) { pending_runs = slice_set c.args.self.now.pending_runs.items c.args.worker (record c.index_mut-pending_run.result.now { run = run }); backends = slice_set c.args.self.now.backends.items c.place_of-at.result c.send.new.self }) in
-    (subst Q (sym c.put.ensures) (sent g.P.NodePort.failures g.P.NodePort.is_garbled g.P.NodePort.exchange g.P.NodePort.gives_none g.D.Dial.opens g.P.RunPort.longest sends refl (carrier_model g.D.Dial.failures c.args.self.now) c.args.worker c.place_of-at.result c.index_mut-pending_run.result.now c.in-Some.run' c.index_mut.result.now c.send.new.self one c.in-Some.is named there (rw c.in-Sent.is at c.in_ok-send.ensures)), λ still. absurd (cc))
+    (subst Q (sym c.put.ensures) (sent g.P.NodePort.calls g.D.Dial.opens g.P.RunPort.longest sends refl (carrier_model g.D.Dial.failures c.args.self.now) c.args.worker c.place_of-at.result c.index_mut-pending_run.result.now c.in-Some.run' c.index_mut.result.now c.send.new.self one c.in-Some.is named there (rw c.in-Sent.is at c.in_ok-send.ensures)), λ still. absurd (cc))

@@ -3,4 +3,4 @@ use Rattle.proxy_turns.specs.CarrierModel.{carrier_model, CarrierGoesBy, serves_
 use Rattle.proxy_turns.proofs.carrier.Carrier+H+Publisher+J+R+D+P.serve_backend.Given as goal
 
 abbrev pub invariant-loop-passed : goal.invariant-loop-passed
-invariant-loop-passed g l = CarrierGoesBy g.P.NodePort.failures g.P.NodePort.is_garbled g.P.NodePort.exchange g.P.NodePort.gives_none g.D.Dial.opens g.P.RunPort.longest serves_backend (carrier_model g.D.Dial.failures l.initial.self) (nat_lt 0 l.passed) (carrier_model g.D.Dial.failures l.self)
+invariant-loop-passed g l = CarrierGoesBy g.P.NodePort.calls g.D.Dial.opens g.P.RunPort.longest serves_backend (carrier_model g.D.Dial.failures l.initial.self) (nat_lt 0 l.passed) (carrier_model g.D.Dial.failures l.self)

@@ -8,6 +8,6 @@ use Rattle.proxy_turns.proofs.carrier.Carrier+H+Publisher+J+R+D+P.serve_backends
 
 abbrev pub invariant-loop-at : goal.invariant-loop-at
 invariant-loop-at g l = let now = carrier_model g.D.Dial.failures l.self in record {
-  goes : CarrierGoesBy g.P.NodePort.failures g.P.NodePort.is_garbled g.P.NodePort.exchange g.P.NodePort.gives_none g.D.Dial.opens g.P.RunPort.longest serves_backend (carrier_model g.D.Dial.failures l.initial.self) l.moved now;
-  rests : l.moved ≡ false → (k : ℕ) → k < l.at → ForSome (slice_get now.backends k) (BackendRests (GaveNone g.P.NodePort.failures g.P.NodePort.is_garbled g.P.NodePort.exchange g.P.NodePort.gives_none) now.nodes now.lanes);
+  goes : CarrierGoesBy g.P.NodePort.calls g.D.Dial.opens g.P.RunPort.longest serves_backend (carrier_model g.D.Dial.failures l.initial.self) l.moved now;
+  rests : l.moved ≡ false → (k : ℕ) → k < l.at → ForSome (slice_get now.backends k) (BackendRests (GaveNone g.P.NodePort.calls) now.nodes now.lanes);
 }
