@@ -70,6 +70,14 @@ class Target:
     def __init__(self, name, port, process):
         self.name, self.port, self.process = name, port, process
         self.memory_before = memory(process, "VmRSS")
+        # The processors of all else, where those that are measured have others.
+        self.others = ()
+
+    def put_apart(self, own, others):
+        """All its threads run on these processors, and what it talks to on the others."""
+        self.others = others
+        for thread in os.listdir(f"/proc/{self.process.pid}/task"):
+            os.sched_setaffinity(int(thread), own)
 
     def fill(self, row):
         """Puts every key, with values of the row's size."""
@@ -97,6 +105,29 @@ def processor_seconds(process):
     with open(f"/proc/{process.pid}/stat", encoding="ascii") as stat:
         fields = stat.read().rpartition(")")[2].split()
     return (int(fields[11]) + int(fields[12])) / os.sysconf("SC_CLK_TCK")
+
+
+def busy_seconds(processors):
+    """For how long these processors did something, together."""
+    with open("/proc/stat", encoding="ascii") as stat:
+        fields = {it[0]: [int(ticks) for ticks in it[1:]] for it in map(str.split, stat) if it[0].startswith("cpu")}
+    spent = [fields[f"cpu{it}"] for it in processors]
+    return sum(sum(it[:3]) + sum(it[5:8]) for it in spent) / os.sysconf("SC_CLK_TCK")
+
+
+def client_seconds():
+    """Processor seconds of the programs that were run and have ended: of redis-benchmark."""
+    used = resource.getrusage(resource.RUSAGE_CHILDREN)
+    return used.ru_utime + used.ru_stime
+
+
+def halves():
+    """The processors of this process in two parts."""
+    processors = sorted(os.sched_getaffinity(0))
+    half = len(processors) // 2
+    if half == 0:
+        raise Failed("--apart wants two processors at least")
+    return set(processors[:half]), set(processors[half:])
 
 
 def memory(process, field):
@@ -158,16 +189,19 @@ class Measured:
 
     def __init__(self, target, row, seconds):
         self.target, self.row, self.rounds, self.spent, self.requests = target, row, [], 0.0, 0
+        self.busy, self.client, self.time = 0.0, 0.0, 0.0
         least = row.clients * row.pipeline * 2
         self.has_failed, self.count = False, max(least, 2000)
         rate = self.measure()
         self.count = max(least, int(rate * seconds))
         self.rounds, self.spent, self.requests = [], 0.0, 0
+        self.busy, self.client, self.time = 0.0, 0.0, 0.0
 
     def measure(self):
         """One round. An error reply ends redis-benchmark, and this row here."""
         if self.has_failed:
             return 0.0
+        busy, client, began = busy_seconds(self.target.others), client_seconds(), time.monotonic()
         try:
             rate, percentile, spent = self.target.measure(self.row, self.count)
         except Failed as fault:
@@ -176,6 +210,8 @@ class Measured:
             return 0.0
         self.rounds.append((rate, percentile))
         self.spent, self.requests = self.spent + spent, self.requests + self.count
+        self.busy, self.client = self.busy + busy_seconds(self.target.others) - busy, self.client + client_seconds() - client
+        self.time += time.monotonic() - began
         return rate
 
     def rate(self):
@@ -198,6 +234,13 @@ class Measured:
             return "failed"
         ratio = "" if other.has_failed else f"; {self.processor_a_million() / max(other.processor_a_million(), 0.1):.2f}"
         return f"{self.processor_a_million():.1f}{ratio}"
+
+    def shown_others(self):
+        """How much of the other processors was used, how much of one by redis-benchmark, and how much of one by the target."""
+        if self.has_failed:
+            return "failed"
+        shares = [self.busy / len(self.target.others), self.client, self.spent]
+        return "; ".join(f"{100 * it / self.time:.0f}" for it in shares)
 
 
 def measure_row(targets, row, rounds, seconds):
@@ -236,13 +279,14 @@ def print_calls(folder, targets, only):
         print(f"| {row.name} | " + " | ".join(shares) + " |")
 
 
-def print_machine(rounds, seconds, load, silent):
+def print_machine(rounds, seconds, load, silent, apart):
     with open("/proc/cpuinfo", encoding="utf-8") as info:
         model = next((line.split(":")[1].strip() for line in info if line.startswith("model name")), "unknown processor")
     server = subprocess.run(["redis-server", "--version"], capture_output=True, text=True, check=True).stdout.partition("v=")[2].split()[0]
     print(f"{os.cpu_count()} processors ({model}), Linux {os.uname().release}, redis-server {server}, load average before the run {load:.1f}.")
     beside = f", beside {silent:,} clients of each that say nothing" if silent else ""
-    print(f"Medians of {rounds} rounds of about {seconds:g} seconds, {CLIENTS} clients{beside}, one thread of redis-benchmark.\n")
+    where = ", servers and redis-benchmark on one half of the processors, what is measured on the other" if apart else ""
+    print(f"Medians of {rounds} rounds of about {seconds:g} seconds, {CLIENTS} clients{beside}, one thread of redis-benchmark{where}.\n")
 
 
 def print_rates(table, names):
@@ -262,6 +306,14 @@ def print_processor(table, names):
         print(f"| {measured[0].row.name} | " + " | ".join(it.shown_processor(measured[1]) for it in measured) + " |")
 
 
+def print_others(table, names):
+    """How busy what the targets talk to kept its processors, and each target its own."""
+    print("\n| % used of the other processors; of one by redis-benchmark; of one by the target | " + " | ".join(names) + " |")
+    print("|---|" + "---:|" * len(names))
+    for measured in table:
+        print(f"| {measured[0].row.name} | " + " | ".join(it.shown_others() for it in measured) + " |")
+
+
 def print_memory(targets, idle):
     print("\n| | resident before, MiB | most | after all clients left | idle, % of a core |")
     print("|---|---:|---:|---:|---:|")
@@ -276,14 +328,21 @@ def main(folder, program, *words):
     parser.add_argument("--only", default="")
     parser.add_argument("--calls", action="store_true")
     parser.add_argument("--silent", type=int, default=0)
+    parser.add_argument("--apart", action="store_true")
     asked = parser.parse_args(words)
     rounds, seconds = (2, 0.3) if asked.quick else (5, 1.0)
     load, room = os.getloadavg()[0], Room(folder)
     if asked.silent:
         most = resource.getrlimit(resource.RLIMIT_NOFILE)[1]
         resource.setrlimit(resource.RLIMIT_NOFILE, (most, most))
+    if asked.apart:
+        others, own = halves()
+        os.sched_setaffinity(0, others)
     try:
         targets = start_targets(room, program)
+        if asked.apart:
+            for target in targets:
+                target.put_apart(own, others)
         if asked.calls:
             print_calls(folder, targets, asked.only)
             return
@@ -298,9 +357,11 @@ def main(folder, program, *words):
                 for target in targets:
                     target.fill(row)
             table.append(measure_row(targets, row, rounds, seconds))
-        print_machine(rounds, seconds, load, asked.silent)
+        print_machine(rounds, seconds, load, asked.silent, asked.apart)
         print_rates(table, names)
         print_processor(table, names)
+        if asked.apart:
+            print_others(table, names)
         for client in (it for clients in silent for it in clients):
             client.close()
         time.sleep(2)

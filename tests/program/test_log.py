@@ -54,8 +54,10 @@ class Lines:
         self.addCleanup(self.log.close)
 
     def lines(self):
+        """The words of each line that stands there whole."""
         with open(self.path, encoding="ascii") as file:
-            return [words_of(line) for line in file.read().splitlines()]
+            whole, _, _ = file.read().rpartition("\n")
+        return [words_of(line) for line in whole.splitlines()]
 
     def wait_for(self, event, **words):
         """Waits for a line of this event with these words, and gives all its words."""
