@@ -25,7 +25,6 @@ mod rows;
 mod runs;
 #[cfg(test)]
 mod socket_runs;
-#[cfg(test)]
 mod tables;
 #[cfg(test)]
 mod turns;

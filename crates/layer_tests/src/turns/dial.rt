@@ -2,7 +2,8 @@
 
 ghost use Rattle.std.specs.Prelude.{⊤};
 
-use crate::turns::nodes::{SharedNodes, node_at};
+use crate::tables::node_at;
+use crate::turns::nodes::SharedNodes;
 use crate::turns::port::MemoryPort;
 use node_link::{Dial, DialFault, Fuse};
 use slot_map::NodeId;

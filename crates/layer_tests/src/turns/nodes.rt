@@ -65,16 +65,6 @@ fn cluster_of_three(alloc: Global) -> Result<Cluster, NoMemory> {
     }
 }
 
-/// The node that listens at a port.
-pub fn node_at(port: u16) -> Option<NodeId> {
-    match port {
-        7001 => NodeId::new(0),
-        7002 => NodeId::new(1),
-        7003 => NodeId::new(2),
-        _ => None,
-    }
-}
-
 /// A call of the nodes: how they can be reached, how slots move, and how many commands came.
 pub fn call(nodes: &SharedNodes, line: &mut Line) {
     match nodes.try_borrow_mut() {
