@@ -19,6 +19,7 @@
 
 mod host;
 mod keepalive;
+mod news;
 mod polled_socket;
 mod poller;
 mod ready_set;

@@ -40,9 +40,14 @@ impl PolledSocket {
         self.socket.has_ended()
     }
 
-    /// Its entry in the ready set of its thread (`ReadySet::may_read`), where it has one.
-    pub fn watched(&self) -> Option<usize> {
-        self.registration.at()
+    /// Whether a read may give something.
+    pub fn may_read(&self) -> bool {
+        self.registration.may_read()
+    }
+
+    /// Whether a read would give nothing, until the poll reports that it may.
+    pub fn is_watched(&self) -> bool {
+        self.registration.is_watched()
     }
 
     /// Why the connection failed or ended.

@@ -1,5 +1,6 @@
 //! Which sockets of a thread are ready, and what time it is there.
 
+use crate::news::News;
 use crate::socket::Socket;
 use event_log::{Event, Figure, ThreadReport};
 use mio::{Registry, Token, event};
@@ -13,6 +14,9 @@ use std::time::Clock;
 /// How many sockets of a thread have an entry. Those beyond are tried at each turn.
 const SOCKETS: usize = 16_384;
 
+/// Stands for no client's number.
+const NO_CLIENT: u64 = u64::MAX;
+
 /// What is known of one socket.
 #[derive(Drop)]
 struct Readiness {
@@ -23,6 +27,8 @@ struct Readiness {
     writable: AtomicBool,
     /// The other end has closed: reads go on until they say so.
     ended: AtomicBool,
+    /// The number of the client whose socket it is, where it is one's.
+    client: AtomicU64,
 }
 
 impl Readiness {
@@ -32,6 +38,7 @@ impl Readiness {
             readable: AtomicBool::new(true),
             writable: AtomicBool::new(true),
             ended: AtomicBool::new(false),
+            client: AtomicU64::new(NO_CLIENT),
         }
     }
 
@@ -43,20 +50,26 @@ impl Readiness {
         self.ended.store(false, Ordering::SeqCst);
         self.readable.store(true, Ordering::SeqCst);
         self.writable.store(true, Ordering::SeqCst);
+        self.client.store(NO_CLIENT, Ordering::SeqCst);
         true
     }
 
-    fn note_event(&self, event: &event::Event) {
+    /// Notes what a poll reported. The client of which that is news, where it is a client's.
+    fn note_event(&self, event: &event::Event) -> Option<u32> {
         let failed = event.is_error();
         if failed || event.is_read_closed() {
             self.ended.store(true, Ordering::SeqCst);
         }
-        if failed || event.is_read_closed() || event.is_readable() {
-            self.readable.store(true, Ordering::SeqCst);
-        }
         if failed || event.is_write_closed() || event.is_writable() {
             self.writable.store(true, Ordering::SeqCst);
         }
+        if !failed && !event.is_read_closed() && !event.is_readable() {
+            return None;
+        }
+        if self.readable.swap(true, Ordering::SeqCst) {
+            return None;
+        }
+        u32::try_from(self.client.load(Ordering::SeqCst)).ok()
     }
 }
 
@@ -72,6 +85,8 @@ pub struct ReadySet {
     /// When the thread is to be awake again at the latest, in milliseconds; `u64::MAX` where nothing says so.
     wake_time: AtomicU64,
     sockets: Vec<Readiness>,
+    /// The clients that may be read again, and of which nobody was told yet.
+    news: News,
     /// Where the search for a free entry goes on.
     next: AtomicU64,
     report: Arc<ThreadReport, Global>,
@@ -90,6 +105,7 @@ impl ReadySet {
             traffic: AtomicBool::new(false),
             wake_time: AtomicU64::new(u64::MAX),
             sockets,
+            news: News::new(alloc, SOCKETS)?,
             next: AtomicU64::new(0),
             report,
         })
@@ -160,19 +176,19 @@ impl ReadySet {
         }
     }
 
-    /// Whether a read of the socket of this entry may give something.
-    pub fn may_read(&self, at: usize) -> bool {
-        match self.sockets.get(at) {
-            Some(entry) => entry.readable.load(Ordering::SeqCst),
-            None => true,
+    /// Notes what a poll reported.
+    pub(crate) fn note_event(&self, event: &event::Event) {
+        let Some(entry) = self.sockets.get(event.token().0) else {
+            return;
+        };
+        if let Some(client) = entry.note_event(event) {
+            self.news.put(client);
         }
     }
 
-    /// Notes what a poll reported.
-    pub(crate) fn note_event(&self, event: &event::Event) {
-        if let Some(entry) = self.sockets.get(event.token().0) {
-            entry.note_event(event);
-        }
+    /// The number of a client whose socket may be read again, and of which this was not told yet.
+    pub fn next_news(&self) -> Option<u32> {
+        self.news.take()
     }
 }
 
@@ -231,6 +247,15 @@ impl Registration {
         Ok(Registration { ready, at, peer })
     }
 
+    /// A registration for the socket of the client of this number. `ReadySet::next_news` names it.
+    pub fn of_client(ready: &Arc<ReadySet, Global>, client: u32) -> Result<Registration, NoMemory> {
+        let registration = Registration::new(ready, Peer::Client)?;
+        if let Some(entry) = registration.entry() {
+            entry.client.store(u64::from(client), Ordering::SeqCst);
+        }
+        Ok(registration)
+    }
+
     fn entry(&self) -> Option<&Readiness> {
         self.ready.sockets.get(self.at?)
     }
@@ -240,21 +265,21 @@ impl Registration {
         socket.watch(registry, self.token())
     }
 
-    /// The entry, where there is one.
-    pub(crate) fn at(&self) -> Option<usize> {
-        self.at
-    }
-
     pub fn token(&self) -> Token {
         Token(self.at.unwrap_or(SOCKETS))
     }
 
     /// Whether a read may give something.
     pub fn may_read(&self) -> bool {
-        match self.at {
-            Some(at) => self.ready.may_read(at),
+        match self.entry() {
+            Some(entry) => entry.readable.load(Ordering::SeqCst),
             None => true,
         }
+    }
+
+    /// Whether a read would give nothing, until a poll reports that it may.
+    pub(crate) fn is_watched(&self) -> bool {
+        self.at.is_some() && !self.may_read()
     }
 
     /// Whether a write may take something.

@@ -25,9 +25,6 @@ use Rattle.proxy_turns.specs.Commands.{BeginOutcome, CommandsModel, Drops, Posts
 use Rattle.proxy_turns.specs.ClientModel.{ClientModel, read_answer}
 use Rattle.proxy_turns.specs.ClientTurn.{most_drained}
 use Rattle.proxy_turns.specs.ClientRest.{BeginsNone, DrainsNone, FeedsNone, HasNoPlace, HasNoneToBegin, HasNoneToDrain, HasNoneToFeed, HasNoneToPost, HasNoneToPull, HasNoneToPush, HasNoneToRead, IfStill, IsAnswered, IsAsleep, IsClientAtRest, IsIdle, MayBeHeld, PostsNone, PullsNone, PushesNone, ReadsNone, SendsNone, TakesNoMore, WorksNone, WritesNone}
-use Rattle.proxy_turns.specs.declared.client_state.Rest.{Rest}
-use Rattle.proxy_turns.specs.declared.client_state.Rest.TheVariants as rest
-use Rattle.proxy_turns.specs.ClientState.{RestsBy, is_idle_by, rest_after}
 use Rattle.proxy_turns.proofs.Undrained.{append_none, drained_by}
 
 not_below : (i place : ℕ) → (i < place → ⊥) → place ≤ i
@@ -221,15 +218,6 @@ module _ {C : Type 0} where
         drained = sleeps.idle.drained;
         pushed = λ here. inl sleeps.idle.unpushed;
       }
-
-      pub idle_by : (r : Rest) (client : ClientModel C) → RestsBy gives_none r client → is_idle_by r ≡ true → IsIdle client
-      idle_by rest.Awake client rests is = absurd (false≢true is)
-      idle_by rest.Idle client rests is = rests
-      idle_by (rest.Asleep port) client rests is = rests.idle
-
-      pub rests_after : (is_idle : Bool) (client : ClientModel C) → (is_idle ≡ true → IsIdle client) → RestsBy gives_none (rest_after is_idle) client
-      rests_after false client idle = tt
-      rests_after true client idle = idle refl
 
       pub idle_of : (client : ClientModel C) (outlet : Outlet RunModel) → IsClientAtRest gives_none takes_none client outlet → (client.unpushed ≡ []) × (client.commands.fresh ≡ []) → IsIdle client
       idle_of client outlet rests (unpushed, fresh) = record {

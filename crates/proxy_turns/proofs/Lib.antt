@@ -22,6 +22,7 @@ pub mod Seeking
 pub mod Draining
 pub mod Noting
 pub mod Settling
+pub mod Sleeping
 pub mod StoppedClients
 pub mod Undrained
 pub mod Turns

@@ -151,7 +151,7 @@ module _ {C J : Type 0} (moves : Moves C) (may : WorkerEvent → Bool) where
 
   -- a client's turn is the worker's
   pub turned : ((k : ℕ) (event : ClientEvent) → may (Did k event) ≡ true) → (base : WorkerModel C J) (result : Result Turned NoMemory) (new : ClientsContext C)
-      → (entries : List (ℕ × ClientModel C)) (place : ℕ) → AtPlace entries place (contexts_of base) (λ a b. TurnOutcome moves a result b) (result ≡ Ok (record { moved = false; done = false })) new
+      → (entries : List (ℕ × ClientModel C)) (place : ℕ) → AtPlace entries place (contexts_of base) (λ a b. TurnOutcome moves a result b) (result ≡ Ok (record { moved = false; done = false; asleep = false })) new
       → WorkerTurnsBy moves may base (turned_in result) (with_contexts base new)
   turned did base result new entries place (inl (is, same, none)) =
       let P : Result Turned NoMemory → Type 0 = λ r. WorkerTurnsBy moves may base (turned_in r) (with_contexts base new) in subst P (sym is) (unmoved base new same)

@@ -168,59 +168,11 @@ module _ {C : Type 0} (gives_none takes_none : C → Type 0) where
         undone = λ is entry there done. false≢true (sym is ∙ does.1.1 (subst (λ (e : ℕ × ClientModel C). IsDone e.1) (some_same entry (k, client') (sym there ∙ here)) done));
       }
 
--- ---- each has its place in the round
-
--- the place of the turn that comes after `step` others
-abbrev pub IsPlace : ℕ → ℕ → ℕ → ℕ → Type 0
-IsPlace first count step place = (place < count) × (first + step < count → place ≡ first + step) × (count < first → place ≡ step) × (first ≤ count → count ≤ first + step → place + count ≡ first + step)
-
-data Order (first count place : ℕ) : Type 0 where
-  beyond : count < first → Order first count place
-  behind : first ≤ count → first ≤ place → Order first count place
-  around : first ≤ count → place < first → Order first count place
-
-less : (a b : ℕ) → (a < b) ⊎ (b ≤ a)
-less zero zero = inr (omega arith)
-less zero (suc b) = inl (omega arith)
-less (suc a) zero = inr (omega arith)
-less (suc a) (suc b) = by (less a b)
-  where
-    by : (a < b) ⊎ (b ≤ a) → (suc a < suc b) ⊎ (suc b ≤ suc a)
-    by (inl l) = inl (omega (arith, l))
-    by (inr g) = inr (omega (arith, g))
-
-order : (first count place : ℕ) → Order first count place
-order first count place = by (less count first) (less place first)
-  where
-    by : (count < first) ⊎ (first ≤ count) → (place < first) ⊎ (first ≤ place) → Order first count place
-    by (inl far) p = beyond far
-    by (inr near) (inl before) = around near before
-    by (inr near) (inr after) = behind near after
-
--- when it is the turn of the one at this place
-pub turn_of : (first count place : ℕ) → place < count → (step : ℕ) × (step < count) × IsPlace first count step place
-turn_of first count place lt = by_order (order first count place)
-  where
-    by_order : Order first count place → (step : ℕ) × (step < count) × IsPlace first count step place
-    by_order (beyond far) = (place, lt, (lt, λ l. absurd (omega (arith, l, far)), λ f. refl, λ near. absurd (omega (arith, near, far))))
-    by_order (behind near after) = (place - first, omega (arith, lt, after), (lt, λ l. omega (arith, after), λ far. absurd (omega (arith, near, far)), λ n g. absurd (omega (arith, g, after, lt))))
-    by_order (around near before) = (place + count - first, omega (arith, near, before, lt), (lt, λ l. absurd (omega (arith, l, near)), λ far. absurd (omega (arith, near, far)), λ n g. omega (arith, near)))
-
--- it is the turn of one
-pub one_place : (first count step a b : ℕ) → IsPlace first count step a → IsPlace first count step b → a ≡ b
-one_place first count step a b one other = by (less count first) (less (first + step) count)
-  where
-    by : (count < first) ⊎ (first ≤ count) → (first + step < count) ⊎ (count ≤ first + step) → a ≡ b
-    by (inl far) l = one.2 far ∙ sym (other.2 far)
-    by (inr near) (inl l) = one.1 l ∙ sym (other.1 l)
-    by (inr near) (inr g) = omega (arith, one.3 near g, other.3 near g)
+-- ---- all have had their turns
 
 module _ {C J : Type 0} (gives_none takes_none : C → Type 0) where
-  -- all have had their turns
-  pub all_rest : (model : WorkerModel C J) (entries : List (ℕ × ClientModel C)) (first count : ℕ) → model.clients ≡ clients_in entries → length entries ≡ count
-      → ((step : ℕ) → step < count → (place : ℕ) → IsPlace first count step place → IsAtRestAt gives_none takes_none entries model.outlet place)
-      → AreClientsAtRest gives_none takes_none model
-  all_rest model entries first count is len rests number client at =
+  pub all_rest : (model : WorkerModel C J) (entries : List (ℕ × ClientModel C)) → model.clients ≡ clients_in entries
+      → ((place : ℕ) → place < length entries → IsAtRestAt gives_none takes_none entries model.outlet place) → AreClientsAtRest gives_none takes_none model
+  all_rest model entries is rests number client at =
       let there = place_by number entries client (at_number number entries ∙ ap (λ m. get m number) (sym is) ∙ at) in
-      let turn = turn_of first count there.0 (subst (λ n. there.0 < n) len there.1) in
-      rests turn.0 turn.1 there.0 turn.2 (number, client) there.2
+      rests there.0 there.1 (number, client) there.2

@@ -1,6 +1,6 @@
 -- What calls on one of a worker's clients do to all of them.
 -- Only that client changes.
-use Rattle.std.specs.Prelude.{◌≡◌, ◌≢◌, ◌⊎◌, ℕ, List, true, false, Option, Some, None, Result, Ok, length, slice_get}
+use Rattle.std.specs.Prelude.{◌≡◌, ◌≢◌, ◌⊎◌, ◌<◌, ◌≤◌, ℕ, List, true, false, Option, Some, None, Result, Ok, length, slice_get}
 use Rattle.std.specs.Option.{ForSome}
 use Rattle.std.specs.Ordering.{nat_cmp}
 use Rattle.std.specs.FinMap.{FinMap, empty, get, insert, remove}
@@ -17,6 +17,16 @@ use Rattle.proxy_turns.specs.declared.turned.Finish.{Finish}
 use Rattle.proxy_turns.specs.declared.turned.Finish.TheVariants as finish
 use Rattle.proxy_turns.specs.declared.turned.Turned.{Turned}
 use Rattle.proxy_turns.specs.WorkerModel.{Leaves, clients_in}
+
+-- The clients by their numbers, in the order of their turns, and for how many more there is room.
+pub record ClientTableModel (C : Type 0) : Type 0 where
+  pub entries : List (ℕ × ClientModel C)
+  pub spare : ℕ
+
+-- where the client of this number stands; `None` exactly where none has it
+abbrev pub HasPlace : {C : Type 0} → List (ℕ × ClientModel C) → ℕ → Option ℕ → Type 0
+HasPlace entries number None = get (clients_in entries) number ≡ None
+HasPlace {C} entries number (Some place) = (client : ClientModel C) × (slice_get entries place ≡ Some (number, client))
 
 -- The clients beside the lane into which the worker posts and its view of the map.
 pub record ClientsContext (C : Type 0) : Type 0 where
@@ -78,4 +88,9 @@ IsAtRestAt gives_none takes_none entries outlet place = ForSome (slice_get entri
 pub record IsStillAt {C : Type 0} (gives_none takes_none : C → Type 0) (old : List (ℕ × ClientModel C)) (place : ℕ) (outlet : Outlet RunModel) (new : List (ℕ × ClientModel C)) : Type 0 where
   pub others : (other : ℕ) → other ≢ place → slice_get new other ≡ slice_get old other
   pub here : IsAtRestAt gives_none takes_none new outlet place
+  pub len : length new ≡ length old
+
+-- no client came or went; each that was at rest is, and each from the one place on and before the other
+pub record RestBetween {C : Type 0} (gives_none takes_none : C → Type 0) (from end : ℕ) (old : List (ℕ × ClientModel C)) (outlet : Outlet RunModel) (new : List (ℕ × ClientModel C)) (outlet' : Outlet RunModel) : Type 0 where
+  pub rests : (place : ℕ) → IsAtRestAt gives_none takes_none old outlet place ⊎ ((from ≤ place) × (place < end)) → IsAtRestAt gives_none takes_none new outlet' place
   pub len : length new ≡ length old

@@ -24,6 +24,7 @@ pub mod CarrierModel
 pub mod Owing
 pub mod Received
 pub mod Script
+pub mod Sleepers
 pub mod Swapping
 pub mod Unpushed
 pub mod Beside

@@ -186,9 +186,9 @@ impl<C: ClientPort + Drop> ClientParts<C> {
         self.unpushed.len().saturating_add(self.replies.held())
     }
 
-    /// The number by which a gate has news of its port, where it has one now.
-    pub(crate) fn watched(&self) -> Option<usize> {
-        self.port.watched()
+    /// Whether a gate will have news of its port.
+    pub(crate) fn is_watched(&self) -> bool {
+        self.port.is_watched()
     }
 
     /// Forgets how much was pulled, where all is answered and no request may be left to read. True where the client was held back

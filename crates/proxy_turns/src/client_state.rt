@@ -1,10 +1,8 @@
 //! One client of a worker.
 
-ghost use Rattle.std.specs.Prelude.{◌≡◌, ◌↔◌, [], IsTrue, false, true};
-ghost use Rattle.proxy_turns.specs.ClientState.{is_idle_by, rest_after};
+ghost use Rattle.std.specs.Prelude.{◌≡◌, ◌↔◌, [], IfOk, IsTrue, false, true};
 
 use crate::client_parts::ClientParts;
-use crate::gate::Gate;
 use crate::port::ClientPort;
 use crate::shared_room::SharedRoom;
 use crate::turned::{Finish, NextStep, Settled, Turned};
@@ -16,22 +14,11 @@ use std::alloc::Global;
 use std::marker::Model;
 use std::mem;
 
-/// What a client's last turn left.
-#[derive(Clone, Copy)]
-enum Rest {
-    /// Its next turn may move something.
-    Awake,
-    /// Its turns move nothing until bytes are pulled or a command ends.
-    Idle,
-    /// They move nothing until the gate has news of its port, which has this number there.
-    Asleep(usize),
-}
-
 /// One client of a worker.
 #[derive(Drop)]
 pub(crate) struct ClientState<C: ClientPort + Drop> {
-    // In front: of a client that sleeps nothing else is read.
-    rest: Rest,
+    // Its turns move nothing until bytes are pulled or a command ends.
+    is_idle: bool,
     parts: ClientParts<C>,
 }
 
@@ -48,7 +35,7 @@ impl<C: ClientPort + Drop> Model for ClientState<C> {
 
     ghost view = { λ c. c.parts };
 
-    ghost invariant = { λ c. RestsBy C.gives_none c.rest c.parts };
+    ghost invariant = { λ c. RestsBy c.is_idle c.parts };
 }
 
 impl<C: ClientPort + Drop> ClientState<C> {
@@ -70,56 +57,42 @@ impl<C: ClientPort + Drop> ClientState<C> {
         ensures { result ≡ new_client worker number limits port }
     {
         ClientState {
-            rest: Rest::Awake,
+            is_idle: false,
             parts: ClientParts::new(alloc, worker, number, limits, port),
         }
     }
 
     /// What a worker does for this client in a turn, beside what became of its commands.
-    pub(crate) fn turn<J: Naming, G: Gate>(
+    pub(crate) fn turn<J: Naming>(
         &mut self,
         uplink: &mut Uplink<J>,
         room: &mut SharedRoom,
-        gate: &G,
     ) -> Result<Turned, NoMemory>
         ensures turns { TurnOutcome C.moves (at self.old uplink.old) result (at self.new uplink.new) }
         ensures rests { IfTurnedStill result (IsClientAtRest C.gives_none C.takes_none self.new uplink.new.outlet) }
+        ensures sleeps { IfOk result (λ turned. turned.asleep ≡ true → IsAsleep C.gives_none self.new) }
     {
-        if self.sleeps_on(gate) {
-            return Ok(Turned::still());
-        }
         let moved = self.pull_and_work(uplink, room)?;
         let done = self.is_done();
-        self.fall_asleep(moved, done);
-        Ok(Turned { moved, done })
+        let asleep = self.falls_asleep(moved, done);
+        Ok(Turned {
+            moved,
+            done,
+            asleep,
+        })
     }
 
-    // Whether it sleeps, and the gate has no news of its port.
-    fn sleeps_on<G: Gate>(&self, gate: &G) -> bool
+    // Whether it sleeps after a turn: one that moved nothing, of a client that is idle and not done, where all is answered and its
+    // port is watched.
+    fn falls_asleep(&self, moved: bool, done: bool) -> bool
+        requires pulled { moved ≡ false → HasNoneToPull C.gives_none self.now }
+        requires undone { done ≡ false → IsDone self.now → ⊥ }
         ensures { result ≡ true → IsAsleep C.gives_none self.now }
     {
-        match self.rest {
-            Rest::Asleep(port) => !gate.has_news(port),
-            Rest::Awake => false,
-            Rest::Idle => false,
+        if moved || done || !self.is_idle {
+            return false;
         }
-    }
-
-    // After a turn that moved nothing it sleeps, where it is idle and not done, all is answered, and its port is watched.
-    fn fall_asleep(&mut self, moved: bool, done: bool)
-        requires pulled { moved ≡ false → HasNoneToPull C.gives_none self.old }
-        requires undone { done ≡ false → IsDone self.old → ⊥ }
-        ensures { self.new ≡ self.old }
-    {
-        let Rest::Idle = self.rest else {
-            return;
-        };
-        if moved || done || !self.parts.is_answered() {
-            return;
-        }
-        if let Some(port) = self.parts.watched() {
-            self.rest = Rest::Asleep(port);
-        }
+        self.parts.is_answered() && self.parts.is_watched()
     }
 
     // Pulls bytes, and does what there is to do. Of an idle client nothing more is asked where none came.
@@ -131,19 +104,19 @@ impl<C: ClientPort + Drop> ClientState<C> {
         ensures turns { ClientTurns C.moves (at self.old uplink.old) result (at self.new uplink.new) }
         ensures rests { IfStill result (IsClientAtRest C.gives_none C.takes_none self.new uplink.new.outlet) }
     {
-        let was_idle = is_idle(mem::replace(&mut self.rest, Rest::Awake));
+        let was_idle = mem::replace(&mut self.is_idle, false);
         room.count(self.parts.held());
         let is_held_back = self.parts.is_held_back(room.is_crowded());
         let pulled = self.parts.pull(&mut room.piece, is_held_back, was_idle)?;
         if stays_idle(was_idle, is_held_back, pulled) {
-            self.rest = Rest::Idle;
+            self.is_idle = true;
             return Ok(false);
         }
         let worked = self.parts.work(uplink, room)?;
         let is_asked_again = self.parts.forget_asked(is_held_back, worked);
         let more = self.parts.pull(&mut room.piece, !is_asked_again, false)?;
         let moved = pulled | worked | more;
-        self.rest = rest_after(becomes_idle(moved, self.parts.is_quiet()));
+        self.is_idle = becomes_idle(moved, self.parts.is_quiet());
         Ok(moved)
     }
 
@@ -151,7 +124,7 @@ impl<C: ClientPort + Drop> ClientState<C> {
     pub(crate) fn finish(&mut self, number: u64) -> Result<Finish, NoMemory>
         ensures { FinishOutcome C.moves self.old number result self.new }
     {
-        self.rest = Rest::Awake;
+        self.is_idle = false;
         self.parts.finish(number)
     }
 
@@ -164,7 +137,7 @@ impl<C: ClientPort + Drop> ClientState<C> {
         ensures settles { SettleOutcome C.moves (at self.old uplink.old) result (at self.new uplink.new) }
         ensures settled { IsSettled result (IsToSettle self.new number) uplink.new.outlet }
     {
-        self.rest = Rest::Awake;
+        self.is_idle = false;
         self.parts.repost(number, uplink)
     }
 
@@ -173,7 +146,7 @@ impl<C: ClientPort + Drop> ClientState<C> {
         ensures heard { Hears self.old.commands ticket told result self.new.commands }
         ensures kept { self.new ≡ record self.old { commands = self.new.commands } }
     {
-        self.rest = Rest::Awake;
+        self.is_idle = false;
         self.parts.hear(ticket, told)
     }
 
@@ -195,32 +168,16 @@ impl<C: ClientPort + Drop> ClientState<C> {
     pub(crate) fn stop_reading(&mut self)
         ensures { self.new ≡ stopped self.old }
     {
-        self.rest = Rest::Awake;
+        self.is_idle = false;
         self.parts.stop_reading();
     }
 
     pub(crate) fn into_port(self) -> C
         ensures { result ≡ self.port }
     {
-        let ClientState { rest: _, parts } = self;
+        let ClientState { is_idle: _, parts } = self;
         parts.into_port()
     }
-}
-
-fn is_idle(rest: Rest) -> bool
-    ensures { result ≡ is_idle_by rest }
-{
-    match rest {
-        Rest::Awake => false,
-        Rest::Idle => true,
-        Rest::Asleep(_) => true,
-    }
-}
-
-fn rest_after(is_idle: bool) -> Rest
-    ensures { result ≡ rest_after is_idle }
-{
-    if is_idle { Rest::Idle } else { Rest::Awake }
 }
 
 // Whether a client that was idle goes on to be. One that is held back is looked at again.

@@ -1,144 +1,274 @@
 //! The clients of a worker by their numbers.
 
-ghost use Rattle.std.specs.Prelude.{◌≡◌, ◌↔◌, ◌+◌, [], IsTrue, IfOk, IfSome, MatchOption, Ok, Some, length, false};
-ghost use Rattle.std.specs.FinMap.{get};
+ghost use Rattle.std.specs.Prelude.{◌≡◌, ◌≢◌, ◌<◌, ◌≤◌, ◌+◌, ◌^◌, ◌↔◌, [], ℕ, IsTrue, IfOk, IfSome, MatchOption, OnOk, Ok, None, Some, length, false, slice_get};
+ghost use Rattle.std.specs.FinMap.{get, insert};
 ghost use Rattle.proxy_turns.specs.ClientTurn.{SettleOutcome, TurnOutcome};
 ghost use Rattle.command_future.specs.CommandModel.{CommandModel};
 ghost use Rattle.proxy_turns.specs.DueCommands.{IsSettled, IsToSettleAt, NextStepOf};
-ghost use Rattle.proxy_turns.specs.ClientTable.{AtClient, AtPlace, ClientFinishes, IsDoneAt, IsTurnedAt, LeavesAt, TakesAny};
+ghost use Rattle.proxy_turns.specs.ClientTable.{AtClient, AtPlace, ClientFinishes, HasPlace, IsDoneAt, IsTurnedAt, LeavesAt, TakesAny};
 ghost use Rattle.proxy_turns.specs.WorkerModel.{Tells, clients_in};
+ghost use Rattle.proxy_turns.specs.WorkerDrain.{AreStopped, StopsAt};
 
 use crate::client_state::ClientState;
-use crate::gate::Gate;
 use crate::port::ClientPort;
 use crate::shared_room::SharedRoom;
+use crate::sleepers::Sleepers;
 use crate::turned::{Finish, NextStep, Settled, Turned};
 use crate::uplink::Uplink;
 use indexmap::IndexMap;
 use key_split::{Ticket, Told};
 use proxy_lanes::Naming;
 use resp_wire::NoMemory;
+use std::alloc::{AllocFailed, Global};
+use std::marker::Model;
 
-/// The clients of a worker, by their numbers, in the order of their turns.
-pub(crate) type ClientTable<C> = IndexMap<u32, ClientState<C>>;
-
-/// Tells the command of this ticket what came, where one awaits that. True where one does.
-pub(crate) fn tell_client<C: ClientPort + Drop>(
-    clients: &mut ClientTable<C>,
-    ticket: Ticket,
-    told: Told,
-) -> bool
-    ensures tells { Tells (clients_in clients.old.entries) ticket told result (clients_in clients.new.entries) }
-    ensures len { length clients.new.entries ≡ length clients.old.entries }
-{
-    let Some(client) = clients.get_mut(&ticket.client) else {
-        drop(told);
-        return false;
-    };
-    client.hear(ticket, told)
+/// The clients of a worker, by their numbers, in the order of their turns, and which of them sleep.
+#[derive(Drop)]
+pub(crate) struct ClientTable<C: ClientPort + Drop> {
+    by_number: IndexMap<u32, ClientState<C>>,
+    sleepers: Sleepers,
 }
 
-/// Gives the client at this place its turn.
-pub(crate) fn turn_at<C: ClientPort + Drop, J: Naming, G: Gate>(
-    clients: &mut ClientTable<C>,
-    place: usize,
-    uplink: &mut Uplink<J>,
-    room: &mut SharedRoom,
-    gate: &G,
-) -> Result<Turned, NoMemory>
-    ensures serves { AtPlace clients.old.entries place (record { clients = clients_in clients.old.entries; outlet = uplink.old.outlet; view = uplink.old.view })
-        (λ old new. TurnOutcome C.moves old result new) (result ≡ Ok (record { moved = false; done = false }))
-        (record { clients = clients_in clients.new.entries; outlet = uplink.new.outlet; view = uplink.new.view }) }
-    ensures turned { IfOk result (λ turned. IsTurnedAt C.gives_none C.takes_none clients.old.entries place turned uplink.new.outlet clients.new.entries) }
-    ensures len { length clients.new.entries ≡ length clients.old.entries }
-{
-    let Some(client) = clients.get_index_mut(place) else {
-        return Ok(Turned::still());
-    };
-    client.turn(uplink, room, gate)
+impl<C: ClientPort + Drop> Model for ClientTable<C> {
+    ghost use Rattle.std.specs.Coded.{codes};
+    ghost use Rattle.std.specs.FinMap as map;
+    ghost use Rattle.std.specs.HashMap.{spare};
+    ghost use Rattle.resp_wire.specs.Stored.{coded_data};
+    ghost use Rattle.proxy_turns.specs.ClientTable.{ClientTableModel};
+    ghost use Rattle.proxy_turns.specs.Sleepers.{AreAsleep};
+
+    ghost Value = { ClientTableModel C };
+
+    ghost coded = { Prim.hlevel (codes, coded_data, map.code) };
+
+    ghost view = { λ table. record { entries = table.by_number.entries; spare = spare table.by_number } };
+
+    ghost invariant = { λ table. AreAsleep C.gives_none table.sleepers.marks.items table.by_number.entries };
 }
 
-/// Ends the command of this ticket, where it has an end.
-pub(crate) fn finish_at<C: ClientPort + Drop>(
-    clients: &mut ClientTable<C>,
-    ticket: Ticket,
-) -> Result<Finish, NoMemory>
-    ensures finishes { ClientFinishes C.moves (clients_in clients.old.entries) ticket result (clients_in clients.new.entries) }
-    ensures len { length clients.new.entries ≡ length clients.old.entries }
-{
-    let Some(client) = clients.get_mut(&ticket.client) else {
-        return Ok(Finish::Open);
-    };
-    client.finish(ticket.part)
-}
+impl<C: ClientPort + Drop> ClientTable<C> {
+    ghost use Rattle.proxy_turns.specs.Sleepers.{IsAsleepAt};
 
-/// Posts the command of this ticket again, where it wants that and its turn has come.
-pub(crate) fn repost_at<C: ClientPort + Drop, J: Naming>(
-    clients: &mut ClientTable<C>,
-    ticket: Ticket,
-    uplink: &mut Uplink<J>,
-) -> Result<Settled, NoMemory>
-    ensures settles { AtClient (record { clients = clients_in clients.old.entries; outlet = uplink.old.outlet; view = uplink.old.view }) ticket.client
-        (λ old new. SettleOutcome C.moves old result new) (result ≡ Ok Settled.Nothing)
-        (record { clients = clients_in clients.new.entries; outlet = uplink.new.outlet; view = uplink.new.view }) }
-    ensures settled { IsSettled result (IsToSettleAt (clients_in clients.new.entries) ticket.client ticket.part) uplink.new.outlet }
-    ensures len { length clients.new.entries ≡ length clients.old.entries }
-{
-    let Some(client) = clients.get_mut(&ticket.client) else {
-        return Ok(Settled::Nothing);
-    };
-    client.repost(ticket.part, uplink)
-}
-
-/// What the command of this ticket has to do.
-pub(crate) fn next_step_at<C: ClientPort + Drop>(
-    clients: &ClientTable<C>,
-    ticket: Ticket,
-) -> NextStep
-    ensures { (c : CommandModel) → IsToSettleAt (clients_in clients.now.entries) ticket.client ticket.part c → NextStepOf result c }
-{
-    match clients.get(&ticket.client) {
-        Some(client) => client.next_step(ticket.part),
-        None => NextStep::Rest,
+    pub(crate) fn new(alloc: Global) -> ClientTable<C>
+        ensures { result.entries ≡ [] }
+    {
+        ClientTable {
+            by_number: IndexMap::new(alloc),
+            sleepers: Sleepers::new(alloc),
+        }
     }
-}
 
-/// Takes off the client at this place, where nothing is left to do for it. The last one takes its place.
-pub(crate) fn take_done<C: ClientPort + Drop>(
-    clients: &mut ClientTable<C>,
-    place: usize,
-) -> Option<C>
-    ensures leaves { LeavesAt clients.old.entries place result (clients_in clients.new.entries) }
-    ensures len { MatchOption result (length clients.new.entries ≡ length clients.old.entries) (λ _. length clients.new.entries + 1 ≡ length clients.old.entries) }
-{
-    if !is_done(clients, place) {
-        return None;
+    pub(crate) fn len(&self) -> usize
+        ensures len { result ≡ length self.now.entries }
+        ensures small { result < 2 ^ 63 }
+    {
+        self.by_number.len()
     }
-    let (_, client) = clients.swap_remove_index(place)?;
-    Some(client.into_port())
-}
 
-fn is_done<C: ClientPort + Drop>(clients: &ClientTable<C>, place: usize) -> bool
-    ensures { IsTrue result ↔ IsDoneAt clients.now.entries place }
-{
-    match clients.get_index(place) {
-        Some((_, client)) => client.is_done(),
-        None => false,
+    pub(crate) fn is_empty(&self) -> bool
+        ensures { IsTrue result ↔ (length self.now.entries ≡ 0) }
+    {
+        self.by_number.is_empty()
     }
-}
 
-/// Takes off one of the clients, where there is one.
-pub(crate) fn take_any<C: ClientPort + Drop>(clients: &mut ClientTable<C>) -> Option<C>
-    ensures takes { TakesAny (clients_in clients.old.entries) result (clients_in clients.new.entries) }
-    ensures len { IfSome result (λ _. length clients.new.entries + 1 ≡ length clients.old.entries) }
-{
-    let number = first_number(clients)?;
-    let client = clients.swap_remove(&number)?;
-    Some(client.into_port())
+    /// Whether a client has this number.
+    pub(crate) fn has(&self, number: u32) -> bool
+        ensures { result ≡ false ↔ (get (clients_in self.now.entries) number ≡ None) }
+    {
+        self.by_number.contains_key(&number)
+    }
+
+    /// Makes room for one more client.
+    pub(crate) fn make_room(&mut self) -> Result<(), NoMemory>
+        ensures entries { self.new.entries ≡ self.old.entries }
+        ensures room { OnOk result (0 < self.new.spare) }
+    {
+        self.by_number.reserve(1)?;
+        self.sleepers.make_room(self.by_number.len() + 1)
+    }
+
+    /// Puts the client under its number, which none has. There is room.
+    pub(crate) fn put(&mut self, number: u32, client: ClientState<C>)
+        requires room { 0 < self.old.spare }
+        requires new { get (clients_in self.old.entries) number ≡ None }
+        ensures puts { clients_in self.new.entries ≡ insert (clients_in self.old.entries) number client }
+        ensures len { length self.new.entries ≤ length self.old.entries + 1 }
+    {
+        let put: Result<Option<ClientState<C>>, AllocFailed<(u32, ClientState<C>)>> = self
+            .by_number
+            .insert(number, client);
+        drop(put.unwrap());
+    }
+
+    /// Tells the command of this ticket what came, where one awaits that. True where one does.
+    pub(crate) fn tell(&mut self, ticket: Ticket, told: Told) -> bool
+        ensures tells { Tells (clients_in self.old.entries) ticket told result (clients_in self.new.entries) }
+        ensures len { length self.new.entries ≡ length self.old.entries }
+    {
+        let Some(place) = self.place_of(ticket.client) else {
+            drop(told);
+            return false;
+        };
+        self.sleepers.wake(place);
+        let Some(client) = self.by_number.get_index_mut(place) else {
+            drop(told);
+            return false;
+        };
+        client.hear(ticket, told)
+    }
+
+    /// Gives the client at this place its turn.
+    pub(crate) fn turn_at<J: Naming>(
+        &mut self,
+        place: usize,
+        uplink: &mut Uplink<J>,
+        room: &mut SharedRoom,
+    ) -> Result<Turned, NoMemory>
+        ensures serves { AtPlace self.old.entries place (record { clients = clients_in self.old.entries; outlet = uplink.old.outlet; view = uplink.old.view })
+            (λ old new. TurnOutcome C.moves old result new) (result ≡ Ok (record { moved = false; done = false; asleep = false }))
+            (record { clients = clients_in self.new.entries; outlet = uplink.new.outlet; view = uplink.new.view }) }
+        ensures turned { IfOk result (λ turned. IsTurnedAt C.gives_none C.takes_none self.old.entries place turned uplink.new.outlet self.new.entries) }
+        ensures len { length self.new.entries ≡ length self.old.entries }
+    {
+        self.sleepers.wake(place);
+        let Some(client) = self.by_number.get_index_mut(place) else {
+            return Ok(Turned::still());
+        };
+        let turned = client.turn(uplink, room)?;
+        self.sleepers.note(place, turned.asleep);
+        Ok(turned)
+    }
+
+    /// Ends the command of this ticket, where it has an end.
+    pub(crate) fn finish(&mut self, ticket: Ticket) -> Result<Finish, NoMemory>
+        ensures finishes { ClientFinishes C.moves (clients_in self.old.entries) ticket result (clients_in self.new.entries) }
+        ensures len { length self.new.entries ≡ length self.old.entries }
+    {
+        let Some(place) = self.place_of(ticket.client) else {
+            return Ok(Finish::Open);
+        };
+        self.sleepers.wake(place);
+        let Some(client) = self.by_number.get_index_mut(place) else {
+            return Ok(Finish::Open);
+        };
+        client.finish(ticket.part)
+    }
+
+    /// Posts the command of this ticket again, where it wants that and its turn has come.
+    pub(crate) fn repost<J: Naming>(
+        &mut self,
+        ticket: Ticket,
+        uplink: &mut Uplink<J>,
+    ) -> Result<Settled, NoMemory>
+        ensures settles { AtClient (record { clients = clients_in self.old.entries; outlet = uplink.old.outlet; view = uplink.old.view }) ticket.client
+            (λ old new. SettleOutcome C.moves old result new) (result ≡ Ok Settled.Nothing)
+            (record { clients = clients_in self.new.entries; outlet = uplink.new.outlet; view = uplink.new.view }) }
+        ensures settled { IsSettled result (IsToSettleAt (clients_in self.new.entries) ticket.client ticket.part) uplink.new.outlet }
+        ensures len { length self.new.entries ≡ length self.old.entries }
+    {
+        let Some(place) = self.place_of(ticket.client) else {
+            return Ok(Settled::Nothing);
+        };
+        self.sleepers.wake(place);
+        let Some(client) = self.by_number.get_index_mut(place) else {
+            return Ok(Settled::Nothing);
+        };
+        client.repost(ticket.part, uplink)
+    }
+
+    // Where the client of this number stands.
+    fn place_of(&self, number: u32) -> Option<usize>
+        ensures { HasPlace self.now.entries number result }
+    {
+        self.by_number.get_index_of(&number)
+    }
+
+    /// The client of this number, where there is one, has turns again.
+    pub(crate) fn wake(&mut self, number: u32)
+        ensures { self.new ≡ self.old }
+    {
+        if let Some(place) = self.place_of(number) {
+            self.sleepers.wake(place);
+        }
+    }
+
+    /// The place of the first client that has turns, at or behind one place and before another.
+    pub(crate) fn next_awake(&self, from: usize, end: usize) -> Option<usize>
+        ensures some { IfSome result (λ place. (from ≤ place) × (place < end)) }
+        ensures asleep { (place : ℕ) → from ≤ place → MatchOption result (place < end) (λ next. place < next) → IsAsleepAt C.gives_none self.now.entries place }
+    {
+        self.sleepers.next_awake(from, end)
+    }
+
+    /// What the command of this ticket has to do.
+    pub(crate) fn next_step(&self, ticket: Ticket) -> NextStep
+        ensures { (c : CommandModel) → IsToSettleAt (clients_in self.now.entries) ticket.client ticket.part c → NextStepOf result c }
+    {
+        match self.by_number.get(&ticket.client) {
+            Some(client) => client.next_step(ticket.part),
+            None => NextStep::Rest,
+        }
+    }
+
+    /// Takes off the client at this place, where nothing is left to do for it. The last one takes its place.
+    pub(crate) fn take_done(&mut self, place: usize) -> Option<C>
+        ensures leaves { LeavesAt self.old.entries place result (clients_in self.new.entries) }
+        ensures len { MatchOption result (length self.new.entries ≡ length self.old.entries) (λ _. length self.new.entries + 1 ≡ length self.old.entries) }
+    {
+        if !self.is_done(place) {
+            return None;
+        }
+        self.sleepers.wake(place);
+        self.sleepers.wake(self.by_number.len() - 1);
+        let (_, client) = self.by_number.swap_remove_index(place)?;
+        Some(client.into_port())
+    }
+
+    fn is_done(&self, place: usize) -> bool
+        ensures { IsTrue result ↔ IsDoneAt self.now.entries place }
+    {
+        match self.by_number.get_index(place) {
+            Some((_, client)) => client.is_done(),
+            None => false,
+        }
+    }
+
+    /// Takes off one of the clients, where there is one.
+    pub(crate) fn take_any(&mut self) -> Option<C>
+        ensures takes { TakesAny (clients_in self.old.entries) result (clients_in self.new.entries) }
+        ensures len { IfSome result (λ _. length self.new.entries + 1 ≡ length self.old.entries) }
+    {
+        self.sleepers.wake_all();
+        let number = first_number(&self.by_number)?;
+        let client = self.by_number.swap_remove(&number)?;
+        Some(client.into_port())
+    }
+
+    /// Reads no further request of any client.
+    pub(crate) fn stop_all(&mut self)
+        ensures stopped { AreStopped (clients_in self.old.entries) (clients_in self.new.entries) }
+        ensures len { length self.new.entries ≡ length self.old.entries }
+    {
+        let count = self.len();
+        for place in 0..count {
+            self.stop_at(place);
+        }
+    }
+
+    // Reads no further request of the client at this place.
+    fn stop_at(&mut self, place: usize)
+        ensures { StopsAt self.old.entries place self.new.entries }
+    {
+        self.sleepers.wake(place);
+        let Some(client) = self.by_number.get_index_mut(place) else {
+            return;
+        };
+        client.stop_reading();
+    }
 }
 
 // The number of one of them.
-fn first_number<C: ClientPort + Drop>(clients: &ClientTable<C>) -> Option<u32>
+fn first_number<C: ClientPort + Drop>(clients: &IndexMap<u32, ClientState<C>>) -> Option<u32>
     ensures { MatchOption result (clients.now.entries ≡ []) (λ number. (client : _) × (get (clients_in clients.now.entries) number ≡ Some client)) }
 {
     clients.keys().next().copied()

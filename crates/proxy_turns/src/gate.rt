@@ -23,10 +23,11 @@ pub trait Gate {
     fn pass(&self, worker: u16, answered: u64) -> bool
         ensures asked { says self.now worker answered result };
 
-    /// Whether the client's port of this number (`ClientPort::watched`) may give bytes, or be gone. Asked before each turn of a client
-    /// for which there is nothing else to do: it has none where this says no.
-    fn has_news(&self, _port: usize) -> bool {
-        true
+    /// The number of a client whose port may give bytes, or be gone, and of whom this was not told yet. Asked before each turn of
+    /// the worker until there is none: a client that is watched (`ClientPort::is_watched`), and for whom there is nothing else to
+    /// do, has no turn until it is named here.
+    fn next_news(&self) -> Option<u32> {
+        None
     }
 
     /// How many bytes of replies may wait or be under way for the worker's clients together. Past it, each client has its oldest

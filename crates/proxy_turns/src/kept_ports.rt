@@ -3,7 +3,7 @@
 ghost use Rattle.std.specs.Prelude.{◌≡◌, ◌<◌, ◌≤◌, ◌+◌, [], ℕ, List, length, vec_capacity};
 ghost use Rattle.proxy_turns.specs.WorkerModel.{GivesBack, clients_in, with_port};
 
-use crate::client_table::{ClientTable, take_any};
+use crate::client_table::ClientTable;
 use crate::port::ClientPort;
 
 /// The port of a client that is let go.
@@ -35,7 +35,7 @@ pub(crate) fn give_back<C: ClientPort + Drop>(clients: ClientTable<C>, ports: Ve
 {
     let mut clients = clients;
     let mut ports = ports;
-    while let Some(port) = take_any(&mut clients) {
+    while let Some(port) = clients.take_any() {
         ports.push_reserved(port);
     }
     ports

@@ -48,7 +48,7 @@ mod round;
 mod script;
 mod seed;
 mod shared_room;
-mod stopping;
+mod sleepers;
 mod tail;
 mod turned;
 mod unpushed;

@@ -1,8 +1,6 @@
 //! A new client, as it is handed to its worker, and how it is taken in.
 
 ghost use Rattle.std.specs.Prelude.{◌≡◌, ◌<◌, ◌≤◌, ◌+◌, ◌↔◌, IsTrue, OnOk, Some, length, vec_capacity};
-ghost use Rattle.std.specs.FinMap.{insert};
-ghost use Rattle.std.specs.HashMap.{spare};
 ghost use Rattle.proxy_turns.specs.WorkerModel.{IsAbove, IsDealtTo, IsNew, MayCome, OneCame, clients_in};
 ghost use Rattle.proxy_turns.specs.Arrivals.{AreToCome, PutsNew};
 
@@ -12,7 +10,6 @@ use crate::kept_ports::{closed, keep_port};
 use crate::port::ClientPort;
 use proxy_lanes::{Front, Naming};
 use resp_wire::NoMemory;
-use std::alloc::AllocFailed;
 
 /// A new client: its number, its port, and a beginning of what was published, where one was told. A worker takes it only
 /// where it is dealt to this worker, and its number is greater than that of each client before it; else it closes the port.
@@ -54,7 +51,7 @@ pub(crate) fn may_come<C: ClientPort + Drop>(
 fn is_new<C: ClientPort + Drop>(clients: &ClientTable<C>, newest: Option<u32>, number: u32) -> bool
     ensures { IsTrue result ↔ IsNew (clients_in clients.now.entries) newest number }
 {
-    !clients.contains_key(&number) && is_above(newest, number)
+    !clients.has(number) && is_above(newest, number)
 }
 
 fn is_above(newest: Option<u32>, number: u32) -> bool
@@ -105,12 +102,11 @@ pub(crate) fn make_room<C: ClientPort + Drop>(
     ensures len { length clients.new.entries ≡ length clients.old.entries }
     ensures ports { ports.new.items ≡ ports.old.items }
     ensures capacity { vec_capacity ports.old ≤ vec_capacity ports.new }
-    ensures clients_room { OnOk result (0 < spare clients.new) }
+    ensures clients_room { OnOk result (0 < clients.new.spare) }
     ensures ports_room { OnOk result (length ports.new.items + length clients.new.entries < vec_capacity ports.new) }
 {
     ports.reserve(clients.len() + 1)?;
-    clients.reserve(1)?;
-    Ok(())
+    clients.make_room()
 }
 
 /// Puts the client under its number, or lets it go where it may not come. There is room.
@@ -123,7 +119,7 @@ pub(crate) fn put_new<C: ClientPort + Drop>(
     number: u32,
     client: ClientState<C>,
 )
-    requires clients { 0 < spare clients.old }
+    requires clients { 0 < clients.old.spare }
     requires ports { length ports.old.items + length clients.old.entries < vec_capacity ports.old }
     ensures puts { PutsNew C.moves seat.workers seat.worker (clients_in clients.old.entries) ports.old.items newest.old left number client (clients_in clients.new.entries) ports.new.items newest.new }
     ensures ports_fit { length ports.new.items + length clients.new.entries ≤ vec_capacity ports.new }
@@ -132,21 +128,6 @@ pub(crate) fn put_new<C: ClientPort + Drop>(
         keep_port(ports, left, closed(client.into_port()));
         return;
     }
-    put_ready(clients, number, client);
+    clients.put(number, client);
     *newest = Some(number);
-}
-
-fn put_ready<C: ClientPort + Drop>(
-    clients: &mut ClientTable<C>,
-    number: u32,
-    client: ClientState<C>,
-)
-    requires { 0 < spare clients.old }
-    ensures puts { clients_in clients.new.entries ≡ insert (clients_in clients.old.entries) number client }
-    ensures len { length clients.new.entries ≤ length clients.old.entries + 1 }
-{
-    let put: Result<Option<ClientState<C>>, AllocFailed<(u32, ClientState<C>)>> = clients.insert(
-        number, client,
-    );
-    drop(put.unwrap());
 }

@@ -19,9 +19,10 @@ pub trait ClientPort {
     /// Its last push took nothing.
     ghost takes_none: { Self → Type 0 } = { λ _. ⊤ };
 
-    /// The number by which the worker's gate has news of it. `None` where it wants to be asked at each turn.
-    fn watched(&self) -> Option<usize> {
-        None
+    /// Whether the worker's gate will have news of it (`Gate::next_news`) once it may give bytes or is gone. Else it is asked at
+    /// each turn.
+    fn is_watched(&self) -> bool {
+        false
     }
 
     /// Told before each pull: whether more may be pushed. One that has ended its sending is not gone while that is so.

@@ -1,6 +1,6 @@
 //! In which order the clients of a worker have their turns.
 
-ghost use Rattle.std.specs.Prelude.{◌≡◌, ◌<◌, ◌≤◌, ◌+◌};
+ghost use Rattle.std.specs.Prelude.{◌≤◌};
 
 /// Whose turn comes first. Where the lane takes no more, those that found no room in it are the first of the next turn.
 #[derive(Clone, Copy, Drop)]
@@ -13,22 +13,11 @@ impl Round {
         Round { first: 0 }
     }
 
-    /// Which of `count` has its turn after `step` others.
-    pub(crate) fn place(self, step: usize, count: usize) -> usize
-        requires { step < count }
-        ensures there { result < count }
-        ensures behind { self.first + step < count → result ≡ self.first + step }
-        ensures beyond { count < self.first → result ≡ step }
-        ensures around { self.first ≤ count → count ≤ self.first + step → result + count ≡ self.first + step }
+    /// The place of the one of `count` clients whose turn comes first.
+    pub(crate) fn first(self, count: usize) -> usize
+        ensures { result ≤ count }
     {
-        if count <= self.first {
-            return step;
-        }
-        let behind = count - self.first;
-        if step < behind {
-            return self.first + step;
-        }
-        step - behind
+        if self.first < count { self.first } else { 0 }
     }
 
     /// The client at this place had its turn. Where it posted something, the next turn begins behind it.

@@ -15,16 +15,19 @@ pub(crate) struct Turned {
     pub(crate) moved: bool,
     /// Nothing is left to do for the client.
     pub(crate) done: bool,
+    /// The client's turns move nothing until the gate has news of its port.
+    pub(crate) asleep: bool,
 }
 
 impl Turned {
     /// Of a turn that moved nothing, of a client that is not done.
     pub(crate) fn still() -> Turned
-        ensures { result ≡ record { moved = false; done = false } }
+        ensures { result ≡ record { moved = false; done = false; asleep = false } }
     {
         Turned {
             moved: false,
             done: false,
+            asleep: false,
         }
     }
 }

@@ -16,9 +16,7 @@ ghost use Rattle.proxy_turns.specs.Beside.{HasLanes, IsLeft, LookOutcome};
 ghost use Rattle.proxy_turns.specs.WorkerDrain.{Drains};
 
 use crate::client_state::ClientState;
-use crate::client_table::{
-    ClientTable, finish_at, next_step_at, repost_at, take_done, tell_client, turn_at,
-};
+use crate::client_table::ClientTable;
 use crate::due_commands::DueCommands;
 use crate::gate::Gate;
 use crate::kept_ports::{closed, give_back, keep_port};
@@ -28,11 +26,9 @@ use crate::newcomer::{
 use crate::port::ClientPort;
 use crate::round::Round;
 use crate::shared_room::SharedRoom;
-use crate::stopping::stop_all;
 use crate::turned::{Finish, NextStep, Settled, Turned};
 use crate::uplink::Uplink;
 use crate::worker_end::{WorkerEnd, WorkerOutcome};
-use indexmap::IndexMap;
 use key_split::{Ticket, Told};
 use proxy_lanes::{
     CarrierEnds, Front, Inlet, LANE_PLACES, LeftInLanes, MapView, Naming, Newcomers, WorkerEnds,
@@ -91,7 +87,7 @@ impl<C: ClientPort + Drop, J: Naming> WorkerState<C, J> {
             alloc,
             worker,
             workers,
-            clients: IndexMap::new(alloc),
+            clients: ClientTable::new(alloc),
             newest: None,
             newcomers,
             left,
@@ -127,7 +123,7 @@ impl<C: ClientPort + Drop, J: Naming> WorkerState<C, J> {
         ensures due { self.new.due ≡ self.old.due }
     {
         self.left = Some(0);
-        stop_all(&mut self.clients);
+        self.clients.stop_all();
     }
 
     /// Whether all clients that were to come came, and none is left.
@@ -180,7 +176,7 @@ impl<C: ClientPort + Drop, J: Naming> WorkerState<C, J> {
         ensures outcome { result.outcome ≡ outcome }
         ensures back { HandsBack (state_model self.old) result }
     {
-        let clients = mem::replace(&mut self.clients, IndexMap::new(self.alloc));
+        let clients = mem::replace(&mut self.clients, ClientTable::new(self.alloc));
         let ports = mem::replace(&mut self.ports, Vec::new(self.alloc));
         WorkerEnd {
             worker: self.worker,
@@ -192,7 +188,7 @@ impl<C: ClientPort + Drop, J: Naming> WorkerState<C, J> {
 
 impl<C: ClientPort + Drop, J: Naming> WorkerState<C, J> {
     ghost use Rattle.proxy_turns.specs.WorkerState.{state_model};
-    ghost use Rattle.proxy_turns.specs.ClientTable.{IsDoneAt, IsStillAt, IsTurnedAt};
+    ghost use Rattle.proxy_turns.specs.ClientTable.{IsDoneAt, IsStillAt, IsTurnedAt, RestBetween};
 
     // Takes the clients that are handed over, while any are to come.
     fn admit_all(&mut self) -> Result<bool, NoMemory>
@@ -266,7 +262,7 @@ impl<C: ClientPort + Drop, J: Naming> WorkerState<C, J> {
         let Some((ticket, told)) = self.inlet.take() else {
             return Ok(false);
         };
-        if !tell_client(&mut self.clients, ticket, told) {
+        if !self.clients.tell(ticket, told) {
             return Ok(true);
         }
         note_step(&self.clients, &mut self.due, ticket, gate);
@@ -306,7 +302,7 @@ impl<C: ClientPort + Drop, J: Naming> WorkerState<C, J> {
         ensures paused { IfStill result (heap_items self.new.due.paused ≡ heap_items self.old.due.paused) }
     {
         self.due.reserve_one()?;
-        match finish_at(&mut self.clients, ticket)? {
+        match self.clients.finish(ticket)? {
             Finish::Open => {
                 self.due.drop_ended();
                 Ok(false)
@@ -344,33 +340,47 @@ impl<C: ClientPort + Drop, J: Naming> WorkerState<C, J> {
         ensures settled { IsSettled result (IsToSettleAt (clients_in self.new.clients.entries) ticket.client ticket.part) self.new.uplink.outlet }
         ensures due { self.new.due ≡ self.old.due }
     {
-        repost_at(&mut self.clients, ticket, &mut self.uplink)
+        self.clients.repost(ticket, &mut self.uplink)
     }
 
-    // Gives each client its turn, and lets it go where it is done.
+    // Gives each client that does not sleep its turn, and lets it go where it is done.
     fn serve_clients<G: Gate>(&mut self, gate: &G) -> Result<bool, NoMemory>
         ensures serves { ServesClients C.moves (state_model self.old) result (state_model self.new) }
         ensures rest { IfStill result (AreClientsAtRest C.gives_none C.takes_none (state_model self.new)) }
         ensures due { self.new.due ≡ self.old.due }
     {
-        let mut moved = false;
-        let round = self.round;
+        wake_those_with_news(&mut self.clients, gate);
         self.room.begin_round(gate.most_held());
         let count = self.clients.len();
-        for step in 0..count {
-            moved |= self.serve_client_at(round.place(step, count), gate)?;
+        let first = self.round.first(count);
+        let behind = self.serve_between(first, count)?;
+        let before = self.serve_between(0, first)?;
+        Ok(behind | before)
+    }
+
+    // The same of the clients from one place on, and before another.
+    fn serve_between(&mut self, from: usize, end: usize) -> Result<bool, NoMemory>
+        ensures serves { ServesClients C.moves (state_model self.old) result (state_model self.new) }
+        ensures rest { IfStill result (RestBetween C.gives_none C.takes_none from end self.old.clients.entries self.old.uplink.outlet self.new.clients.entries self.new.uplink.outlet) }
+        ensures due { self.new.due ≡ self.old.due }
+    {
+        let mut moved = false;
+        let mut next = from;
+        while let Some(place) = self.clients.next_awake(next, end) {
+            moved |= self.serve_client_at(place)?;
+            next = place + 1;
         }
         Ok(moved)
     }
 
     // Gives the client at this place its turn, and lets it go where it is done.
-    fn serve_client_at<G: Gate>(&mut self, place: usize, gate: &G) -> Result<bool, NoMemory>
+    fn serve_client_at(&mut self, place: usize) -> Result<bool, NoMemory>
         ensures serves { ServesClients C.moves (state_model self.old) result (state_model self.new) }
         ensures rests { IfStill result (IsStillAt C.gives_none C.takes_none self.old.clients.entries place self.new.uplink.outlet self.new.clients.entries) }
         ensures due { self.new.due ≡ self.old.due }
     {
         let posted = self.uplink.outlet.posted();
-        let turned = self.turn_client_at(place, gate)?;
+        let turned = self.turn_client_at(place)?;
         self.round
             .had_turn(place, self.uplink.outlet.posted() > posted);
         if !turned.done {
@@ -380,19 +390,14 @@ impl<C: ClientPort + Drop, J: Naming> WorkerState<C, J> {
         Ok(turned.moved | left)
     }
 
-    fn turn_client_at<G: Gate>(&mut self, place: usize, gate: &G) -> Result<Turned, NoMemory>
+    fn turn_client_at(&mut self, place: usize) -> Result<Turned, NoMemory>
         ensures turns { TurnsClient C.moves (state_model self.old) (turned_in result) (state_model self.new) }
         ensures turned { IfOk result (λ turned. IsTurnedAt C.gives_none C.takes_none self.old.clients.entries place turned self.new.uplink.outlet self.new.clients.entries) }
         ensures len { length self.new.clients.entries ≡ length self.old.clients.entries }
         ensures due { self.new.due ≡ self.old.due }
     {
-        turn_at(
-            &mut self.clients,
-            place,
-            &mut self.uplink,
-            &mut self.room,
-            gate,
-        )
+        self.clients
+            .turn_at(place, &mut self.uplink, &mut self.room)
     }
 
     // Lets the client at this place go, where it is done. Its port is closed.
@@ -401,11 +406,23 @@ impl<C: ClientPort + Drop, J: Naming> WorkerState<C, J> {
         ensures done { IsDoneAt self.old.clients.entries place → result ≡ true }
         ensures due { self.new.due ≡ self.old.due }
     {
-        let Some(port) = take_done(&mut self.clients, place) else {
+        let Some(port) = self.clients.take_done(place) else {
             return false;
         };
         keep_port(&mut self.ports, self.left, closed(port));
         true
+    }
+}
+
+// The clients of whom the gate has news have turns again.
+fn wake_those_with_news<C: ClientPort + Drop, G: Gate>(clients: &mut ClientTable<C>, gate: &G)
+    ensures { clients.new ≡ clients.old }
+{
+    for _ in 0..u64::MAX {
+        let Some(number) = gate.next_news() else {
+            return;
+        };
+        clients.wake(number);
     }
 }
 
@@ -440,7 +457,7 @@ fn note_step<C: ClientPort + Drop, G: Gate>(
     ensures until { (c : CommandModel) → IsToSettleAt (clients_in clients.now.entries) ticket.client ticket.part c
         → NotesPause (G.tells gate.now) due.old ticket (pause_at c.stage c.followed) due.new }
 {
-    match next_step_at(clients, ticket) {
+    match clients.next_step(ticket) {
         NextStep::Rest => {}
         NextStep::End => due.note(ticket, None, gate),
         NextStep::Post(pause) => due.note(ticket, Some(pause), gate),
@@ -472,7 +489,7 @@ fn note_next<C: ClientPort + Drop, G: Gate>(
         client,
         part,
     };
-    match next_step_at(clients, ticket) {
+    match clients.next_step(ticket) {
         NextStep::Post(pause) => due.note_refused(ticket, pause, gate),
         NextStep::End => {}
         NextStep::Rest => {}

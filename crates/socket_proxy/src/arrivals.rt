@@ -8,7 +8,7 @@ use crate::unfinished::{SharedUnfinished, UnfinishedRequest};
 use event_log::{Event, Figure};
 use mio::Registry;
 use proxy_lanes::Inlet;
-use proxy_runtime::{Peer, PolledSocket, Registration};
+use proxy_runtime::{PolledSocket, Registration};
 use proxy_turns::ClientPort;
 use std::alloc::Global;
 use std::io;
@@ -129,7 +129,7 @@ impl<'b> Arrivals<'b> {
         let Some(number) = self.next else {
             return Err(io::Error::other("no number is left for a client"));
         };
-        let Ok(registration) = Registration::new(&self.handle.ready, Peer::Client) else {
+        let Ok(registration) = Registration::of_client(&self.handle.ready, number) else {
             return Err(ErrorKind::OutOfMemory.into());
         };
         let report = Arc::try_clone(self.handle.report())?;

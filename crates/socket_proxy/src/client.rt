@@ -116,11 +116,14 @@ impl ClientPort for SocketClient {
     // The system does not tell which bytes the client got or gave. It is gone only once its socket was given back.
     ghost moves = { record { between = λ _ _ _ _ _. Unit {0}; gone = λ client. client.socket ≡ None } };
 
-    fn watched(&self) -> Option<usize> {
+    fn is_watched(&self) -> bool {
         if self.is_owed.get() || self.request.is_begun() {
-            return None;
+            return false;
         }
-        self.socket.as_ref()?.watched()
+        match &self.socket {
+            Some(socket) => socket.is_watched(),
+            None => false,
+        }
     }
 
     fn owes(&self, more: bool) {

@@ -3,7 +3,7 @@
 use crate::shared::Shared;
 use admin_page::{Figures, PageConnection, PageService};
 use node_link::{Flow, Stream};
-use proxy_runtime::{PolledSocket, ReadySet};
+use proxy_runtime::PolledSocket;
 use resp_wire::NoMemory;
 use std::alloc::Global;
 
@@ -34,16 +34,9 @@ impl PageClient {
     }
 
     /// Whether there may be something to read of it, or to write.
-    pub(crate) fn has_work(&self, ready: &ReadySet) -> bool {
+    pub(crate) fn has_work(&self) -> bool {
         !self.connection.output().is_empty()
-            || (self.connection.wants_read() && self.may_read(ready))
-    }
-
-    fn may_read(&self, ready: &ReadySet) -> bool {
-        match self.socket.watched() {
-            Some(entry) => ready.may_read(entry),
-            None => true,
-        }
+            || (self.connection.wants_read() && self.socket.may_read())
     }
 
     /// Whether it is to be closed at this time, in milliseconds.

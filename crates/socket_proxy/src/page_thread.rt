@@ -216,7 +216,7 @@ impl Page<'_> {
         let mut has_work = false;
         for place in &self.clients {
             if let Some(client) = place {
-                has_work = has_work | client.has_work(&self.ready);
+                has_work = has_work | client.has_work();
             }
         }
         has_work

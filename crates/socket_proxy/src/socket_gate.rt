@@ -4,7 +4,7 @@ use crate::share::share_of;
 use proxy_runtime::ReadySet;
 use proxy_turns::{Gate, MOST_HELD};
 
-/// Tells a worker the time of its thread, and of which sockets there is news.
+/// Tells a worker the time of its thread, and of which clients there is news.
 #[derive(Drop)]
 pub(crate) struct SocketGate<'b> {
     ready: &'b ReadySet,
@@ -27,8 +27,8 @@ impl Gate for SocketGate<'_> {
         true
     }
 
-    fn has_news(&self, port: usize) -> bool {
-        self.ready.may_read(port)
+    fn next_news(&self) -> Option<u32> {
+        self.ready.next_news()
     }
 
     fn most_held(&self) -> usize {

@@ -3,4 +3,4 @@ use Rattle.proxy_turns.specs.WorkerModel.{clients_in}
 use Rattle.proxy_turns.proofs.newcomer.make_room.Goals as goal
 
 pub returns-clause-clients : goal.returns-clause-clients
-returns-clause-clients g c = ap clients_in c.reserve-2.ensures.entries
+returns-clause-clients g c = ap clients_in c.make_room.ensures.entries

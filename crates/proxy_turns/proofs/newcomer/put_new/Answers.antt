@@ -7,4 +7,7 @@ returns-then-not-may_come-clause-puts g c =
     inr (c.closed.result, (λ new. false≢true (sym c.if-not-may_come.true ∙ c.may_come.ensures.1 new)), subst (λ port. g.C.ClientPort.moves.between port [] [] [] c.closed.result) c.into_port.ensures c.closed.ensures, refl, c.keep_port.ensures.ports, refl)
 
 pub returns-clause-puts : goal.returns-clause-puts
-returns-clause-puts g c = inl (c.may_come.ensures.0 c.if-not-may_come.false, c.put_ready.ensures.puts, refl, refl)
+returns-clause-puts g c = inl (c.may_come.ensures.0 c.if-not-may_come.false, c.put.ensures.puts, refl, refl)
+
+pub put-requires-clause-new : goal.put-requires-clause-new
+put-requires-clause-new g c = (c.may_come.ensures.0 c.if-not-may_come.false).1.1

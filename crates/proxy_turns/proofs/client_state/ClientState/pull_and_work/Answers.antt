@@ -1,9 +1,8 @@
 use Rattle.std.proofs.Common.{◌≡◌, ◌||◌, true, rules, Ok}
 use Rattle.std.proofs.lemmas.Result.{err_from_is_err_and}
 use Rattle.proxy_turns.specs.ClientRest.{IfStill, IsClientAtRest}
-use Rattle.proxy_turns.specs.ClientState.{is_idle_by}
 use Rattle.proxy_turns.specs.ClientTurn.{is_pull, is_work}
-use Rattle.proxy_turns.proofs.ClientResting.{idle_by, idle_of, idle_on, idle_rests, if_turned, rests_after, three_still, with_still, worked_rests}
+use Rattle.proxy_turns.proofs.ClientResting.{idle_of, idle_on, idle_rests, if_turned, three_still, with_still, worked_rests}
 use Rattle.proxy_turns.proofs.Going.{goes_of, goes_seen, goes_then, goes_wider, turns_err_wider, turns_of}
 use Rattle.proxy_turns.proofs.EventKinds.{in_clients_turn, whatever}
 use Rattle.proxy_turns.proofs.client_state.ClientState.pull_and_work.Goals as goal
@@ -22,14 +21,14 @@ returns-then-stays_idle-clause-turns g c =
 pub returns-then-stays_idle-clause-rests : goal.returns-then-stays_idle-clause-rests
 returns-then-stays_idle-clause-rests g c =
     let still = c.stays_idle.ensures c.if-stays_idle.true in
-    let was : is_idle_by c.self.inside.rest ≡ true = search (rules, c.is_idle-was_idle.ensures, still.0) in
-    idle_rests g.C.ClientPort.takes_none g.C.ClientPort.gives_none c.is_held_back-is_held_back.result _ _ c.args.uplink.now.outlet still.1 ((idle_by g.C.ClientPort.takes_none g.C.ClientPort.gives_none _ _ c.self.invariant was)) (if_turned _ c.in_ok-pulled.ensures.none still.2)
+    let was : c.self.inside.is_idle ≡ true = search (rules, still.0) in
+    idle_rests g.C.ClientPort.takes_none g.C.ClientPort.gives_none c.is_held_back-is_held_back.result _ _ c.args.uplink.now.outlet still.1 (c.self.invariant was) (if_turned _ c.in_ok-pulled.ensures.none still.2)
 
 pub invariant_of-self-then-stays_idle : goal.invariant_of-self-then-stays_idle
 invariant_of-self-then-stays_idle g c =
     let still = c.stays_idle.ensures c.if-stays_idle.true in
-    let was : is_idle_by c.self.inside.rest ≡ true = search (rules, c.is_idle-was_idle.ensures, still.0) in
-    idle_on g.C.ClientPort.takes_none g.C.ClientPort.gives_none _ _ _ ((idle_by g.C.ClientPort.takes_none g.C.ClientPort.gives_none _ _ c.self.invariant was)) (if_turned _ c.in_ok-pulled.ensures.none still.2)
+    let was : c.self.inside.is_idle ≡ true = search (rules, still.0) in
+    λ is. idle_on g.C.ClientPort.takes_none g.C.ClientPort.gives_none _ _ _ (c.self.invariant was) (if_turned _ c.in_ok-pulled.ensures.none still.2)
 
 pub returns-in_err-worked-clause-turns : goal.returns-in_err-worked-clause-turns
 returns-in_err-worked-clause-turns g c =
@@ -55,13 +54,13 @@ returns-clause-turns g c =
     (goes_then g.C.ClientPort.moves whatever _ _ _ _ _ three (goes_wider g.C.ClientPort.moves whatever is_pull (in_clients_turn is_pull) _ _ _ (c.in_ok-more.ensures.pulls c.work.new.uplink.outlet c.work.new.uplink.view))))
 
 pub invariant_of-self-2 : goal.invariant_of-self-2
-invariant_of-self-2 g c = rw c.rest_after-self-inside.ensures (rests_after g.C.ClientPort.takes_none g.C.ClientPort.gives_none _ _ (λ becomes.
-    let quiet = c.becomes_idle.ensures becomes in
+invariant_of-self-2 g c = λ becomes.
+    let quiet = c.becomes_idle-self-inside.ensures becomes in
     let rests : IfStill (Ok ((c.in_ok-pulled.pulled || c.in_ok-worked.worked) || c.in_ok-more.more)) (IsClientAtRest g.C.ClientPort.gives_none g.C.ClientPort.takes_none c.pull-2.new.self c.work.new.uplink.outlet) =
     three_still c.in_ok-pulled.pulled c.in_ok-worked.worked c.in_ok-more.more c.in_ok-pulled.ensures.none (with_still _ c.in_ok-worked.worked c.in_ok-worked.ensures.none) c.in_ok-more.ensures.none
     (λ pulls works more. worked_rests g.C.ClientPort.takes_none g.C.ClientPort.gives_none _ c.forget_asked-is_asked_again.result _ _ _ _ _ _ c.forget_asked-is_asked_again.ensures.same c.forget_asked-is_asked_again.ensures.again
     (λ held. c.forget_asked-is_asked_again.ensures.is_again held works.1) pulls works.0 more) in
-    idle_of g.C.ClientPort.takes_none g.C.ClientPort.gives_none _ c.work.new.uplink.outlet (if_turned _ rests quiet.0) (c.is_quiet.ensures quiet.1)))
+    idle_of g.C.ClientPort.takes_none g.C.ClientPort.gives_none _ c.work.new.uplink.outlet (if_turned _ rests quiet.0) (c.is_quiet.ensures quiet.1)
 
 pub returns-clause-rests : goal.returns-clause-rests
 returns-clause-rests g c =

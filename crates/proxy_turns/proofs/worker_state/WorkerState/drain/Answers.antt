@@ -10,5 +10,5 @@ returns-clause-drains g c = record { none_to_come = refl; clients = c.stop_all.e
 pub invariant_of-self : goal.invariant_of-self
 invariant_of-self g c = record {
   ports_fit = omega (arith, c.stop_all.ensures.len, c.args.self.now.ports_fit);
-  due_known = still_noted (clients_in c.args.self.now.clients.entries) (clients_in c.stop_all.new.clients.entries) c.args.self.now.due (stopped_new _ _ c.stop_all.ensures.stopped) c.args.self.now.due_known;
+  due_known = still_noted (clients_in c.args.self.now.clients.entries) (clients_in c.stop_all.new.self.entries) c.args.self.now.due (stopped_new _ _ c.stop_all.ensures.stopped) c.args.self.now.due_known;
 }

@@ -7,12 +7,12 @@ use Rattle.proxy_turns.proofs.worker_state.WorkerState.post_one.Goals as goal
 
 pub returns-clause-settles : goal.returns-clause-settles
 returns-clause-settles g c =
-    settled_all g.C.ClientPort.moves settles (λ k event. refl) (state_model c.args.self.now) c.args.ticket.client c.repost_at.result (record { clients = clients_in c.repost_at.new.clients.entries; outlet = c.repost_at.new.uplink.outlet; view = c.repost_at.new.uplink.view }) c.repost_at.ensures.settles
+    settled_all g.C.ClientPort.moves settles (λ k event. refl) (state_model c.args.self.now) c.args.ticket.client c.repost.result (record { clients = clients_in c.repost.new.self.entries; outlet = c.repost.new.uplink.outlet; view = c.repost.new.uplink.view }) c.repost.ensures.settles
 
 pub invariant_of-self : goal.invariant_of-self
 invariant_of-self g c = record {
-  ports_fit = omega (arith, c.repost_at.ensures.len, c.args.self.now.ports_fit);
-  due_known = still_noted (clients_in c.args.self.now.clients.entries) (clients_in c.repost_at.new.clients.entries) c.args.self.now.due
-      (settled_new g.C.ClientPort.moves c.repost_at.result (record { clients = clients_in c.args.self.now.clients.entries; outlet = c.args.self.now.uplink.outlet; view = c.args.self.now.uplink.view }) c.args.ticket.client _
-      (record { clients = clients_in c.repost_at.new.clients.entries; outlet = c.repost_at.new.uplink.outlet; view = c.repost_at.new.uplink.view }) c.repost_at.ensures.settles) c.args.self.now.due_known;
+  ports_fit = omega (arith, c.repost.ensures.len, c.args.self.now.ports_fit);
+  due_known = still_noted (clients_in c.args.self.now.clients.entries) (clients_in c.repost.new.self.entries) c.args.self.now.due
+      (settled_new g.C.ClientPort.moves c.repost.result (record { clients = clients_in c.args.self.now.clients.entries; outlet = c.args.self.now.uplink.outlet; view = c.args.self.now.uplink.view }) c.args.ticket.client _
+      (record { clients = clients_in c.repost.new.self.entries; outlet = c.repost.new.uplink.outlet; view = c.repost.new.uplink.view }) c.repost.ensures.settles) c.args.self.now.due_known;
 }

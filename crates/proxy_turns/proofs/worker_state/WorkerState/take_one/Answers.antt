@@ -24,31 +24,31 @@ returns-in_default-clause-takes g c = found_none g.C.ClientPort.moves takes_told
 pub returns-in_default-clause-none : goal.returns-in_default-clause-none
 returns-in_default-clause-none g c = (c.args.self.now.inlet, c.in_default.ensures)
 
-pub invariant_of-self-then-not-tell_client : goal.invariant_of-self-then-not-tell_client
-invariant_of-self-then-not-tell_client g c =
+pub invariant_of-self-then-not-tell : goal.invariant_of-self-then-not-tell
+invariant_of-self-then-not-tell g c =
     let old = clients_in c.args.self.now.clients.entries in
-    let new = clients_in c.tell_client.new.clients.entries in
+    let new = clients_in c.tell.new.self.entries in
     record {
-      ports_fit = omega (arith, c.tell_client.ensures.len, c.args.self.now.ports_fit);
+      ports_fit = omega (arith, c.tell.ensures.len, c.args.self.now.ports_fit);
       due_known = silent_noted old new c.in-Some.ticket c.in-Some.told c.args.self.now.due c.reserve_one.new.self
-          (subst (λ heard. Tells old c.in-Some.ticket c.in-Some.told heard new) c.if-not-tell_client.true c.tell_client.ensures.tells) c.reserve_one.ensures.kept c.args.self.now.due_known;
+          (subst (λ heard. Tells old c.in-Some.ticket c.in-Some.told heard new) c.if-not-tell.true c.tell.ensures.tells) c.reserve_one.ensures.kept c.args.self.now.due_known;
     }
 
-pub returns-then-not-tell_client-clause-takes : goal.returns-then-not-tell_client-clause-takes
-returns-then-not-tell_client-clause-takes g c =
-    took g.C.ClientPort.moves takes_told (λ ticket told. refl) (state_model c.args.self.now) (clients_in c.tell_client.new.clients.entries) c.take.new.self c.in-Some.ticket c.in-Some.told c.tell_client.result c.in-Some.ensures c.tell_client.ensures.tells
+pub returns-then-not-tell-clause-takes : goal.returns-then-not-tell-clause-takes
+returns-then-not-tell-clause-takes g c =
+    took g.C.ClientPort.moves takes_told (λ ticket told. refl) (state_model c.args.self.now) (clients_in c.tell.new.self.entries) c.take.new.self c.in-Some.ticket c.in-Some.told c.tell.result c.in-Some.ensures c.tell.ensures.tells
 
 pub invariant_of-self-2 : goal.invariant_of-self-2
 invariant_of-self-2 g c =
     let old = clients_in c.args.self.now.clients.entries in
-    let new = clients_in c.tell_client.new.clients.entries in
+    let new = clients_in c.tell.new.self.entries in
     record {
-      ports_fit = omega (arith, c.tell_client.ensures.len, c.args.self.now.ports_fit);
+      ports_fit = omega (arith, c.tell.ensures.len, c.args.self.now.ports_fit);
       due_known = told_noted old new c.in-Some.ticket c.in-Some.told c.args.self.now.due c.note_step.new.due
-          (subst (λ heard. Tells old c.in-Some.ticket c.in-Some.told heard new) c.if-not-tell_client.false c.tell_client.ensures.tells)
+          (subst (λ heard. Tells old c.in-Some.ticket c.in-Some.told heard new) c.if-not-tell.false c.tell.ensures.tells)
           (keeps_then c.args.self.now.due c.reserve_one.new.self c.note_step.new.due c.reserve_one.ensures.kept c.note_step.ensures.kept) c.note_step.ensures.noted c.args.self.now.due_known;
     }
 
 pub returns-clause-takes : goal.returns-clause-takes
 returns-clause-takes g c =
-    took g.C.ClientPort.moves takes_told (λ ticket told. refl) (state_model c.args.self.now) (clients_in c.tell_client.new.clients.entries) c.take.new.self c.in-Some.ticket c.in-Some.told c.tell_client.result c.in-Some.ensures c.tell_client.ensures.tells
+    took g.C.ClientPort.moves takes_told (λ ticket told. refl) (state_model c.args.self.now) (clients_in c.tell.new.self.entries) c.take.new.self c.in-Some.ticket c.in-Some.told c.tell.result c.in-Some.ensures c.tell.ensures.tells
