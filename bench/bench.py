@@ -13,7 +13,7 @@ import time
 sys.path.insert(0, os.path.join(os.path.dirname(os.path.abspath(__file__)), "..", "tests", "real"))
 
 from client import Client, request
-from cluster import Cluster, Proxy, Room, Server, does_answer, free_ports, wait_until
+from cluster import Cluster, Proxy, Room, Server, does_answer, free_ports, slot_of, wait_until
 from harness import Failed
 
 CLIENTS = 50
@@ -171,14 +171,17 @@ def start_nutcracker(room):
     return Target("nutcracker", port, process)
 
 
+def start_proxies(room, program, cluster):
+    for workers in WORKERS:
+        proxy = Proxy(room, program, cluster.nodes[0].port, workers=workers, name=f"serve{workers}")
+        yield Target(f"serve {workers}", proxy.port, proxy.process)
+
+
 def start_targets(room, program):
     plain = Server(room, "direct")
     targets = [Target("direct", plain.port, plain.process), start_nutcracker(room)]
     if os.access(program, os.X_OK):
-        seed = Cluster(room).nodes[0].port
-        for workers in WORKERS:
-            proxy = Proxy(room, program, seed, workers=workers, name=f"serve{workers}")
-            targets.append(Target(f"serve {workers}", proxy.port, proxy.process))
+        targets += start_proxies(room, program, Cluster(room))
     else:
         print(f"{program} is not there: measured without it", file=sys.stderr)
     return targets
@@ -279,6 +282,27 @@ def print_calls(folder, targets, only):
         print(f"| {row.name} | " + " | ".join(shares) + " |")
 
 
+def print_refused(room, program, rounds, seconds):
+    """Commands whose key was moved on while its slot was not: the first node refuses each run, and each goes to the second one."""
+    cluster = Cluster(room)
+    targets = list(start_proxies(room, program, cluster))
+    asked = [Row(command, "3 B", 64, one_key=True) for command in ("GET", "SET")]
+    for target in targets:
+        target.fill(asked[0])
+    table = [("", measure_row(targets, row, rounds, seconds)) for row in asked]
+    slot = slot_of(asked[0].words()[1])
+    source = cluster.owner(slot)
+    target = (source + 1) % 3
+    cluster.begin_move(slot, source, target)
+    cluster.move_keys(slot, source, target)
+    table += [(", refused", measure_row(targets, row, rounds, seconds)) for row in asked]
+    print("| requests a second; processor seconds a million | " + " | ".join(it.name for it in targets) + " |")
+    print("|---|" + "---:|" * len(targets))
+    for said, measured in table:
+        cells = [f"{it.rate():,.0f}; {it.processor_a_million():.1f}" for it in measured]
+        print(f"| {measured[0].row.name}{said} | " + " | ".join(cells) + " |")
+
+
 def print_machine(rounds, seconds, load, silent, apart):
     with open("/proc/cpuinfo", encoding="utf-8") as info:
         model = next((line.split(":")[1].strip() for line in info if line.startswith("model name")), "unknown processor")
@@ -329,6 +353,7 @@ def main(folder, program, *words):
     parser.add_argument("--calls", action="store_true")
     parser.add_argument("--silent", type=int, default=0)
     parser.add_argument("--apart", action="store_true")
+    parser.add_argument("--refused", action="store_true")
     asked = parser.parse_args(words)
     rounds, seconds = (2, 0.3) if asked.quick else (5, 1.0)
     load, room = os.getloadavg()[0], Room(folder)
@@ -339,6 +364,9 @@ def main(folder, program, *words):
         others, own = halves()
         os.sched_setaffinity(0, others)
     try:
+        if asked.refused:
+            print_refused(room, program, rounds, seconds)
+            return
         targets = start_targets(room, program)
         if asked.apart:
             for target in targets:
