@@ -80,6 +80,7 @@ def tools_read_the_page(world):
     """promtool finds nothing to complain of; curl reads both paths. Where they can't be installed that is said."""
     with Page(world, world.cluster.nodes[0].port, "scraped") as page, page.proxy.client() as client:
         client.value("GET", "a")
+        wait_until(lambda: page.get("/healthz") == (200, "ok\n"), "the proxy to be well")
         text = page.get("/metrics")[1]
         if not shutil.which("promtool") or not shutil.which("curl"):
             return "without promtool or curl"
@@ -176,7 +177,7 @@ def a_page_costs_nothing_while_idle(world):
     """Nobody asks for it, and a client that was served says nothing."""
     with Page(world, world.cluster.nodes[0].port, "idle page") as page, page.proxy.client() as client:
         client.value("GET", "a")
-        check_same(page.get("/healthz")[0], 200, "status of the health")
+        wait_until(lambda: page.get("/healthz") == (200, "ok\n"), "the proxy to be well")
         percent = percent_of_core(page.proxy.process)
         most = max(MOST_PERCENT, percent_of_commands(page.proxy, MOST_COMMANDS))
         note = f"{percent:.3f} % of a core, of {most:.1f}"
