@@ -290,7 +290,7 @@ def print_refused(room, program, rounds, seconds):
     for target in targets:
         target.fill(asked[0])
     table = [("", measure_row(targets, row, rounds, seconds)) for row in asked]
-    slot = slot_of(asked[0].words()[1])
+    slot = slot_of(asked[0].words()[1].encode())
     source = cluster.owner(slot)
     target = (source + 1) % 3
     cluster.begin_move(slot, source, target)
