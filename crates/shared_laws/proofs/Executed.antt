@@ -1,5 +1,5 @@
 -- A run that was executed, as others see it: a run of others.
-use Rattle.std.proofs.Common.{◌≡◌, ◌≢◌, inl, inr, ℕ, zero, suc, ◌+◌, ◌%◌, Bool, false, List, [], ◌∷◌, ◌++◌, map, Some, refl, sym, ap, ◌∙◌, subst, arith}
+use Rattle.std.proofs.Common.{◌≡◌, ◌≢◌, inl, inr, ℕ, zero, suc, ◌+◌, ◌%◌, Bool, false, true, List, [], ◌∷◌, ◌++◌, map, Some, refl, sym, ap, ◌∙◌, subst, arith}
 use Rattle.std.specs.Prelude.{slice_get, All, is_some}
 use Rattle.slot_hash.specs.Slot.{slot_of}
 use Rattle.resp_wire.specs.Seen.{data_of}
@@ -20,7 +20,7 @@ use Rattle.node_model.specs.declared.role.Verdict.{Verdict}
 use Rattle.node_model.specs.declared.role.Verdict.TheVariants as verdict
 use Rattle.world_laws.specs.State.{WorldModel, Link, slot_for, parts_told, tickets_told, tolds_of}
 use Rattle.world_laws.specs.declared.state.Arrival.{Arrival}
-use Rattle.world_laws.specs.World.{IsNode, ServesRun, entry_of, entries_of}
+use Rattle.world_laws.specs.World.{IsNode, ServesRunAt, entry_of, entries_of}
 use Rattle.world_laws.specs.Headline.{At}
 use Rattle.world_laws.specs.Homes.{is_bad}
 use Rattle.world_laws.proofs.Flow.{all_at}
@@ -87,8 +87,9 @@ among-at [] j x e = absurd (cc)
 among-at (z ∷ xs) zero x e = inl (let same : z ≡ x = cc in same)
 among-at (z ∷ xs) (suc j) x e = inr (among-at xs j x e)
 
-module _ (n : ℕ) (w w' : WorldModel) (st : Steady n w) (link : ℕ) (l : Link) (v : Verdict) (at_l : slice_get w.links link ≡ Some l) (y : ServesRun (record w { moment = w.moment + 1 }) link l v w')
-    (e : deed_for w.cluster l.node l.asking (parts_told y.1) v ≡ Executes) (did : ExecutedAll w.cluster l.node (parts_told y.1) (tolds_of y.1) y.2) (nq moment : ℕ) where
+module _ (n : ℕ) (w w' : WorldModel) (st : Steady n w) (link node : ℕ) (l : Link) (v : Verdict) (at_l : slice_get w.links link ≡ Some l) (there : IsNode w.cluster node) (leads : l.asking ≡ true → l.node ≡ node)
+    (y : ServesRunAt (record w { moment = w.moment + 1 }) node link l v w')
+    (e : deed_for w.cluster node l.asking (parts_told y.1) v ≡ Executes) (did : ExecutedAll w.cluster node (parts_told y.1) (tolds_of y.1) y.2) (nq moment : ℕ) where
   abbrev w1 : WorldModel
   w1 = record w { moment = w.moment + 1 }
 
@@ -111,10 +112,10 @@ module _ (n : ℕ) (w w' : WorldModel) (st : Steady n w) (link : ℕ) (l : Link)
   u1 = record { ups = (st.turned).ups; links = (st.turned).links }
 
   r : IsRun w.commands (tickets_told y.1)
-  r = run w1 w' p1 t1 k1 u1 link l v at_l y
+  r = run w1 w' p1 t1 k1 u1 link node l v at_l there leads y
 
-  seen : AreSeen (store_at w.cluster l.node) (parts_told y.1) fs
-  seen = ran-seen nq moment y.1 (store_at w.cluster l.node) did.0
+  seen : AreSeen (store_at w.cluster node) (parts_told y.1) fs
+  seen = ran-seen nq moment y.1 (store_at w.cluster node) did.0
 
   member : (k : ℕ) (x : EntryModel) → At fs k x → IsSeen nq moment y.1 x
   member k x z = foreign-at nq moment y.1 k x z
@@ -125,32 +126,32 @@ module _ (n : ℕ) (w w' : WorldModel) (st : Steady n w) (link : ℕ) (l : Link)
       record {
         theirs = m.3;
         client_is = m.4 ∙ r.3 m.0 (m.1).0.command.ticket (ticket-at y.1 m.0 m.1 m.2);
-        slot_is = ap slot_for m.5 ∙ slotted w1 w' p1 t1 k1 u1 link l v at_l y m.0 m.1 m.2;
-        one_slot = subst HasOneSlot (sym m.5) (asked-of w1 w' p1 t1 k1 u1 link l v at_l y m.0 m.1 m.2).0;
+        slot_is = ap slot_for m.5 ∙ slotted w1 w' p1 t1 k1 u1 link node l v at_l there leads y m.0 m.1 m.2;
+        one_slot = subst HasOneSlot (sym m.5) (asked-of w1 w' p1 t1 k1 u1 link node l v at_l there leads y m.0 m.1 m.2).0;
         now = m.6;
       })
 
-  asks-truly : All (λ (x : EntryModel). AskIsTrue w.cluster l.node l.asking x.part) fs
-  asks-truly = all_from (λ (x : EntryModel). AskIsTrue w.cluster l.node l.asking x.part) fs (λ k x z. let m = member k x z in subst (AskIsTrue w.cluster l.node l.asking) (sym m.5) (true' m.0 m.1 m.2))
+  asks-truly : All (λ (x : EntryModel). AskIsTrue w.cluster node l.asking x.part) fs
+  asks-truly = all_from (λ (x : EntryModel). AskIsTrue w.cluster node l.asking x.part) fs (λ k x z. let m = member k x z in subst (AskIsTrue w.cluster node l.asking) (sym m.5) (true' m.0 m.1 m.2))
     where
-      true' : (j : ℕ) (x : Arrival × Told) → At y.1 j x → AskIsTrue w.cluster l.node l.asking x.0.command.part
+      true' : (j : ℕ) (x : Arrival × Told) → At y.1 j x → AskIsTrue w.cluster node l.asking x.0.command.part
       true' j x z a to =
-          let here : slot_here w.cluster x.0.command.part ≡ standing_at w.cluster slot = standing w1 w' p1 t1 k1 u1 link l v at_l y j x z in
+          let here : slot_here w.cluster x.0.command.part ≡ standing_at w.cluster slot = standing w1 w' p1 t1 k1 u1 link node l v at_l there leads y j x z in
           all_from (λ key. is_bad (slot_here w.cluster x.0.command.part).phase (is_some (at w.cluster (slot_here w.cluster x.0.command.part).source key)) ≡ false) (keys_of x.0.command.part)
           (λ i key g. subst (λ (z : SlotStandingModel). is_bad z.phase (is_some (at w.cluster z.source key)) ≡ false) (sym here)
-          (good w1 w' p1 t1 k1 u1 link l v at_l y did key (among-in key y.1 j x z (among-at (keys_of x.0.command.part) i key g)) a (to ∙ ap (λ (z : SlotStandingModel). z.target) here)))
+          (good w1 w' p1 t1 k1 u1 link node l v at_l there leads y did key (among-in key y.1 j x z (among-at (keys_of x.0.command.part) i key g)) a (to ∙ ap (λ (z : SlotStandingModel). z.target) here)))
 
-  deed : deed_for w.cluster l.node l.asking (parts_in fs) verdict.Plain ≡ Executes
-  deed = subst (λ cs. deed_for w.cluster l.node l.asking cs verdict.Plain ≡ Executes) (sym seen.0) (plain-does v _ l.asking _ _ _ e)
+  deed : deed_for w.cluster node l.asking (parts_in fs) verdict.Plain ≡ Executes
+  deed = subst (λ cs. deed_for w.cluster node l.asking cs verdict.Plain ≡ Executes) (sym seen.0) (plain-does v _ l.asking _ _ _ e)
 
-  pub executed-others : OthersExecute nq moment w.cluster l.node l.asking fs w'.cluster
+  pub executed-others : OthersExecute nq moment w.cluster node l.asking fs w'.cluster
   executed-others = (
     r.2,
     slot,
     of-them,
-    all_at (λ (x : Link). IsNode w.cluster x.node) w.links link l at_l (st.there).links,
+    there,
     asks-truly,
     deed,
     seen.1,
-    ap (λ (z : WorldModel). z.cluster) y.7 ∙ did.1 ∙ ap (with_store w.cluster l.node) (sym seen.2),
+    ap (λ (z : WorldModel). z.cluster) y.7 ∙ did.1 ∙ ap (with_store w.cluster node) (sym seen.2),
   )

@@ -8,9 +8,10 @@ use Rattle.key_split.specs.declared.travel.Ticket.{Ticket}
 use Rattle.key_split.specs.declared.travel.Told.{Told}
 use Rattle.key_split.specs.declared.travel.Told.TheVariants.{Reply, Moved, Ask, TryAgain, ClusterDown, Unclear, Unsent}
 use Rattle.node_model.specs.History.{EntryModel}
-use Rattle.world_laws.specs.State.{WorldModel, after_told, all_replied}
+use Rattle.node_model.specs.declared.role.Verdict.{Verdict}
+use Rattle.world_laws.specs.State.{Link, WorldModel, after_told, all_replied}
 use Rattle.world_laws.specs.declared.state.Arrival.{Arrival}
-use Rattle.world_laws.specs.World.{WorldDoes, AreOf, ServesAsking, ServesRun, FetchesWelcome, FetchesReply, arrival, next_ticket, entry_of, entries_of}
+use Rattle.world_laws.specs.World.{WorldDoes, AreOf, ServesAsking, ServesRun, ServesRunAt, FetchesWelcome, FetchesReply, arrival, next_ticket, entry_of, entries_of}
 use Rattle.world_laws.specs.Headline.{At}
 use Rattle.world_laws.specs.declared.event.Event.{Event}
 use Rattle.world_laws.specs.declared.event.Event.TheVariants.{Arrive, Post, Carry, Refuse, Serve, Fetch, Take, Drop, Discard, Import, Migrate, MoveKey, Own, Release, Forget, Stay}
@@ -85,6 +86,9 @@ Gains w w' = (es : List EntryModel) × (w'.history ≡ w.history ++ es) × ((k :
 none-gained : (w w' : WorldModel) → w'.history ≡ w.history → Gains w w'
 none-gained w w' e = ([], e ∙ sym (no-more w.history), λ k x at_k. absurd (cc))
 
+pub run-gains : (w w' : WorldModel) (link node : ℕ) (l : Link) (v : Verdict) → ServesRunAt w node link l v w' → Gains w w'
+run-gains w w' link node l v x = (entries_of w.moment x.1, ap (λ (x : WorldModel). x.history) x.7, entries-at w x.1 x.4)
+
 pub does-gain : (e : Event) (w w' : WorldModel) → WorldDoes w e w' → Gains w w'
 does-gain (Arrive client part) w w' d = none-gained w w' (ap (λ (x : WorldModel). x.history) d.1)
 does-gain (Post tickets node) w w' d = none-gained w w' (ap (λ (x : WorldModel). x.history) d.5)
@@ -94,7 +98,7 @@ does-gain (Serve link v) w w' d = go d.2
   where
     go : ServesAsking w link d.0 v w' ⊎ ServesRun w link d.0 v w' → Gains w w'
     go (inl x) = none-gained w w' (ap (λ (x : WorldModel). x.history) x.3)
-    go (inr x) = (entries_of w.moment x.1, ap (λ (x : WorldModel). x.history) x.7, entries-at w x.1 x.4)
+    go (inr x) = run-gains w w' link (d.0).node d.0 v x
 does-gain (Fetch link) w w' d = go d.3
   where
     go : FetchesWelcome w link d.0 w' ⊎ FetchesReply w link d.0 w' → Gains w w'
@@ -155,6 +159,21 @@ does-named n (Release slot) w w' size h d = subst (Named n) (sym d.1) h
 does-named n (Forget slot) w w' size h d = subst (Named n) (sym d.1) h
 does-named n (Stay slot) w w' size h d = subst (Named n) (sym d.1) h
 
+-- so it is of a run that some node serves
+pub run-mine : (n : ℕ) (w w' : WorldModel) (link node : ℕ) (l : Link) (v : Verdict) → Named n w → ServesRunAt w node link l v w' → ServesRunAt (mine n w) node link l v (mine n w')
+run-mine n w w' link node l v h x =
+    let same : keep (λ (e : EntryModel). is_ours n e.ticket) (w.history ++ entries_of w.moment x.1) ≡ keep (λ e. is_ours n e.ticket) w.history ++ entries_of w.moment x.1
+    = keep-joins (λ (e : EntryModel). is_ours n e.ticket) w.history (entries_of w.moment x.1) ∙ ap (λ es. keep (λ (e : EntryModel). is_ours n e.ticket) w.history ++ es) (keep-all (λ (e : EntryModel). is_ours n e.ticket) (entries_of w.moment x.1) (λ k y e. born-ours n w h y (entries-at w x.1 x.4 k y e))) in (
+      x.0,
+      x.1,
+      x.2,
+      x.3,
+      x.4,
+      x.5,
+      x.6,
+      ap (mine n) x.7 ∙ ap (λ es. record w { cluster = x.2; links = slice_set w.links link (all_replied (record l { requests = x.0; asking = false }) x.1); history = es }) same,
+    )
+
 -- an event looks at no history; so it is one with our entries alone
 pub does-mine : (n : ℕ) (e : Event) (w w' : WorldModel) → Named n w → WorldDoes w e w' → WorldDoes (mine n w) e (mine n w')
 does-mine n (Arrive client part) w w' h d = (d.0, ap (mine n) d.1)
@@ -165,19 +184,7 @@ does-mine n (Serve link v) w w' h d = (d.0, d.1, go d.2)
   where
     go : ServesAsking w link d.0 v w' ⊎ ServesRun w link d.0 v w' → ServesAsking (mine n w) link d.0 v (mine n w') ⊎ ServesRun (mine n w) link d.0 v (mine n w')
     go (inl x) = inl (x.0, x.1, x.2, ap (mine n) x.3)
-    go (inr x) =
-        let same : keep (λ (e : EntryModel). is_ours n e.ticket) (w.history ++ entries_of w.moment x.1) ≡ keep (λ e. is_ours n e.ticket) w.history ++ entries_of w.moment x.1
-        = keep-joins (λ (e : EntryModel). is_ours n e.ticket) w.history (entries_of w.moment x.1) ∙ ap (λ es. keep (λ (e : EntryModel). is_ours n e.ticket) w.history ++ es) (keep-all (λ (e : EntryModel). is_ours n e.ticket) (entries_of w.moment x.1) (λ k y e. born-ours n w h y (entries-at w x.1 x.4 k y e))) in
-        inr (
-          x.0,
-          x.1,
-          x.2,
-          x.3,
-          x.4,
-          x.5,
-          x.6,
-          ap (mine n) x.7 ∙ ap (λ es. record w { cluster = x.2; links = slice_set w.links link (all_replied (record (d.0) { requests = x.0; asking = false }) x.1); history = es }) same,
-        )
+    go (inr x) = inr (run-mine n w w' link (d.0).node d.0 v h x)
 does-mine n (Fetch link) w w' h d = (d.0, d.1, d.2, go d.3)
   where
     go : FetchesWelcome w link d.0 w' ⊎ FetchesReply w link d.0 w' → FetchesWelcome (mine n w) link d.0 (mine n w') ⊎ FetchesReply (mine n w) link d.0 (mine n w')

@@ -1,18 +1,21 @@
 -- What every step keeps, ours and theirs; and it says the headline.
-use Rattle.std.proofs.Common.{◌≡◌, ℕ, suc, ◌+◌, ◌%◌, Bool, true, false, List, [], ◌∷◌, ◌++◌, length, refl, sym, ap, ◌∙◌, subst, arith}
+use Rattle.std.proofs.Common.{◌≡◌, ℕ, suc, ◌+◌, ◌%◌, ◌<◌, Bool, true, false, List, [], ◌∷◌, ◌++◌, length, refl, sym, ap, ◌∙◌, subst, arith}
+use Rattle.std.proofs.lemmas.Bool.{false≢true}
 use Rattle.node_model.specs.History.{EntryModel, left_by}
 use Rattle.node_model.specs.Nodes.{ClusterModel, store_at, with_store}
 use Rattle.world_laws.specs.State.{WorldModel, start_from}
-use Rattle.world_laws.specs.World.{WorldDoes, IsNode}
+use Rattle.node_model.specs.declared.role.Verdict.{Verdict}
+use Rattle.world_laws.specs.World.{IsNode, ServesRunAt, WorldDoes}
 use Rattle.node_model.specs.Store.{StoreModel}
 use Rattle.world_laws.specs.Headline.{At, IsIn, IsSound, store_of}
 use Rattle.world_laws.specs.declared.event.Event.{Event}
-use Rattle.world_laws.proofs.Apart.{Short, does-short}
+use Rattle.world_laws.proofs.Apart.{Short, does-short, run-short}
 use Rattle.world_laws.proofs.Flow.{all_at}
 use Rattle.world_laws.proofs.Kept.{Kept}
-use Rattle.world_laws.proofs.LinkEvents.{does-keeps}
-use Rattle.world_laws.proofs.Lives.{Lists, does-lists, does-moment, no-more}
+use Rattle.world_laws.proofs.LinkEvents.{does-keeps, serve-keeps}
+use Rattle.world_laws.proofs.Lives.{Lists, does-lists, does-moment, no-more, serve-lists}
 use Rattle.world_laws.proofs.Moves.{does-kept}
+use Rattle.world_laws.proofs.Serves.{run-kept}
 use Rattle.world_laws.proofs.Nodes.{size-with_store}
 use Rattle.world_laws.proofs.Placed.{Placed, Standing, standing-of}
 use Rattle.world_laws.proofs.Recorded.{Recorded, waited}
@@ -20,13 +23,13 @@ use Rattle.world_laws.proofs.Runs.{start-sound}
 use Rattle.world_laws.proofs.Passing.{keep, rank, keep-joins, keep-none, kept-at}
 use Rattle.world_laws.proofs.Headlines.{Tells, at_home, headline-of, union-of}
 use Rattle.shared_laws.specs.Others.{SharedEndsAreSound}
-use Rattle.world_laws.proofs.Sizes.{does-sizes}
-use Rattle.world_laws.proofs.There.{There, does-there}
-use Rattle.world_laws.proofs.Turns.{Turned, does-turned}
-use Rattle.shared_laws.specs.Shared.{Step, IsOurs, IsTheirs, OthersAct, SharedDoes, SharedStep, SharedRun, AloneIsShared}
+use Rattle.world_laws.proofs.Sizes.{does-sizes, run-sizes}
+use Rattle.world_laws.proofs.There.{There, does-there, run-there}
+use Rattle.world_laws.proofs.Turns.{Turned, does-turned, run-turned}
+use Rattle.shared_laws.specs.Shared.{Step, IsOurs, IsTheirs, LedTo, OthersAct, SharedDoes, SharedStep, SharedRun, AloneIsShared}
 use Rattle.shared_laws.specs.SharedHeadline.{SharedHeadline, EverySharedSchedule, HeadlineFollows}
 use Rattle.shared_laws.proofs.Chronicle.{Chronicle, IsAlike, lasted, lengthened}
-use Rattle.shared_laws.proofs.Mine.{Named, IsBorn, mine, is_ours, ours-no, ours-yes, yes-ours, born-ours, does-gain, does-mine, does-named}
+use Rattle.shared_laws.proofs.Mine.{Named, Gains, mine, is_ours, ours-no, ours-yes, yes-ours, born-ours, does-gain, does-mine, does-named, run-gains, run-mine}
 use Rattle.shared_laws.proofs.Theirs.{theirs-kept}
 
 -- the workers are n. What is ours is as without others; the history of all is legal, and in order
@@ -51,20 +54,95 @@ steady-stands n w s = standing-of w (keep (own n) w.history) s.placed
 plus_one : (m : ℕ) → m + 1 ≡ suc m
 plus_one m = omega arith
 
+-- what a step of ours leaves, from a world in which it is counted already
+record Leaves (n : ℕ) (w w' : WorldModel) : Type 0 where
+  size : w'.workers ≡ w.workers
+  moment : w'.moment ≡ w.moment
+  named : Named n w'
+  placed : Placed (mine n w')
+  there : There w'
+  turned : Turned w'
+  kept : Kept w'
+  lists : Lists w.moment (mine n w')
+  short : Short (mine n w')
+  gains : Gains w w'
+
+steady-by : (n : ℕ) (w w' : WorldModel) → Steady n w → Leaves n (record w { moment = w.moment + 1 }) w' → Steady n w'
+steady-by n w w' s d = record {
+  size = d.size ∙ s.size;
+  named = d.named;
+  placed = d.placed;
+  there = d.there;
+  turned = d.turned;
+  kept = d.kept;
+  lists = subst (λ m. Lists m (mine n w')) (sym d.moment) d.lists;
+  short = d.short;
+  chronicle = subst (λ (z : ℕ × List EntryModel). Chronicle n z.0 z.1) (λ i. (sym (d.moment ∙ plus_one w.moment) i, sym (d.gains).1 i))
+      (lengthened n w.moment w.history (d.gains).0 (λ k x p. ((d.gains).2 k x p).4 ∙ plus_one w.moment) alike s.chronicle);
+}
+  where
+    its : (k : ℕ) (x : EntryModel) → At (d.gains).0 k x → is_ours n x.ticket ≡ true
+    its k x p = born-ours n (record w { moment = w.moment + 1 }) s.named x ((d.gains).2 k x p)
+
+    -- a new entry is one of ours in the new history
+    there' : (k : ℕ) (x : EntryModel) → At (d.gains).0 k x → IsIn (mine n w').history x
+    there' k x p =
+        let at_x : At w'.history (length w.history + k) x = subst (λ z. At z (length w.history + k) x) (sym (d.gains).1) (behind w.history (d.gains).0 k x p) in
+        (rank (own n) w'.history (length w.history + k), kept-at (own n) w'.history (length w.history + k) x at_x (its k x p))
+      where
+        behind : (xs ys : List EntryModel) (k : ℕ) (x : EntryModel) → At ys k x → At (xs ++ ys) (length xs + k) x
+        behind [] ys k x p = let e : k ≡ 0 + k = omega arith in subst (λ m. At ys m x) e p
+        behind (z ∷ xs) ys k x p = let e : suc (length xs + k) ≡ suc (length xs) + k = omega arith in subst (λ m. At (z ∷ (xs ++ ys)) m x) e (behind xs ys k x p)
+
+    alike : (k l : ℕ) (x y : EntryModel) → At (d.gains).0 k x → At (d.gains).0 l y → IsAlike n x y
+    alike k l x y p q =
+        let a = there' k x p in
+        let b = there' l y q in
+        ((d.lists).together a.0 b.0 x y a.1 b.1 (((d.gains).2 k x p).4 ∙ sym ((d.gains).2 l y q).4), its k x p ∙ sym (its l y q))
+
+-- what is kept of a world, in which one step more is counted
+module _ (n : ℕ) (w : WorldModel) (s : Steady n w) where
+  abbrev counted : WorldModel
+  counted = record w { moment = w.moment + 1 }
+
+  placed-on : Placed (mine n counted)
+  placed-on = record { single = (s.placed).single; below = (s.placed).below; place = (s.placed).place; once = (s.placed).once; replied = (s.placed).replied; tidy = (s.placed).tidy }
+
+  there-on : There counted
+  there-on = record { ups = (s.there).ups; links = (s.there).links; targets = (s.there).targets }
+
+  short-on : Short (mine n counted)
+  short-on = record { ups = (s.short).ups; links = (s.short).links; apart = (s.short).apart }
+
+  turned-on : Turned counted
+  turned-on = record { ups = (s.turned).ups; links = (s.turned).links }
+
+  own-turned-on : Turned (mine n counted)
+  own-turned-on = record { ups = (s.turned).ups; links = (s.turned).links }
+
+  kept-on : Kept counted
+  kept-on = record { apart = (s.kept).apart; data' = (s.kept).data'; legal = (s.kept).legal; asked = (s.kept).asked }
+
+  standing-on : Standing counted
+  standing-on = standing-of counted (keep (own n) w.history) placed-on
+
+  past-on : (k : ℕ) (x : EntryModel) → At (mine n w).history k x → x.moment < w.moment + 1
+  past-on k x p = let past = (s.lists).past k x p in omega (arith, past)
+
 -- an event of ours
 ours-steady : (n : ℕ) (e : Event) (w w' : WorldModel) → Steady n w → WorldDoes (record w { moment = w.moment + 1 }) e w' → Steady n w'
-ours-steady n e w w' s d = record {
-  size = (does-sizes e w1 w' d).0 ∙ s.size;
+ours-steady n e w w' s d = steady-by n w w' s (record {
+  size = (does-sizes e w1 w' d).0;
+  moment = does-moment e w1 w' d;
   named = does-named n e w1 w' s.size s.named d;
   placed = p';
-  there = does-there e w1 w' t1 d;
-  turned = does-turned e w1 w' u1 d;
-  kept = does-kept e w1 w' (standing-of (record w { moment = w.moment + 1 }) (keep (own n) w.history) p1) t1 u1 k1 d;
-  lists = subst (λ m. Lists m (mine n w')) (sym moment) lists';
-  short = does-short e (mine n w1) (mine n w') h1 (λ k x p. let past = (s.lists).past k x p in omega (arith, past)) d';
-  chronicle = subst (λ (z : ℕ × List EntryModel). Chronicle n z.0 z.1) (λ i. (sym (moment ∙ plus_one w.moment) i, sym gain.1 i))
-      (lengthened n w.moment w.history gain.0 (λ k x p. (gain.2 k x p).4 ∙ plus_one w.moment) alike s.chronicle);
-}
+  there = does-there e w1 w' (there-on n w s) d;
+  turned = does-turned e w1 w' (turned-on n w s) d;
+  kept = does-kept e w1 w' (standing-on n w s) (there-on n w s) (turned-on n w s) (kept-on n w s) d;
+  lists = does-lists e (mine n w1) (mine n w') (placed-on n w s) p' (own-turned-on n w s) w.moment (plus_one w.moment) s.lists d';
+  short = does-short e (mine n w1) (mine n w') (short-on n w s) (past-on n w s) d';
+  gains = does-gain e w1 w' d;
+})
   where
     w1 : WorldModel
     w1 = record w { moment = w.moment + 1 }
@@ -72,54 +150,32 @@ ours-steady n e w w' s d = record {
     d' : WorldDoes (mine n (record w { moment = w.moment + 1 })) e (mine n w')
     d' = does-mine n e (record w { moment = w.moment + 1 }) w' s.named d
 
-    p1 : Placed (mine n (record w { moment = w.moment + 1 }))
-    p1 = record { single = (s.placed).single; below = (s.placed).below; place = (s.placed).place; once = (s.placed).once; replied = (s.placed).replied; tidy = (s.placed).tidy }
+    p' : Placed (mine n w')
+    p' = does-keeps e (mine n (record w { moment = w.moment + 1 })) (mine n w') (placed-on n w s) d'
 
-    t1 : There (record w { moment = w.moment + 1 })
-    t1 = record { ups = (s.there).ups; links = (s.there).links; targets = (s.there).targets }
+-- a run of ours that some node serves
+led-steady : (n link node : ℕ) (v : Verdict) (w w' : WorldModel) → Steady n w → LedTo (record w { moment = w.moment + 1 }) link node v w' → Steady n w'
+led-steady n link node v w w' s (l, at_l, is-node, asks, x) = steady-by n w w' s (record {
+  size = (run-sizes w1 w' link node l v x).0;
+  moment = ap (λ (z : WorldModel). z.moment) x.7;
+  named = subst (Named n) (sym x.7) s.named;
+  placed = p';
+  there = run-there w1 w' (there-on n w s) link node l v at_l x;
+  turned = run-turned w1 w' (turned-on n w s) link node l v at_l x;
+  kept = run-kept w1 w' (standing-on n w s) (there-on n w s) (kept-on n w s) (turned-on n w s) link node l v at_l is-node (λ asking. absurd (false≢true (sym asks ∙ asking))) x;
+  lists = serve-lists (mine n w1) (mine n w') (placed-on n w s) p' w.moment (plus_one w.moment) s.lists (own-turned-on n w s) link node l v at_l x';
+  short = run-short (mine n w1) (mine n w') (short-on n w s) (past-on n w s) link node l v at_l x';
+  gains = run-gains w1 w' link node l v x;
+})
+  where
+    w1 : WorldModel
+    w1 = record w { moment = w.moment + 1 }
 
-    h1 : Short (mine n (record w { moment = w.moment + 1 }))
-    h1 = record { ups = (s.short).ups; links = (s.short).links; apart = (s.short).apart }
-
-    u1 : Turned (record w { moment = w.moment + 1 })
-    u1 = record { ups = (s.turned).ups; links = (s.turned).links }
-
-    u1' : Turned (mine n (record w { moment = w.moment + 1 }))
-    u1' = record { ups = (s.turned).ups; links = (s.turned).links }
-
-    k1 : Kept (record w { moment = w.moment + 1 })
-    k1 = record { apart = (s.kept).apart; data' = (s.kept).data'; legal = (s.kept).legal; asked = (s.kept).asked }
+    x' : ServesRunAt (mine n (record w { moment = w.moment + 1 })) node link l v (mine n w')
+    x' = run-mine n (record w { moment = w.moment + 1 }) w' link node l v s.named x
 
     p' : Placed (mine n w')
-    p' = does-keeps e (mine n (record w { moment = w.moment + 1 })) (mine n w') p1 d'
-
-    moment : w'.moment ≡ w.moment + 1
-    moment = does-moment e (record w { moment = w.moment + 1 }) w' d
-
-    lists' : Lists (w.moment + 1) (mine n w')
-    lists' = does-lists e (mine n (record w { moment = w.moment + 1 })) (mine n w') p1 p' u1' w.moment (plus_one w.moment) s.lists d'
-
-    gain : (es : List EntryModel) × (w'.history ≡ w.history ++ es) × ((k : ℕ) (x : EntryModel) → At es k x → IsBorn (record w { moment = w.moment + 1 }) x)
-    gain = does-gain e (record w { moment = w.moment + 1 }) w' d
-
-    its : (k : ℕ) (x : EntryModel) → At gain.0 k x → is_ours n x.ticket ≡ true
-    its k x p = born-ours n (record w { moment = w.moment + 1 }) s.named x (gain.2 k x p)
-
-    -- a new entry is one of ours in the new history
-    there' : (k : ℕ) (x : EntryModel) → At gain.0 k x → IsIn (mine n w').history x
-    there' k x p =
-        let at_x : At w'.history (length w.history + k) x = subst (λ z. At z (length w.history + k) x) (sym gain.1) (behind w.history gain.0 k x p) in
-        (rank (own n) w'.history (length w.history + k), kept-at (own n) w'.history (length w.history + k) x at_x (its k x p))
-      where
-        behind : (xs ys : List EntryModel) (k : ℕ) (x : EntryModel) → At ys k x → At (xs ++ ys) (length xs + k) x
-        behind [] ys k x p = let e : k ≡ 0 + k = omega arith in subst (λ m. At ys m x) e p
-        behind (z ∷ xs) ys k x p = let e : suc (length xs + k) ≡ suc (length xs) + k = omega arith in subst (λ m. At (z ∷ (xs ++ ys)) m x) e (behind xs ys k x p)
-
-    alike : (k l : ℕ) (x y : EntryModel) → At gain.0 k x → At gain.0 l y → IsAlike n x y
-    alike k l x y p q =
-        let a = there' k x p in
-        let b = there' l y q in
-        (lists'.together a.0 b.0 x y a.1 b.1 ((gain.2 k x p).4 ∙ sym (gain.2 l y q).4), its k x p ∙ sym (its l y q))
+    p' = serve-keeps (mine n (record w { moment = w.moment + 1 })) (mine n w') (placed-on n w s) link node l v at_l x'
 
 -- a run of others
 theirs-steady : (n : ℕ) (node : ℕ) (asking : Bool) (es : List EntryModel) (w w' : WorldModel) → Steady n w → OthersAct (record w { moment = w.moment + 1 }) node asking es w' → Steady n w'
@@ -172,6 +228,7 @@ passes-steady n w s = record {
 
 pub does-steady : (n : ℕ) (st : Step) (w w' : WorldModel) → Steady n w → SharedDoes (record w { moment = w.moment + 1 }) st w' → Steady n w'
 does-steady n (Step.Ours e) w w' s d = ours-steady n e w w' s d
+does-steady n (Step.Led link node v) w w' s d = led-steady n link node v w w' s d
 does-steady n (Step.Theirs node asking es) w w' s d = theirs-steady n node asking es w w' s d
 does-steady n Step.Passes w w' s d = subst (Steady n) (sym d) (passes-steady n w s)
 

@@ -10,6 +10,7 @@ use Rattle.key_split.specs.declared.travel.Told.{Told}
 use Rattle.node_model.specs.History.{EntryModel}
 use Rattle.node_model.specs.Nodes.{ClusterModel}
 use Rattle.node_model.specs.Store.{StoreModel}
+use Rattle.node_model.specs.declared.role.Verdict.{Verdict}
 use Rattle.world_laws.specs.State.{WorldModel, Link, start_from}
 use Rattle.world_laws.specs.declared.state.Arrival.{Arrival}
 use Rattle.world_laws.specs.declared.state.Posted.{Posted}
@@ -71,9 +72,11 @@ world_of x cluster initial history moment =
 abbrev pub view : Proxies → ℕ → WorldModel
 view s p = world_of (s.proxy p) s.cluster s.initial (map (seen_by p (s.proxy p).workers) s.history) s.moment
 
--- an event of a proxy, among which are the steps of slots; or a run of a client that is no proxy
+-- an event of a proxy, among which are the steps of slots; a run of a proxy that another node serves than the one to whose address it was
+-- sent; or a run of a client that is no proxy
 pub data Act : Type 0 where
   By : (p : ℕ) (event : Event) → Act
+  Led : (p link node : ℕ) (verdict : Verdict) → Act
   Outside : (node : ℕ) (asking : Bool) (entries : List EntryModel) → Act
 
 -- a slot is imported when no proxy has a command on its way that ASK sent to the target
@@ -87,6 +90,9 @@ Writes whose entries s s' = s'.history ≡ s.history ++ map (λ e. (whose, e)) e
 abbrev pub ActDoes : Proxies → Act → Proxies → Type 0
 ActDoes s (Act.By p event) s' =
     WorldStep (view s p) event (view s' p) × ImportWaits s event × ((q : ℕ) → q ≢ p → s'.proxy q ≡ s.proxy q)
+    × ((entries : List EntryModel) × Writes (Some p) entries s s')
+ActDoes s (Act.Led p link node verdict) s' =
+    SharedStep (view s p) (Step.Led link node verdict) (view s' p) × ((q : ℕ) → q ≢ p → s'.proxy q ≡ s.proxy q)
     × ((entries : List EntryModel) × Writes (Some p) entries s s')
 ActDoes s (Act.Outside node asking entries) s' =
     Writes None entries s s'

@@ -5,22 +5,25 @@
 -- An ASK that they follow is true: behind ASKING a run comes to the node to which its slot moves only when the source may
 -- hold none of its keys. The machine has this of its own commands by Import's condition (World.antt); of others it is a
 -- condition of their step.
-use Rattle.std.specs.Prelude.{◌≡◌, ℕ, ◌+◌, ◌%◌, ◌<◌, Bool, true, false, List, [], ◌∷◌, ◌++◌, map, All, is_some}
+use Rattle.std.specs.Prelude.{◌≡◌, ℕ, ◌+◌, ◌%◌, ◌<◌, Bool, true, false, List, [], ◌∷◌, ◌++◌, Some, map, slice_get, All, is_some}
 use Rattle.key_split.specs.PartModel.{PartModel, HasOneSlot, keys_of}
 use Rattle.key_split.specs.declared.travel.Ticket.{Ticket}
 use Rattle.node_model.specs.History.{EntryModel, IsLegal, left_by}
 use Rattle.node_model.specs.Nodes.{ClusterModel, at, standing_at, store_at, with_store}
 use Rattle.node_model.specs.Runs.{deed_for}
 use Rattle.node_model.specs.declared.role.Deed.TheVariants.{Executes}
+use Rattle.node_model.specs.declared.role.Verdict.{Verdict}
 use Rattle.node_model.specs.declared.role.Verdict.TheVariants.{Plain}
-use Rattle.world_laws.specs.State.{WorldModel, slot_for}
-use Rattle.world_laws.specs.World.{IsNode, WorldDoes, WorldRun, last_moment}
+use Rattle.world_laws.specs.State.{Link, WorldModel, slot_for}
+use Rattle.world_laws.specs.World.{IsNode, ServesRunAt, WorldDoes, WorldRun, last_moment}
 use Rattle.world_laws.specs.Homes.{is_bad}
 use Rattle.world_laws.specs.declared.event.Event.{Event}
 
--- an event of ours; a run of others at a node, behind ASKING or not, with the entries that it leaves; or time that passes
+-- An event of ours; a run of ours that another node serves than the one to whose address it was sent; a run of others at a node, behind
+-- ASKING or not, with the entries that it leaves; or time that passes.
 pub data Step : Type 0 where
   Ours : (event : Event) → Step
+  Led : (link node : ℕ) (verdict : Verdict) → Step
   Theirs : (node : ℕ) (asking : Bool) (entries : List EntryModel) → Step
   Passes : Step
 
@@ -62,8 +65,16 @@ abbrev pub OthersAct : WorldModel → ℕ → Bool → List EntryModel → World
 OthersAct w node asking entries w' =
     (k : ClusterModel) × OthersExecute w.workers w.moment w.cluster node asking entries k × (w' ≡ record w { cluster = k; history = w.history ++ entries })
 
+-- Addresses need not be nodes: several lead to one, and at another moment one of them leads to another node, as after a failover that
+-- loses nothing. So what stands first on a link is served by any node, whatever its address led to before. Behind ASKING it comes to the
+-- node that ASK named.
+abbrev pub LedTo : WorldModel → ℕ → ℕ → Verdict → WorldModel → Type 0
+LedTo w link node verdict w' =
+    (l : Link) × (slice_get w.links link ≡ Some l) × IsNode w.cluster node × (l.asking ≡ false) × ServesRunAt w node link l verdict w'
+
 abbrev pub SharedDoes : WorldModel → Step → WorldModel → Type 0
 SharedDoes w (Step.Ours event) w' = WorldDoes w event w'
+SharedDoes w (Step.Led link node verdict) w' = LedTo w link node verdict w'
 SharedDoes w (Step.Theirs node asking entries) w' = OthersAct w node asking entries w'
 SharedDoes w Step.Passes w' = w' ≡ w
 

@@ -202,6 +202,9 @@ module _ (w w' : WorldModel) (h : AreInTurn w) where
 walk : (n : ℕ) (ss : List Step) (w w' : WorldModel) → Steady n w → AreInTurn w → SharedWalk w ss w' → AreInTurn w'
 walk n [] w w' sound h r = subst AreInTurn (sym r) h
 walk n (Step.Ours e ∷ ss) w w' sound h r = walk n ss r.0 w' (does-steady n (Step.Ours e) w r.0 sound r.1) (does w r.0 h n sound e r.1) r.2
+walk n (Step.Led link node verdict ∷ ss) w w' sound h r =
+    walk n ss r.0 w' (does-steady n (Step.Led link node verdict) w r.0 sound r.1)
+    (stays w r.0 h (ap (λ (x : WorldModel). x.moment) r.1.4.7) (ap (λ (x : WorldModel). x.commands) r.1.4.7) (ap (λ (x : WorldModel). x.answers) r.1.4.7)) r.2
 walk n (Step.Theirs node asking es ∷ ss) w w' sound h r =
     walk n ss r.0 w' (does-steady n (Step.Theirs node asking es) w r.0 sound r.1)
     (stays w r.0 h (ap (λ (x : WorldModel). x.moment) r.1.2) (ap (λ (x : WorldModel). x.commands) r.1.2) (ap (λ (x : WorldModel). x.answers) r.1.2)) r.2

@@ -20,7 +20,8 @@ use Rattle.proxy_turns.specs.WorkerModel.{WorkerModel, WorkerEvent, Did, Finishe
 use Rattle.world_laws.specs.State.{WorldModel, Link, all_replied, parts_told, tolds_of}
 use Rattle.world_laws.specs.declared.state.LinkRequest.{LinkRequest}
 use Rattle.world_laws.specs.declared.state.LinkRequest.TheVariants as asked
-use Rattle.world_laws.specs.World.{NamesNode, ServesRun, entries_of}
+use Rattle.world_laws.specs.World.{IsNode, NamesNode, ServesRun, entries_of}
+use Rattle.world_laws.proofs.Flow.{all_at}
 use Rattle.world_laws.specs.declared.event.Event.{Event}
 use Rattle.world_laws.proofs.Nodes.{ExecutedAll, SaidAll, runs}
 use Rattle.world_laws.proofs.Serves.{entries-says}
@@ -67,10 +68,10 @@ run-impact w walked k k' i l node asking parts verdict tolds rest at cluster on 
       λ workers moment.
           let es : map (as_foreign workers) (entries_of moment m.run) ≡ map (entry_at moment) (map (foreign workers) (executions parts tolds)) = ap (map (as_foreign workers)) (m.entries moment) ∙ swap workers moment (executions parts tolds) in
           subst (λ (z : ClusterModel × ℕ × Bool × List EntryModel). OthersExecute workers moment z.0 z.1 z.2 z.3 k') (λ j. (cluster j, on j, is-asked j, es j))
-          (executed-others walked.0 w w' (walked-steady w walked) i l verdict at y x.0 x.1 workers moment),
+          (executed-others walked.0 w w' (walked-steady w walked) i l.node l verdict at (all_at (λ (z : Link). IsNode w.cluster z.node) w.links i l at (walked-steady w walked).there.links) (λ _. refl) y x.0 x.1 workers moment),
     ))
     (λ (x : SaidAll (deed_for w.cluster l.node l.asking (parts_told m.run) verdict) w.cluster (parts_told m.run) (tolds_of m.run) k').
-    inl (x.3 ∙ cluster, no-map (entry_at w.moment) (executions parts tolds) (sym (m.entries w.moment) ∙ entries-says w l m.run verdict x.0 x.1 x.2)))
+    inl (x.3 ∙ cluster, no-map (entry_at w.moment) (executions parts tolds) (sym (m.entries w.moment) ∙ entries-says w l.node l m.run verdict x.0 x.1 x.2)))
     (runs w.cluster k' l.node (parts_told m.run) (tolds_of m.run) (deed_for w.cluster l.node l.asking (parts_told m.run) verdict) does')
   where
     m : MachineRun w.commands parts tolds

@@ -145,6 +145,8 @@ rising-does e w w' h r d = ⊎_elim
 rising-walk : (n : ℕ) (ss : List Step) (w w' : WorldModel) → Steady n w → AreRising (tickets w.commands) → SharedWalk w ss w' → AreRising (tickets w'.commands)
 rising-walk n [] w w' s r x = subst (λ (v : WorldModel). AreRising (tickets v.commands)) (sym x) r
 rising-walk n (Step.Ours e ∷ ss) w w' s r x = rising-walk n ss x.0 w' (does-steady n (Step.Ours e) w x.0 s x.1) (rising-does e (ticked w) x.0 (placed-ticked w (steady-stands n w s)) r x.1) x.2
+rising-walk n (Step.Led link node verdict ∷ ss) w w' s r x =
+    rising-walk n ss x.0 w' (does-steady n (Step.Led link node verdict) w x.0 s x.1) (subst (λ (v : WorldModel). AreRising (tickets v.commands)) (sym x.1.4.7) r) x.2
 rising-walk n (Step.Theirs node asking es ∷ ss) w w' s r x = rising-walk n ss x.0 w' (does-steady n (Step.Theirs node asking es) w x.0 s x.1) (subst (λ (v : WorldModel). AreRising (tickets v.commands)) (sym x.1.2) r) x.2
 rising-walk n (Step.Passes ∷ ss) w w' s r x = rising-walk n ss x.0 w' (does-steady n Step.Passes w x.0 s x.1) (subst (λ (v : WorldModel). AreRising (tickets v.commands)) (sym x.1) r) x.2
 

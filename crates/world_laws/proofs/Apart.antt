@@ -7,10 +7,11 @@ use Rattle.std.proofs.lemmas.List.Elements.{All-set, All-append}
 use Rattle.key_split.specs.declared.travel.Told.{Told}
 use Rattle.key_split.specs.declared.travel.Told.TheVariants.{Reply, Moved, Ask, TryAgain, ClusterDown, Unclear, Unsent}
 use Rattle.node_model.specs.History.{EntryModel}
+use Rattle.node_model.specs.declared.role.Verdict.{Verdict}
 use Rattle.world_laws.specs.State.{WorldModel, Arrival, Posted, Link, LinkRequest, LinkReply, new_link, requests_of, sent, replied, all_replied, tickets_told}
 use Rattle.world_laws.specs.declared.state.LinkRequest.TheVariants.{Asking, Runs}
 use Rattle.world_laws.specs.declared.state.LinkReply.TheVariants.{Welcome}
-use Rattle.world_laws.specs.World.{WorldDoes, CarriesOver, ServesAsking, ServesRun, FetchesWelcome, FetchesReply, entry_of, entries_of}
+use Rattle.world_laws.specs.World.{WorldDoes, CarriesOver, ServesAsking, ServesRun, ServesRunAt, FetchesWelcome, FetchesReply, entry_of, entries_of}
 use Rattle.world_laws.specs.declared.event.Event.{Event}
 use Rattle.world_laws.specs.declared.event.Event.TheVariants.{Arrive, Post, Carry, Refuse, Serve, Fetch, Take, Drop, Discard, Import, Migrate, MoveKey, Own, Release, Forget, Stay}
 use Rattle.world_laws.specs.declared.event.Event.TheVariants as ev
@@ -106,6 +107,17 @@ module _ (w : WorldModel) (h : Short w) where
   at-link : (link : ℕ) (l : Link) → slice_get w.links link ≡ Some l → AreShort w.run_limit l.requests
   at-link link l e = all_at (λ (l : Link). AreShort w.run_limit l.requests) w.links link l e h.links
 
+-- a run that some node serves keeps it
+pub run-short : (w w' : WorldModel) → Short w → ((k : ℕ) (e : EntryModel) → At w.history k e → e.moment < w.moment) → (link node : ℕ) (l : Link) (v : Verdict) → slice_get w.links link ≡ Some l → ServesRunAt w node link l v w' → Short w'
+run-short w w' h past link node l v at_l x =
+    let l' : Link = record l { requests = x.0; asking = false } in
+    let all' : AreShort w.run_limit (Runs (tickets_told x.1) ∷ x.0) = subst (AreShort w.run_limit) x.3 (at-link w h link l at_l) in
+    subst Short (sym x.7) (record {
+      ups = h.ups;
+      links = set-link w h link (all_replied l' x.1) (short-all_replied w.run_limit l' x.1 all'.1);
+      apart = λ small. apart-more w.moment w.history x.1 (omega (arith, small, all'.0)) (h.apart small) past;
+    })
+
 pub does-short : (e : Event) (w w' : WorldModel) → Short w → ((k : ℕ) (e : EntryModel) → At w.history k e → e.moment < w.moment) → WorldDoes w e w' → Short w'
 does-short (Arrive client part) w w' h past d = subst Short (sym d.1) (record { ups = h.ups; links = h.links; apart = h.apart })
 does-short (Post tickets node) w w' h past d =
@@ -132,14 +144,7 @@ does-short (Serve link v) w w' h past d = go d.2
     go (inl x) =
         let l' : Link = record (d.0) { requests = x.0; asking = true } in
         subst Short (sym x.3) (record { ups = h.ups; links = set-link w h link (replied l' Welcome) (short-replied w.run_limit l' Welcome (subst (AreShort w.run_limit) x.1 here)); apart = h.apart })
-    go (inr x) =
-        let l' : Link = record (d.0) { requests = x.0; asking = false } in
-        let all' : AreShort w.run_limit (Runs (tickets_told x.1) ∷ x.0) = subst (AreShort w.run_limit) x.3 here in
-        subst Short (sym x.7) (record {
-          ups = h.ups;
-          links = set-link w h link (all_replied l' x.1) (short-all_replied w.run_limit l' x.1 all'.1);
-          apart = λ small. apart-more w.moment w.history x.1 (omega (arith, small, all'.0)) (h.apart small) past;
-        })
+    go (inr x) = run-short w w' h past link (d.0).node d.0 v d.1 x
 does-short (Fetch link) w w' h past d = go d.3
   where
     here : AreShort w.run_limit (d.0).requests

@@ -16,7 +16,7 @@ use Rattle.world_laws.specs.declared.state.LinkReply.TheVariants.{Welcome, To}
 use Rattle.world_laws.specs.Places.{Item, total, in_requests, in_backs, in_lane, in_link, tally, is}
 use Rattle.world_laws.specs.Places.Item.{Stands, Lies, Sent, Comes}
 use Rattle.node_model.specs.declared.role.Verdict.{Verdict}
-use Rattle.world_laws.specs.World.{WorldDoes, IsOf, Way, GoOut, CarriesOver, ServesAsking, ServesRun, FetchesWelcome, FetchesReply, arrival}
+use Rattle.world_laws.specs.World.{WorldDoes, IsOf, Way, GoOut, CarriesOver, ServesAsking, ServesRunAt, FetchesWelcome, FetchesReply, arrival}
 use Rattle.world_laws.specs.declared.event.Event.TheVariants.{Arrive, Post, Carry, Refuse, Serve, Fetch, Take, Drop, Discard, Import, Migrate, MoveKey, Own, Release, Forget, Stay}
 use Rattle.world_laws.specs.declared.event.Event.TheVariants as ev
 use Rattle.world_laws.proofs.Tally.{total-append, total-set, total-remove, flag_after}
@@ -199,9 +199,9 @@ module _ (f : Item → ℕ) (w w' : WorldModel) where
       )
 
   -- a run leaves the requests; where the link is open, what its commands are told comes back
-  pub serve-flow : (link : ℕ) (l : Link) (v : Verdict) → slice_get w.links link ≡ Some l → (d : ServesRun w link l v w')
+  pub serve-flow : (link node : ℕ) (l : Link) (v : Verdict) → slice_get w.links link ≡ Some l → (d : ServesRunAt w node link l v w')
       → tally f w' + total (λ t. f (Sent l.is_open l.node l.asking t)) (tickets_told d.1) ≡ tally f w + if_open l.is_open (total (λ p. f (Comes p.0.command.ticket p.1)) d.1)
-  serve-flow link l v is d =
+  serve-flow link node l v is d =
       omega (
         arith,
         ap (tally f) d.7,

@@ -13,7 +13,7 @@ use Rattle.world_laws.specs.Places.{Item, total, in_backs, tally, is}
 use Rattle.world_laws.specs.Places.Item.{Sent, Comes}
 use Rattle.node_model.specs.History.{EntryModel}
 use Rattle.node_model.specs.declared.role.Verdict.{Verdict}
-use Rattle.world_laws.specs.World.{WorldDoes, CarriesOver, ServesAsking, ServesRun, FetchesWelcome, FetchesReply, entry_of, entries_of}
+use Rattle.world_laws.specs.World.{WorldDoes, CarriesOver, ServesAsking, ServesRun, ServesRunAt, FetchesWelcome, FetchesReply, entry_of, entries_of}
 use Rattle.world_laws.specs.declared.event.Event.{Event}
 use Rattle.world_laws.specs.declared.event.Event.TheVariants.{Arrive, Post, Carry, Refuse, Serve, Fetch, Take, Drop, Discard, Import, Migrate, MoveKey, Own, Release, Forget, Stay}
 use Rattle.world_laws.specs.declared.event.Event.TheVariants as ev
@@ -285,10 +285,10 @@ module _ (w w' : WorldModel) (h : Placed w) where
         tidy = subst (All IsTidy) (sym (ap (λ (v : WorldModel). v.links) d.3)) (All-set IsTidy w.links link (replied l' Welcome) (tidy-replied l' Welcome (λ o. ap (flag_after l.asking) (sym d.1) ∙ tidy_l o)) h.tidy);
       }
 
-  serve-keeps : (link : ℕ) (l : Link) (v : Verdict) → slice_get w.links link ≡ Some l → ServesRun w link l v w' → Placed w'
-  serve-keeps link l v at_l d =
+  pub serve-keeps : (link node : ℕ) (l : Link) (v : Verdict) → slice_get w.links link ≡ Some l → ServesRunAt w node link l v w' → Placed w'
+  serve-keeps link node l v at_l d =
       let us : List Ticket = tickets_told d.1 in
-      let flow = λ (f : Item → ℕ). serve-flow f w w' link l v at_l d in
+      let flow = λ (f : Item → ℕ). serve-flow f w w' link node l v at_l d in
       let n = numbering w w' (λ p. owned-same p) h in
       record {
         single = n.single;
@@ -307,7 +307,7 @@ module _ (w w' : WorldModel) (h : Placed w) where
       back t o = ap (if_open o) (sym (total-told (is t) d.1))
 
       owned-same : (p : Ticket → Bool) → tally (owned p) w' ≡ tally (owned p) w
-      owned-same p = omega (arith, serve-flow (owned p) w w' link l v at_l d, open_zero l.is_open, total-zero (tickets_told d.1))
+      owned-same p = omega (arith, serve-flow (owned p) w w' link node l v at_l d, open_zero l.is_open, total-zero (tickets_told d.1))
 
       entries : (g : EntryModel → ℕ) → total g w'.history ≡ total g w.history + total g (entries_of w.moment d.1)
       entries g = ap (total g) (ap (λ (v : WorldModel). v.history) d.7) ∙ total-append g w.history (entries_of w.moment d.1)
@@ -323,7 +323,7 @@ module _ (w w' : WorldModel) (h : Placed w) where
     where
       go : ServesAsking w link d.0 v w' ⊎ ServesRun w link d.0 v w' → Placed w'
       go (inl x) = welcome-keeps link d.0 v d.1 x
-      go (inr x) = serve-keeps link d.0 v d.1 x
+      go (inr x) = serve-keeps link (d.0).node d.0 v d.1 x
 
 -- every event keeps it
 pub does-keeps : (e : Event) (w w' : WorldModel) → Placed w → WorldDoes w e w' → Placed w'

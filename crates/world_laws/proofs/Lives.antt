@@ -22,7 +22,7 @@ use Rattle.world_laws.specs.Places.Item.{Stands, Lies, Sent, Comes}
 use Rattle.node_model.specs.History.{EntryModel}
 use Rattle.node_model.specs.declared.role.Deed.TheVariants.{Executes}
 use Rattle.node_model.specs.declared.role.Verdict.{Verdict}
-use Rattle.world_laws.specs.World.{WorldDoes, SameTurn, Way, GoOut, AreOf, ServesAsking, ServesRun, FetchesWelcome, FetchesReply, arrival, next_ticket, entry_of, entries_of}
+use Rattle.world_laws.specs.World.{WorldDoes, SameTurn, Way, GoOut, AreOf, ServesAsking, ServesRun, ServesRunAt, FetchesWelcome, FetchesReply, arrival, next_ticket, entry_of, entries_of}
 use Rattle.world_laws.specs.declared.event.Event.{Event}
 use Rattle.world_laws.specs.declared.event.Event.TheVariants.{Arrive, Post, Carry, Refuse, Serve, Fetch, Take, Drop, Discard, Import, Migrate, MoveKey, Own, Release, Forget, Stay}
 use Rattle.world_laws.specs.declared.event.Event.TheVariants as ev
@@ -221,7 +221,7 @@ at-first (z ∷ xs) ys zero x lt e = e
 at-first (z ∷ xs) ys (suc q) x lt e = at-first xs ys q x (omega arith) e
 
 -- A run is served: each of its entries is added behind the ones before it.
-module _ (w w' : WorldModel) (h : Placed w) (h' : Placed w') (m : ℕ) (now : w.moment ≡ suc m) (r : Lists m w) (t : Turned w) (link : ℕ) (l : Link) (v : Verdict) (at_l : slice_get w.links link ≡ Some l) (d : ServesRun w link l v w') where
+module _ (w w' : WorldModel) (h : Placed w) (h' : Placed w') (m : ℕ) (now : w.moment ≡ suc m) (r : Lists m w) (t : Turned w) (link node : ℕ) (l : Link) (v : Verdict) (at_l : slice_get w.links link ≡ Some l) (d : ServesRunAt w node link l v w') where
   hist : w'.history ≡ w.history ++ entries_of w.moment d.1
   hist = ap (λ (x : WorldModel). x.history) d.7
 
@@ -328,12 +328,12 @@ module _ (w w' : WorldModel) (h : Placed w) (h' : Placed w') (m : ℕ) (now : w.
 
   pub serve-lists : Lists w.moment w'
   serve-lists = ⊎_elim
-      (λ (x : (deed_for w.cluster l.node l.asking (parts_told d.1) v ≡ Executes) × ExecutedAll w.cluster l.node (parts_told d.1) (tolds_of d.1) d.2).
+      (λ (x : (deed_for w.cluster node l.asking (parts_told d.1) v ≡ Executes) × ExecutedAll w.cluster node (parts_told d.1) (tolds_of d.1) d.2).
       subst (λ (x : List Arrival × List EntryModel × List Answer). Recorded w.moment x.0 x.1 x.2) (λ i. (sym cmds i, sym hist i, ap (λ (x : WorldModel). x.answers) (sym d.7) i))
-      (enter-all d.1 [] w.history (store_at w.cluster l.node) refl hist (omega arith) d.4 x.1.0 (λ q u e. absurd (cc)) (λ k e q same. absurd (omega (arith, r.past k e q, same, now))) (later-moment w w' h m now r)))
-      (λ (x : SaidAll (deed_for w.cluster l.node l.asking (parts_told d.1) v) w.cluster (parts_told d.1) (tolds_of d.1) d.2).
-      same-lists w w' h m now r cmds (hist ∙ ap (λ z. w.history ++ z) (entries-says w l d.1 v x.0 x.1 x.2) ∙ no-more w.history) (ap (λ (x : WorldModel). x.answers) d.7))
-      (runs w.cluster d.2 l.node (parts_told d.1) (tolds_of d.1) (deed_for w.cluster l.node l.asking (parts_told d.1) v) d.6)
+      (enter-all d.1 [] w.history (store_at w.cluster node) refl hist (omega arith) d.4 x.1.0 (λ q u e. absurd (cc)) (λ k e q same. absurd (omega (arith, r.past k e q, same, now))) (later-moment w w' h m now r)))
+      (λ (x : SaidAll (deed_for w.cluster node l.asking (parts_told d.1) v) w.cluster (parts_told d.1) (tolds_of d.1) d.2).
+      same-lists w w' h m now r cmds (hist ∙ ap (λ z. w.history ++ z) (entries-says w node l d.1 v x.0 x.1 x.2) ∙ no-more w.history) (ap (λ (x : WorldModel). x.answers) d.7))
+      (runs w.cluster d.2 node (parts_told d.1) (tolds_of d.1) (deed_for w.cluster node l.asking (parts_told d.1) v) d.6)
 
 pub does-lists : (e : Event) (w w' : WorldModel) → Placed w → Placed w' → Turned w → (m : ℕ) → w.moment ≡ suc m → Lists m w → WorldDoes w e w' → Lists w.moment w'
 does-lists (Arrive client part) w w' h h' t m now r d = arrive-lists w w' h m now r client part d
@@ -344,7 +344,7 @@ does-lists (Serve link v) w w' h h' t m now r d = go d.2
   where
     go : ServesAsking w link d.0 v w' ⊎ ServesRun w link d.0 v w' → Lists w.moment w'
     go (inl x) = same-lists w w' h m now r (ap (λ (x : WorldModel). x.commands) x.3) (ap (λ (x : WorldModel). x.history) x.3) (ap (λ (x : WorldModel). x.answers) x.3)
-    go (inr x) = serve-lists w w' h h' m now r t link d.0 v d.1 x
+    go (inr x) = serve-lists w w' h h' m now r t link (d.0).node d.0 v d.1 x
 does-lists (Fetch link) w w' h h' t m now r d = go d.3
   where
     go : FetchesWelcome w link d.0 w' ⊎ FetchesReply w link d.0 w' → Lists w.moment w'

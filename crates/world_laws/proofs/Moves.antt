@@ -6,7 +6,7 @@ use Rattle.std.specs.Str.{bytes_eq}
 use Rattle.std.specs.Prelude.{is_some}
 use Rattle.slot_hash.specs.Slot.{slot_of}
 use Rattle.key_split.specs.PartModel.{HasOneSlot, keys_of}
-use Rattle.world_laws.specs.State.{WorldModel, Arrival, slot_for}
+use Rattle.world_laws.specs.State.{WorldModel, Arrival, Link, slot_for}
 use Rattle.world_laws.specs.Places.{tally, asks}
 use Rattle.node_model.specs.Store.{put}
 use Rattle.node_model.specs.History.{left_by}
@@ -16,7 +16,7 @@ use Rattle.node_model.specs.declared.standing.Phase.{Phase}
 use Rattle.node_model.specs.declared.standing.Phase.TheVariants.{Settled, Migrated, Forgotten}
 use Rattle.node_model.specs.Standings.{after_own, after_release}
 use Rattle.node_model.specs.Moves.{phase_at, move_key_done}
-use Rattle.world_laws.specs.World.{WorldDoes, ServesAsking, ServesRun}
+use Rattle.world_laws.specs.World.{IsNode, WorldDoes, ServesAsking, ServesRun}
 use Rattle.world_laws.specs.declared.event.Event.{Event}
 use Rattle.world_laws.specs.declared.event.Event.TheVariants.{Arrive, Post, Carry, Refuse, Serve, Fetch, Take, Drop, Discard, Import, Migrate, MoveKey, Own, Release, Forget, Stay}
 use Rattle.world_laws.specs.declared.event.Event.TheVariants as ev
@@ -195,7 +195,7 @@ does-kept (Serve link v) w w' h t u s d = go d.2
   where
     go : ServesAsking w link d.0 v w' ⊎ ServesRun w link d.0 v w' → Kept w'
     go (inl x) = asking-kept w w' s link d.0 v d.1 x
-    go (inr x) = run-kept w w' h t s u link d.0 v d.1 x
+    go (inr x) = run-kept w w' h t s u link (d.0).node d.0 v d.1 (all_at (λ (x : Link). IsNode w.cluster x.node) w.links link d.0 d.1 t.links) (λ _. refl) x
 does-kept (Fetch link) w w' h t u s d = fetch-kept w w' s link d
 does-kept (Take lane) w w' h t u s d = take-kept w w' s lane d
 does-kept (Drop link) w w' h t u s d = drop-kept w w' s link d

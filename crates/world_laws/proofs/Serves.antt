@@ -25,7 +25,7 @@ use Rattle.node_model.specs.declared.role.KeysHeld.{KeysHeld}
 use Rattle.node_model.specs.declared.role.Verdict.{Verdict}
 use Rattle.node_model.specs.declared.role.Verdict.TheVariants as verdict
 use Rattle.world_laws.specs.World.{IsNode}
-use Rattle.world_laws.specs.World.{ServesRun, AreOf, entry_of, entries_of}
+use Rattle.world_laws.specs.World.{ServesRunAt, AreOf, entry_of, entries_of}
 use Rattle.node_model.specs.Runs.{deed_for, AllTold, AreReplies, store_after_all, keys_in, first_key, have_one_key}
 use Rattle.world_laws.proofs.Flow.{all_at, if_open, serve-flow}
 use Rattle.world_laws.proofs.Placed.{Standing}
@@ -170,8 +170,8 @@ entries-none : (m : ℕ) (said : Told) (run : List (Arrival × Told)) → is_rep
 entries-none m said [] e h = refl
 entries-none m said (p ∷ ps) e h = (λ i. entry-none m p.0 p.1 (ap is_reply h.0 ∙ e) i ++ entries_of m ps) ∙ entries-none m said ps e h.1
 
-pub entries-says : (w : WorldModel) (l : Link) (run : List (Arrival × Told)) (v : Verdict) (said : Told) → deed_for w.cluster l.node l.asking (parts_told run) v ≡ Says said → AllTold said (parts_told run) (tolds_of run) → entries_of w.moment run ≡ []
-entries-says w l run v said e h = entries-none w.moment said run (ap (if_says is_reply) (sym e) ∙ deed-no_reply v _ l.asking _ _ _) h
+pub entries-says : (w : WorldModel) (node : ℕ) (l : Link) (run : List (Arrival × Told)) (v : Verdict) (said : Told) → deed_for w.cluster node l.asking (parts_told run) v ≡ Says said → AllTold said (parts_told run) (tolds_of run) → entries_of w.moment run ≡ []
+entries-says w node l run v said e h = entries-none w.moment said run (ap (if_says is_reply) (sym e) ∙ deed-no_reply v _ l.asking _ _ _) h
 
 itself : (t : Ticket) → same_ticket t t ≡ true
 itself t = go (same_ticket t t) (omega (arith, is-refl t))
@@ -184,7 +184,8 @@ open_zero : (o : Bool) (n : ℕ) → n ≡ 0 → if_open o n ≡ 0
 open_zero true n e = e
 open_zero false n e = refl
 
-module _ (w w' : WorldModel) (h : Standing w) (t : There w) (s : Kept w) (u : Turned w) (link : ℕ) (l : Link) (v : Verdict) (at_l : slice_get w.links link ≡ Some l) (d : ServesRun w link l v w') where
+module _ (w w' : WorldModel) (h : Standing w) (t : There w) (s : Kept w) (u : Turned w) (link node : ℕ) (l : Link) (v : Verdict) (at_l : slice_get w.links link ≡ Some l) (is-node : IsNode w.cluster node) (leads : l.asking ≡ true → l.node ≡ node)
+    (d : ServesRunAt w node link l v w') where
   -- the slot of the run, and its keys
   abbrev slot : ℕ
   slot = slot_of (first_key (parts_told d.1))
@@ -195,8 +196,8 @@ module _ (w w' : WorldModel) (h : Standing w) (t : There w) (s : Kept w) (u : Tu
   abbrev sl : SlotStandingModel
   sl = standing_at w.cluster (slot_of (first_key (parts_told d.1)))
 
-  how : ((deed_for w.cluster l.node l.asking (parts_told d.1) v ≡ Executes) × ExecutedAll w.cluster l.node (parts_told d.1) (tolds_of d.1) d.2) ⊎ SaidAll (deed_for w.cluster l.node l.asking (parts_told d.1) v) w.cluster (parts_told d.1) (tolds_of d.1) d.2
-  how = runs w.cluster d.2 l.node (parts_told d.1) (tolds_of d.1) (deed_for w.cluster l.node l.asking (parts_told d.1) v) d.6
+  how : ((deed_for w.cluster node l.asking (parts_told d.1) v ≡ Executes) × ExecutedAll w.cluster node (parts_told d.1) (tolds_of d.1) d.2) ⊎ SaidAll (deed_for w.cluster node l.asking (parts_told d.1) v) w.cluster (parts_told d.1) (tolds_of d.1) d.2
+  how = runs w.cluster d.2 node (parts_told d.1) (tolds_of d.1) (deed_for w.cluster node l.asking (parts_told d.1) v) d.6
 
   pub run : IsRun w.commands (tickets_told d.1)
   run =
@@ -231,12 +232,12 @@ module _ (w w' : WorldModel) (h : Standing w) (t : There w) (s : Kept w) (u : Tu
       bad : is_bad sl.phase (is_some (at w.cluster sl.source b.0)) ≡ true
       bad = subst (λ (z : SlotStandingModel). is_bad z.phase (is_some (at w.cluster z.source b.0)) ≡ true) (standing k p e) b.2
 
-      says : if_says (λ told. asks_in_told n told x) (deed_for w.cluster l.node l.asking (parts_told d.1) v) ≡ 0
-      says = bad-says sl (λ m. at w.cluster m b.0) None (held_of (store_at w.cluster l.node) keys) (have_one_key (parts_told d.1)) slot (λ told. asks_in_told n told x) v l.node l.asking
-          (none-held (store_at w.cluster l.node) keys b.0 (among-in b.0 d.1 k p e b.1)) (λ _ _. refl) refl refl bad
+      says : if_says (λ told. asks_in_told n told x) (deed_for w.cluster node l.asking (parts_told d.1) v) ≡ 0
+      says = bad-says sl (λ m. at w.cluster m b.0) None (held_of (store_at w.cluster node) keys) (have_one_key (parts_told d.1)) slot (λ told. asks_in_told n told x) v node l.asking
+          (none-held (store_at w.cluster node) keys b.0 (among-in b.0 d.1 k p e b.1)) (λ _ _. refl) refl refl bad
 
-      go : ((deed_for w.cluster l.node l.asking (parts_told d.1) v ≡ Executes) × ExecutedAll w.cluster l.node (parts_told d.1) (tolds_of d.1) d.2) ⊎ SaidAll (deed_for w.cluster l.node l.asking (parts_told d.1) v) w.cluster (parts_told d.1) (tolds_of d.1) d.2 → asks_in_told n p.1 x ≡ 0
-      go (inl y) = ap (λ z. asks_in_told n z x) (replied-at (store_at w.cluster l.node) d.1 y.1.0 k p e).1
+      go : ((deed_for w.cluster node l.asking (parts_told d.1) v ≡ Executes) × ExecutedAll w.cluster node (parts_told d.1) (tolds_of d.1) d.2) ⊎ SaidAll (deed_for w.cluster node l.asking (parts_told d.1) v) w.cluster (parts_told d.1) (tolds_of d.1) d.2 → asks_in_told n p.1 x ≡ 0
+      go (inl y) = ap (λ z. asks_in_told n z x) (replied-at (store_at w.cluster node) d.1 y.1.0 k p e).1
       go (inr y) = ap (λ z. asks_in_told n z x) (told-at y.0 d.1 y.2 k p e) ∙ ap (if_says (λ told. asks_in_told n told x)) (sym y.1) ∙ says
 
   -- ASKs after the serve, where none is bad that was not
@@ -246,7 +247,7 @@ module _ (w w' : WorldModel) (h : Standing w) (t : There w) (s : Kept w) (u : Tu
     λ bad.
         let n : ℕ = (slot_here w.cluster c.command.part).target in
         let none : tally (asks n c.command.ticket) w ≡ 0 = was.1 (back was.0 bad) in
-        omega (arith, serve-flow (asks n c.command.ticket) w w' link l v at_l d, open_zero l.is_open (total (λ p. asks_in_told n p.1 (is c.command.ticket p.0.command.ticket)) d.1) (quiet (back was.0 bad)), ap (λ m. tally (asks m c.command.ticket) w') target),
+        omega (arith, serve-flow (asks n c.command.ticket) w w' link node l v at_l d, open_zero l.is_open (total (λ p. asks_in_told n p.1 (is c.command.ticket p.0.command.ticket)) d.1) (quiet (back was.0 bad)), ap (λ m. tally (asks m c.command.ticket) w') target),
   )
     where
       was : IsAsked w c.command.ticket c.command.part
@@ -262,10 +263,10 @@ module _ (w w' : WorldModel) (h : Standing w) (t : There w) (s : Kept w) (u : Tu
               let same : c ≡ p.0 = unique w h j o.0 c p.0 at_c o.1 x in
               good-told (slot_here w.cluster c.command.part).target (is c.command.ticket p.0.command.ticket) k p e (subst (λ (z : Arrival). BadAsk w.cluster z.command.part) same b)
 
-  says-kept : SaidAll (deed_for w.cluster l.node l.asking (parts_told d.1) v) w.cluster (parts_told d.1) (tolds_of d.1) d.2 → Kept w'
+  says-kept : SaidAll (deed_for w.cluster node l.asking (parts_told d.1) v) w.cluster (parts_told d.1) (tolds_of d.1) d.2 → Kept w'
   says-kept y =
       let k : w'.cluster ≡ w.cluster = ap (λ (v : WorldModel). v.cluster) d.7 ∙ y.3 in
-      let hs : w'.history ≡ w.history = ap (λ (v : WorldModel). v.history) d.7 ∙ ap (λ z. w.history ++ z) (entries-says w l d.1 v y.0 y.1 y.2) ∙ none-added w.history in
+      let hs : w'.history ≡ w.history = ap (λ (v : WorldModel). v.history) d.7 ∙ ap (λ z. w.history ++ z) (entries-says w node l d.1 v y.0 y.1 y.2) ∙ none-added w.history in
       let cs : w'.commands ≡ w.commands = ap (λ (v : WorldModel). v.commands) d.7 in
       let b : w'.initial ≡ w.initial = ap (λ (v : WorldModel). v.initial) d.7 in
       record {
@@ -282,7 +283,7 @@ module _ (w w' : WorldModel) (h : Standing w) (t : There w) (s : Kept w) (u : Tu
       all-among (λ z. slot_of z ≡ slot_for (m.1).0.command.part) (keys_of (m.1).0.command.part) q (asked-of m.0 m.1 m.2).0 m.3 ∙ slotted m.0 m.1 m.2
 
   -- an ASK that this serve met is good
-  pub good : ExecutedAll w.cluster l.node (parts_told d.1) (tolds_of d.1) d.2 → (q : List ℕ) → Among q keys → l.asking ≡ true → l.node ≡ sl.target → is_bad sl.phase (is_some (at w.cluster sl.source q)) ≡ false
+  pub good : ExecutedAll w.cluster node (parts_told d.1) (tolds_of d.1) d.2 → (q : List ℕ) → Among q keys → l.asking ≡ true → node ≡ sl.target → is_bad sl.phase (is_some (at w.cluster sl.source q)) ≡ false
   good did q x a to = go (is_bad sl.phase (is_some (at w.cluster sl.source q))) refl
     where
       go : (b : Bool) → is_bad sl.phase (is_some (at w.cluster sl.source q)) ≡ b → is_bad sl.phase (is_some (at w.cluster sl.source q)) ≡ false
@@ -296,15 +297,15 @@ module _ (w w' : WorldModel) (h : Standing w) (t : There w) (s : Kept w) (u : Tu
           let met : asks sl.target c (Sent l.is_open l.node l.asking c) ≡ 1 = ap (λ b. if b && (l.node == sl.target) then is c c else 0) a ∙ there c (l.node == sl.target) (eqb_tells l.node sl.target) in
           let one : asks sl.target c (Sent l.is_open l.node l.asking c) ≤ total (λ z. asks sl.target c (Sent l.is_open l.node l.asking z)) (tickets_told d.1) = total-one (λ (z : Ticket). asks sl.target c (Sent l.is_open l.node l.asking z)) (tickets_told d.1) m.0 c (ticket-at d.1 m.0 m.1 m.2) in
           let quiet : if_open l.is_open (total (λ p. asks_in_told sl.target p.1 (is c p.0.command.ticket)) d.1) ≡ 0 = open_zero l.is_open _ (total-none (λ (p : Arrival × Told). asks_in_told sl.target p.1 (is c p.0.command.ticket)) d.1
-          (λ k p e. ap (λ z. asks_in_told sl.target z (is c p.0.command.ticket)) (replied-at (store_at w.cluster l.node) d.1 did.0 k p e).1)) in
-          absurd (omega (arith, serve-flow (asks sl.target c) w w' link l v at_l d, none, met, one, quiet))
+          (λ k p e. ap (λ z. asks_in_told sl.target z (is c p.0.command.ticket)) (replied-at (store_at w.cluster node) d.1 did.0 k p e).1)) in
+          absurd (omega (arith, serve-flow (asks sl.target c) w w' link node l v at_l d, none, met, one, quiet))
         where
           there : (c : Ticket) (b : Bool) → ((b ≡ true) × (l.node ≡ sl.target)) ⊎ ((b ≡ false) × (l.node ≢ sl.target)) → (if b then is c c else 0) ≡ 1
           there c true z = is-refl c
           there c false (inl z) = absurd (cc)
-          there c false (inr z) = absurd (z.1 to)
+          there c false (inr z) = absurd (z.1 (leads a ∙ to))
 
-  executes-kept : deed_for w.cluster l.node l.asking (parts_told d.1) v ≡ Executes → ExecutedAll w.cluster l.node (parts_told d.1) (tolds_of d.1) d.2 → Kept w'
+  executes-kept : deed_for w.cluster node l.asking (parts_told d.1) v ≡ Executes → ExecutedAll w.cluster node (parts_told d.1) (tolds_of d.1) d.2 → Kept w'
   executes-kept e did = record {
     apart = subst (λ c. (slot : ℕ) → (standing_at c slot).phase ≢ Settled → (standing_at c slot).source ≢ (standing_at c slot).target) (sym is-k) s.apart;
     data' = subst (λ (x : ClusterModel × StoreModel × List EntryModel). (key : List ℕ) → IsHome (standing_at x.0 (slot_of key)) (λ m. at x.0 m key) (get (left_by x.1 x.2) key)) (λ i. (sym is-k i, sym is-b i, sym is-h i)) data-after;
@@ -313,13 +314,13 @@ module _ (w w' : WorldModel) (h : Standing w) (t : There w) (s : Kept w) (u : Tu
   }
     where
       st : StoreModel
-      st = store_at w.cluster l.node
+      st = store_at w.cluster node
 
       new : StoreModel
-      new = store_after_all (store_at w.cluster l.node) (parts_told d.1)
+      new = store_after_all (store_at w.cluster node) (parts_told d.1)
 
       k' : ClusterModel
-      k' = with_store w.cluster l.node (store_after_all (store_at w.cluster l.node) (parts_told d.1))
+      k' = with_store w.cluster node (store_after_all (store_at w.cluster node) (parts_told d.1))
 
       hs' : List EntryModel
       hs' = w.history ++ entries_of w.moment d.1
@@ -336,16 +337,13 @@ module _ (w w' : WorldModel) (h : Standing w) (t : There w) (s : Kept w) (u : Tu
       is-c : w'.commands ≡ w.commands
       is-c = ap (λ (v : WorldModel). v.commands) d.7
 
-      is-node : IsNode w.cluster l.node
-      is-node = all_at (λ (x : Link). IsNode w.cluster x.node) w.links link l at_l t.links
-
       was-home : (q : List ℕ) → Among q keys → IsHome sl (λ m. at w.cluster m q) (get (left_by w.initial w.history) q)
       was-home q x = subst (λ z. IsHome (standing_at w.cluster z) (λ m. at w.cluster m q) (get (left_by w.initial w.history) q)) (slot-is q x) (s.data' q)
 
       -- the node that executes is the home of each of the keys
-      at_home : (q : List ℕ) → Among q keys → l.node ≡ home_in sl (λ m. at w.cluster m q)
-      at_home q x = executes-home sl (λ m. at w.cluster m q) (get (left_by w.initial w.history) q) (held_of (store_at w.cluster l.node) keys) (have_one_key (parts_told d.1)) slot
-          v l.node l.asking (all-held (store_at w.cluster l.node) keys q x) (was-home q x) (s.apart slot) (good did q x) e
+      at_home : (q : List ℕ) → Among q keys → node ≡ home_in sl (λ m. at w.cluster m q)
+      at_home q x = executes-home sl (λ m. at w.cluster m q) (get (left_by w.initial w.history) q) (held_of (store_at w.cluster node) keys) (have_one_key (parts_told d.1)) slot
+          v node l.asking (all-held (store_at w.cluster node) keys q x) (was-home q x) (s.apart slot) (good did q x) e
 
       -- so the store that the history leaves holds there what the node holds
       agree : Agree keys (left_by w.initial w.history) st
@@ -354,17 +352,17 @@ module _ (w w' : WorldModel) (h : Standing w) (t : There w) (s : Kept w) (u : Tu
       longer : IsLonger w.initial keys w.history hs' new
       longer = run-legal w.initial w.moment keys d.1 w.history st (λ q x. x) agree s.legal did.0
 
-      miss : (q : List ℕ) (m : ℕ) → m ≢ l.node → at k' m q ≡ at w.cluster m q
-      miss q m ne = ap (λ z. get z q) (store-other w.cluster l.node new m ne)
+      miss : (q : List ℕ) (m : ℕ) → m ≢ node → at k' m q ≡ at w.cluster m q
+      miss q m ne = ap (λ z. get z q) (store-other w.cluster node new m ne)
 
-      hit : (q : List ℕ) → at k' l.node q ≡ get new q
-      hit q = ap (λ z. get z q) (store-hit w.cluster l.node new is-node)
+      hit : (q : List ℕ) → at k' node q ≡ get new q
+      hit q = ap (λ z. get z q) (store-hit w.cluster node new is-node)
 
       other : (q : List ℕ) → (Among q keys → ⊥) → (m : ℕ) → at k' m q ≡ at w.cluster m q
       other q away m = ⊎_elim
-          (λ (x : ((m == l.node) ≡ true) × (m ≡ l.node)). ap (λ j. at k' j q) x.1 ∙ hit q ∙ after-all-other st (parts_told d.1) q away ∙ ap (λ j. at w.cluster j q) (sym x.1))
-          (λ (x : ((m == l.node) ≡ false) × (m ≢ l.node)). miss q m x.1)
-          (eqb_tells m l.node)
+          (λ (x : ((m == node) ≡ true) × (m ≡ node)). ap (λ j. at k' j q) x.1 ∙ hit q ∙ after-all-other st (parts_told d.1) q away ∙ ap (λ j. at w.cluster j q) (sym x.1))
+          (λ (x : ((m == node) ≡ false) × (m ≢ node)). miss q m x.1)
+          (eqb_tells m node)
 
       back : (c : Arrival) → HasOneSlot c.command.part → BadAsk w'.cluster c.command.part → BadAsk w.cluster c.command.part
       back c one b = let b' : BadAsk k' c.command.part = subst (λ z. BadAsk z c.command.part) is-k b in (b'.0, b'.1, key b'.0 b'.1 b'.2 (among b'.0 keys))
@@ -374,7 +372,7 @@ module _ (w w' : WorldModel) (h : Standing w) (t : There w) (s : Kept w) (u : Tu
           key q x b (inl y) =
               let same : slot_here w.cluster c.command.part ≡ sl = ap (standing_at w.cluster) (sym (all-among (λ q. slot_of q ≡ slot_for c.command.part) (keys_of c.command.part) q one x) ∙ slot-is q y) in
               subst (λ (z : SlotStandingModel). is_bad z.phase (is_some (at w.cluster z.source q)) ≡ true) (sym same)
-              (bad-back sl (λ m. at w.cluster m q) (λ m. at k' m q) l.node (s.apart slot) (at_home q y) (miss q)
+              (bad-back sl (λ m. at w.cluster m q) (λ m. at k' m q) node (s.apart slot) (at_home q y) (miss q)
               (subst (λ (z : SlotStandingModel). is_bad z.phase (is_some (at k' z.source q)) ≡ true) same b))
           key q x b (inr away) = subst (λ o. is_bad (slot_here w.cluster c.command.part).phase (is_some o) ≡ true) (other q away (slot_here w.cluster c.command.part).source) b
 
@@ -384,12 +382,12 @@ module _ (w w' : WorldModel) (h : Standing w) (t : There w) (s : Kept w) (u : Tu
           go : Among q keys ⊎ (Among q keys → ⊥) → IsHome (standing_at k' (slot_of q)) (λ m. at k' m q) (get (left_by w.initial hs') q)
           go (inl x) =
               subst (λ (z : ℕ × Option (List ℕ)). IsHome (standing_at w.cluster z.0) (λ m. at k' m q) z.1) (λ i. (sym (slot-is q x) i, sym (longer.agree q x) i))
-              (exec-home sl (λ m. at w.cluster m q) (λ m. at k' m q) (get (left_by w.initial w.history) q) (s.apart slot) (get new q) l.node (at_home q x) (hit q) (miss q) (was-home q x))
+              (exec-home sl (λ m. at w.cluster m q) (λ m. at k' m q) (get (left_by w.initial w.history) q) (s.apart slot) (get new q) node (at_home q x) (hit q) (miss q) (was-home q x))
           go (inr away) = subst (IsHome (standing_at w.cluster (slot_of q)) (λ m. at k' m q)) (sym (longer.others q away))
               (home-same (standing_at w.cluster (slot_of q)) (λ m. at w.cluster m q) (λ m. at k' m q) (get (left_by w.initial w.history) q) (other q away) (s.data' q))
 
   pub run-kept : Kept w'
   run-kept = ⊎_elim
-      (λ (x : (deed_for w.cluster l.node l.asking (parts_told d.1) v ≡ Executes) × ExecutedAll w.cluster l.node (parts_told d.1) (tolds_of d.1) d.2). executes-kept x.0 x.1)
-      (λ (x : SaidAll (deed_for w.cluster l.node l.asking (parts_told d.1) v) w.cluster (parts_told d.1) (tolds_of d.1) d.2). says-kept x)
+      (λ (x : (deed_for w.cluster node l.asking (parts_told d.1) v ≡ Executes) × ExecutedAll w.cluster node (parts_told d.1) (tolds_of d.1) d.2). executes-kept x.0 x.1)
+      (λ (x : SaidAll (deed_for w.cluster node l.asking (parts_told d.1) v) w.cluster (parts_told d.1) (tolds_of d.1) d.2). says-kept x)
       how

@@ -8,13 +8,14 @@ use Rattle.world_laws.specs.Places.{is}
 use Rattle.node_model.specs.Standings.{SlotStandingModel, in_phase, imported, released, stayed}
 use Rattle.node_model.specs.Nodes.{ClusterModel, standing_at, with_standing}
 use Rattle.node_model.specs.Runs.{deed_for}
+use Rattle.node_model.specs.declared.role.Verdict.{Verdict}
 use Rattle.key_split.specs.declared.travel.Told.{Told}
 use Rattle.node_model.specs.declared.standing.Phase.{Phase}
 use Rattle.node_model.specs.declared.standing.Phase.TheVariants.{Settled, Imported, Migrated, Owned, Released, Forgotten}
 use Rattle.world_laws.specs.World.{IsNode}
 use Rattle.node_model.specs.Standings.{after_own, after_release}
 use Rattle.node_model.specs.Moves.{phase_at, move_key_done}
-use Rattle.world_laws.specs.World.{WorldDoes, CarriesOver, ServesAsking, ServesRun, FetchesWelcome, FetchesReply}
+use Rattle.world_laws.specs.World.{WorldDoes, CarriesOver, ServesAsking, ServesRun, ServesRunAt, FetchesWelcome, FetchesReply}
 use Rattle.world_laws.specs.declared.event.Event.{Event}
 use Rattle.world_laws.specs.declared.event.Event.TheVariants.{Arrive, Post, Carry, Refuse, Serve, Fetch, Take, Drop, Discard, Import, Migrate, MoveKey, Own, Release, Forget, Stay}
 use Rattle.world_laws.specs.declared.event.Event.TheVariants as ev
@@ -91,6 +92,18 @@ releasing Owned h = λ x. absurd (cc)
 releasing Released h = λ x. absurd (cc)
 releasing Forgotten h = λ x. absurd (cc)
 
+-- a run that some node serves keeps it
+pub run-there : (w w' : WorldModel) → There w → (link node : ℕ) (l : Link) (v : Verdict) → slice_get w.links link ≡ Some l → ServesRunAt w node link l v w' → There w'
+run-there w w' h link node l v at_l x =
+    let l' : Link = record l { requests = x.0; asking = false } in
+    let size : length (x.2).stores ≡ length w.cluster.stores = runs-size w.cluster x.2 node (parts_told x.1) (deed_for w.cluster node l.asking (parts_told x.1) v) (tolds_of x.1) x.6 in
+    let slots : (x.2).slots ≡ w.cluster.slots = runs-slots w.cluster x.2 node (parts_told x.1) (deed_for w.cluster node l.asking (parts_told x.1) v) (tolds_of x.1) x.6 in
+    subst There (sym x.7) (record {
+      ups = λ j b lt. moved_on _ _ size _ (h.ups j b lt);
+      links = λ j b lt. moved_on _ _ size _ (set-link w w' h link l (all_replied l' x.1) at_l (node-all_replied l' x.1) j b lt);
+      targets = λ slot ne. moved_on _ _ size _ (subst (λ (ss : List SlotStandingModel). (standing_at (record w.cluster { slots = ss }) slot).phase ≢ Settled → IsNode w.cluster (standing_at (record w.cluster { slots = ss }) slot).target) (sym slots) (h.targets slot) ne);
+    })
+
 -- every event keeps it
 pub does-there : (e : Event) (w w' : WorldModel) → There w → WorldDoes w e w' → There w'
 does-there (Arrive client part) w w' h d = subst There (sym d.1) (record { ups = h.ups; links = h.links; targets = h.targets })
@@ -108,15 +121,7 @@ does-there (Serve link v) w w' h d = go d.2
   where
     go : ServesAsking w link d.0 v w' ⊎ ServesRun w link d.0 v w' → There w'
     go (inl x) = subst There (sym x.3) (record { ups = h.ups; links = set-link w w' h link d.0 (replied (record (d.0) { requests = x.0; asking = true }) Welcome) d.1 (node-replied (record (d.0) { requests = x.0; asking = true }) Welcome); targets = h.targets })
-    go (inr x) =
-        let l' : Link = record (d.0) { requests = x.0; asking = false } in
-        let size : length (x.2).stores ≡ length w.cluster.stores = runs-size w.cluster x.2 (d.0).node (parts_told x.1) (deed_for w.cluster (d.0).node (d.0).asking (parts_told x.1) v) (tolds_of x.1) x.6 in
-        let slots : (x.2).slots ≡ w.cluster.slots = runs-slots w.cluster x.2 (d.0).node (parts_told x.1) (deed_for w.cluster (d.0).node (d.0).asking (parts_told x.1) v) (tolds_of x.1) x.6 in
-        subst There (sym x.7) (record {
-          ups = λ j b lt. moved_on _ _ size _ (h.ups j b lt);
-          links = λ j b lt. moved_on _ _ size _ (set-link w w' h link d.0 (all_replied l' x.1) d.1 (node-all_replied l' x.1) j b lt);
-          targets = λ slot ne. moved_on _ _ size _ (subst (λ (ss : List SlotStandingModel). (standing_at (record w.cluster { slots = ss }) slot).phase ≢ Settled → IsNode w.cluster (standing_at (record w.cluster { slots = ss }) slot).target) (sym slots) (h.targets slot) ne);
-        })
+    go (inr x) = run-there w w' h link (d.0).node d.0 v d.1 x
 does-there (Fetch link) w w' h d = go d.3
   where
     go : FetchesWelcome w link d.0 w' ⊎ FetchesReply w link d.0 w' → There w'

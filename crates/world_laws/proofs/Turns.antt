@@ -10,10 +10,11 @@ use Rattle.key_split.specs.declared.travel.Told.{Told}
 use Rattle.key_split.specs.declared.travel.Ended.{Ended}
 use Rattle.command_future.specs.CommandModel.{MayPostTo}
 use Rattle.command_future.specs.declared.stage.Stage.TheVariants.{Awaits, Over}
+use Rattle.node_model.specs.declared.role.Verdict.{Verdict}
 use Rattle.world_laws.specs.State.{WorldModel, Arrival, Posted, Link, LinkRequest, LinkReply, HasEnded, slot_for, awaiting, after_told, new_link, requests_of, sent, replied, all_replied, tickets_told}
 use Rattle.world_laws.specs.declared.state.LinkRequest.TheVariants.{Asking, Runs}
 use Rattle.world_laws.specs.declared.state.LinkReply.TheVariants.{Welcome}
-use Rattle.world_laws.specs.World.{WorldDoes, SameTurn, IsAmong, Way, GoOut, CarriesOver, ServesAsking, ServesRun, FetchesWelcome, FetchesReply, arrival}
+use Rattle.world_laws.specs.World.{WorldDoes, SameTurn, IsAmong, Way, GoOut, CarriesOver, ServesAsking, ServesRun, ServesRunAt, FetchesWelcome, FetchesReply, arrival}
 use Rattle.world_laws.specs.declared.event.Event.{Event}
 use Rattle.world_laws.specs.declared.event.Event.TheVariants.{Arrive, Post, Carry, Refuse, Serve, Fetch, Take, Drop, Discard, Import, Migrate, MoveKey, Own, Release, Forget, Stay}
 use Rattle.world_laws.specs.declared.event.Event.TheVariants as ev
@@ -217,6 +218,14 @@ module _ (w w' : WorldModel) (h : Turned w) where
   nodes : w'.commands ≡ w.commands → w'.ups ≡ w.ups → w'.links ≡ w.links → Turned w'
   nodes c u l = stay w.ups w.links h.ups h.links c u l
 
+-- a run that some node serves keeps it
+pub run-turned : (w w' : WorldModel) → Turned w → (link node : ℕ) (l : Link) (v : Verdict) → slice_get w.links link ≡ Some l → ServesRunAt w node link l v w' → Turned w'
+run-turned w w' h link node l v at_l x =
+    let l' : Link = record l { requests = x.0; asking = false } in
+    let all' : AreRuns w.commands (Runs (tickets_told x.1) ∷ x.0) = subst (AreRuns w.commands) x.3 (at-link w w' h link l at_l) in
+    stay w w' h w.ups (slice_set w.links link (all_replied l' x.1)) h.ups (set-link w w' h link (all_replied l' x.1) (subst (AreRuns w.commands) (sym (requests-all_replied l' x.1)) all'.1))
+    (ap (λ (v : WorldModel). v.commands) x.7) (ap (λ (v : WorldModel). v.ups) x.7) (ap (λ (v : WorldModel). v.links) x.7)
+
 -- every event keeps it
 pub does-turned : (e : Event) (w w' : WorldModel) → Turned w → WorldDoes w e w' → Turned w'
 does-turned (Arrive client part) w w' h d =
@@ -253,11 +262,7 @@ does-turned (Serve link v) w w' h d = go d.2
         let l' : Link = record (d.0) { requests = x.0; asking = true } in
         stay w w' h w.ups (slice_set w.links link (replied l' Welcome)) h.ups (set-link w w' h link (replied l' Welcome) (subst (AreRuns w.commands) (sym (requests-replied l' Welcome)) (subst (AreRuns w.commands) x.1 here)))
         (ap (λ (v : WorldModel). v.commands) x.3) (ap (λ (v : WorldModel). v.ups) x.3) (ap (λ (v : WorldModel). v.links) x.3)
-    go (inr x) =
-        let l' : Link = record (d.0) { requests = x.0; asking = false } in
-        let all' : AreRuns w.commands (Runs (tickets_told x.1) ∷ x.0) = subst (AreRuns w.commands) x.3 here in
-        stay w w' h w.ups (slice_set w.links link (all_replied l' x.1)) h.ups (set-link w w' h link (all_replied l' x.1) (subst (AreRuns w.commands) (sym (requests-all_replied l' x.1)) all'.1))
-        (ap (λ (v : WorldModel). v.commands) x.7) (ap (λ (v : WorldModel). v.ups) x.7) (ap (λ (v : WorldModel). v.links) x.7)
+    go (inr x) = run-turned w w' h link (d.0).node d.0 v d.1 x
 does-turned (Fetch link) w w' h d = go d.3
   where
     here : AreRuns w.commands (d.0).requests

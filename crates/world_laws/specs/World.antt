@@ -127,13 +127,17 @@ ServesAsking w link l verdict w' =
     (rest : List LinkRequest) × (l.requests ≡ Asking ∷ rest) × (verdict ≡ Plain)
     × (w' ≡ record w { links = slice_set w.links link (replied (record l { requests = rest; asking = true }) Welcome) })
 
--- a run is served, all of it or none: the flag is read and cleared, and each command is told something
-abbrev pub ServesRun : WorldModel → ℕ → Link → Verdict → WorldModel → Type 0
-ServesRun w link l verdict w' =
+-- a run is served by this node, all of it or none: the flag is read and cleared, and each command is told something
+abbrev pub ServesRunAt : WorldModel → ℕ → ℕ → Link → Verdict → WorldModel → Type 0
+ServesRunAt w node link l verdict w' =
     (rest : List LinkRequest) × (run : List (Arrival × Told)) × (k : ClusterModel)
     × (l.requests ≡ Runs (tickets_told run) ∷ rest) × AreOf run w.commands × NamesNode w.cluster verdict
-    × DoesRun (deed_for w.cluster l.node l.asking (parts_told run) verdict) w.cluster l.node (parts_told run) (tolds_of run) k
+    × DoesRun (deed_for w.cluster node l.asking (parts_told run) verdict) w.cluster node (parts_told run) (tolds_of run) k
     × (w' ≡ record w { cluster = k; links = slice_set w.links link (all_replied (record l { requests = rest; asking = false }) run); history = w.history ++ entries_of w.moment run })
+
+-- by the node of the link
+abbrev pub ServesRun : WorldModel → ℕ → Link → Verdict → WorldModel → Type 0
+ServesRun w link l verdict w' = ServesRunAt w l.node link l verdict w'
 
 -- the reply of ASKING is dropped
 abbrev pub FetchesWelcome : WorldModel → ℕ → Link → WorldModel → Type 0
