@@ -32,6 +32,7 @@ use Rattle.turn_laws.specs.Refines.{IsStart}
 use Rattle.turn_laws.specs.LogOutput.{AnswersWereTold, SharedAnswersWereTold}
 use Rattle.turn_laws.specs.ClientSees.{bytes_from, bytes_to, ends_for}
 use Rattle.turn_laws.specs.Arrivals.{own_events_at}
+use Rattle.turn_laws.proofs.Addresses.{led-frame}
 use Rattle.turn_laws.proofs.Elements.{nothing-there}
 use Rattle.turn_laws.proofs.Tables.{put-same}
 use Rattle.turn_laws.proofs.Ending.{one-of}
@@ -237,6 +238,9 @@ module _ (C J : Type 0) (law : DrainsOutput) (whole : FrontIsWhole) (faulty : Fr
       subst (WereTold (done ++ SharedEvent.Ours (AtBroken j verdict) ∷ [])) (sym (ap log_in step.7)) (then-told done (SharedEvent.Ours (AtBroken j verdict)) s.log (log_of step.3) before (executed-told done step.3))
   one-step done s s' steps (SharedEvent.Ours (Thrown j)) step before = subst (WereTold (done ++ SharedEvent.Ours (Thrown j) ∷ [])) (sym (ap log_in step.2)) (same-log done (SharedEvent.Ours (Thrown j)) s.log before)
   one-step done s s' steps (SharedEvent.Ours (Moved event)) step before = subst (WereTold (done ++ SharedEvent.Ours (Moved event) ∷ [])) (sym (ap log_in step.1)) (same-log done (SharedEvent.Ours (Moved event)) s.log before)
+  one-step done s s' steps (SharedEvent.Led event) step before =
+      let frame = led-frame event s s' step in
+      subst (WereTold (done ++ SharedEvent.Led event ∷ [])) (sym frame.log) (then-told done (SharedEvent.Led event) s.log (log_of frame.done) before (executed-told done frame.done))
   one-step done s s' steps (SharedEvent.Theirs node asking theirs) step before =
       subst (WereTold (done ++ SharedEvent.Theirs node asking theirs ∷ [])) (sym (ap log_in step.1)) (then-told done (SharedEvent.Theirs node asking theirs) s.log (log_of theirs) before (executed-told done theirs))
 

@@ -31,8 +31,8 @@ use Rattle.turn_laws.specs.Refines.{IsStart}
 use Rattle.turn_laws.specs.Sharing.{SharedEvent, SharedSystemStep}
 use Rattle.turn_laws.specs.Steps.{SystemEvent, AtWorker, AtCarrier, Handed, AtNode, AtBroken, Thrown, Moved, SystemStep, WorkerStep, IsSeen, arrivals, log_of, seen_at}
 use Rattle.turn_laws.specs.ClientSees.{bytes_from, if_own, pulled_by}
-use Rattle.turn_laws.specs.ClientOutput.{events_at}
 use Rattle.turn_laws.specs.Arrivals.{ArrivalsAreSent, SharedArrivalsAreSent, AreSent, arrivals_for, own_events_at, ticketed}
+use Rattle.turn_laws.proofs.Addresses.{led-frame}
 use Rattle.turn_laws.proofs.Arrivals.{IsAnothers, IsIts, Reading, answers-hidden, are-sent, arrivals-hidden, arrivals-shown, begins, executed-hidden, more-pulled, then-drained, then-ended, then-fed, then-followed, then-handed, then-parted, then-read}
 use Rattle.turn_laws.proofs.ClientSees.{own, not-own}
 use Rattle.turn_laws.proofs.CommandsOut.{none-of, still-there}
@@ -351,6 +351,9 @@ module _ {C J : Type 0} (k number : ℕ) (came : List ℕ) (s s' : System C J) w
   one-step law whole faulty (SharedEvent.Ours (AtBroken j verdict)) step housed known = quiet-step (AtBroken j verdict) tt step (log_of step.3) (ap log_in step.7) (executed-hidden k number step.3) known
   one-step law whole faulty (SharedEvent.Ours (Thrown j)) step housed known = quiet-step (Thrown j) tt step [] (no-mark (ap log_in step.2)) refl known
   one-step law whole faulty (SharedEvent.Ours (Moved event)) step housed known = quiet-step (Moved event) tt step [] (no-mark (ap log_in step.1)) refl known
+  one-step law whole faulty (SharedEvent.Led event) step housed known =
+      let frame = led-frame event s s' step in
+      same-workers (log_of frame.done) frame.workers frame.log (executed-hidden k number frame.done) known
   one-step law whole faulty (SharedEvent.Theirs node asking done) step housed known =
       same-workers (log_of done) (ap (λ (x : System C J). x.workers) step.1) (ap log_in step.1) (executed-hidden k number done) known
 

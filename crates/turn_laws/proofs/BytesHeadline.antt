@@ -1,5 +1,4 @@
 -- The headline in bytes, from its three parts.
-use Rattle.std.specs.Prelude.{List}
 use Rattle.resp_wire.specs.Laws.{FrontIsFaulty, FrontIsWhole}
 use Rattle.key_split.specs.Laws.{PlansArePlain}
 use Rattle.session_order.specs.Life.{DrainsOutput}

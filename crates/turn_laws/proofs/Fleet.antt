@@ -24,8 +24,9 @@ use Rattle.turn_laws.specs.Walks.{IsSharedWalked}
 use Rattle.turn_laws.specs.LogHeadline.{IsHeld, history}
 use Rattle.turn_laws.specs.SharedLog.{SharedLogHeadline}
 use Rattle.turn_laws.specs.Sharing.{OthersDo, SharedEvent, SharedSystemStep}
-use Rattle.turn_laws.specs.Fleet.{EveryFleet, Fleet, FleetFollows, FleetsStand, FleetEvent, FleetRun, FleetStep, foreign}
-use Rattle.turn_laws.proofs.Impacts.{RunImpact, shows, step-impact}
+use Rattle.turn_laws.specs.Fleet.{EveryFleet, Fleet, FleetFollows, FleetsStand, FleetEvent, FleetRun, FleetStep, IsSeenByOthers, foreign}
+use Rattle.turn_laws.proofs.Addresses.{led-frame, led-slots}
+use Rattle.turn_laws.proofs.Impacts.{RunImpact, led-shows, shows, step-impact}
 use Rattle.turn_laws.proofs.LogHeadline.{log-headline, log-held}
 use Rattle.turn_laws.proofs.Sharing.{all}
 use Rattle.turn_laws.proofs.Scenes.{and-then}
@@ -58,17 +59,14 @@ module _ {C J : Type 0} where
   abbrev Goes : System C J → System C J → Type 0
   Goes s s' = (events : List SharedEvent) × FoldsTo SharedSystemStep s events s'
 
-  -- a step of s, as t sees it
-  seen-step : (event : SystemEvent) (s s' t t' : System C J) (w : WorldModel) → IsShadow s w → IsSharedWalked w → s.cluster ≡ t.cluster → ((slot target : ℕ) → event ≡ Moved (core.Import slot target) → NoneAsksIn t slot target)
-      → SystemStep s event s' → (done : List Execution) → history s'.log ≡ history s.log ++ done → t' ≡ record t { cluster = s'.cluster; log = t.log ++ log_of (map (foreign (length t.workers)) done) } → Goes t t'
-  seen-step event s s' t t' w h walked same waits x done is next = ⊎_elim
-      (λ (y : RunImpact s.cluster s'.cluster done). ⊎_elim
+  -- a run of s, as t sees it
+  seen-run : (s s' t t' : System C J) → s.cluster ≡ t.cluster → (done : List Execution) → RunImpact s.cluster s'.cluster done
+      → t' ≡ record t { cluster = s'.cluster; log = t.log ++ log_of (map (foreign (length t.workers)) done) } → Goes t t'
+  seen-run s s' t t' same done y next = ⊎_elim
       (λ (z : (s'.cluster ≡ s.cluster) × (done ≡ [])). ([], sym (nothing z.0 z.1)))
       (λ (z : (node : ℕ) × (asking : Bool) × ((workers moment : ℕ) → OthersExecute workers moment s.cluster node asking (map (entry_at moment) (map (foreign workers) done)) s'.cluster)).
       (SharedEvent.Theirs z.0 z.1 (map (foreign (length t.workers)) done) ∷ [], (t', theirs z.0 z.1 (z.2 (length t.workers)), refl)))
-      y)
-      (λ (y : (e : Event) × (event ≡ Moved e) × (done ≡ [])). (SharedEvent.Ours (Moved y.0) ∷ [], (t', moved y.0 y.1 y.2, refl)))
-      (step-impact event s s' w h walked x done is)
+      y
     where
       nodes : t'.cluster ≡ s'.cluster
       nodes = ap (λ (z : System C J). z.cluster) next
@@ -83,6 +81,17 @@ module _ {C J : Type 0} where
         λ moment. subst (λ (z : ClusterModel × ClusterModel). OthersExecute (length t.workers) moment z.0 node asking (map (entry_at moment) (map (foreign (length t.workers)) done)) z.1) (λ i. (same i, sym nodes i)) (does moment),
         next ∙ ap (λ k. record t { cluster = k; log = t.log ++ log_of (map (foreign (length t.workers)) done) }) (sym nodes),
       )
+
+  -- a step of s, as t sees it
+  seen-step : (event : SystemEvent) (s s' t t' : System C J) (w : WorldModel) → IsShadow s w → IsSharedWalked w → s.cluster ≡ t.cluster → ((slot target : ℕ) → event ≡ Moved (core.Import slot target) → NoneAsksIn t slot target)
+      → SystemStep s event s' → (done : List Execution) → history s'.log ≡ history s.log ++ done → t' ≡ record t { cluster = s'.cluster; log = t.log ++ log_of (map (foreign (length t.workers)) done) } → Goes t t'
+  seen-step event s s' t t' w h walked same waits x done is next = ⊎_elim
+      (λ (y : RunImpact s.cluster s'.cluster done). seen-run s s' t t' same done y next)
+      (λ (y : (e : Event) × (event ≡ Moved e) × (done ≡ [])). (SharedEvent.Ours (Moved y.0) ∷ [], (t', moved y.0 y.1 y.2, refl)))
+      (step-impact event s s' w h walked x done is)
+    where
+      nodes : t'.cluster ≡ s'.cluster
+      nodes = ap (λ (z : System C J). z.cluster) next
 
       moved : (e : Event) → event ≡ Moved e → done ≡ [] → SystemStep t (Moved e) t'
       moved e is-e none =
@@ -119,6 +128,7 @@ module _ (C J : Type 0) where
 
   step-keeps : (event : SharedEvent) (s s' : System C J) → SharedSystemStep s event s' → Keeps s s'
   step-keeps (SharedEvent.Ours event) s s' x = (endpoints-stay event s s' x, slots-stay C J event s s' x)
+  step-keeps (SharedEvent.Led event) s s' x = ((led-frame event s s' x).nodes, led-slots event s s' x)
   step-keeps (SharedEvent.Theirs node asking done) s s' x =
       (ap (λ (t : System C J). t.nodes) x.1, λ stands. subst StandsAtItsNodes (sym (x.0 0).7) (same-standing s.cluster node _ stands))
 
@@ -140,16 +150,25 @@ module _ (C J : Type 0) (plain : PlansArePlain) where
   each-goes (FleetEvent.By p event) f f' whole x q = ⊎_elim
       (λ (y : ((q == p) ≡ true) × (q ≡ p)). subst (λ z. Goes (f z) (f' z)) (sym y.1) (SharedEvent.Ours event ∷ [], (f' p, x.0, refl)))
       (λ (y : ((q == p) ≡ false) × (q ≢ p)).
-      seen-step event (f p) (f' p) (f q) (f' q) (whole.0 p).world (whole.0 p).shadow (whole.0 p).walked (whole.1 p q) (λ slot target is. x.1 slot target is q) x.0 x.2 x.3 (x.4 q y.1))
+      seen-step event (f p) (f' p) (f q) (f' q) (whole.0 p).world (whole.0 p).shadow (whole.0 p).walked (whole.1 p q) (λ slot target is. x.1 slot target is q) x.0 x.2.0 x.2.1 (x.2.2 q y.1))
+      (eqb_tells q p)
+  each-goes (FleetEvent.Led p event) f f' whole x q = ⊎_elim
+      (λ (y : ((q == p) ≡ true) × (q ≡ p)). subst (λ z. Goes (f z) (f' z)) (sym y.1) (SharedEvent.Led event ∷ [], (f' p, x.0, refl)))
+      (λ (y : ((q == p) ≡ false) × (q ≢ p)).
+      seen-run (f p) (f' p) (f q) (f' q) (whole.1 p q) x.1.0 (led-shows event (f p) (f' p) (whole.0 p).world (whole.0 p).shadow (whole.0 p).walked x.0 x.1.0 x.1.1) (x.1.2 q y.1))
       (eqb_tells q p)
   each-goes (FleetEvent.Outside node asking done) f f' whole x q = (SharedEvent.Theirs node asking (map (foreign (length (f q).workers)) done) ∷ [], (f' q, x.0 q, refl))
 
   -- all have the same nodes
-  same-nodes : (event : FleetEvent) (f f' : Fleet C J) → Whole f → FleetStep C J f event f' → (p q : ℕ) → (f' p).cluster ≡ (f' q).cluster
-  same-nodes (FleetEvent.By p event) f f' whole x a b = at a ∙ sym (at b)
+  by-one : (f f' : Fleet C J) (p : ℕ) → IsSeenByOthers C J f p f' → (a b : ℕ) → (f' a).cluster ≡ (f' b).cluster
+  by-one f f' p x a b = at a ∙ sym (at b)
     where
       at : (q : ℕ) → (f' q).cluster ≡ (f' p).cluster
-      at q = ⊎_elim (λ (y : ((q == p) ≡ true) × (q ≡ p)). ap (λ z. (f' z).cluster) y.1) (λ (y : ((q == p) ≡ false) × (q ≢ p)). ap (λ (z : System C J). z.cluster) (x.4 q y.1)) (eqb_tells q p)
+      at q = ⊎_elim (λ (y : ((q == p) ≡ true) × (q ≡ p)). ap (λ z. (f' z).cluster) y.1) (λ (y : ((q == p) ≡ false) × (q ≢ p)). ap (λ (z : System C J). z.cluster) (x.2 q y.1)) (eqb_tells q p)
+
+  same-nodes : (event : FleetEvent) (f f' : Fleet C J) → Whole f → FleetStep C J f event f' → (p q : ℕ) → (f' p).cluster ≡ (f' q).cluster
+  same-nodes (FleetEvent.By p event) f f' whole x a b = by-one f f' p x.2 a b
+  same-nodes (FleetEvent.Led p event) f f' whole x a b = by-one f f' p x.1 a b
   same-nodes (FleetEvent.Outside node asking done) f f' whole x a b = x.1 a b
 
   fleet : (events : List FleetEvent) (f f' : Fleet C J) → Whole f → FleetRun C J f events f' → Whole f'
@@ -196,9 +215,11 @@ module _ (C J : Type 0) where
     (
       subst (SystemStep (f p) event) (sym here) x,
       waits,
-      done.0,
-      subst (λ (z : System C J). history z.log ≡ history (f p).log ++ done.0) (sym here) done.1,
-      λ q ne. there q ne ∙ (λ i. record (f q) { cluster = (sym here i).cluster; log = (f q).log ++ log_of (map (foreign (length (f q).workers)) done.0) }),
+      (
+        done.0,
+        subst (λ (z : System C J). history z.log ≡ history (f p).log ++ done.0) (sym here) done.1,
+        λ q ne. there q ne ∙ (λ i. record (f q) { cluster = (sym here i).cluster; log = (f q).log ++ log_of (map (foreign (length (f q).workers)) done.0) }),
+      ),
     ),
     here,
   )

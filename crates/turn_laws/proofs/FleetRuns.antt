@@ -107,9 +107,7 @@ module _ {C J : Type 0} where
   one-step f p event s mid dones done waits step is = (
     subst (λ (z : System C J × System C J). SystemStep z.0 event z.1) (λ i. (sym here i, sym there i)) step,
     all-wait,
-    done,
-    ap (λ (z : System C J). history z.log) there ∙ is ∙ ap (λ (z : System C J). history z.log ++ done) (sym here),
-    grown,
+    (done, ap (λ (z : System C J). history z.log) there ∙ is ∙ ap (λ (z : System C J). history z.log ++ done) (sym here), grown),
   )
     where
       here : after f p s dones p ≡ s

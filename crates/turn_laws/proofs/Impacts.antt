@@ -1,9 +1,10 @@
 -- What a step of a system does to the nodes, and what its log shows executed then: nothing, a run that others see as one of theirs, or a step
 -- of a slot.
-use Rattle.std.proofs.Common.{◌≡◌, ◌⊎◌, inl, inr, ⊎_elim, ℕ, suc, ◌+◌, ◌-◌, take, drop, Bool, false, List, [], ◌∷◌, ◌++◌, map, length, Some, refl, sym, ap, ◌∙◌, subst}
+use Rattle.std.proofs.Common.{◌≡◌, ◌⊎◌, inl, inr, ⊎_elim, ℕ, suc, ◌+◌, ◌-◌, take, drop, Bool, true, false, List, [], ◌∷◌, ◌++◌, map, length, Some, refl, sym, ap, ◌∙◌, subst}
 use Rattle.std.specs.Prelude.{All, slice_get, slice_set}
 use Rattle.std.proofs.lemmas.Grind.{flat_map-append}
 use Rattle.std.proofs.lemmas.List.{append-nil}
+use Rattle.resp_wire.specs.declared.value.Value.{Value}
 use Rattle.key_split.specs.PartModel.{PartModel}
 use Rattle.key_split.specs.declared.travel.Told.{Told}
 use Rattle.key_split.specs.declared.travel.Ended.{Ended}
@@ -20,7 +21,7 @@ use Rattle.proxy_turns.specs.WorkerModel.{WorkerModel, WorkerEvent, Did, Finishe
 use Rattle.world_laws.specs.State.{WorldModel, Link, all_replied, parts_told, tolds_of}
 use Rattle.world_laws.specs.declared.state.LinkRequest.{LinkRequest}
 use Rattle.world_laws.specs.declared.state.LinkRequest.TheVariants as asked
-use Rattle.world_laws.specs.World.{IsNode, NamesNode, ServesRun, entries_of}
+use Rattle.world_laws.specs.World.{IsNode, NamesNode, ServesRunAt, entries_of}
 use Rattle.world_laws.proofs.Flow.{all_at}
 use Rattle.world_laws.specs.declared.event.Event.{Event}
 use Rattle.world_laws.proofs.Nodes.{ExecutedAll, SaidAll, runs}
@@ -28,10 +29,11 @@ use Rattle.world_laws.proofs.Serves.{entries-says}
 use Rattle.shared_laws.specs.Proxies.{as_foreign}
 use Rattle.shared_laws.specs.Shared.{OthersExecute}
 use Rattle.shared_laws.proofs.Executed.{executed-others}
-use Rattle.turn_laws.specs.Wire.{Item, Part, Runs, Execution, ServesNext, executions, parts_in, tickets_for}
+use Rattle.turn_laws.specs.Wire.{Wire, Part, Runs, Execution, ServesNext, ServesRun, executions, parts_in, tickets_for}
 use Rattle.turn_laws.specs.System.{System, Mark}
 use Rattle.turn_laws.specs.Shadow.{IsShadow, IsKnown, HasPart, OpenShadow, ClosedShadow, IsIdle, IsUnnumbered, Numbers, entry_at, requests_in}
-use Rattle.turn_laws.specs.Steps.{SystemEvent, AtWorker, AtCarrier, Handed, AtNode, AtBroken, Thrown, Moved, SystemStep, Serves, ServesLate, IsSeen, arrivals, answers, seen_at, log_of}
+use Rattle.turn_laws.specs.Steps.{SystemEvent, AtWorker, AtCarrier, Handed, AtNode, AtBroken, Thrown, Moved, SystemStep, Serves, ServesBy, ServesLate, ServesLateBy, IsSeen, arrivals, answers, seen_at, log_of}
+use Rattle.turn_laws.specs.Addresses.{LeadsTo, LedEvent, LedStep}
 use Rattle.turn_laws.specs.Walks.{IsSharedWalked, ticked}
 use Rattle.turn_laws.specs.LogHeadline.{executed_by, history}
 use Rattle.turn_laws.specs.Fleet.{foreign}
@@ -56,23 +58,23 @@ swap n m [] = refl
 swap n m (e ∷ es) = ap (λ xs. entry_at m (foreign n e) ∷ xs) (swap n m es)
 
 run-impact : (w : WorldModel) → IsSharedWalked w → (k k' : ClusterModel) (i : ℕ) (l : Link) (node : ℕ) (asking : Bool) (parts : List Part) (verdict : Verdict) (tolds : List Told) (rest : List LinkRequest)
-    → slice_get w.links i ≡ Some l → w.cluster ≡ k → l.node ≡ node → l.asking ≡ asking → l.requests ≡ asked.Runs (tickets_for parts) ∷ rest
+    → slice_get w.links i ≡ Some l → w.cluster ≡ k → IsNode w.cluster node → (l.asking ≡ true → l.node ≡ node) → l.asking ≡ asking → l.requests ≡ asked.Runs (tickets_for parts) ∷ rest
     → All (λ (part : Part). HasPart w.commands part.0 part.1) parts → NamesNode k verdict
     → DoesRun (deed_for k node asking (parts_in parts) verdict) k node (parts_in parts) tolds k' → RunImpact k k' (executions parts tolds)
-run-impact w walked k k' i l node asking parts verdict tolds rest at cluster on is-asked requests known names does =
+run-impact w walked k k' i l node asking parts verdict tolds rest at cluster there leads is-asked requests known names does =
     ⊎_elim
-    (λ (x : (deed_for w.cluster l.node l.asking (parts_told m.run) verdict ≡ Executes) × ExecutedAll w.cluster l.node (parts_told m.run) (tolds_of m.run) k').
+    (λ (x : (deed_for w.cluster node l.asking (parts_told m.run) verdict ≡ Executes) × ExecutedAll w.cluster node (parts_told m.run) (tolds_of m.run) k').
     inr (
       node,
       asking,
       λ workers moment.
           let es : map (as_foreign workers) (entries_of moment m.run) ≡ map (entry_at moment) (map (foreign workers) (executions parts tolds)) = ap (map (as_foreign workers)) (m.entries moment) ∙ swap workers moment (executions parts tolds) in
-          subst (λ (z : ClusterModel × ℕ × Bool × List EntryModel). OthersExecute workers moment z.0 z.1 z.2 z.3 k') (λ j. (cluster j, on j, is-asked j, es j))
-          (executed-others walked.0 w w' (walked-steady w walked) i l.node l verdict at (all_at (λ (z : Link). IsNode w.cluster z.node) w.links i l at (walked-steady w walked).there.links) (λ _. refl) y x.0 x.1 workers moment),
+          subst (λ (z : ClusterModel × Bool × List EntryModel). OthersExecute workers moment z.0 node z.1 z.2 k') (λ j. (cluster j, is-asked j, es j))
+          (executed-others walked.0 w w' (walked-steady w walked) i node l verdict at there leads y x.0 x.1 workers moment),
     ))
-    (λ (x : SaidAll (deed_for w.cluster l.node l.asking (parts_told m.run) verdict) w.cluster (parts_told m.run) (tolds_of m.run) k').
-    inl (x.3 ∙ cluster, no-map (entry_at w.moment) (executions parts tolds) (sym (m.entries w.moment) ∙ entries-says w l.node l m.run verdict x.0 x.1 x.2)))
-    (runs w.cluster k' l.node (parts_told m.run) (tolds_of m.run) (deed_for w.cluster l.node l.asking (parts_told m.run) verdict) does')
+    (λ (x : SaidAll (deed_for w.cluster node l.asking (parts_told m.run) verdict) w.cluster (parts_told m.run) (tolds_of m.run) k').
+    inl (x.3 ∙ cluster, no-map (entry_at w.moment) (executions parts tolds) (sym (m.entries w.moment) ∙ entries-says w node l m.run verdict x.0 x.1 x.2)))
+    (runs w.cluster k' node (parts_told m.run) (tolds_of m.run) (deed_for w.cluster node l.asking (parts_told m.run) verdict) does')
   where
     m : MachineRun w.commands parts tolds
     m = machine-run w (walked-stands w walked) parts tolds (each-told (deed_for k node asking (parts_in parts) verdict) k node (parts_in parts) tolds k' does) known
@@ -80,46 +82,73 @@ run-impact w walked k k' i l node asking parts verdict tolds rest at cluster on 
     w' : WorldModel
     w' = record (ticked w) { cluster = k'; links = slice_set w.links i (all_replied (record l { requests = rest; asking = false }) m.run); history = w.history ++ entries_of (w.moment + 1) m.run }
 
-    does' : DoesRun (deed_for w.cluster l.node l.asking (parts_told m.run) verdict) w.cluster l.node (parts_told m.run) (tolds_of m.run) k'
-    does' = subst (λ (x : ClusterModel × ℕ × Bool × List PartModel × List Told). DoesRun (deed_for x.0 x.1 x.2 x.3 verdict) x.0 x.1 x.3 x.4 k') (λ j. (sym cluster j, sym on j, sym is-asked j, sym m.parts_are j, sym m.tolds_are j)) does
+    does' : DoesRun (deed_for w.cluster node l.asking (parts_told m.run) verdict) w.cluster node (parts_told m.run) (tolds_of m.run) k'
+    does' = subst (λ (x : ClusterModel × Bool × List PartModel × List Told). DoesRun (deed_for x.0 node x.1 x.2 verdict) x.0 node x.2 x.3 k') (λ j. (sym cluster j, sym is-asked j, sym m.parts_are j, sym m.tolds_are j)) does
 
-    y : ServesRun (ticked w) i l verdict w'
+    y : ServesRunAt (ticked w) node i l verdict w'
     y = (rest, m.run, k', requests ∙ ap (λ ts. asked.Runs ts ∷ rest) (sym m.tickets), m.are_of, subst (λ x. NamesNode x verdict) (sym cluster) names, does', refl)
 
+not-both : {X : Type 0} → true ≡ false → X
+not-both e = absurd (cc)
+
+-- the nodes of links are nodes
+there-is : (w : WorldModel) → IsSharedWalked w → (i : ℕ) (l : Link) → slice_get w.links i ≡ Some l → (node : ℕ) → l.node ≡ node → IsNode w.cluster node
+there-is w walked i l at node is = subst (IsNode w.cluster) is (all_at (λ (z : Link). IsNode w.cluster z.node) w.links i l at (walked-steady w walked).there.links)
+
 module _ {C J : Type 0} where
+  -- a run of a connection that works
+  module _ (s s' : System C J) (w : WorldModel) (h : IsShadow s w) (walked : IsSharedWalked w) (k : ℕ) (how : Wire → ClusterModel → Wire → List Value → List Execution → Type 0) (on : ServesBy how s k s') where
+    run-at : (node : ℕ) (verdict : Verdict) → ((l : Link) → l.node ≡ (on.1).port.node → l.asking ≡ (on.1).port.asking → l.asking ≡ true → l.node ≡ node)
+        → ((i : ℕ) (l : Link) → slice_get w.links i ≡ Some l → l.node ≡ (on.1).port.node → IsNode w.cluster node)
+        → ServesRun s.nodes s.cluster node (on.1).port verdict s'.cluster on.2 on.3 on.4 → RunImpact s.cluster s'.cluster on.4
+    run-at node verdict leads there x = subst (RunImpact s.cluster s'.cluster) (sym x.7) (⊎_elim
+        (λ (y : (i : ℕ) × (l : Link) × Numbers (h.links).ids (on.1).port.id i × (slice_get w.links i ≡ Some l) × OpenShadow s.nodes w.commands on.1 l).
+        let place : (y.1).node ≡ (on.1).port.node = (y.4).node ∙ sym (y.4).wired in
+        run-impact w walked s.cluster s'.cluster y.0 y.1 node (on.1).port.asking x.1 verdict x.2 (requests_in x.0) y.3 h.cluster (there y.0 y.1 y.3 place) (leads y.1 place (y.4).asking) (y.4).asking
+        ((y.4).requests ∙ ap requests_in x.3) (all-first (IsKnown w.commands) (Runs x.1) x.0 (subst (All (IsKnown w.commands)) x.3 (y.4).known)) x.4 x.5)
+        (λ (y : IsUnnumbered (h.links).ids (on.1).port.id × IsIdle on.1). absurd (some-request (asked.Runs (tickets_for x.1)) (requests_in x.0) (sym (ap requests_in x.3) ∙ (y.1).requests)))
+        ((h.links).backends k on.1 (on.0, on.5, on.6, on.7)).2)
+
   at-node : (s s' : System C J) (w : WorldModel) → IsShadow s w → IsSharedWalked w → (k : ℕ) (verdict : Verdict) (on : Serves s k verdict s') → RunImpact s.cluster s'.cluster on.4
   at-node s s' w h walked k verdict on = cases on.8
     where
-      run : (rest : List Item) (parts : List Part) (tolds : List Told) → (on.1).port.items ≡ Runs parts ∷ rest → NamesNode s.cluster verdict
-          → DoesRun (deed_for s.cluster (on.1).port.node (on.1).port.asking (parts_in parts) verdict) s.cluster (on.1).port.node (parts_in parts) tolds s'.cluster → RunImpact s.cluster s'.cluster (executions parts tolds)
-      run rest parts tolds first names does = ⊎_elim
-          (λ (x : (i : ℕ) × (l : Link) × Numbers (h.links).ids (on.1).port.id i × (slice_get w.links i ≡ Some l) × OpenShadow s.nodes w.commands on.1 l).
-          run-impact w walked s.cluster s'.cluster x.0 x.1 (on.1).port.node (on.1).port.asking parts verdict tolds (requests_in rest) x.3 h.cluster ((x.4).node ∙ sym (x.4).wired) (x.4).asking
-          ((x.4).requests ∙ ap requests_in first) (all-first (IsKnown w.commands) (Runs parts) rest (subst (All (IsKnown w.commands)) first (x.4).known)) names does)
-          (λ (x : IsUnnumbered (h.links).ids (on.1).port.id × IsIdle on.1). absurd (some-request (asked.Runs (tickets_for parts)) (requests_in rest) (sym (ap requests_in first) ∙ (x.1).requests)))
-          ((h.links).backends k on.1 (on.0, on.5, on.6, on.7)).2
-
       cases : ServesNext s.nodes s.cluster (on.1).port verdict s'.cluster on.2 on.3 on.4 → RunImpact s.cluster s'.cluster on.4
       cases (inl x) = inl (x.4, x.5)
-      cases (inr (inl x)) = subst (RunImpact s.cluster s'.cluster) (sym x.7) (run x.0 x.1 x.2 x.3 x.4 x.5)
+      cases (inr (inl x)) = run-at s s' w h walked k (λ old. ServesNext s.nodes s.cluster old verdict) on (on.1).port.node verdict (λ l place asks yes. place) (λ i l at place. there-is w walked i l at (on.1).port.node place) x
       cases (inr (inr x)) = inl (x.4, x.5)
+
+  -- a run of a broken one
+  module _ (s s' : System C J) (w : WorldModel) (h : IsShadow s w) (walked : IsSharedWalked w) (j : ℕ) (how : Wire → ClusterModel → Wire → List Value → List Execution → Type 0) (on : ServesLateBy how s j s') where
+    run-late : (node : ℕ) (verdict : Verdict) → ((l : Link) → l.node ≡ (on.0).node → l.asking ≡ (on.0).asking → l.asking ≡ true → l.node ≡ node)
+        → ((i : ℕ) (l : Link) → slice_get w.links i ≡ Some l → l.node ≡ (on.0).node → IsNode w.cluster node)
+        → ServesRun s.nodes s.cluster node on.0 verdict s'.cluster on.1 on.2 on.3 → RunImpact s.cluster s'.cluster on.3
+    run-late node verdict leads there x = subst (RunImpact s.cluster s'.cluster) (sym x.7) (⊎_elim
+        (λ (y : (i : ℕ) × (l : Link) × Numbers (h.links).ids (on.0).id i × (slice_get w.links i ≡ Some l) × ClosedShadow w.commands on.0 l).
+        run-impact w walked s.cluster s'.cluster y.0 y.1 node (on.0).asking x.1 verdict x.2 (requests_in x.0 ++ ((y.4).requests).0) y.3 h.cluster (there y.0 y.1 y.3 (y.4).node) (leads y.1 (y.4).node (y.4).asking) (y.4).asking
+        (sym ((y.4).requests).1 ∙ ap (λ rs. requests_in rs ++ ((y.4).requests).0) x.3) (all-first (IsKnown w.commands) (Runs x.1) x.0 (subst (All (IsKnown w.commands)) x.3 (y.4).known)) x.4 x.5)
+        (λ (y : IsUnnumbered (h.links).ids (on.0).id × (requests_in (on.0).items ≡ [])). absurd (some-request (asked.Runs (tickets_for x.1)) (requests_in x.0) (sym (ap requests_in x.3) ∙ y.1)))
+        ((h.links).wires j on.0 on.4).1)
 
   at-broken : (s s' : System C J) (w : WorldModel) → IsShadow s w → IsSharedWalked w → (j : ℕ) (verdict : Verdict) (on : ServesLate s j verdict s') → RunImpact s.cluster s'.cluster on.3
   at-broken s s' w h walked j verdict on = cases on.5
     where
-      run : (rest : List Item) (parts : List Part) (tolds : List Told) → (on.0).items ≡ Runs parts ∷ rest → NamesNode s.cluster verdict
-          → DoesRun (deed_for s.cluster (on.0).node (on.0).asking (parts_in parts) verdict) s.cluster (on.0).node (parts_in parts) tolds s'.cluster → RunImpact s.cluster s'.cluster (executions parts tolds)
-      run rest parts tolds first names does = ⊎_elim
-          (λ (x : (i : ℕ) × (l : Link) × Numbers (h.links).ids (on.0).id i × (slice_get w.links i ≡ Some l) × ClosedShadow w.commands on.0 l).
-          run-impact w walked s.cluster s'.cluster x.0 x.1 (on.0).node (on.0).asking parts verdict tolds (requests_in rest ++ ((x.4).requests).0) x.3 h.cluster (x.4).node (x.4).asking
-          (sym ((x.4).requests).1 ∙ ap (λ rs. requests_in rs ++ ((x.4).requests).0) first) (all-first (IsKnown w.commands) (Runs parts) rest (subst (All (IsKnown w.commands)) first (x.4).known)) names does)
-          (λ (x : IsUnnumbered (h.links).ids (on.0).id × (requests_in (on.0).items ≡ [])). absurd (some-request (asked.Runs (tickets_for parts)) (requests_in rest) (sym (ap requests_in first) ∙ x.1)))
-          ((h.links).wires j on.0 on.4).1
-
       cases : ServesNext s.nodes s.cluster on.0 verdict s'.cluster on.1 on.2 on.3 → RunImpact s.cluster s'.cluster on.3
       cases (inl x) = inl (x.4, x.5)
-      cases (inr (inl x)) = subst (RunImpact s.cluster s'.cluster) (sym x.7) (run x.0 x.1 x.2 x.3 x.4 x.5)
+      cases (inr (inl x)) = run-late s s' w h walked j (λ old. ServesNext s.nodes s.cluster old verdict) on (on.0).node verdict (λ l place asks yes. place) (λ i l at place. there-is w walked i l at (on.0).node place) x
       cases (inr (inr x)) = inl (x.4, x.5)
+
+  -- a run that an address led to another node, which is not behind ASKING
+  led-impact : (event : LedEvent) (s s' : System C J) (w : WorldModel) → IsShadow s w → IsSharedWalked w → LedStep s event s' → (done : List Execution) × (s'.log ≡ s.log ++ log_of done) × RunImpact s.cluster s'.cluster done
+  led-impact (LedEvent.OfConnection k node verdict) s s' w h walked on = (
+    on.4,
+    ap (λ (z : System C J). z.log) on.10,
+    run-at s s' w h walked k (LeadsTo s node verdict) on node verdict (λ l place asks yes. not-both (sym yes ∙ asks ∙ on.8.1)) (λ i l at place. subst (λ c. IsNode c node) (sym h.cluster) on.8.0) on.8.2,
+  )
+  led-impact (LedEvent.OfBroken j node verdict) s s' w h walked on = (
+    on.3,
+    ap (λ (z : System C J). z.log) on.7,
+    run-late s s' w h walked j (LeadsTo s node verdict) on node verdict (λ l place asks yes. not-both (sym yes ∙ asks ∙ on.5.1)) (λ i l at place. subst (λ c. IsNode c node) (sym h.cluster) on.5.0) on.5.2,
+  )
 
 -- ---- what the log shows executed
 
@@ -188,6 +217,11 @@ module _ {C J : Type 0} where
       inl (subst (RunImpact s.cluster s'.cluster) (sym (added s s' done x.3 (log_of x.3) is (ap (λ (z : System C J). z.log) x.7) (shown x.3))) (at-broken s s' w h walked j verdict x))
   step-impact (Thrown j) s s' w h walked x done is = inl (inl (ap (λ (z : System C J). z.cluster) x.2, quiet s s' done is (ap (λ (z : System C J). z.log) x.2)))
   step-impact (Moved event) s s' w h walked x done is = inr (event, refl, quiet s s' done is (ap (λ (z : System C J). z.log) x.1))
+
+  pub led-shows : (event : LedEvent) (s s' : System C J) (w : WorldModel) → IsShadow s w → IsSharedWalked w → LedStep s event s' → (done : List Execution) → history s'.log ≡ history s.log ++ done → RunImpact s.cluster s'.cluster done
+  led-shows event s s' w h walked x done is =
+      let i = led-impact event s s' w h walked x in
+      subst (RunImpact s.cluster s'.cluster) (sym (added s s' done i.0 (log_of i.0) is i.1 (shown i.0))) i.2
 
   -- a step adds to what the log shows executed
   pub shows : (event : SystemEvent) (s s' : System C J) → SystemStep s event s' → (done : List Execution) × (history s'.log ≡ history s.log ++ done)

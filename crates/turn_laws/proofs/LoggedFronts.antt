@@ -36,6 +36,7 @@ use Rattle.turn_laws.specs.Refines.{IsStart}
 use Rattle.turn_laws.specs.Sharing.{SharedEvent, SharedSystemStep}
 use Rattle.turn_laws.specs.Steps.{AtWorker, AtCarrier, Handed, AtNode, AtBroken, Thrown, Moved, WorkerStep, answers, log_of, ticket_at}
 use Rattle.turn_laws.specs.PortsMay.{any_moves}
+use Rattle.turn_laws.proofs.Addresses.{led-frame}
 use Rattle.turn_laws.proofs.Tables.{put-apart, put-same}
 use Rattle.world_laws.proofs.Recorded.{set-same}
 use Rattle.turn_laws.proofs.AnswersTold.{lived-at, lives-at, marks-drained, shared-answers-were-told, whose}
@@ -254,6 +255,7 @@ module _ {C J : Type 0} where
   log-more (SharedEvent.Ours (AtBroken j verdict)) s s' step = (log_of step.3, ap (λ (x : System C J). x.log) step.7)
   log-more (SharedEvent.Ours (Thrown j)) s s' step = ([], ap (λ (x : System C J). x.log) step.2 ∙ sym (append-nil s.log))
   log-more (SharedEvent.Ours (Moved event)) s s' step = ([], ap (λ (x : System C J). x.log) step.1 ∙ sym (append-nil s.log))
+  log-more (SharedEvent.Led event) s s' step = let frame = led-frame event s s' step in (log_of frame.done, frame.log)
   log-more (SharedEvent.Theirs node asking theirs) s s' step = (log_of theirs, ap (λ (x : System C J). x.log) step.1)
 
   still-shown : (event : SharedEvent) (s s' : System C J) → SharedSystemStep s event s' → (k number part : ℕ) → IsShown s.log k number part → IsShown s'.log k number part
@@ -341,6 +343,7 @@ module _ (C J : Type 0) (law : DrainsOutput) (whole : FrontIsWhole) (faulty : Fr
     step-shown (SharedEvent.Ours (AtBroken j verdict)) step = workers-same (SharedEvent.Ours (AtBroken j verdict)) s s' step shown (workers-stay (AtBroken j verdict) s s' tt step)
     step-shown (SharedEvent.Ours (Thrown j)) step = workers-same (SharedEvent.Ours (Thrown j)) s s' step shown (workers-stay (Thrown j) s s' tt step)
     step-shown (SharedEvent.Ours (Moved event)) step = workers-same (SharedEvent.Ours (Moved event)) s s' step shown (workers-stay (Moved event) s s' tt step)
+    step-shown (SharedEvent.Led event) step = workers-same (SharedEvent.Led event) s s' step shown (led-frame event s s' step).workers
     step-shown (SharedEvent.Theirs node asking theirs) step = workers-same (SharedEvent.Theirs node asking theirs) s s' step shown (ap (λ (x : System C J). x.workers) step.1)
 
 -- ---- what went is a front
@@ -454,6 +457,7 @@ module _ (C J : Type 0) (law : DrainsOutput) (whole : FrontIsWhole) (faulty : Fr
     step-front before (SharedEvent.Ours (AtBroken j verdict)) step k number = quiet before k number (SharedEvent.Ours (AtBroken j verdict)) step refl
     step-front before (SharedEvent.Ours (Thrown j)) step k number = quiet before k number (SharedEvent.Ours (Thrown j)) step refl
     step-front before (SharedEvent.Ours (Moved event)) step k number = quiet before k number (SharedEvent.Ours (Moved event)) step refl
+    step-front before (SharedEvent.Led event) step k number = quiet before k number (SharedEvent.Led event) step refl
     step-front before (SharedEvent.Theirs node asking theirs) step k number = quiet before k number (SharedEvent.Theirs node asking theirs) step refl
 
   every-front : (events done : List SharedEvent) (s s' : System C J) → FoldsTo SharedSystemStep s0 done s → FoldsTo SharedSystemStep s events s' → AllShown s → ((k number : ℕ) → Front done s k number)

@@ -17,12 +17,12 @@ use Rattle.world_laws.specs.declared.event.Event.{Event}
 use Rattle.world_laws.specs.declared.event.Event.TheVariants as core
 use Rattle.world_laws.proofs.Nodes.{set-size, runs-size}
 use Rattle.world_laws.proofs.Recorded.{at-set}
-use Rattle.turn_laws.specs.Wire.{Wire, Execution, ServesNext, parts_in}
+use Rattle.turn_laws.specs.Wire.{Wire, Execution, ServesNext, ServesRun, parts_in}
 use Rattle.turn_laws.specs.System.{System}
 use Rattle.turn_laws.specs.Shadow.{IsShadow}
 use Rattle.turn_laws.specs.Underway.{down_in}
 use Rattle.turn_laws.specs.Naming.{NamesNodes, PendsOneOf}
-use Rattle.turn_laws.specs.Steps.{WorkerStep, CarrierStep, Opens, Serves, ServesLate, Discards, MovesOn, AtWorker, AtCarrier, Handed, AtNode, AtBroken, Thrown, Moved}
+use Rattle.turn_laws.specs.Steps.{WorkerStep, CarrierStep, Opens, ServesBy, ServesLateBy, Discards, MovesOn, AtWorker, AtCarrier, Handed, AtNode, AtBroken, Thrown, Moved}
 use Rattle.turn_laws.specs.PortsMay.{any_moves, any_calls}
 use Rattle.turn_laws.specs.Refines.{NamesStay}
 use Rattle.turn_laws.proofs.NamedCarrier.{CarrierNames, AllSay, pends-still, does-names}
@@ -30,12 +30,16 @@ use Rattle.turn_laws.proofs.RunsLead.{ClientsWant}
 use Rattle.turn_laws.proofs.NamedWorker.{worker-wants}
 use Rattle.turn_laws.proofs.Handing.{hands-names}
 
--- a node that serves, serves as many nodes
+-- a run that is served leaves as many nodes, and so does what is next of a connection
+pub run-size : (table : List Endpoint) (k k' : ClusterModel) (node : ℕ) (old new : Wire) (verdict : Verdict) (values : List Value) (done : List Execution)
+    → ServesRun table k node old verdict k' new values done → length k'.stores ≡ length k.stores
+run-size table k k' node old new verdict values done y = runs-size k k' node (parts_in y.1) (deed_for k node old.asking (parts_in y.1) verdict) y.2 y.5
+
 served-size : (table : List Endpoint) (k k' : ClusterModel) (old new : Wire) (verdict : Verdict) (values : List Value) (done : List Execution) → ServesNext table k old verdict k' new values done → length k'.stores ≡ length k.stores
 served-size table k k' old new verdict values done x = ⊎_elim
     (λ y. ap (λ (c : ClusterModel). length c.stores) y.4)
     (λ z. ⊎_elim
-    (λ y. runs-size k k' old.node (parts_in y.1) (deed_for k old.node old.asking (parts_in y.1) verdict) y.2 y.5)
+    (λ y. run-size table k k' old.node old new verdict values done y)
     (λ y. ap (λ (c : ClusterModel). length c.stores) y.4)
     z)
     x
@@ -98,10 +102,11 @@ module _ {C J : Type 0} where
       one-lane : (o : _) (a b : LaneEnds (Newcomer C J)) → o ≡ Some a → o ≡ Some b → a ≡ b
       one-lane o a b p q = let one : Some a ≡ Some b = sym p ∙ q in cc
 
-  node-stays : (k : ℕ) (verdict : Verdict) (s s' : System C J) → NamesNodes s → Serves s k verdict s' → NamesNodes s'
-  node-stays k verdict s s' names on = subst NamesNodes (sym on.10) (record {
+  pub node-served : (how : Wire → ClusterModel → Wire → List Value → List Execution → Type 0) (k : ℕ) (s s' : System C J) → NamesNodes s → ServesBy how s k s'
+      → length s'.cluster.stores ≡ length s.cluster.stores → NamesNodes s'
+  node-served how k s s' names on size = subst NamesNodes (sym on.10) (record {
     seed = names.seed;
-    each = names.each ∙ sym (served-size s.nodes s.cluster s'.cluster (on.1).port on.2 verdict on.3 on.4 on.8);
+    each = names.each ∙ sym size;
     published = names.published;
     backends = λ j b e. ⊎_elim
         (λ (z : (j ≡ k) × (b ≡ record on.0 { link = Some (record on.1 { port = on.2 }) })).
@@ -112,10 +117,11 @@ module _ {C J : Type 0} where
     posted = names.posted;
   })
 
-  late-stays : (j : ℕ) (verdict : Verdict) (s s' : System C J) → NamesNodes s → ServesLate s j verdict s' → NamesNodes s'
-  late-stays j verdict s s' names on = subst NamesNodes (sym on.7) (record {
+  pub late-served : (how : Wire → ClusterModel → Wire → List Value → List Execution → Type 0) (j : ℕ) (s s' : System C J) → NamesNodes s → ServesLateBy how s j s'
+      → length s'.cluster.stores ≡ length s.cluster.stores → NamesNodes s'
+  late-served how j s s' names on size = subst NamesNodes (sym on.7) (record {
     seed = names.seed;
-    each = names.each ∙ sym (served-size s.nodes s.cluster s'.cluster on.0 on.1 verdict on.2 on.3 on.5);
+    each = names.each ∙ sym size;
     published = names.published;
     backends = names.backends;
     downs = names.downs;
@@ -147,7 +153,9 @@ module _ (C J : Type 0) where
   names-stay (AtWorker k event) s s' w h names on = worker-stays k event s s' w h names on
   names-stay (AtCarrier event) s s' w h names on = carrier-stays event s s' w h names on
   names-stay (Handed k number) s s' w h names on = hands-names s s' k number on names
-  names-stay (AtNode k verdict) s s' w h names on = node-stays k verdict s s' names on
-  names-stay (AtBroken j verdict) s s' w h names on = late-stays j verdict s s' names on
+  names-stay (AtNode k verdict) s s' w h names on =
+      node-served (λ old. ServesNext s.nodes s.cluster old verdict) k s s' names on (served-size s.nodes s.cluster s'.cluster (on.1).port on.2 verdict on.3 on.4 on.8)
+  names-stay (AtBroken j verdict) s s' w h names on =
+      late-served (λ old. ServesNext s.nodes s.cluster old verdict) j s s' names on (served-size s.nodes s.cluster s'.cluster on.0 on.1 verdict on.2 on.3 on.5)
   names-stay (Thrown j) s s' w h names on = thrown-stays j s s' names on
   names-stay (Moved event) s s' w h names on = again s s' s'.cluster (moved-size s event s'.cluster on.0) on.1 names

@@ -1,10 +1,9 @@
 -- Two proxies before one cluster: a client of the second reads what a client of the first set.
-use Rattle.std.proofs.Common.{◌≡◌, ◌≢◌, ℕ, ◌==◌, Bool, true, false, List, [], ◌∷◌, ◌++◌, map, refl, sym, ap, ◌∙◌, subst}
+use Rattle.std.proofs.Common.{◌≡◌, ℕ, ◌==◌, Bool, true, false, List, [], ◌∷◌, ◌++◌, map, refl, sym, ap, ◌∙◌, subst}
 use Rattle.std.specs.Prelude.{if◌then◌else◌}
 use Rattle.std.specs.List.{FoldsTo}
 use Rattle.resp_wire.specs.Laws.{FrontIsWhole}
 use Rattle.world_laws.specs.declared.event.Event.TheVariants as core
-use Rattle.turn_laws.specs.Wire.{Execution}
 use Rattle.turn_laws.specs.System.{System, Mark}
 use Rattle.turn_laws.specs.System as seen
 use Rattle.turn_laws.specs.Asking.{NoneAsksIn}
@@ -21,7 +20,7 @@ use Rattle.turn_laws.proofs.ScriptFacts.{k0, k6}
 use Rattle.turn_laws.proofs.ScriptOpening.{s0, s1, s2, starts, opens, moves, idle, fresh}
 use Rattle.turn_laws.proofs.ScriptAsking.{s3, asks}
 use Rattle.turn_laws.proofs.ScriptSetting.{s4, sets, log4}
-use Rattle.turn_laws.proofs.ScriptReading.{answered, connected, reads, sends, waiting}
+use Rattle.turn_laws.proofs.ScriptReading.{answered, connected, k6', reads, sends, waiting}
 
 -- no step of a slot
 abbrev moves_none : SystemEvent → Bool
@@ -60,7 +59,7 @@ module _ (C J : Type 0) (port : C) (law : FrontIsWhole) where
       (and-then SystemStep (s2 port) asking (s3 port) setting (s4 port) (asks port law) (sets port)))
 
   abbrev last : System C J
-  last = answered port story_of_reader
+  last = answered port k6' story_of_reader
 
   reads-it : FoldsTo SystemStep (connected {C = C} {J = J} port k6 wrote) (sending ++ reading) last
   reads-it = and-then SystemStep (connected port k6 wrote) sending (waiting port k6 reader_log) reading last (sends port law k6 wrote) (reads port reader_log)

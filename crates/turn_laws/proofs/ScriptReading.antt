@@ -1,11 +1,12 @@
 -- A client's GET goes to the first node, which executes it, and the client is answered. The log may hold something before.
-use Rattle.std.proofs.Common.{◌≡◌, inl, inr, ℕ, ◌*◌, ◌<◌, true, false, List, [], ◌∷◌, ◌++◌, Some, None, Ok, refl, sym, ap, ◌∙◌, subst, arith, length}
+use Rattle.std.proofs.Common.{◌≡◌, inl, inr, ℕ, ◌*◌, ◌<◌, true, false, List, [], ◌∷◌, ◌++◌, Some, None, Ok, refl, sym, ap, subst, arith, length}
 use Rattle.std.specs.Prelude.{codes, Option}
 use Rattle.std.specs.List.{FoldsTo}
 use Rattle.std.specs.FinMap.{FinMap, insert, remove, empty, get-empty}
 use Rattle.std.specs.Ordering.{nat_cmp}
 use Rattle.resp_wire.specs.Data.{bulk}
 use Rattle.resp_wire.specs.Laws.{FrontIsWhole}
+use Rattle.resp_wire.specs.declared.value.Value.{Value}
 use Rattle.resp_wire.specs.declared.value.Value.TheVariants.{Array}
 use Rattle.key_split.specs.Runs.{RunModel}
 use Rattle.key_split.specs.declared.travel.Ended.TheVariants as ended
@@ -34,16 +35,16 @@ use Rattle.session_order.specs.SessionModel.{SessionModel}
 use Rattle.session_order.specs.Steps.{added, with_incoming}
 use Rattle.session_order.specs.Replies.{Drains, bytes_of, first_replies}
 use Rattle.session_order.specs.declared.queue.PartStage.TheVariants.{Waiting, Out, Done}
-use Rattle.turn_laws.specs.Wire.{Wire, Runs}
+use Rattle.turn_laws.specs.Wire.{Wire, Execution, Runs, ServesNext}
 use Rattle.turn_laws.specs.System.{System, Mark}
 use Rattle.turn_laws.specs.System as seen
-use Rattle.turn_laws.specs.Steps.{SystemStep}
+use Rattle.turn_laws.specs.Steps.{ServesBy, SystemStep}
 use Rattle.turn_laws.specs.Scripts as script
-use Rattle.turn_laws.specs.Scripts.{key, ok, five, ticket, plain, did}
-use Rattle.turn_laws.specs.SharedScripts.{asked, sending, reading}
+use Rattle.turn_laws.specs.Scripts.{key, five, ticket, plain, did}
+use Rattle.turn_laws.specs.SharedScripts.{asked, sending, reading, telling}
 use Rattle.turn_laws.proofs.Rings.{posts, takes, outlet_with}
 use Rattle.turn_laws.proofs.Scenes.{scene, put, at-worker, at-client, at-carrier, handing, down-in}
-use Rattle.turn_laws.proofs.ScriptFacts.{held, read, none, k5, k6, slot-is, in-held, alone, front-get, planned-get, written-five, fresh-alone, goes-alone}
+use Rattle.turn_laws.proofs.ScriptFacts.{held, read, none, table, k5, k6, slot-is, in-held, alone, front-get, planned-get, written-five, fresh-alone, goes-alone}
 use Rattle.turn_laws.proofs.ScriptStates.{Pair, Posted, session, one, commands, awaits, wire, link, backend, pending, newcomer, lane, new_lane, carrier, worker, client}
 use Rattle.turn_laws.proofs.ScriptAsking.{doors}
 use Rattle.turn_laws.proofs.ScriptSetting.{below-one, idle}
@@ -243,8 +244,8 @@ module _ {C J : Type 0} (port : C) where
   waiting k log = scene (w1 (u6 port)) (c l1 (pending None) sent) [] 1 k log
 
   -- and after its client was answered
-  abbrev pub answered : List Mark → System C J
-  answered log = scene (w2 (u10 port) (one_more 0)) (c l2 (pending None) idle) [] 1 k6' log
+  abbrev pub answered : ClusterModel → List Mark → System C J
+  answered k log = scene (w2 (u10 port) (one_more 0)) (c l2 (pending None) idle) [] 1 k log
 
   pub sends : FrontIsWhole → (k : ClusterModel) (log : List Mark) → FoldsTo SystemStep (connected k log) sending (waiting k (quiet (quiet (arrived log))))
   sends law k log = (
@@ -339,86 +340,94 @@ module _ {C J : Type 0} (port : C) where
     ),
   )
 
-  -- where the key stands at the first node
-  abbrev reads-at : List Mark → FinMap nat_cmp (ClientModel C) → LaneEnds (Newcomer C J) → Backend Wire → System C J
-  reads-at log clients l b = scene (w1 clients) (c l (pending None) b) [] 1 k6' log
+  -- the node of this connection, or another one, executed the command
+  abbrev pub replied : ClusterModel → List Mark → System C J
+  replied k log = scene (w1 (u6 port)) (c l1 (pending None) served) [] 1 k (executed log)
 
-  pub reads : (log : List Mark) → FoldsTo SystemStep (waiting k6 log) reading
-      (answered (quiet (quiet (quiet (executed log)) ++ seen.Answered (ticket 0) (ended.Answered five) ∷ [])))
-  reads log = (
-    reads-at (executed log) (u6 port) l1 served,
-    (
-      sent,
-      link 0 (wire 0 (Runs ((ticket 0, script.get) ∷ []) ∷ []) [] false) (due.Command (ticket 0) ∷ []),
-      wire 0 [] (five ∷ []) false,
-      five ∷ [],
-      did 0 script.get five ∷ [],
+  pub serving : (how : Wire → ClusterModel → Wire → List Value → List Execution → Type 0) (k k' : ClusterModel) (log : List Mark)
+      → how (wire 0 (Runs ((ticket 0, script.get) ∷ []) ∷ []) [] false) k' (wire 0 [] (five ∷ []) false) (five ∷ []) (did 0 script.get five ∷ []) → ServesBy how (waiting k log) 0 (replied k' log)
+  serving how k k' log does = (
+    sent,
+    link 0 (wire 0 (Runs ((ticket 0, script.get) ∷ []) ∷ []) [] false) (due.Command (ticket 0) ∷ []),
+    wire 0 [] (five ∷ []) false,
+    five ∷ [],
+    did 0 script.get five ∷ [],
+    refl,
+    refl,
+    refl,
+    does,
+    refl,
+    refl,
+  )
+
+  pub tells : (k : ClusterModel) (log : List Mark) → FoldsTo SystemStep (replied k log) telling
+      (answered k (quiet (quiet (quiet (executed log)) ++ seen.Answered (ticket 0) (ended.Answered five) ∷ [])))
+  tells k log = (
+    scene (w1 (u6 port)) (c l1 (pending None) got) [] 1 k (executed log),
+    at-carrier l1 (
+      0,
+      served,
+      got,
       refl,
-      refl,
-      refl,
-      inr (inl ([], (ticket 0, script.get) ∷ [], Reply five ∷ [], refl, refl, does-read, (refl, tt), refl, refl)),
-      refl,
-      refl,
-    ),
-    (
-      reads-at (executed log) (u6 port) l1 got,
-      at-carrier l1 (
-        0,
-        served,
-        got,
+      (
+        link 0 (wire 0 [] (five ∷ []) false) (due.Command (ticket 0) ∷ []),
+        link 0 (wire 0 [] [] false) [],
+        ticket 0,
+        Reply five,
         refl,
-        (
-          link 0 (wire 0 [] (five ∷ []) false) (due.Command (ticket 0) ∷ []),
-          link 0 (wire 0 [] [] false) [],
-          ticket 0,
-          Reply five,
-          refl,
-          (refl, (five, refl, inr (refl, (refl, refl)), refl, refl, refl)),
-          refl,
-        ),
+        (refl, (five, refl, inr (refl, (refl, refl)), refl, refl, refl)),
+        refl,
+      ),
+      refl,
+    ) (refl, (refl, tt)) refl ([], refl) refl,
+    (
+      scene (w1 (u6 port)) (c l2 (pending None) idle) [] 1 k (executed log),
+      at-carrier l2 (
+        0,
+        got,
+        idle,
+        refl,
+        (new_pending_told (ticket 0) (Reply five), refl, refl, inl (l1, l2, refl, refl, (refl, (_, refl, posts [] (ticket 0, Reply five)))), refl),
         refl,
       ) (refl, (refl, tt)) refl ([], refl) refl,
       (
-        reads-at (executed log) (u6 port) l2 idle,
-        at-carrier l2 (
-          0,
-          got,
-          idle,
+        scene (w2 (u7 port) 0) (c l2 (pending None) idle) [] 1 k (quiet (executed log)),
+        at-worker l2 [] refl (
+          takes [] (ticket 0, Reply five),
+          (true, (b5 port, b6 port, put _ (b5 port) 0, (awaits getting, (put empty (awaits getting) 0, refl, refl), refl), refl, refl)),
           refl,
-          (new_pending_told (ticket 0) (Reply five), refl, refl, inl (l1, l2, refl, refl, (refl, (_, refl, posts [] (ticket 0, Reply five)))), refl),
-          refl,
-        ) (refl, (refl, tt)) refl ([], refl) refl,
+        ) refl (down-in l2 (w2 (u7 port) 0) _ refl ([], refl)) refl,
         (
-          scene (w2 (u7 port) 0) (c l2 (pending None) idle) [] 1 k6' (quiet (executed log)),
+          scene (w2 (u8 port) (one_more 0)) (c l2 (pending None) idle) [] 1 k (quiet (quiet (executed log))),
           at-worker l2 [] refl (
-            takes [] (ticket 0, Reply five),
-            (true, (b5 port, b6 port, put _ (b5 port) 0, (awaits getting, (put empty (awaits getting) 0, refl, refl), refl), refl, refl)),
+            b6 port,
+            b7 port,
+            put _ (b6 port) 0,
+            ((progress_told (awaits getting) (Reply five), put p1 _ 0, refl, refl), tt, refl, refl),
             refl,
-          ) refl (down-in l2 (w2 (u7 port) 0) _ refl ([], refl)) refl,
+          ) refl (down-in l2 (w2 (u8 port) 0) _ refl ([], refl)) refl,
           (
-            scene (w2 (u8 port) (one_more 0)) (c l2 (pending None) idle) [] 1 k6' (quiet (quiet (executed log))),
-            at-worker l2 [] refl (
-              b6 port,
-              b7 port,
-              put _ (b6 port) 0,
-              ((progress_told (awaits getting) (Reply five), put p1 _ 0, refl, refl), tt, refl, refl),
+            scene (w2 (u9 port) (one_more 0)) (c l2 (pending None) idle) [] 1 k (quiet (quiet (executed log)) ++ seen.Answered (ticket 0) (ended.Answered five) ∷ []),
+            at-client l2 0 (b7 port) (b8 port) (outlet_with up) [] refl (put _ (b7 port) 0) (
               refl,
-            ) refl (down-in l2 (w2 (u8 port) 0) _ refl ([], refl)) refl,
+              (codes "$1\r\n5\r\n", refl, refl, drains),
+              refl,
+            ) (put _ (b8 port) 0) (down-in l2 (w2 (u8 port) 0) _ refl ([], refl)) refl,
             (
-              scene (w2 (u9 port) (one_more 0)) (c l2 (pending None) idle) [] 1 k6' (quiet (quiet (executed log)) ++ seen.Answered (ticket 0) (ended.Answered five) ∷ []),
-              at-client l2 0 (b7 port) (b8 port) (outlet_with up) [] refl (put _ (b7 port) 0) (
-                refl,
-                (codes "$1\r\n5\r\n", refl, refl, drains),
-                refl,
-              ) (put _ (b8 port) 0) (down-in l2 (w2 (u8 port) 0) _ refl ([], refl)) refl,
-              (
-                answered (quiet (quiet (quiet (executed log)) ++ seen.Answered (ticket 0) (ended.Answered five) ∷ [])),
-                at-client l2 0 (b8 port) (b9 port) (outlet_with up) [] refl (put _ (b8 port) 0) (tt, refl, refl) (put _ (b9 port) 0) (down-in l2 (w2 (u9 port) 0) _ refl ([], refl)) refl,
-                refl,
-              ),
+              answered k (quiet (quiet (quiet (executed log)) ++ seen.Answered (ticket 0) (ended.Answered five) ∷ [])),
+              at-client l2 0 (b8 port) (b9 port) (outlet_with up) [] refl (put _ (b8 port) 0) (tt, refl, refl) (put _ (b9 port) 0) (down-in l2 (w2 (u9 port) 0) _ refl ([], refl)) refl,
+              refl,
             ),
           ),
         ),
       ),
     ),
+  )
+
+  pub reads : (log : List Mark) → FoldsTo SystemStep (waiting k6 log) reading
+      (answered k6' (quiet (quiet (quiet (executed log)) ++ seen.Answered (ticket 0) (ended.Answered five) ∷ [])))
+  reads log = (
+    replied k6' log,
+    serving (λ old. ServesNext table k6 old Plain) k6 k6' log (inr (inl ([], (ticket 0, script.get) ∷ [], Reply five ∷ [], refl, refl, does-read, (refl, tt), refl, refl))),
+    tells k6' log,
   )

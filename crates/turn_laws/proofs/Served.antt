@@ -6,6 +6,7 @@ use Rattle.resp_wire.specs.declared.value.Value.{Value}
 use Rattle.slot_map.specs.Table.{Endpoint}
 use Rattle.key_split.specs.declared.travel.Told.{Told}
 use Rattle.node_model.specs.History.{EntryModel}
+use Rattle.node_model.specs.Nodes.{ClusterModel}
 use Rattle.node_model.specs.Runs.{deed_for, DoesRun}
 use Rattle.node_model.specs.declared.role.Verdict.{Verdict}
 use Rattle.node_model.specs.declared.role.Verdict.TheVariants.{Plain}
@@ -19,17 +20,17 @@ use Rattle.world_laws.specs.declared.state.LinkReply.{LinkReply}
 use Rattle.world_laws.specs.declared.state.LinkRequest.TheVariants as asked
 use Rattle.world_laws.specs.declared.state.LinkReply.TheVariants.{Welcome, To}
 use Rattle.world_laws.specs.declared.state.Arrival.{Arrival}
-use Rattle.world_laws.specs.World.{WorldDoes, NamesNode}
+use Rattle.world_laws.specs.World.{NamesNode, ServesRunAt}
 use Rattle.world_laws.specs.declared.event.Event.{Event}
 use Rattle.world_laws.specs.declared.event.Event.TheVariants.{Serve}
 use Rattle.world_laws.specs.Places.{total}
 use Rattle.world_laws.proofs.Recorded.{at-set}
 use Rattle.turn_laws.specs.Walks.{Walk, IsSharedWalked, ticked}
-use Rattle.turn_laws.specs.Wire.{Wire, Item, Part, Asks, Runs, Lists, AreTold, ServesNext, executions, parts_in, tickets_for}
+use Rattle.turn_laws.specs.Wire.{Wire, Item, Part, Asks, Runs, Lists, AreTold, Execution, ServesNext, ServesRun, executions, parts_in, tickets_for}
 use Rattle.turn_laws.specs.System.{System}
 use Rattle.turn_laws.specs.Shadow.{IsShadow, LinksShadow, LogShadow, AreListed, OpenShadow, IsIdle, IsKnown, IsUnnumbered, Numbers, requests_in, dues_of, dues_in, back_of, backs_in, SeenIn}
 use Rattle.turn_laws.specs.Underway.{IsWorking, coming, coming_of, downs_of, told_in, lost_in}
-use Rattle.turn_laws.specs.Steps.{AtNode, Serves, log_of}
+use Rattle.turn_laws.specs.Steps.{AtNode, ServesBy, log_of}
 use Rattle.turn_laws.specs.Refines.{Simulates}
 use Rattle.turn_laws.proofs.Downs.{SameBag, total-set-flat}
 use Rattle.turn_laws.proofs.Bags.{bag-parts}
@@ -130,7 +131,7 @@ replied-open l back e = ap (λ b. if b then record l { backs = l.backs ++ back �
 all-open : (l : Link) (run : List (Arrival × Told)) → l.is_open ≡ true → all_replied l run ≡ record l { backs = l.backs ++ replies_of run }
 all-open l run e = ap (λ b. if b then record l { backs = l.backs ++ replies_of run } else l) e
 
-module _ {C J : Type 0} (s s' : System C J) (w : WorldModel) (h : IsShadow s w) (walked : IsSharedWalked w) (k : ℕ) (verdict : Verdict) (on : Serves s k verdict s') where
+module _ {C J : Type 0} (s s' : System C J) (w : WorldModel) (h : IsShadow s w) (walked : IsSharedWalked w) (k : ℕ) (how : Wire → ClusterModel → Wire → List Value → List Execution → Type 0) (on : ServesBy how s k s') where
   abbrev backend : Backend Wire
   backend = on.0
 
@@ -230,21 +231,27 @@ module _ {C J : Type 0} (s s' : System C J) (w : WorldModel) (h : IsShadow s w) 
         (λ (x : IsUnnumbered (h.links).ids link.port.id × IsIdle link). absurd (some-request asked.Asking (requests_in rest) (sym (ap requests_in first) ∙ (x.1).requests)))
         ((h.links).backends k link working).2
 
+  -- in the machine too this node serves the run, on the link that stands for this one
+  abbrev pub RunServed : ℕ → Verdict → Type 0
+  RunServed server verdict =
+      (i : ℕ) × (l : Link) × (w' : WorldModel) × (slice_get w.links i ≡ Some l) × (l.node ≡ link.port.node) × (l.asking ≡ link.port.asking)
+      × ServesRunAt (ticked w) server i l verdict w' × IsShadow s' w'
+
   -- a run
-  module _ (rest : List Item) (parts : List Part) (tolds : List Told) (first : link.port.items ≡ Runs parts ∷ rest) (names : NamesNode s.cluster verdict)
-      (does : DoesRun (deed_for s.cluster link.port.node link.port.asking (parts_in parts) verdict) s.cluster link.port.node (parts_in parts) tolds s'.cluster)
+  module _ (server : ℕ) (verdict : Verdict) (rest : List Item) (parts : List Part) (tolds : List Told) (first : link.port.items ≡ Runs parts ∷ rest) (names : NamesNode s.cluster verdict)
+      (does : DoesRun (deed_for s.cluster server link.port.asking (parts_in parts) verdict) s.cluster server (parts_in parts) tolds s'.cluster)
       (says : AreTold s.nodes link.port.node more tolds) (done : on.4 ≡ executions parts tolds)
       (is : wire ≡ record (link.port) { items = rest; values = wire.values; asking = false }) where
     as-many : length (dues_of (Runs parts)) ≡ length more
     as-many = as-many-dues parts
-        ∙ each-told (deed_for s.cluster link.port.node link.port.asking (parts_in parts) verdict) s.cluster link.port.node (parts_in parts) tolds s'.cluster does
+        ∙ each-told (deed_for s.cluster server link.port.asking (parts_in parts) verdict) s.cluster server (parts_in parts) tolds s'.cluster does
         ∙ sym (as-many-values s.nodes link.port.node more tolds says)
 
-    replies : (i : ℕ) (l : Link) → Numbers (h.links).ids link.port.id i → slice_get w.links i ≡ Some l → OpenShadow s.nodes w.commands link l → Simulated
+    replies : (i : ℕ) (l : Link) → Numbers (h.links).ids link.port.id i → slice_get w.links i ≡ Some l → OpenShadow s.nodes w.commands link l → RunServed server verdict
     replies i l numbers at open' =
         let l' : Link = record l { requests = requests_in rest; backs = l.backs ++ backs_in s.nodes link.node (dues_of (Runs parts)) more; asking = wire.asking } in
         let links' : List Link = slice_set w.links i l' in
-        let r = serves-run w (walked-stands w walked) s.cluster s'.cluster i l link.port.node link.port.asking parts verdict tolds (requests_in rest) at h.cluster (open'.node ∙ sym open'.wired) open'.asking
+        let r = serves-run w (walked-stands w walked) s.cluster s'.cluster i l server link.port.asking parts verdict tolds (requests_in rest) h.cluster open'.asking
         (open'.requests ∙ ap requests_in first) (all-first (IsKnown w.commands) (Runs parts) rest (subst (All (IsKnown w.commands)) first open'.known)) names does in
         let m = r.0 in
         let history' : List EntryModel = w.history ++ entries_at (w.moment + 1) (executions parts tolds) in
@@ -253,19 +260,23 @@ module _ {C J : Type 0} (s s' : System C J) (w : WorldModel) (h : IsShadow s w) 
         let same : all_replied (record l { requests = requests_in rest; asking = false }) m.run ≡ l' =
         all-open (record l { requests = requests_in rest; asking = false }) m.run open'.is_open
         ∙ (λ j. record l { requests = requests_in rest; backs = l.backs ++ run-backs s.nodes link.node m.run parts more tolds m.tickets m.tolds_are said j; asking = ap (λ (x : Wire). x.asking) (sym is) j }) in
-        let event : WorldDoes (ticked w) (Serve i verdict) w' =
-        subst (λ (x : Link). WorldDoes (ticked w) (Serve i verdict) (record (ticked w) { cluster = s'.cluster; links = slice_set w.links i x; history = history' })) same r.1 in
+        let ran : ServesRunAt (ticked w) server i l verdict w' =
+        subst (λ (x : Link). ServesRunAt (ticked w) server i l verdict (record (ticked w) { cluster = s'.cluster; links = slice_set w.links i x; history = history' })) same r.1 in
         let log : LogShadow (s.log ++ log_of (executions parts tolds)) w' = log-served s.log w w' (executions parts tolds) h.log refl refl refl refl in (
-          Serve i verdict ∷ [],
+          i,
+          l,
           w',
-          (w', event, refl),
+          at,
+          open'.node ∙ sym open'.wired,
+          open'.asking,
+          ran,
           node-frame s s' w s'.cluster backends' s.closed (s.log ++ log_of on.4) links' history' (w.moment + 1) h on.10
               (links-served (Runs parts) rest as-many first (ap (λ (x : Wire). x.node) is) (ap (λ (x : Wire). x.id) is) (ap (λ (x : Wire). x.items) is) i l numbers at open')
               listed bag
               (subst (λ d. LogShadow (s.log ++ log_of d) w') (sym done) log),
         )
 
-    pub executes : Simulated
+    pub executes : RunServed server verdict
     executes = ⊎_elim
         (λ (x : (i : ℕ) × (l : Link) × Numbers (h.links).ids link.port.id i × (slice_get w.links i ≡ Some l) × OpenShadow s.nodes w.commands link l). replies x.0 x.1 x.2 x.3 x.4)
         (λ (x : IsUnnumbered (h.links).ids link.port.id × IsIdle link). absurd (some-request (asked.Runs (tickets_for parts)) (requests_in rest) (sym (ap requests_in first) ∙ (x.1).requests)))
@@ -288,14 +299,16 @@ module _ {C J : Type 0} (s s' : System C J) (w : WorldModel) (h : IsShadow s w) 
       let shadow : IsShadow s' w' = node-frame s s' w s'.cluster backends' s.closed (s.log ++ log_of on.4) w.links w.history w.moment h on.10 links listed bag (log-of-nothing w' none refl refl refl (omega arith)) in
       ([], w, refl, subst (λ c. IsShadow s' (record w { cluster = c })) (cluster ∙ sym h.cluster) shadow)
 
-  pub serves : Simulated
-  serves = cases on.8
-    where
-      cases : ServesNext s.nodes s.cluster link.port verdict s'.cluster wire more on.4 → Simulated
-      cases (inl x) = welcomes x.0 x.1 x.2 x.3 x.4 x.5 x.6
-      cases (inr (inl x)) = executes x.0 x.1 x.2 x.3 x.4 x.5 x.6 x.7 x.8
-      cases (inr (inr x)) = lists x.0 x.1 x.2 x.3 x.4 x.5 x.6
+  pub serves-run-at : (server : ℕ) (verdict : Verdict) → ServesRun s.nodes s.cluster server link.port verdict s'.cluster wire more on.4 → RunServed server verdict
+  serves-run-at server verdict x = executes server verdict x.0 x.1 x.2 x.3 x.4 x.5 x.6 x.7 x.8
+
+  pub serves-next : (verdict : Verdict) → ServesNext s.nodes s.cluster link.port verdict s'.cluster wire more on.4 → Simulated
+  serves-next verdict (inl x) = welcomes x.0 x.1 x.2 x.3 x.4 x.5 x.6
+  serves-next verdict (inr (inl x)) =
+      let r = serves-run-at link.port.node verdict x in
+      (Serve r.0 verdict ∷ [], r.2, (r.2, (r.1, r.3, inr (subst (λ n. ServesRunAt (ticked w) n r.0 r.1 verdict r.2) (sym r.4) r.6)), refl), r.7)
+  serves-next verdict (inr (inr x)) = lists x.0 x.1 x.2 x.3 x.4 x.5 x.6
 
 module _ (C J : Type 0) where
   pub served : (k : ℕ) (verdict : Verdict) → Simulates C J (AtNode k verdict)
-  served k verdict s s' w h walked on = serves s s' w h walked k verdict on
+  served k verdict s s' w h walked on = serves-next s s' w h walked k (λ old. ServesNext s.nodes s.cluster old verdict) on verdict on.8

@@ -4,6 +4,7 @@ use Rattle.std.specs.Prelude.{slice_get, slice_set, All}
 use Rattle.resp_wire.specs.declared.value.Value.{Value}
 use Rattle.key_split.specs.declared.travel.Told.{Told}
 use Rattle.node_model.specs.History.{EntryModel}
+use Rattle.node_model.specs.Nodes.{ClusterModel}
 use Rattle.node_model.specs.Runs.{deed_for, DoesRun}
 use Rattle.node_model.specs.declared.role.Verdict.{Verdict}
 use Rattle.node_model.specs.declared.role.Verdict.TheVariants.{Plain}
@@ -13,16 +14,16 @@ use Rattle.world_laws.specs.declared.state.LinkRequest.{LinkRequest}
 use Rattle.world_laws.specs.declared.state.LinkReply.{LinkReply}
 use Rattle.world_laws.specs.declared.state.LinkRequest.TheVariants as asked
 use Rattle.world_laws.specs.declared.state.LinkReply.TheVariants.{Welcome}
-use Rattle.world_laws.specs.World.{WorldDoes, NamesNode}
+use Rattle.world_laws.specs.World.{NamesNode, ServesRunAt}
 use Rattle.world_laws.specs.declared.event.Event.{Event}
 use Rattle.world_laws.specs.declared.event.Event.TheVariants.{Serve}
 use Rattle.world_laws.proofs.Nodes.{set-size}
 use Rattle.world_laws.proofs.Recorded.{set-same}
 use Rattle.turn_laws.specs.Walks.{Walk, IsSharedWalked, ticked}
-use Rattle.turn_laws.specs.Wire.{Wire, Item, Part, Asks, Runs, Lists, ServesNext, executions, parts_in, tickets_for}
+use Rattle.turn_laws.specs.Wire.{Wire, Item, Part, Asks, Runs, Lists, Execution, ServesNext, ServesRun, executions, parts_in, tickets_for}
 use Rattle.turn_laws.specs.System.{System}
 use Rattle.turn_laws.specs.Shadow.{IsShadow, LinksShadow, LogShadow, WireShadow, ClosedShadow, IsKnown, IsUnnumbered, Numbers, requests_in}
-use Rattle.turn_laws.specs.Steps.{AtBroken, ServesLate, log_of}
+use Rattle.turn_laws.specs.Steps.{AtBroken, ServesLateBy, log_of}
 use Rattle.turn_laws.specs.Refines.{Simulates}
 use Rattle.turn_laws.proofs.Walks.{walked-stands}
 use Rattle.turn_laws.proofs.Throwing.{wire-changes, not-mine}
@@ -35,7 +36,7 @@ replied-closed l back e = ap (λ b. if b then record l { backs = l.backs ++ back
 all-closed : (l : Link) (run : List (Arrival × Told)) → l.is_open ≡ false → all_replied l run ≡ l
 all-closed l run e = ap (λ b. if b then record l { backs = l.backs ++ replies_of run } else l) e
 
-module _ {C J : Type 0} (s s' : System C J) (w : WorldModel) (h : IsShadow s w) (walked : IsSharedWalked w) (j : ℕ) (verdict : Verdict) (on : ServesLate s j verdict s') where
+module _ {C J : Type 0} (s s' : System C J) (w : WorldModel) (h : IsShadow s w) (walked : IsSharedWalked w) (j : ℕ) (how : Wire → ClusterModel → Wire → List Value → List Execution → Type 0) (on : ServesLateBy how s j s') where
   abbrev old : Wire
   old = on.0
 
@@ -109,33 +110,43 @@ module _ {C J : Type 0} (s s' : System C J) (w : WorldModel) (h : IsShadow s w) 
         (λ (x : IsUnnumbered (h.links).ids old.id × (requests_in old.items ≡ [])). absurd (some-request asked.Asking (requests_in rest) (sym (ap requests_in first) ∙ x.1)))
         ((h.links).wires j old on.4).1
 
+  -- in the machine too this node serves the run, on the link that stands for this one
+  abbrev pub RunServed : ℕ → Verdict → Type 0
+  RunServed server verdict =
+      (i : ℕ) × (l : Link) × (w' : WorldModel) × (slice_get w.links i ≡ Some l) × (l.node ≡ old.node) × (l.asking ≡ old.asking)
+      × ServesRunAt (ticked w) server i l verdict w' × IsShadow s' w'
+
   -- a run
-  module _ (rest : List Item) (parts : List Part) (tolds : List Told) (first : old.items ≡ Runs parts ∷ rest) (names : NamesNode s.cluster verdict)
-      (does : DoesRun (deed_for s.cluster old.node old.asking (parts_in parts) verdict) s.cluster old.node (parts_in parts) tolds s'.cluster) (done : on.3 ≡ executions parts tolds)
+  module _ (server : ℕ) (verdict : Verdict) (rest : List Item) (parts : List Part) (tolds : List Told) (first : old.items ≡ Runs parts ∷ rest) (names : NamesNode s.cluster verdict)
+      (does : DoesRun (deed_for s.cluster server old.asking (parts_in parts) verdict) s.cluster server (parts_in parts) tolds s'.cluster) (done : on.3 ≡ executions parts tolds)
       (is : wire ≡ record old { items = rest; values = wire.values; asking = false }) where
-    executed : (i : ℕ) (l : Link) → Numbers (h.links).ids old.id i → slice_get w.links i ≡ Some l → ClosedShadow w.commands old l → Simulated
+    executed : (i : ℕ) (l : Link) → Numbers (h.links).ids old.id i → slice_get w.links i ≡ Some l → ClosedShadow w.commands old l → RunServed server verdict
     executed i l numbers at closed =
         let known : All (IsKnown w.commands) old.items → All (IsKnown w.commands) rest = λ all. all-later (IsKnown w.commands) (Runs parts) rest (subst (All (IsKnown w.commands)) first all) in
         let l' : Link = link' rest (asked.Runs (tickets_for parts)) false is (ap requests_in first) known i l numbers at closed in
         let links' : List Link = slice_set w.links i l' in
-        let r = serves-run w (walked-stands w walked) s.cluster s'.cluster i l old.node old.asking parts verdict tolds
-        (later rest (asked.Runs (tickets_for parts)) false is (ap requests_in first) known i l numbers at closed) at h.cluster closed.node closed.asking
+        let r = serves-run w (walked-stands w walked) s.cluster s'.cluster i l server old.asking parts verdict tolds
+        (later rest (asked.Runs (tickets_for parts)) false is (ap requests_in first) known i l numbers at closed) h.cluster closed.asking
         (front rest (asked.Runs (tickets_for parts)) false is (ap requests_in first) known i l numbers at closed)
         (all-first (IsKnown w.commands) (Runs parts) rest (subst (All (IsKnown w.commands)) first closed.known)) names does in
         let history' : List EntryModel = w.history ++ entries_at (w.moment + 1) (executions parts tolds) in
         let w' : WorldModel = record w { cluster = s'.cluster; links = links'; history = history'; moment = w.moment + 1 } in
-        let event : WorldDoes (ticked w) (Serve i verdict) w' =
-        subst (λ (x : Link). WorldDoes (ticked w) (Serve i verdict) (record (ticked w) { cluster = s'.cluster; links = slice_set w.links i x; history = history' })) (all-closed l' (r.0).run closed.is_open) r.1 in
+        let ran : ServesRunAt (ticked w) server i l verdict w' =
+        subst (λ (x : Link). ServesRunAt (ticked w) server i l verdict (record (ticked w) { cluster = s'.cluster; links = slice_set w.links i x; history = history' })) (all-closed l' (r.0).run closed.is_open) r.1 in
         let log : LogShadow (s.log ++ log_of (executions parts tolds)) w' = log-served s.log w w' (executions parts tolds) h.log refl refl refl refl in (
-          Serve i verdict ∷ [],
+          i,
+          l,
           w',
-          (w', event, refl),
+          at,
+          closed.node,
+          closed.asking,
+          ran,
           frame links' history' (w.moment + 1)
               (links-after rest (asked.Runs (tickets_for parts)) false is (ap requests_in first) known i l numbers at closed)
               (subst (λ d. LogShadow (s.log ++ log_of d) w') (sym done) log),
         )
 
-    pub executes : Simulated
+    pub executes : RunServed server verdict
     executes = ⊎_elim
         (λ (x : (n : ℕ) × (l : Link) × Numbers (h.links).ids old.id n × (slice_get w.links n ≡ Some l) × ClosedShadow w.commands old l). executed x.0 x.1 x.2 x.3 x.4)
         (λ (x : IsUnnumbered (h.links).ids old.id × (requests_in old.items ≡ [])). absurd (some-request (asked.Runs (tickets_for parts)) (requests_in rest) (sym (ap requests_in first) ∙ x.1)))
@@ -170,14 +181,16 @@ module _ {C J : Type 0} (s s' : System C J) (w : WorldModel) (h : IsShadow s w) 
       let shadow : IsShadow s' w' = frame w.links w.history w.moment links (log-nothing s.log w w' on.3 none refl refl refl (omega arith) h.log) in
       ([], w, refl, subst (λ c. IsShadow s' (record w { cluster = c })) (cluster ∙ sym h.cluster) shadow)
 
-  pub serves : Simulated
-  serves = cases on.5
-    where
-      cases : ServesNext s.nodes s.cluster old verdict s'.cluster wire more on.3 → Simulated
-      cases (inl x) = welcomes x.0 x.2 x.4 x.5 x.6
-      cases (inr (inl x)) = executes x.0 x.1 x.2 x.3 x.4 x.5 x.7 x.8
-      cases (inr (inr x)) = lists x.0 x.2 x.4 x.5 x.6
+  pub serves-run-late : (server : ℕ) (verdict : Verdict) → ServesRun s.nodes s.cluster server old verdict s'.cluster wire more on.3 → RunServed server verdict
+  serves-run-late server verdict x = executes server verdict x.0 x.1 x.2 x.3 x.4 x.5 x.7 x.8
+
+  pub serves-next-late : (verdict : Verdict) → ServesNext s.nodes s.cluster old verdict s'.cluster wire more on.3 → Simulated
+  serves-next-late verdict (inl x) = welcomes x.0 x.2 x.4 x.5 x.6
+  serves-next-late verdict (inr (inl x)) =
+      let r = serves-run-late old.node verdict x in
+      (Serve r.0 verdict ∷ [], r.2, (r.2, (r.1, r.3, inr (subst (λ n. ServesRunAt (ticked w) n r.0 r.1 verdict r.2) (sym r.4) r.6)), refl), r.7)
+  serves-next-late verdict (inr (inr x)) = lists x.0 x.2 x.4 x.5 x.6
 
 module _ (C J : Type 0) where
   pub served-late : (j : ℕ) (verdict : Verdict) → Simulates C J (AtBroken j verdict)
-  served-late j verdict s s' w h walked on = serves s s' w h walked j verdict on
+  served-late j verdict s s' w h walked on = serves-next-late s s' w h walked j (λ old. ServesNext s.nodes s.cluster old verdict) on verdict on.5

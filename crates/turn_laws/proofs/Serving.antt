@@ -1,6 +1,6 @@
 -- A node serves what is next of a connection: the machine's nodes, its history and the log.
-use Rattle.std.proofs.Common.{◌≡◌, inr, ℕ, suc, ◌+◌, ◌≤◌, Bool, false, List, [], ◌∷◌, ◌++◌, Some, refl, sym, ap, ◌∙◌, subst, arith, length}
-use Rattle.std.specs.Prelude.{All, slice_get, slice_set, map}
+use Rattle.std.proofs.Common.{◌≡◌, ℕ, suc, ◌+◌, ◌≤◌, Bool, false, List, [], ◌∷◌, ◌++◌, refl, sym, ap, ◌∙◌, subst, arith, length}
+use Rattle.std.specs.Prelude.{All, slice_set, map}
 use Rattle.std.proofs.lemmas.List.{append-nil, map-append}
 use Rattle.key_split.specs.PartModel.{PartModel}
 use Rattle.key_split.specs.Same.{same_ticket-Decides}
@@ -16,8 +16,7 @@ use Rattle.world_laws.specs.State.{WorldModel, Link, all_replied, parts_told, ti
 use Rattle.world_laws.specs.declared.state.LinkRequest.{LinkRequest}
 use Rattle.world_laws.specs.declared.state.LinkRequest.TheVariants.{Runs}
 use Rattle.world_laws.specs.declared.state.Arrival.{Arrival}
-use Rattle.world_laws.specs.World.{WorldDoes, AreOf, IsOf, NamesNode, entry_of, entries_of}
-use Rattle.world_laws.specs.declared.event.Event.TheVariants.{Serve}
+use Rattle.world_laws.specs.World.{AreOf, IsOf, NamesNode, ServesRunAt, entry_of, entries_of}
 use Rattle.world_laws.specs.Places.{is}
 use Rattle.world_laws.proofs.Placed.{Standing}
 use Rattle.world_laws.proofs.Allowed.{found}
@@ -110,30 +109,26 @@ machine-run w placed (part ∷ parts) (told ∷ tolds) e known =
           ∙ sym (map-append (entry_at moment) (executed part told) (executions parts tolds));
     }
 
--- a run is served: the machine's event
+-- a run is served by this node, in the machine too
 pub serves-run : (w : WorldModel) → Standing w → (k k' : ClusterModel) (i : ℕ) (l : Link) (node : ℕ) (asking : Bool) (parts : List Part) (verdict : Verdict) (tolds : List Told) (rest : List LinkRequest)
-    → slice_get w.links i ≡ Some l → w.cluster ≡ k → l.node ≡ node → l.asking ≡ asking → l.requests ≡ Runs (tickets_for parts) ∷ rest
+    → w.cluster ≡ k → l.asking ≡ asking → l.requests ≡ Runs (tickets_for parts) ∷ rest
     → All (λ (part : Part). HasPart w.commands part.0 part.1) parts → NamesNode k verdict
     → DoesRun (deed_for k node asking (parts_in parts) verdict) k node (parts_in parts) tolds k'
     → (m : MachineRun w.commands parts tolds)
-    × WorldDoes (ticked w) (Serve i verdict)
+    × ServesRunAt (ticked w) node i l verdict
     (record (ticked w) { cluster = k'; links = slice_set w.links i (all_replied (record l { requests = rest; asking = false }) m.run); history = w.history ++ entries_at (w.moment + 1) (executions parts tolds) })
-serves-run w placed k k' i l node asking parts verdict tolds rest at cluster on asked requests known names does =
+serves-run w placed k k' i l node asking parts verdict tolds rest cluster asked requests known names does =
     let m = machine-run w placed parts tolds (each-told (deed_for k node asking (parts_in parts) verdict) k node (parts_in parts) tolds k' does) known in (
       m,
       (
-        l,
-        at,
-        inr (
-          rest,
-          m.run,
-          k',
-          requests ∙ ap (λ ts. Runs ts ∷ rest) (sym m.tickets),
-          m.are_of,
-          subst (λ x. NamesNode x verdict) (sym cluster) names,
-          subst (λ (x : ClusterModel × ℕ × Bool × List PartModel × List Told). DoesRun (deed_for x.0 x.1 x.2 x.3 verdict) x.0 x.1 x.3 x.4 k') (λ j. (sym cluster j, sym on j, sym asked j, sym m.parts_are j, sym m.tolds_are j)) does,
-          (λ j. record (ticked w) { cluster = k'; links = slice_set w.links i (all_replied (record l { requests = rest; asking = false }) m.run); history = w.history ++ sym (m.entries (w.moment + 1)) j }),
-        ),
+        rest,
+        m.run,
+        k',
+        requests ∙ ap (λ ts. Runs ts ∷ rest) (sym m.tickets),
+        m.are_of,
+        subst (λ x. NamesNode x verdict) (sym cluster) names,
+        subst (λ (x : ClusterModel × Bool × List PartModel × List Told). DoesRun (deed_for x.0 node x.1 x.2 verdict) x.0 node x.2 x.3 k') (λ j. (sym cluster j, sym asked j, sym m.parts_are j, sym m.tolds_are j)) does,
+        (λ j. record (ticked w) { cluster = k'; links = slice_set w.links i (all_replied (record l { requests = rest; asking = false }) m.run); history = w.history ++ sym (m.entries (w.moment + 1)) j }),
       ),
     )
 

@@ -1,4 +1,5 @@
--- A run of others is a step of the machine beside others; and so is each step of the system.
+-- A run of others is a step of the machine beside others, and so is a run that an address led to another node; and so is each step of the
+-- system.
 use Rattle.std.proofs.Common.{ℕ, ◌+◌, Bool, List, [], ◌∷◌, ◌++◌, length, refl, sym, ap, ◌∙◌, subst}
 use Rattle.std.specs.List.{FoldsTo}
 use Rattle.key_split.specs.Laws.{PlansArePlain}
@@ -12,6 +13,7 @@ use Rattle.turn_laws.specs.Shadow.{IsShadow}
 use Rattle.turn_laws.specs.Naming.{NamesNodes}
 use Rattle.turn_laws.specs.Sharing.{OthersDo, SharedEvent, SharedRefines, SharedSystemStep}
 use Rattle.turn_laws.specs.Walks.{IsSharedWalked, ticked}
+use Rattle.turn_laws.proofs.Addresses.{led-names, led-step}
 use Rattle.turn_laws.proofs.NamesStay.{names-stay}
 use Rattle.turn_laws.proofs.Refines.{simulates}
 use Rattle.turn_laws.proofs.Serving.{entries_at, log-served}
@@ -70,17 +72,22 @@ module _ {C J : Type 0} where
     posted = names.posted;
   })
 
+-- a step more
+stepped : (w w' : WorldModel) (step : Step) → IsSharedWalked w → SharedDoes (ticked w) step w' → IsSharedWalked w'
+stepped w w' step r does = (r.0, r.1, r.2, r.3, r.4 ++ step ∷ [], r.5, shared-join r.4 (step ∷ []) (start_from r.0 r.1 r.2 r.3) w w' r.6 (w', does, refl))
+
 module _ (C J : Type 0) (plain : PlansArePlain) where
   pub all : (events : List SharedEvent) (s s' : System C J) (w : WorldModel) → IsShadow s w → NamesNodes s → IsSharedWalked w → FoldsTo SharedSystemStep s events s' → (w' : WorldModel) × IsSharedWalked w' × IsShadow s' w' × NamesNodes s'
   all [] s s' w h names r f = (w, r, subst (λ x. IsShadow x w) f h, subst NamesNodes f names)
   all (SharedEvent.Ours event ∷ events) s s' w h names r f =
       let one = simulates C J plain event s f.0 w h names r f.1 in
       all events f.0 s' one.1 one.3 (names-stay C J event s f.0 w h names f.1) (walked-on w one.1 one.0 r one.2) f.2
+  all (SharedEvent.Led event ∷ events) s s' w h names r f =
+      let one = led-step event s f.0 w h r f.1 in
+      all events f.0 s' one.1 one.3 (led-names event s f.0 names f.1) (stepped w one.1 one.0 r one.2) f.2
   all (SharedEvent.Theirs node asking done ∷ events) s s' w h names r f =
       let one = others-step node asking done s f.0 w h f.1 in
-      let step : Step = Step.Theirs node asking (entries_at (w.moment + 1) done) in
-      all events f.0 s' one.0 one.2 (others-names node asking done s f.0 names f.1)
-      (r.0, r.1, r.2, r.3, r.4 ++ step ∷ [], r.5, shared-join r.4 (step ∷ []) (start_from r.0 r.1 r.2 r.3) w one.0 r.6 (one.0, one.1, refl)) f.2
+      all events f.0 s' one.0 one.2 (others-names node asking done s f.0 names f.1) (stepped w one.0 (Step.Theirs node asking (entries_at (w.moment + 1) done)) r one.1) f.2
 
   pub shared-refines : SharedRefines C J
   shared-refines s s' events h f =

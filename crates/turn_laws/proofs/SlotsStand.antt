@@ -15,7 +15,7 @@ use Rattle.node_model.specs.declared.standing.Phase.TheVariants.{Migrated, Forgo
 use Rattle.world_laws.specs.declared.event.Event.{Event}
 use Rattle.world_laws.specs.declared.event.Event.TheVariants as core
 use Rattle.world_laws.proofs.Nodes.{pick-slot, runs-size, runs-slots, set-size}
-use Rattle.turn_laws.specs.Wire.{Wire, Execution, ServesNext, parts_in}
+use Rattle.turn_laws.specs.Wire.{Wire, Execution, ServesNext, ServesRun, parts_in}
 use Rattle.turn_laws.specs.System.{System}
 use Rattle.turn_laws.specs.Steps.{AtWorker, AtCarrier, Handed, AtNode, AtBroken, Thrown, Moved, MovesOn}
 use Rattle.turn_laws.specs.Writing.{NewSlotsStand, SlotsStay, StandsAmong, StandsAtItsNodes}
@@ -78,15 +78,20 @@ same-slots k k' slots size h slot small =
     subst (λ (ss : List SlotStandingModel). StandsAmong (length k'.stores) (standing_at (record k { slots = ss }) slot)) (sym slots)
     (subst (λ (n : ℕ). StandsAmong n (standing_at k slot)) (sym size) (h slot small))
 
+-- where a run was served, and where what is next of a connection was
+pub run-stands : (table : List Endpoint) (k : ClusterModel) (node : ℕ) (old : Wire) (v : Verdict) (k' : ClusterModel) (new : Wire) (values : List Value) (done : List Execution)
+    → ServesRun table k node old v k' new values done → StandsAtItsNodes k → StandsAtItsNodes k'
+run-stands table k node old v k' new values done x h =
+    let deed = deed_for k node old.asking (parts_in x.1) v in
+    same-slots k k' (runs-slots k k' node (parts_in x.1) deed x.2 x.5) (runs-size k k' node (parts_in x.1) deed x.2 x.5) h
+
 served : (table : List Endpoint) (k : ClusterModel) (old : Wire) (v : Verdict) (k' : ClusterModel) (new : Wire) (values : List Value) (done : List Execution)
     → ServesNext table k old v k' new values done → StandsAtItsNodes k → StandsAtItsNodes k'
 served table k old v k' new values done serves h = go serves
   where
     go : ServesNext table k old v k' new values done → StandsAtItsNodes k'
     go (inl x) = subst StandsAtItsNodes (sym x.4) h
-    go (inr (inl x)) =
-        let deed = deed_for k old.node old.asking (parts_in x.1) v in
-        same-slots k k' (runs-slots k k' old.node (parts_in x.1) deed x.2 x.5) (runs-size k k' old.node (parts_in x.1) deed x.2 x.5) h
+    go (inr (inl x)) = run-stands table k old.node old v k' new values done x h
     go (inr (inr x)) = subst StandsAtItsNodes (sym x.4) h
 
 module _ {C J : Type 0} (s : System C J) where

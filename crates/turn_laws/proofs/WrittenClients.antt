@@ -26,6 +26,7 @@ use Rattle.turn_laws.specs.PortsMay.{any_moves}
 use Rattle.turn_laws.specs.ClientSees.{bytes_from, bytes_to, ends_for, if_own, pulled_by, pushed_by}
 use Rattle.turn_laws.specs.ClientOutput.{events_at, ClientsAreWritten, AllClientsAreWritten}
 use Rattle.turn_laws.specs.Arrivals.{own_events_at}
+use Rattle.turn_laws.proofs.Addresses.{led-frame}
 use Rattle.turn_laws.proofs.ClientSees.{own, not-own}
 use Rattle.turn_laws.proofs.OwnEvents.{ours, same-events}
 use Rattle.turn_laws.proofs.Tables.{put-other, put-same}
@@ -265,6 +266,8 @@ module _ {C J : Type 0} where
   shared-steps k last (SharedEvent.Ours (AtBroken j verdict) ∷ events) s s' (mid, step, more) at = quiet k last (AtBroken j verdict) (flat_map (own_events_at k) events) s mid tt step (shared-steps k last events mid s' more at)
   shared-steps k last (SharedEvent.Ours (Thrown j) ∷ events) s s' (mid, step, more) at = quiet k last (Thrown j) (flat_map (own_events_at k) events) s mid tt step (shared-steps k last events mid s' more at)
   shared-steps k last (SharedEvent.Ours (Moved event) ∷ events) s s' (mid, step, more) at = quiet k last (Moved event) (flat_map (own_events_at k) events) s mid tt step (shared-steps k last events mid s' more at)
+  shared-steps k last (SharedEvent.Led event ∷ events) s s' (mid, step, more) at =
+      subst (λ (ws : List (WorkerModel C J)). Does last (slice_get ws k) (flat_map (own_events_at k) events)) (led-frame event s mid step).workers (shared-steps k last events mid s' more at)
   shared-steps k last (SharedEvent.Theirs node asking done ∷ events) s s' (mid, step, more) at =
       subst (λ (ws : List (WorkerModel C J)). Does last (slice_get ws k) (flat_map (own_events_at k) events)) (ap workers_of step.1) (shared-steps k last events mid s' more at)
 

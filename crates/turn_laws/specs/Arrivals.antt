@@ -58,6 +58,7 @@ pub record AreSent (k number : ℕ) (sent : List ℕ) (arrived : List (Ticket ×
 -- the events of this worker, where others act
 abbrev pub own_events_at : ℕ → SharedEvent → List WorkerEvent
 own_events_at k (SharedEvent.Ours event) = events_at k event
+own_events_at k (SharedEvent.Led event) = []
 own_events_at k (SharedEvent.Theirs node asking done) = []
 
 module _ (C J : Type 0) where

@@ -15,6 +15,7 @@ use Rattle.turn_laws.specs.Naming.{NamesNodes}
 use Rattle.turn_laws.specs.Walks.{IsSharedWalked}
 use Rattle.turn_laws.specs.Steps.{SystemEvent, Moved, SystemStep, log_of}
 use Rattle.turn_laws.specs.Refines.{IsStart}
+use Rattle.turn_laws.specs.Addresses.{LedEvent, LedStep}
 use Rattle.turn_laws.specs.Sharing.{OthersDo, SharedEvent, SharedSystemStep}
 use Rattle.turn_laws.specs.Writing.{StandsAtItsNodes}
 use Rattle.turn_laws.specs.LogHeadline.{IsHeld, history}
@@ -24,9 +25,10 @@ use Rattle.turn_laws.specs.SharedLog.{SharedLogHeadline}
 abbrev pub foreign : ℕ → Execution → Execution
 foreign workers e = record e { ticket = record (e.ticket) { worker = e.ticket.client % workers + 1 + e.ticket.worker } }
 
--- a step of a proxy, or a run of a client that is none
+-- a step of a proxy; a run of a proxy that another node serves than the one at its connection's endpoint; or a run of a client that is none
 pub data FleetEvent : Type 0 where
   By : (p : ℕ) (event : SystemEvent) → FleetEvent
+  Led : (p : ℕ) (event : LedEvent) → FleetEvent
   Outside : (node : ℕ) (asking : Bool) (done : List Execution) → FleetEvent
 
 module _ (C J : Type 0) where
@@ -34,12 +36,18 @@ module _ (C J : Type 0) where
   abbrev pub Fleet : Type 0
   Fleet = ℕ → System C J
 
+  -- what a step of this proxy is to the others
+  abbrev pub IsSeenByOthers : Fleet → ℕ → Fleet → Type 0
+  IsSeenByOthers f p f' =
+      (done : List Execution) × (history (f' p).log ≡ history (f p).log ++ done)
+      × ((q : ℕ) → q ≢ p → f' q ≡ record (f q) { cluster = (f' p).cluster; log = (f q).log ++ log_of (map (foreign (length (f q).workers)) done) })
+
   abbrev pub FleetStep : Fleet → FleetEvent → Fleet → Type 0
   FleetStep f (FleetEvent.By p event) f' =
       SystemStep (f p) event (f' p)
       × ((slot target : ℕ) → event ≡ Moved (core.Import slot target) → (q : ℕ) → NoneAsksIn (f q) slot target)
-      × (done : List Execution) × (history (f' p).log ≡ history (f p).log ++ done)
-      × ((q : ℕ) → q ≢ p → f' q ≡ record (f q) { cluster = (f' p).cluster; log = (f q).log ++ log_of (map (foreign (length (f q).workers)) done) })
+      × IsSeenByOthers f p f'
+  FleetStep f (FleetEvent.Led p event) f' = LedStep (f p) event (f' p) × IsSeenByOthers f p f'
   FleetStep f (FleetEvent.Outside node asking done) f' =
       ((q : ℕ) → OthersDo (f q) node asking (map (foreign (length (f q).workers)) done) (f' q)) × ((p q : ℕ) → (f' p).cluster ≡ (f' q).cluster)
 

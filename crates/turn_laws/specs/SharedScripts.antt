@@ -1,7 +1,7 @@
 -- Lists of steps that a system and others can make from a start, and that the proxies of a fleet can, so that the laws beside others speak
 -- of something: their premises hold together in them. The nodes, the key and the slot are those of Scripts.antt, and slot moves begin there.
--- In the first list others set a key between a GET of ours and its reply. In the second two proxies serve before one cluster, and the client
--- of the one reads what a client of the other set.
+-- In the first list others set a key between a GET of ours and its reply. In the second a node takes over from another one meanwhile, whose
+-- address comes to lead to it. In the third two proxies serve before one cluster, and the client of the one reads what a client of the other set.
 use Rattle.std.specs.Prelude.{◌≡◌, ℕ, List, [], ◌∷◌, ◌++◌, false, true, Ok, codes, length, map}
 use Rattle.std.specs.List.{FoldsTo}
 use Rattle.key_split.specs.declared.travel.Told.TheVariants.{Reply}
@@ -12,13 +12,15 @@ use Rattle.proxy_turns.specs.ClientTurn.{Pulled, Fed, Read, HandedOut, Posted, D
 use Rattle.proxy_turns.specs.WorkerModel.{Did, Finished, Took, Came}
 use Rattle.proxy_turns.specs.CarrierModel.{AtBackend}
 use Rattle.proxy_turns.specs.CarrierModel as carrier
+use Rattle.world_laws.specs.declared.event.Event.TheVariants.{Migrate, MoveKey, Own, Release}
 use Rattle.turn_laws.specs.Wire.{Execution}
 use Rattle.turn_laws.specs.System.{System, Mark, Arrived, Executed, Answered}
-use Rattle.turn_laws.specs.Steps.{SystemEvent, AtWorker, AtCarrier, Handed, AtNode}
+use Rattle.turn_laws.specs.Steps.{SystemEvent, AtWorker, AtCarrier, Handed, AtNode, Moved}
 use Rattle.turn_laws.specs.Refines.{IsStart}
+use Rattle.turn_laws.specs.Addresses.{LedEvent}
 use Rattle.turn_laws.specs.Sharing.{SharedEvent, SharedSystemStep}
 use Rattle.turn_laws.specs.Fleet.{Fleet, FleetEvent, FleetRun, IsFleetStart, foreign}
-use Rattle.turn_laws.specs.Scripts.{set, get, ok, five, ticket, plain, did, opening, moving, asking, setting}
+use Rattle.turn_laws.specs.Scripts.{key, slot, set, get, ok, five, ticket, plain, did, opening, moving, asking, setting}
 
 -- ---- a client reads
 
@@ -41,17 +43,20 @@ sending =
     ∷ AtCarrier carrier.Sent
     ∷ []
 
--- the node executes it, and the client is answered
-abbrev pub reading : List SystemEvent
-reading =
-    AtNode 0 Plain
-    ∷ AtCarrier (AtBackend backend.Fetched)
+-- the reply is told, and the client is answered
+abbrev pub telling : List SystemEvent
+telling =
+    AtCarrier (AtBackend backend.Fetched)
     ∷ AtCarrier carrier.Gave
     ∷ AtWorker 0 (Took (ticket 0) (Reply five))
     ∷ AtWorker 0 (Finished 0 (ticket 0) (ended.Answered five))
     ∷ AtWorker 0 (Did 0 (Drained 7))
     ∷ AtWorker 0 (Did 0 (Pushed (codes "$1\r\n5\r\n")))
     ∷ []
+
+-- the node executes it first
+abbrev pub reading : List SystemEvent
+reading = AtNode 0 Plain ∷ telling
 
 -- ---- others act between a command and its reply
 
@@ -81,6 +86,22 @@ pub record HappensBesideOthers (C J : Type 0) (events : List SharedEvent) (marks
 
 abbrev pub OthersActBetween : Type 0 → Type 0 → Type 0
 OthersActBetween C J = C → HappensBesideOthers C J shares story_of_sharing
+
+-- ---- an address leads to another node
+
+-- the second node takes over the slot and what the first holds, as a replica does in a failover that loses nothing
+abbrev pub taking_over : List SystemEvent
+taking_over = Moved (Migrate slot) ∷ Moved (MoveKey slot key) ∷ Moved (Own slot) ∷ Moved (Release slot) ∷ []
+
+-- so it is while our GET is on its way to the first one's address, which leads to the second then; what is seen of it is the same
+abbrev pub leads : List SharedEvent
+leads =
+    map SharedEvent.Ours (opening ++ (moving ++ sending))
+    ++ (SharedEvent.Theirs 0 false (others_set ∷ [])
+    ∷ (map SharedEvent.Ours taking_over ++ (SharedEvent.Led (LedEvent.OfConnection 0 1 Plain) ∷ map SharedEvent.Ours telling)))
+
+abbrev pub AddressesLead : Type 0 → Type 0 → Type 0
+AddressesLead C J = C → HappensBesideOthers C J leads story_of_sharing
 
 -- ---- two proxies
 

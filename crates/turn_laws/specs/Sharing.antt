@@ -1,5 +1,6 @@
--- The system beside others: between its steps other clients of the cluster act, as other proxies, scripts, and keys that expire.
--- A step of theirs is as in the machine (Shared.antt of shared_laws): a node executes a run of theirs, and the log gains its mark.
+-- The system beside others: between its steps other clients of the cluster act, as other proxies, scripts, and keys that expire; and
+-- addresses lead to any node. A step of theirs is as in the machine (Shared.antt of shared_laws): a node executes a run of theirs, and the
+-- log gains its mark.
 use Rattle.std.specs.Prelude.{◌≡◌, ℕ, Bool, List, ◌++◌, length, map}
 use Rattle.std.specs.List.{FoldsTo}
 use Rattle.world_laws.specs.State.{WorldModel}
@@ -9,11 +10,13 @@ use Rattle.turn_laws.specs.Wire.{Execution}
 use Rattle.turn_laws.specs.System.{System}
 use Rattle.turn_laws.specs.Shadow.{IsShadow, entry_at}
 use Rattle.turn_laws.specs.Steps.{SystemEvent, SystemStep, log_of}
+use Rattle.turn_laws.specs.Addresses.{LedEvent, LedStep}
 use Rattle.turn_laws.specs.Walks.{IsSharedWalked}
 use Rattle.turn_laws.specs.Refines.{IsStart}
 
 pub data SharedEvent : Type 0 where
   Ours : SystemEvent → SharedEvent
+  Led : LedEvent → SharedEvent
   Theirs : (node : ℕ) (asking : Bool) (done : List Execution) → SharedEvent
 
 module _ {C J : Type 0} where
@@ -25,6 +28,7 @@ module _ {C J : Type 0} where
 
   abbrev pub SharedSystemStep : System C J → SharedEvent → System C J → Type 0
   SharedSystemStep s (SharedEvent.Ours event) s' = SystemStep s event s'
+  SharedSystemStep s (SharedEvent.Led event) s' = LedStep s event s'
   SharedSystemStep s (SharedEvent.Theirs node asking done) s' = OthersDo s node asking done s'
 
 module _ (C J : Type 0) where

@@ -136,7 +136,8 @@ module _ {C J : Type 0} where
     pub leaves : s' ≡ record s { carrier = s'.carrier; closed = s'.closed; opened = opened_by event s.opened }
     -- A premise: a lane is in order between its two ends (as above).
     pub in_step : UpsInStep s'
-    -- A premise: the table, as far as it has grown, lists nodes of the cluster, in their order. A node with two addresses is left out.
+    -- A premise: the table, as far as it has grown, lists the cluster's endpoints, in their order. (Of two that lead to one node see
+    -- Addresses.antt.)
     pub table : IsPrefix s'.carrier.nodes s.nodes
 
   -- ---- new clients
@@ -151,12 +152,13 @@ module _ {C J : Type 0} where
 
   -- ---- the nodes
 
-  -- the node serves what is next of a connection that works
-  abbrev pub Serves : System C J → ℕ → Verdict → System C J → Type 0
-  Serves s k verdict s' =
+  -- what is next of a connection that works is served: `serves` says how, of the wire before it, the nodes, the wire and the values after it,
+  -- and what was executed
+  abbrev pub ServesBy : (serves : Wire → ClusterModel → Wire → List Value → List Execution → Type 0) → System C J → ℕ → System C J → Type 0
+  ServesBy serves s k s' =
       (backend : Backend Wire) × (link : LinkModel Wire) × (wire : Wire) × (values : List Value) × (done : List Execution)
       × (slice_get s.carrier.backends k ≡ Some backend) × (backend.link ≡ Some link) × (link.failure ≡ None)
-      × ServesNext s.nodes s.cluster link.port verdict s'.cluster wire values done
+      × serves link.port s'.cluster wire values done
       × (wire.values ≡ link.port.values ++ values)
       × (s' ≡ record s {
         cluster = s'.cluster;
@@ -164,14 +166,21 @@ module _ {C J : Type 0} where
         log = s.log ++ log_of done;
       })
 
-  -- the node serves what is next of a broken connection, to nobody
-  abbrev pub ServesLate : System C J → ℕ → Verdict → System C J → Type 0
-  ServesLate s j verdict s' =
+  -- what is next of a broken connection is served, to nobody
+  abbrev pub ServesLateBy : (serves : Wire → ClusterModel → Wire → List Value → List Execution → Type 0) → System C J → ℕ → System C J → Type 0
+  ServesLateBy serves s j s' =
       (old : Wire) × (wire : Wire) × (values : List Value) × (done : List Execution)
       × (slice_get s.closed j ≡ Some old)
-      × ServesNext s.nodes s.cluster old verdict s'.cluster wire values done
+      × serves old s'.cluster wire values done
       × (wire.values ≡ [])
       × (s' ≡ record s { cluster = s'.cluster; closed = slice_set s.closed j wire; log = s.log ++ log_of done })
+
+  -- the node of the connection serves it
+  abbrev pub Serves : System C J → ℕ → Verdict → System C J → Type 0
+  Serves s k verdict s' = ServesBy (λ old. ServesNext s.nodes s.cluster old verdict) s k s'
+
+  abbrev pub ServesLate : System C J → ℕ → Verdict → System C J → Type 0
+  ServesLate s j verdict s' = ServesLateBy (λ old. ServesNext s.nodes s.cluster old verdict) s j s'
 
   -- the requests of a broken connection are thrown away
   abbrev pub Discards : System C J → ℕ → System C J → Type 0

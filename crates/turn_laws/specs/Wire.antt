@@ -116,16 +116,21 @@ tickets_for parts = map (λ (part : Part). part.0) parts
 abbrev pub parts_in : List Part → List PartModel
 parts_in parts = map (λ (part : Part). part.1) parts
 
--- The node serves the first item of the wire, with these values: `table` is the list of the cluster's endpoints. What it
--- says of a command is what the table reads in it, or TRYAGAIN by an unclear line. A run is served whole: all its commands, or none.
+-- This node serves the run that stands first on the wire, whole: all its commands, or none. `table` is the list of the cluster's endpoints:
+-- what the node says of a command is what the table reads in it, or TRYAGAIN by an unclear line.
+abbrev pub ServesRun : List Endpoint → ClusterModel → ℕ → Wire → Verdict → ClusterModel → Wire → List Value → List Execution → Type 0
+ServesRun table k node old verdict k' new values done =
+    (rest : List Item) × (parts : List Part) × (tolds : List Told)
+    × (old.items ≡ Runs parts ∷ rest) × NamesNode k verdict
+    × DoesRun (deed_for k node old.asking (parts_in parts) verdict) k node (parts_in parts) tolds k'
+    × AreTold table old.node values tolds × (done ≡ executions parts tolds)
+    × (new ≡ record old { items = rest; values = new.values; asking = false })
+
+-- the node serves the first item of the wire, with these values
 abbrev pub ServesNext : List Endpoint → ClusterModel → Wire → Verdict → ClusterModel → Wire → List Value → List Execution → Type 0
 ServesNext table k old verdict k' new values done =
     ((rest : List Item) × (value : Value) × (old.items ≡ Asks ∷ rest) × (values ≡ value ∷ []) × (k' ≡ k) × (done ≡ [])
     × (new ≡ record old { items = rest; values = new.values; asking = true }))
-    ⊎ ((rest : List Item) × (parts : List Part) × (tolds : List Told)
-    × (old.items ≡ Runs parts ∷ rest) × NamesNode k verdict
-    × DoesRun (deed_for k old.node old.asking (parts_in parts) verdict) k old.node (parts_in parts) tolds k'
-    × AreTold table old.node values tolds × (done ≡ executions parts tolds)
-    × (new ≡ record old { items = rest; values = new.values; asking = false }))
+    ⊎ ServesRun table k old.node old verdict k' new values done
     ⊎ ((rest : List Item) × (value : Value) × (old.items ≡ Lists ∷ rest) × (values ≡ value ∷ []) × (k' ≡ k) × (done ≡ [])
     × (new ≡ record old { items = rest; values = new.values }))

@@ -12,7 +12,7 @@ ghost use Rattle.turn_laws.specs.ByteWires.{BeginsWire, ItemsAreReadBack, Serves
 ghost use Rattle.turn_laws.specs.Scripts.{GivesBack, LosesCommands, MisreadsLines, MovesUnderUse, PairsCommands};
 ghost use Rattle.turn_laws.specs.Refines.{CarrierRefines, HandedRefine, MovesRefine, NamesStay, NodesRefine, Refines, StartsRefine, ThrownRefine, WorkersRefine};
 ghost use Rattle.turn_laws.specs.LogHeadline.{HeadlineOfLogs, LogsAreHeld};
-ghost use Rattle.turn_laws.specs.SharedScripts.{OthersActBetween, ProxiesMeet};
+ghost use Rattle.turn_laws.specs.SharedScripts.{AddressesLead, OthersActBetween, ProxiesMeet};
 ghost use Rattle.turn_laws.specs.SharedLog.{HeadlineOfSharedLogs, SharedEndsAreSound, SharedLogsAreHeld};
 ghost use Rattle.turn_laws.specs.Sharing.{SharedRefines};
 ghost use Rattle.turn_laws.specs.Fleet.{EveryFleet, FleetFollows, FleetsStand};
@@ -119,8 +119,9 @@ pub fn headline_of_logs<C: Drop, J: Naming>()
     parts_of_plans_are_plain();
 }
 
-/// The same where other clients of the cluster act between its steps: other proxies, scripts, keys that expire. The headline holds
-/// of the system's own commands, in one legal history of everybody's; and what is left is sound, so another proxy can begin there.
+/// The same where other clients of the cluster act between its steps: other proxies, scripts, keys that expire; and where addresses lead to
+/// any nodes. The headline holds of the system's own commands, in one legal history of everybody's; and what is left is sound, so another
+/// proxy can begin there.
 pub fn headline_beside_others<C: Drop, J: Naming>()
     ensures refines { SharedRefines C J }
     ensures headline { HeadlineOfSharedLogs C J }
@@ -149,6 +150,7 @@ pub fn steps_happen<C: Drop, J: Naming>()
     ensures pairs { PairsCommands C J }
     ensures misreads { MisreadsLines C J }
     ensures shares { OthersActBetween C J }
+    ensures leads { AddressesLead C J }
 {
     front_is_whole();
 }

@@ -17,6 +17,7 @@ module _ {C J : Type 0} where
   one-alone : (event : SharedEvent) (next : System C J) → IsOwn event → (steps : List (StepBeside C J)) → AsAlone steps → AsAlone (record { event = event; next = next } ∷ steps)
   one-alone (SharedEvent.Ours event) next own steps later =
       (record { event = event; next = next } ∷ later.0, (λ s s' x. (x.0, later.1 next s' x.1)), (λ s x. (x.0, later.2 next x.1)))
+  one-alone (SharedEvent.Led event) next own steps later = absurd own
   one-alone (SharedEvent.Theirs node asking done) next own steps later = absurd own
 
   all-alone : (steps : List (StepBeside C J)) → All (λ (step : StepBeside C J). IsOwn step.event) steps → AsAlone steps

@@ -1,6 +1,6 @@
 -- What a node writes of a command and of a block.
 use Rattle.std.proofs.Common.{◌≡◌, ◌<◌, ◌≤◌, ◌+◌, ℕ, suc, Bool, true, false, List, [], ◌∷◌, ◌++◌, Ok, Err, length, map, refl, sym, ap, subst, ◌∙◌, arith}
-use Rattle.std.specs.Prelude.{All, IfErr, IfOk, Result, Vec, replicate, slice_index_or}
+use Rattle.std.specs.Prelude.{IfErr, IfOk, Result, Vec, replicate, slice_index_or}
 use Rattle.std.specs.declared.alloc.Global.{Global}
 use Rattle.std.specs.declared.collections.VecDeque.{VecDeque}
 use Rattle.std.proofs.lemmas.List.{append-nil, append_assoc, length-append, length-replicate, replicate-append-replicate}
@@ -8,7 +8,6 @@ use Rattle.resp_wire.specs.Data.{array, items_of}
 use Rattle.resp_wire.specs.Seen.{data_of}
 use Rattle.resp_wire.specs.declared.value.Value.{Value}
 use Rattle.key_split.specs.PartModel.{PartModel}
-use Rattle.key_split.specs.Told.{CanBeWritten}
 use Rattle.key_split.specs.declared.travel.Told.{Told}
 use Rattle.key_split.specs.declared.travel.Told.TheVariants.{Reply, Moved, Ask, TryAgain, ClusterDown, Unclear, Lost, Unsent}
 use Rattle.slot_map.specs.Table.{Endpoint}
@@ -28,7 +27,7 @@ use Rattle.turn_laws.specs.Wire.{Item, Asks, Runs, Lists, Part, parts_in}
 use Rattle.turn_laws.specs.Writing.{AreWritten}
 use Rattle.turn_play.specs.declared.fault.PlayFault.{PlayFault}
 use Rattle.turn_play.specs.declared.fault.PlayFault.TheVariants as fault
-use Rattle.turn_play.specs.Answering.{Answers, BlockOutcome, IsDoneRun, IsReadable, RefuseOutcome, replies_in}
+use Rattle.turn_play.specs.Answering.{Answers, BlockOutcome, IsDoneRun, RefuseOutcome, replies_in}
 use Rattle.turn_play.specs.Hearing.{most_replies, unnumbered}
 use Rattle.turn_play.specs.Serving.{CannotServeRun, IsRefusal, IsRunSaid, WriteAllOutcome, okay}
 use Rattle.turn_play.specs.Stream.{BlockDone, CannotBeServed, IsReplied, exec_aborted, queued}

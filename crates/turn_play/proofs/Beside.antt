@@ -131,6 +131,7 @@ module _ (C J : Type 0) (laws : Laws C J) (shared : SharedRefines C J) (start : 
   one-step s s' w h known (SharedEvent.Ours event) may now =
       let x = step-holds laws.heard s s' w h known.0 known.1 event may now in
       (x, (laws.names event s s' w h known.0 x, hears-on C J laws start fresh s s' event may x known.1))
+  one-step s s' w h known (SharedEvent.Led event) may now = absurd may
   one-step s s' w h known (SharedEvent.Theirs node asking done) may now =
       (others-do s s' node asking done may now, (others-name s s' node asking done may known.0, others-hear s s' node asking done may known.1))
 

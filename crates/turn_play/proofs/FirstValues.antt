@@ -1,9 +1,9 @@
 -- The first value of bytes, fed one by one.
-use Rattle.std.proofs.Common.{◌≡◌, ◌⊎◌, inl, inr, ◌<◌, ◌≤◌, ◌+◌, ℕ, suc, List, [], ◌∷◌, ◌++◌, length, take, drop, map, Some, None, Option, true, false, refl, sym, ap, subst, ◌∙◌, arith, append_assoc}
+use Rattle.std.proofs.Common.{◌≡◌, ◌⊎◌, inl, inr, ◌+◌, ℕ, List, [], ◌∷◌, ◌++◌, length, drop, map, Some, None, Option, false, refl, sym, ap, subst, ◌∙◌, arith, append_assoc}
 use Rattle.std.specs.Prelude.{is_some, option_map}
-use Rattle.std.proofs.lemmas.List.{length-append, take-append-drop}
+use Rattle.std.proofs.lemmas.List.{length-append}
 use Rattle.resp_wire.specs.Data.{Data, Items, simple, error, integer, bulk, null_bulk, array, null_array, no_items, item, items_of}
-use Rattle.resp_wire.specs.FirstValue.{front, Front, Whole, Partial, Faulty}
+use Rattle.resp_wire.specs.FirstValue.{front, Whole, Partial, Faulty}
 use Rattle.resp_wire.specs.LimitsModel.{LimitsModel, full}
 use Rattle.resp_wire.specs.Spelling.{BeginsLine, Spells}
 use Rattle.resp_wire.specs.Words.{bulks_of, words_of}

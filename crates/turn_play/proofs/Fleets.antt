@@ -12,7 +12,7 @@ use Rattle.turn_laws.specs.System.{System, Mark}
 use Rattle.turn_laws.specs.Asking.{NoneAsksIn}
 use Rattle.turn_laws.specs.Steps.{SystemEvent, AtWorker, AtCarrier, Handed, AtNode, AtBroken, Thrown, Moved, SystemStep, log_of}
 use Rattle.turn_laws.specs.Sharing.{SharedEvent}
-use Rattle.turn_laws.specs.Fleet.{EveryFleet, Fleet, FleetEvent, FleetFollows, FleetRun, FleetStep, FleetsStand, IsFleetStart, foreign}
+use Rattle.turn_laws.specs.Fleet.{EveryFleet, Fleet, FleetEvent, FleetFollows, FleetRun, FleetStep, FleetsStand, IsFleetStart, IsSeenByOthers, foreign}
 use Rattle.turn_laws.specs.Writing.{CanBeNamed, WrittenIsHeard}
 use Rattle.turn_play.specs.declared.fault.PlayFault.{PlayFault}
 use Rattle.turn_play.specs.declared.moves.Move.{Move}
@@ -72,6 +72,7 @@ module _ {C J : Type 0} where
   -- others wait for a step, which is the proxy's own
   abbrev WaitFor : Fleet C J → ℕ → SharedEvent → Type 0
   WaitFor f p (SharedEvent.Ours event) = (slot target : ℕ) → event ≡ Moved (core.Import slot target) → (q : ℕ) → q ≢ p → NoneAsksIn (f q) slot target
+  WaitFor f p (SharedEvent.Led event) = ⊥
   WaitFor f p (SharedEvent.Theirs node asking done) = ⊥
 
   still-waits : (f : Fleet C J) (p : ℕ) (event : SystemEvent) → is_moved event ≡ false → WaitFor f p (SharedEvent.Ours event)
@@ -89,6 +90,12 @@ module _ {C J : Type 0} where
   event-waits f p (order.Cut node most) (SharedEvent.Ours event) ours waits is = absurd is
   event-waits f p (order.Move move) (SharedEvent.Ours event) ours waits is = move-waits f p move event waits is
   event-waits f p (order.Others node asking parts) (SharedEvent.Ours event) ours waits is = absurd ours
+  event-waits f p order.Turn (SharedEvent.Led event) ours waits is = absurd is
+  event-waits f p (order.Serve node verdict) (SharedEvent.Led event) ours waits is = absurd is
+  event-waits f p (order.Break node) (SharedEvent.Led event) ours waits is = absurd is
+  event-waits f p (order.Cut node most) (SharedEvent.Led event) ours waits is = absurd is
+  event-waits f p (order.Move move) (SharedEvent.Led event) ours waits is = absurd is
+  event-waits f p (order.Others node asking parts) (SharedEvent.Led event) ours waits is = absurd ours
   event-waits f p order.Turn (SharedEvent.Theirs n a done) ours waits is = absurd is
   event-waits f p (order.Serve node verdict) (SharedEvent.Theirs n a done) ours waits is = absurd is
   event-waits f p (order.Break node) (SharedEvent.Theirs n a done) ours waits is = absurd is
@@ -126,11 +133,15 @@ module _ {C J : Type 0} where
   abbrev Shared : Fleet C J → Type 0
   Shared f = (a b : ℕ) → (f a).cluster ≡ (f b).cluster
 
-  shared-step : (event : FleetEvent) (f g : Fleet C J) → FleetStep C J f event g → Shared g
-  shared-step (FleetEvent.By p event) f g x a b = at a ∙ sym (at b)
+  by-one : (f g : Fleet C J) (p : ℕ) → IsSeenByOthers C J f p g → Shared g
+  by-one f g p x a b = at a ∙ sym (at b)
     where
       at : (q : ℕ) → (g q).cluster ≡ (g p).cluster
-      at q = ⊎_elim (λ (y : ((q == p) ≡ true) × (q ≡ p)). ap (λ z. (g z).cluster) y.1) (λ (y : ((q == p) ≡ false) × (q ≢ p)). ap (λ (z : System C J). z.cluster) (x.4 q y.1)) (eqb_tells q p)
+      at q = ⊎_elim (λ (y : ((q == p) ≡ true) × (q ≡ p)). ap (λ z. (g z).cluster) y.1) (λ (y : ((q == p) ≡ false) × (q ≢ p)). ap (λ (z : System C J). z.cluster) (x.2 q y.1)) (eqb_tells q p)
+
+  shared-step : (event : FleetEvent) (f g : Fleet C J) → FleetStep C J f event g → Shared g
+  shared-step (FleetEvent.By p event) f g x a b = by-one f g p x.2 a b
+  shared-step (FleetEvent.Led p event) f g x a b = by-one f g p x.1 a b
   shared-step (FleetEvent.Outside node asking done) f g x a b = x.1 a b
 
   shared-run : (events : List FleetEvent) (f g : Fleet C J) → FleetRun C J f events g → Shared f → Shared g
@@ -184,6 +195,7 @@ module _ (C J : Type 0) (heard : WrittenIsHeard) (stand : FleetsStand C J) (foll
   -- a step of the proxy
   goes : (before : List FleetEvent) (g : Fleet C J) → FleetRun C J start before g → Aside f p g → (event : SharedEvent) (next : System C J) → MayStepBeside (g p) event next → MayNowBeside (g p) event next → WaitFor f p event
       → Next before next
+  goes before g r aside (SharedEvent.Led event) next may now waits = absurd waits
   goes before g r aside (SharedEvent.Theirs node asking done) next may now waits = absurd waits
   goes before g r aside (SharedEvent.Ours event) next may now waits =
       let s = stand start g before fresh r p in
@@ -193,7 +205,7 @@ module _ (C J : Type 0) (heard : WrittenIsHeard) (stand : FleetsStand C J) (foll
         step.0,
         run-on before start g step.0 (FleetEvent.By p event) r step.1,
         step.2,
-        once-more f g step.0 p aside (λ q ne. left-aside (g q) (step.0 q) (step.0 p).cluster ((g q).log ++ log_of (map (foreign (length (g q).workers)) step.1.2)) (step.1.4 q ne)),
+        once-more f g step.0 p aside (λ q ne. left-aside (g q) (step.0 q) (step.0 p).cluster ((g q).log ++ log_of (map (foreign (length (g q).workers)) step.1.2.0)) (step.1.2.2 q ne)),
       )
 
   walk : (steps : List (StepBeside C J)) (before : List FleetEvent) (g : Fleet C J) → FleetRun C J start before g → Aside f p g → (s' : System C J) → LeadsBeside (g p) steps s' → AreGivenBeside (g p) steps → AllWait f p steps

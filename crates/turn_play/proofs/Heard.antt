@@ -1,20 +1,19 @@
 -- What a node hears, of what the words of requests are.
-use Rattle.std.proofs.Common.{◌≡◌, ◌≢◌, ◌⊎◌, inl, inr, ◌<◌, ◌≤◌, ◌+◌, ℕ, zero, suc, List, [], ◌∷◌, ◌++◌, length, take, drop, map, Some, None, Ok, Err, refl, sym, ap, subst, ◌∙◌, arith, append_assoc}
-use Rattle.std.specs.Prelude.{All, IsTrue, codes, slice_index_or}
-use Rattle.std.proofs.lemmas.List.{length-append, length-drop, drop-drop, map-append}
-use Rattle.resp_wire.specs.FirstValue.{front, Whole, Partial}
+use Rattle.std.proofs.Common.{◌≡◌, ◌≢◌, ◌<◌, ◌≤◌, ◌+◌, ℕ, zero, suc, List, [], ◌∷◌, ◌++◌, length, drop, map, Ok, refl, sym, ap, subst, ◌∙◌, arith, append_assoc}
+use Rattle.std.specs.Prelude.{All, codes}
+use Rattle.std.proofs.lemmas.List.{length-drop, drop-drop, map-append}
+use Rattle.resp_wire.specs.FirstValue.{front, Whole}
 use Rattle.resp_wire.specs.LimitsModel.{full}
 use Rattle.key_split.specs.Laws.{IsPlain, PlansArePlain, joining_of}
 use Rattle.key_split.specs.PartModel.{PartModel, pairs_in}
 use Rattle.key_split.specs.Plan.{plan_of, PlanAnswer}
 use Rattle.key_split.specs.Words.{words_of}
 use Rattle.key_split.specs.declared.planned.Joining.{Joining}
-use Rattle.key_split.specs.declared.planned.Planned.{Planned}
 use Rattle.key_split.specs.declared.planned.Planned.TheVariants.{Parts}
 use Rattle.key_split.proofs.RoundTrip.{planned-back}
 use Rattle.node_link.specs.Bytes.{words_in}
-use Rattle.turn_laws.specs.ByteWires.{IsPlainItem, ReadsAll, ReadsItem, command_in}
-use Rattle.turn_laws.specs.Wire.{Item, Asks, Runs, Lists, Part, parts_in}
+use Rattle.turn_laws.specs.ByteWires.{ReadsAll, ReadsItem, command_in}
+use Rattle.turn_laws.specs.Wire.{Asks, Runs, Lists, Part, parts_in}
 use Rattle.turn_play.specs.Hearing.{BeginsRequest, NoCommands, NoItem, NoPart, NoRequest, ReadsCommands, exec_words, request, unnumbered}
 use Rattle.turn_play.proofs.FirstValues.{one-first, same-request}
 

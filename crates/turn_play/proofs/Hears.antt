@@ -1,13 +1,12 @@
 -- From the words of the first request to what a node hears.
-use Rattle.std.proofs.Common.{◌≡◌, ◌≢◌, ◌<◌, ◌≤◌, ℕ, List, [], ◌∷◌, Ok, Err, Some, None, length, drop, refl, sym, ap, subst, ◌∙◌, arith}
-use Rattle.std.specs.Prelude.{◌↔◌, Bool, IsTrue, Option, Result, false, nat_eq, slice_index_or, true}
+use Rattle.std.proofs.Common.{◌≡◌, ◌<◌, ◌≤◌, ℕ, List, [], ◌∷◌, Ok, Err, length, drop, refl, sym, ap, subst, ◌∙◌, arith}
+use Rattle.std.specs.Prelude.{◌↔◌, Bool, IsTrue, Result, false, nat_eq, slice_index_or, true}
 use Rattle.std.specs.Cmp.Lexicographic.{bytes_decides, pointwise, pointwise_decides}
 use Rattle.std.proofs.lemmas.List.{length-drop}
 use Rattle.resp_wire.specs.Data.{Data}
 use Rattle.resp_wire.specs.FirstValue.{front, Whole}
 use Rattle.resp_wire.specs.LimitsModel.{full}
 use Rattle.resp_wire.specs.declared.fault.NoMemory.{NoMemory}
-use Rattle.key_split.specs.PartModel.{PartModel}
 use Rattle.turn_play.specs.declared.first_words.FirstWords.{FirstWords}
 use Rattle.turn_play.specs.declared.first_words.FirstWords.TheVariants as first
 use Rattle.turn_play.specs.declared.block.NextCommand.{NextCommand}

@@ -1,20 +1,18 @@
 -- Which values are read back: those whose lines, lengths and counts are within the largest limits.
-use Rattle.std.proofs.Common.{◌≡◌, ◌≢◌, ◌⊎◌, inl, inr, ◌<◌, ◌≤◌, ◌+◌, ◌-◌, ◌^◌, ℕ, ℤ, pos, negsuc, zero, suc, Bool, true, false, cond, eqb, List, [], ◌∷◌, ◌++◌, length, map, take, drop, get_or, Some, None, refl, sym, ap, subst, ◌∙◌, arith, append_assoc, IsTrue, FitsSigned, w64}
+use Rattle.std.proofs.Common.{◌≡◌, ◌⊎◌, inl, inr, ◌<◌, ◌≤◌, ◌+◌, ◌-◌, ◌^◌, ℕ, ℤ, pos, negsuc, zero, suc, true, false, eqb, List, [], ◌∷◌, ◌++◌, length, map, take, get_or, Some, refl, sym, ap, subst, ◌∙◌, arith, append_assoc, IsTrue, FitsSigned, w64}
 use Rattle.std.specs.Prelude.{All, nat_le, slice_index_or}
-use Rattle.std.specs.Fmt.{decimal, signed_decimal}
-use Rattle.std.specs.List.{flat_map}
+use Rattle.std.specs.Fmt.{decimal}
 use Rattle.std.specs.Str.{all_ascii_digits}
-use Rattle.std.specs.Str.Parse.{digits_value, starts_with_minus, without_leading_sign}
+use Rattle.std.specs.Str.Parse.{starts_with_minus, without_leading_sign}
 use Rattle.std.proofs.lemmas.Bool.{leb-true, lt-ltb, le-leb, ne_eqb}
 use Rattle.std.proofs.lemmas.Fmt.{length-decimal-le, decimal_is_IsNumeral}
 use Rattle.std.proofs.lemmas.List.{append-nil, get_or_default, take_more, take_all}
 use Rattle.std.proofs.lemmas.Str.Parse.{tells_all_ascii_digits}
-use Rattle.resp_wire.specs.Canonical.{canonical, canonical_all}
-use Rattle.resp_wire.specs.Data.{Data, Items, simple, error, integer, bulk, null_bulk, array, null_array, no_items, item, items_of}
-use Rattle.resp_wire.specs.FirstValue.{front, Whole}
+use Rattle.resp_wire.specs.Canonical.{canonical}
+use Rattle.resp_wire.specs.Data.{Data, simple, error, integer, bulk, null_bulk, array, null_array, items_of}
 use Rattle.resp_wire.specs.LimitsModel.{full}
 use Rattle.resp_wire.specs.Seen.{data_of}
-use Rattle.resp_wire.specs.Spelling.{count_of, integer_in, is_digits, length_in, signed_64, Spells, SpellsAll}
+use Rattle.resp_wire.specs.Spelling.{count_of, integer_in, is_digits, length_in, Spells, SpellsAll}
 use Rattle.resp_wire.specs.Text.{is_one_line}
 use Rattle.resp_wire.specs.declared.value.Value.{Value}
 use Rattle.resp_wire.proofs.CanonicalLaws.{canonical_reads}
@@ -23,7 +21,7 @@ use Rattle.resp_wire.proofs.OneLine.{plain_more}
 use Rattle.resp_wire.proofs.WriteLaws.{counts}
 use Rattle.key_split.proofs.OneLine.{is_one_line-decimal}
 use Rattle.node_link.specs.Bytes.{Splits}
-use Rattle.turn_play.specs.Answering.{CanAllBeSpelled, CanBeSpelled, IsReadable, all_bytes, bytes_of}
+use Rattle.turn_play.specs.Answering.{CanAllBeSpelled, CanBeSpelled, IsReadable, all_bytes}
 use Rattle.turn_play.proofs.Heard.{all-later}
 
 -- ---- numbers

@@ -6,7 +6,7 @@ use Rattle.resp_wire.specs.Data.{array, bulk, items_of}
 use Rattle.resp_wire.specs.FirstValue.{front, Whole}
 use Rattle.resp_wire.specs.LimitsModel.{full}
 use Rattle.resp_wire.specs.declared.value.Value.{Value}
-use Rattle.resp_wire.specs.declared.value.Value.TheVariants.{Error, Array, Bulk}
+use Rattle.resp_wire.specs.declared.value.Value.TheVariants.{Error, Array}
 use Rattle.key_split.specs.PartModel.{PartModel}
 use Rattle.key_split.specs.Requests.{Asking, Slots}
 use Rattle.key_split.specs.Told.{IsWritten, redirect_text}
@@ -36,7 +36,7 @@ use Rattle.turn_laws.specs.Writing.{AreWritten}
 use Rattle.turn_play.specs.May.{AreSaid, MayServeNext, again}
 use Rattle.turn_play.specs.Port.{PortModel, IsEnd, IsFresh, most_at_first}
 use Rattle.turn_play.specs.Serving.{IsRefusal, IsRunSaid, okay}
-use Rattle.turn_play.specs.Stream.{BlockDone, IsReplied, StreamModel, StreamServes, exec_aborted, far_end, new_stream, queued}
+use Rattle.turn_play.specs.Stream.{BlockDone, IsReplied, StreamModel, StreamServes, exec_aborted, far_end, new_stream}
 use Rattle.turn_play.proofs.BlocksTold.{again-told, all-again, ask-told, executed-told, moved-told, none-written, refused-told, said-again, same-values, tolds_again}
 use Rattle.turn_play.proofs.Said.{as-many, as-many-replies, as-many-written}
 

@@ -1,5 +1,5 @@
 -- What a node writes to the item that it read, as values whose bytes can be read back.
-use Rattle.std.specs.Prelude.{◌≡◌, ◌++◌, ◌⊎◌, ℕ, Bool, List, [], ◌∷◌, All, Result, Ok, Err, true, false}
+use Rattle.std.specs.Prelude.{◌≡◌, ◌++◌, ℕ, Bool, List, [], ◌∷◌, All, Result, Ok, Err, true, false}
 use Rattle.std.specs.declared.collections.VecDeque.{VecDeque}
 use Rattle.std.specs.declared.alloc.Global.{Global}
 use Rattle.std.specs.List.{flat_map}
@@ -15,16 +15,15 @@ use Rattle.key_split.specs.declared.travel.Told.{Told}
 use Rattle.key_split.specs.declared.travel.Told.TheVariants.{Reply, Moved, Ask, TryAgain, ClusterDown, Unclear, Lost, Unsent}
 use Rattle.slot_map.specs.Table.{Endpoint}
 use Rattle.node_model.specs.Nodes.{ClusterModel}
-use Rattle.node_model.specs.Runs.{deed_for, DoesRun}
+use Rattle.node_model.specs.Runs.{deed_for}
 use Rattle.node_model.specs.declared.role.Verdict.{Verdict}
 use Rattle.world_laws.specs.World.{NamesNode}
-use Rattle.turn_laws.specs.Wire.{Item, Asks, Runs, Lists, parts_in}
+use Rattle.turn_laws.specs.Wire.{Item}
 use Rattle.turn_laws.specs.Writing.{AreWritten}
 use Rattle.turn_play.specs.declared.fault.PlayFault.{PlayFault}
 use Rattle.turn_play.specs.declared.fault.PlayFault.TheVariants.{NoMemory, NotServed, OutOfOrder, TooLong}
-use Rattle.turn_play.specs.Hearing.{unnumbered}
-use Rattle.turn_play.specs.Serving.{CannotServeRun, IsRefusal, okay}
-use Rattle.turn_play.specs.Stream.{AreTooLong, BlockDone, CannotBeServed, IsReplied, exec_aborted, queued}
+use Rattle.turn_play.specs.Serving.{IsRefusal, okay}
+use Rattle.turn_play.specs.Stream.{AreTooLong, BlockDone, CannotBeServed, IsReplied, exec_aborted}
 
 -- ---- what can be read back
 

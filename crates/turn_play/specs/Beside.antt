@@ -49,8 +49,10 @@ module _ {C J : Type 0} where
       log = s.log ++ log_of done;
     }
 
+  -- (The nodes of a play have one address each.)
   abbrev pub MayStepBeside : System C J → SharedEvent → System C J → Type 0
   MayStepBeside s (SharedEvent.Ours event) s' = MayStep s event s'
+  MayStepBeside s (SharedEvent.Led event) s' = ⊥
   MayStepBeside s (SharedEvent.Theirs node asking done) s' = OthersMay s node asking done s'
 
   -- these steps lead from the one to the other
@@ -61,6 +63,7 @@ module _ {C J : Type 0} where
   -- a premise of a step of others: an ASK that they followed is true
   abbrev pub MayNowBeside : System C J → SharedEvent → System C J → Type 0
   MayNowBeside s (SharedEvent.Ours event) s' = MayNow s event s'
+  MayNowBeside s (SharedEvent.Led event) s' = Unit {0}
   MayNowBeside s (SharedEvent.Theirs node asking done) s' = All (λ (e : Execution). AskIsTrue s.cluster node asking e.part) done
 
   -- the premises hold at each of them

@@ -30,6 +30,7 @@ pub record Deed (C J : Type 0) : Type 0 where
 -- these commands come to this node
 abbrev pub IsEventOfOthers : ℕ → Bool → List PartModel → SharedEvent → Type 0
 IsEventOfOthers node asking parts (SharedEvent.Ours event) = ⊥
+IsEventOfOthers node asking parts (SharedEvent.Led event) = ⊥
 IsEventOfOthers node asking parts (SharedEvent.Theirs n a done) = (n ≡ node) × (a ≡ asking) × (parts_of done ≡ parts)
 
 -- The node serves, as the verdict says; or it refuses by TRYAGAIN, as which a block is heard that it refused by CLUSTERDOWN or TRYAGAIN.
@@ -44,11 +45,13 @@ IsEventOf (order.Break node) (SharedEvent.Ours event) = ⊥
 IsEventOf (order.Cut node most) (SharedEvent.Ours event) = ⊥
 IsEventOf (order.Move step) (SharedEvent.Ours event) = event ≡ Moved (event_of step)
 IsEventOf (order.Others node asking parts) event = IsEventOfOthers node asking parts.items event
+IsEventOf order (SharedEvent.Led event) = ⊥
 IsEventOf order (SharedEvent.Theirs n a done) = ⊥
 
--- it is no run of others
+-- it is a step of the system alone
 abbrev pub IsOwn : SharedEvent → Type 0
 IsOwn (SharedEvent.Ours event) = Unit {0}
+IsOwn (SharedEvent.Led event) = ⊥
 IsOwn (SharedEvent.Theirs node asking done) = ⊥
 
 module _ {C J : Type 0} where

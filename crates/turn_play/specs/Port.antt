@@ -1,6 +1,6 @@
 -- A port of a play: the carrier's end of a connection in bytes, with a stream in memory, at whose other end a node of the play reads and
 -- writes.
-use Rattle.std.specs.Prelude.{◌≡◌, ℕ, Bool, true, Option, Some, None}
+use Rattle.std.specs.Prelude.{◌≡◌, ℕ, true, Option, Some, None}
 use Rattle.resp_wire.specs.LimitsModel.{full}
 use Rattle.slot_map.specs.Table.{Endpoint}
 use Rattle.node_link.specs.Blocks.{BlockPortModel, block_calls, longest_at}

@@ -1,6 +1,6 @@
 -- A stream in memory, with a node of the play at its other end. A node reads requests off the bytes that were written, and writes the bytes
 -- of its replies.
-use Rattle.std.specs.Prelude.{◌≡◌, ◌⊎◌, ◌^◌, ◌-◌, ◌<◌, ℕ, Bool, true, false, List, [], ◌∷◌, ◌++◌, Some, All, Result, Ok, Err, codes, length, map, replicate}
+use Rattle.std.specs.Prelude.{◌≡◌, ◌⊎◌, ◌^◌, ◌-◌, ◌<◌, ℕ, Bool, true, false, List, [], ◌∷◌, ◌++◌, Result, Ok, Err, codes, length, map, replicate}
 use Rattle.resp_wire.specs.LimitsModel.{full}
 use Rattle.resp_wire.specs.Seen.{data_of}
 use Rattle.resp_wire.specs.Data.{array, items_of}
@@ -11,7 +11,7 @@ use Rattle.key_split.specs.declared.travel.Told.{Told}
 use Rattle.slot_map.specs.Table.{Endpoint}
 use Rattle.node_model.specs.Nodes.{ClusterModel, store_at, with_store}
 use Rattle.node_model.specs.Listing.{slots_data}
-use Rattle.node_model.specs.Runs.{AllTold, AreReplies, deed_for, DoesRun, store_after_all}
+use Rattle.node_model.specs.Runs.{AllTold, AreReplies, deed_for, store_after_all}
 use Rattle.node_model.specs.declared.role.Deed.{Deed}
 use Rattle.node_model.specs.declared.role.Deed.TheVariants.{Executes, Says}
 use Rattle.node_model.specs.declared.role.Verdict.{Verdict}
@@ -20,7 +20,7 @@ use Rattle.node_link.specs.declared.stream.Flow.{Flow}
 use Rattle.node_link.specs.declared.stream.Flow.TheVariants as flow
 use Rattle.world_laws.specs.World.{NamesNode}
 use Rattle.turn_laws.specs.ByteWires.{FarEnd, ReadsItem, asking_after}
-use Rattle.turn_laws.specs.Wire.{Item, Asks, Runs, Lists, Part, parts_in}
+use Rattle.turn_laws.specs.Wire.{Item, Asks, Runs, Lists, parts_in}
 use Rattle.turn_laws.specs.Writing.{AreWritten}
 use Rattle.turn_play.specs.declared.fault.PlayFault.{PlayFault}
 use Rattle.turn_play.specs.declared.fault.PlayFault.TheVariants.{NoMemory, NotServed, OutOfOrder, TooLong}

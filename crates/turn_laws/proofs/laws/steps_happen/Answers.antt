@@ -1,6 +1,7 @@
 use Rattle.turn_laws.proofs.FullLane.{given-back}
 use Rattle.turn_laws.proofs.LossParting as loss
 use Rattle.turn_laws.proofs.ScriptGetting as move
+use Rattle.turn_laws.proofs.ScriptLeading as leading
 use Rattle.turn_laws.proofs.ScriptPair as pair
 use Rattle.turn_laws.proofs.ScriptSharing as sharing
 use Rattle.turn_laws.proofs.ScriptUnclear as unclear
@@ -23,3 +24,6 @@ returns-clause-misreads g c = λ port. unclear.happens port c.front_is_whole.ens
 
 pub returns-clause-shares : goal.returns-clause-shares
 returns-clause-shares g c = λ port. sharing.happens port c.front_is_whole.ensures
+
+pub returns-clause-leads : goal.returns-clause-leads
+returns-clause-leads g c = λ port. leading.happens port c.front_is_whole.ensures
