@@ -7,8 +7,8 @@ SET = request(b"SET", b"a", b"1")
 ASKING_SET_THEN_SLOTS = request(b"ASKING") + SET + request(b"CLUSTER", b"SLOTS")
 ANSWERS = b"-ERR x\r\n+OK\r\n*0\r\n"
 
-# So many calls that find nothing are waited for more commands before those that wait are written.
-PATIENCE = 4
+# Calls that find nothing, behind which commands that wait are written.
+PATIENCE = 2
 
 
 def begin(row, stream, object="link"):

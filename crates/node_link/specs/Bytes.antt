@@ -87,7 +87,7 @@ Offers offered may_wait old unsent refused new refused' =
 
 -- reads with nothing sent between them, until which bytes that were never offered are held back
 abbrev pub flush_after_reads : ℕ
-flush_after_reads = 4
+flush_after_reads = 2
 
 -- none waits, or fewer reads came with nothing sent
 abbrev pub MayWait : List ℕ → ℕ → Type 0

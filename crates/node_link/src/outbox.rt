@@ -13,7 +13,7 @@ use std::marker::Model;
 /// Writes are held back until this many bytes are waiting, in bytes.
 const FLUSH_SIZE: usize = 16 * 1024;
 /// Writes are held back until this many reads came with nothing sent between them.
-pub const FLUSH_AFTER_READS: u32 = 4;
+pub const FLUSH_AFTER_READS: u32 = 2;
 
 /// Bytes from which on a word is not copied where its line end stands behind it: both are written from where they stand.
 /// A piece that ended with a shorter one could be less than one write has to be offered.

@@ -3,7 +3,7 @@
 ghost use Rattle.std.specs.Prelude.{◌≡◌, ◌↔◌, IsTrue};
 ghost use Rattle.socket_proxy.specs.ClientRoom.{kept_for_nodes};
 
-/// So many descriptors are kept for each worker's connections to nodes, or of all a quarter where that is less.
+/// Descriptors that are kept for the connections of each worker to nodes, or of all a quarter where that is less.
 const KEPT_FOR_NODES: u64 = 64;
 
 /// For how many clients there is room. The system gives the lowest descriptor that is free, so a new client's descriptor

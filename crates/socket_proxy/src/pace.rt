@@ -3,10 +3,10 @@
 ghost use Rattle.std.specs.Prelude.{◌≡◌, ◌<◌, true, false};
 ghost use Rattle.socket_proxy.specs.declared.pace.TheConstants.{STILL_TURNS, TURNS_PER_POLL};
 
-/// So many turns that move something go by between two polls.
+/// Turns that move something, between two polls.
 const TURNS_PER_POLL: u32 = 4;
 /// Turns in a row that moved nothing, after which all that was to be written went out, and the thread sleeps.
-const STILL_TURNS: u32 = 6;
+const STILL_TURNS: u32 = 3;
 
 /// How many turns moved something since the last poll, and how many in a row moved nothing.
 #[derive(Drop)]
