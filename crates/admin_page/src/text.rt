@@ -1,7 +1,6 @@
 //! Samples and the heads of families, in Prometheus' text format.
 
-ghost use Rattle.std.specs.Prelude.{◌≡◌, ◌++◌, ◌∷◌, [], OnOk, None, Some, codes, decimal};
-ghost use Rattle.std.specs.List.{flat_map};
+ghost use Rattle.std.specs.Prelude.{◌≡◌, ◌++◌, OnOk, codes, decimal};
 ghost use Rattle.admin_page.specs.Text.{escaped, escaped_byte, head_text, line_text, sample_text};
 ghost use Rattle.admin_page.specs.Page.{labelled, plain};
 

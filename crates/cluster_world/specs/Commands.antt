@@ -1,8 +1,7 @@
 -- The commands in order of arrival, and what the tables by which they are found say of them.
 -- Only private functions cite it.
-use Rattle.std.specs.Prelude.{◌≡◌, ◌≢◌, ◌⊎◌, ◌↔◌, ◌==◌, ◌&&◌, not, ℕ, Bool, true, List, length, take, Option, Some, None, All, count_by, position, slice_get, slice_set}
+use Rattle.std.specs.Prelude.{◌≡◌, ◌⊎◌, ◌↔◌, ◌==◌, ◌&&◌, not, ℕ, Bool, true, List, length, take, Option, Some, None, All, count_by, position, slice_get, slice_set}
 use Rattle.key_split.specs.declared.travel.Ticket.{Ticket}
-use Rattle.key_split.specs.declared.travel.Told.{Told}
 use Rattle.key_split.specs.Same.{same_ticket}
 use Rattle.command_future.specs.CommandModel.{MayPostTo}
 use Rattle.command_future.specs.declared.stage.Stage.TheVariants.{Awaits}

@@ -1,6 +1,6 @@
 -- Rows: how many things of one kind a list has, and how many of them, the first ones, are over.
 -- Only private functions cite it.
-use Rattle.std.specs.Prelude.{◌≡◌, ◌↔◌, ◌<◌, ◌≤◌, ◌+◌, ℕ, zero, suc, Bool, true, List, [], ◌∷◌, length, if◌then◌else◌, Option, Some, slice_get, unwrap_or}
+use Rattle.std.specs.Prelude.{◌≡◌, ◌↔◌, ◌<◌, ◌≤◌, ◌+◌, ℕ, zero, suc, Bool, true, List, [], ◌∷◌, length, if◌then◌else◌, Some, slice_get, unwrap_or}
 use Rattle.std.specs.HashMap.{HashMap, get}
 use Rattle.cluster_world.specs.declared.rows.Row.{Row}
 

@@ -1,6 +1,6 @@
 -- The parts of a run that a link's node is to serve.
 -- Only private functions cite it.
-use Rattle.std.specs.Prelude.{◌≡◌, ℕ, List, [], ◌∷◌, Vec, Result, Ok, Err, Option, None}
+use Rattle.std.specs.Prelude.{◌≡◌, ℕ, List, [], ◌∷◌, Vec, Result, Ok, Err, None}
 use Rattle.std.specs.declared.alloc.Global.{Global}
 use Rattle.key_split.specs.PartModel.{PartModel, HasOneSlot}
 use Rattle.key_split.specs.declared.travel.Ticket.{Ticket}

@@ -1,6 +1,6 @@
 -- What the tables of commands say, and how they change.
 -- Only private functions cite it.
-use Rattle.std.specs.Prelude.{◌≡◌, ◌<◌, ◌==◌, ◌&&◌, ℕ, Bool, cond, List, [], ◌∷◌, ◌++◌, Option, Some, None, nat_eq}
+use Rattle.std.specs.Prelude.{◌≡◌, ◌<◌, ◌==◌, ◌&&◌, ℕ, Bool, cond, [], ◌∷◌, ◌++◌, Option, Some, None, nat_eq}
 use Rattle.std.specs.Vec.{vec_len, vec_capacity}
 use Rattle.std.specs.HashMap.{HashMap, get, spare}
 use Rattle.key_split.specs.declared.travel.Ticket.{Ticket}

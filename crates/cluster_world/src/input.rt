@@ -1,6 +1,6 @@
 //! The whole of an input, within a limit.
 
-ghost use Rattle.std.specs.Prelude.{◌≡◌, ◌≤◌, ◌<◌, ◌+◌, ℕ, List, Some, IfOk, take, ◌++◌, OnOk, length};
+ghost use Rattle.std.specs.Prelude.{◌≡◌, ◌≤◌, ◌<◌, ◌+◌, ℕ, List, Some, IfOk};
 ghost use Rattle.cluster_world.specs.Reading.{IsInput, IsShort, TakesPiece};
 
 use crate::watched::WatchedReader;

@@ -1,11 +1,11 @@
 //! The links, with the history of what their nodes executed.
 
-ghost use Rattle.std.specs.Prelude.{◌≡◌, ◌<◌, ◌≤◌, ◌+◌, ◌↔◌, [], ◌∷◌, List, All, IsTrue, length};
+ghost use Rattle.std.specs.Prelude.{◌≡◌, ◌<◌, ◌≤◌, ◌+◌, ◌↔◌, [], All, IsTrue, length};
 ghost use Rattle.std.specs.Borrow.{Bor};
 ghost use Rattle.std.specs.Option.{option_map};
 ghost use Rattle.std.specs.Vec.{vec_len, vec_capacity};
 ghost use Rattle.node_model.specs.Runs.{HaveOneSlot};
-ghost use Rattle.cluster_world.specs.Kept.{served_in, shown, KeepsBelow, Notes, NotesAll, NotesFor};
+ghost use Rattle.cluster_world.specs.Kept.{served_in, KeepsBelow, Notes, NotesAll, NotesFor};
 ghost use Rattle.cluster_world.specs.Links.{There, Begins, BeginsRun, Carries, Closes, Discards, Fetches, FirstIs, HasReply, Welcomes, LinkExecutes};
 ghost use Rattle.cluster_world.specs.Rests.{LineRests, LinkRests};
 ghost use Rattle.world_laws.specs.World.{IsNode};

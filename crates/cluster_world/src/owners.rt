@@ -1,7 +1,6 @@
 //! The owners of a new world's slots.
 
-ghost use Rattle.std.specs.Prelude.{◌↔◌, ◌+◌, ◌<◌, List, IfOk, IsSome, IsTrue};
-ghost use Rattle.slot_map.specs.Map.{node_after, MapShows};
+ghost use Rattle.std.specs.Prelude.{◌+◌, ◌<◌, IfOk};
 ghost use Rattle.slot_map.specs.declared.ops.MapOp.{MapOp};
 ghost use Rattle.cluster_world.specs.Owners.{IsTakenOver};
 

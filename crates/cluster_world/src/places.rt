@@ -1,6 +1,6 @@
 //! Where the things of a report stand, by their tickets.
 
-ghost use Rattle.std.specs.Prelude.{◌≡◌, ◌≤◌, ◌↔◌, ℕ, IfOk, IfSome, IsTrue, Some, cond, is_none};
+ghost use Rattle.std.specs.Prelude.{◌≡◌, ◌≤◌, ◌↔◌, IfOk, IfSome, IsTrue, Some, cond, is_none};
 ghost use Rattle.key_split.specs.declared.travel.Ticket.{Ticket};
 ghost use Rattle.cluster_world.specs.Index.{found, place_in, same_key, ticket_key, turn_key, Indexes};
 ghost use Rattle.cluster_world.specs.declared.places.Key.{Key};

@@ -8,7 +8,6 @@ ghost use Rattle.world_laws.specs.State.{HasEnded};
 ghost use Rattle.world_laws.specs.World.{IsAmong, MayGo, SameTurn};
 ghost use Rattle.world_laws.specs.declared.event.Event.TheVariants as event;
 ghost use Rattle.world_laws.specs.declared.state.Arrival.{Arrival as Row};
-ghost use Rattle.cluster_world.specs.Commands.{HasTurn};
 ghost use Rattle.cluster_world.specs.Machine.{state_of, MachineAnswers};
 ghost use Rattle.cluster_world.specs.Posting.{way_for, ArePast, Follows, GoesOut, GoTogether, HeadIs, IsFresh, IsRun};
 

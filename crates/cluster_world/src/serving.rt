@@ -1,6 +1,6 @@
 //! How the nodes of links serve what the links carry.
 
-ghost use Rattle.std.specs.Prelude.{◌≡◌, ◌↔◌, ◌∷◌, All, IsTrue, List, length};
+ghost use Rattle.std.specs.Prelude.{◌≡◌, ◌↔◌, All, IsTrue, List, length};
 ghost use Rattle.key_split.specs.declared.travel.Ticket.{Ticket as Row};
 ghost use Rattle.node_model.specs.Runs.{HaveOneSlot};
 ghost use Rattle.node_model.specs.Serving.{names_node as named_among};

@@ -1,4 +1,4 @@
-ghost use Rattle.std.specs.Prelude.{◌≡◌, MatchOption};
+ghost use Rattle.std.specs.Prelude.{MatchOption};
 ghost use Rattle.key_split.specs.declared.travel.Batch.{Batch};
 ghost use Rattle.key_split.specs.declared.travel.Ticket.{Ticket};
 ghost use Rattle.key_split.specs.declared.travel.Told.{Told};

@@ -1,6 +1,6 @@
 //! One line of the log.
 
-ghost use Rattle.std.specs.Prelude.{◌≡◌, ◌++◌, List, ℕ, IfOk, OnOk, codes};
+ghost use Rattle.std.specs.Prelude.{◌≡◌, ◌++◌, List, ℕ, IfOk, codes};
 ghost use Rattle.event_log.specs.Line.{head_text, pair_text};
 
 use crate::value::push_value;

@@ -1,6 +1,6 @@
 //! How a value is spelled.
 
-ghost use Rattle.std.specs.Prelude.{◌≡◌, ◌++◌, ◌&&◌, not, nat_eq, nat_le, length, map, IfOk, OnOk};
+ghost use Rattle.std.specs.Prelude.{◌≡◌, ◌++◌, ◌&&◌, nat_le, length, map, IfOk, OnOk};
 ghost use Rattle.std.specs.List.{list_all};
 ghost use Rattle.event_log.specs.Line.{is_printable, is_quotable, is_bare, quoted_byte, quoted, value_text};
 

@@ -1,5 +1,5 @@
 -- A command on one key, before any word of it is copied.
-use Rattle.std.specs.Prelude.{◌≡◌, ◌<◌, List, [], ◌∷◌, Bool, true, Option, Some, None, Result, Ok, Err, length, if◌then◌else◌}
+use Rattle.std.specs.Prelude.{◌≡◌, ◌<◌, [], ◌∷◌, true, Option, Some, None, Result, Ok, Err, length, if◌then◌else◌}
 use Rattle.key_split.specs.declared.part.Op.{Op}
 use Rattle.key_split.specs.declared.planned.Planned.TheVariants.{Parts}
 use Rattle.key_split.specs.declared.planned.Joining.TheVariants.{One}

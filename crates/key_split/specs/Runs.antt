@@ -1,6 +1,6 @@
 -- Commands that travel together: one client's commands for one slot, which a node executes in order and at once, or not at all.
 -- ASKING counts for the next request of its connection alone, so a command that asks goes by itself.
-use Rattle.std.specs.Prelude.{◌≡◌, ℕ, ◌+◌, List, ◌∷◌, All, length, Bool, false}
+use Rattle.std.specs.Prelude.{◌≡◌, ℕ, ◌+◌, List, ◌∷◌, All, length, false}
 use Rattle.std.specs.List.{flat_map}
 use Rattle.slot_hash.specs.Slot.{slot_of}
 use Rattle.key_split.specs.declared.travel.Batch.{Batch}

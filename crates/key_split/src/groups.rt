@@ -1,6 +1,6 @@
 //! The groups that the keys of a request make: those of one slot together.
 
-ghost use Rattle.std.specs.Prelude.{◌≡◌, All, IsTrue, IfOk, map};
+ghost use Rattle.std.specs.Prelude.{◌≡◌, All, IsTrue, IfOk};
 ghost use Rattle.slot_hash.specs.Slot.{slot_of};
 ghost use Rattle.key_split.specs.PartModel.{takes_group, IsValueFor};
 ghost use Rattle.key_split.specs.Groups.{alone, group_numbers, pairs_of, parts_of};

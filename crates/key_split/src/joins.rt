@@ -1,6 +1,6 @@
 //! The reply that the ends of a request's parts become.
 
-ghost use Rattle.std.specs.Prelude.{◌≡◌, ◌==◌, ◌<◌, All, drop, option_map, IfOk, IsTrue, length, map, ◌++◌, [], ◌+ℤ◌, FitsSigned, IfSome, slice_index_or};
+ghost use Rattle.std.specs.Prelude.{◌≡◌, ◌==◌, ◌<◌, All, drop, option_map, IfOk, length, map, [], ◌+ℤ◌, FitsSigned, IfSome, slice_index_or};
 ghost use Rattle.std.specs.Int.{w64, w128};
 ghost use Rattle.std.specs.List.{find, list_all, slice_get};
 ghost use Rattle.resp_wire.specs.Seen.{data_of};

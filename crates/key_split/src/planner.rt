@@ -1,13 +1,13 @@
 //! What the words of a request ask for.
 
-ghost use Rattle.std.specs.Prelude.{◌≡◌, ◌<◌, ◌+◌, length, map, drop, IsTrue, IfOk, [], ◌∷◌, slice_index_or};
+ghost use Rattle.std.specs.Prelude.{◌≡◌, ◌<◌, ◌+◌, length, drop, IsTrue, IfOk, [], ◌∷◌, slice_index_or};
 ghost use Rattle.std.specs.List.{list_all};
 ghost use Rattle.key_split.specs.Number.{number_of};
 ghost use Rattle.key_split.specs.PartModel.{takes_group};
 ghost use Rattle.key_split.specs.Groups.{alone};
 ghost use Rattle.key_split.specs.Join.{CanBeJoined};
 ghost use Rattle.key_split.specs.Names.{allows, same_letters};
-ghost use Rattle.key_split.specs.OneKey.{FindsOne, HasArgs, one_at};
+ghost use Rattle.key_split.specs.OneKey.{FindsOne, HasArgs};
 ghost use Rattle.key_split.specs.Plan.{gathered, increase, mode_of, plan_as, plan_of, Plans, select, set_with, summed};
 ghost use Rattle.key_split.specs.Wishes.{HasWords, Wishes, made};
 

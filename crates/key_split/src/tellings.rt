@@ -1,7 +1,6 @@
 //! What a node writes for what it answers.
 
-ghost use Rattle.std.specs.Prelude.{◌≡◌, ◌<◌, ◌++◌, IfOk, IsTrue, length, codes};
-ghost use Rattle.std.specs.Fmt.{decimal};
+ghost use Rattle.std.specs.Prelude.{◌≡◌, ◌<◌, IfOk, IsTrue, length};
 ghost use Rattle.resp_wire.specs.Text.{is_one_line};
 ghost use Rattle.slot_map.specs.Table.{endpoint_of};
 ghost use Rattle.key_split.specs.Told.{redirect, redirect_text, CanBeWritten, IsWritten};

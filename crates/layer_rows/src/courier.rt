@@ -1,6 +1,6 @@
 //! A courier that posts and tells what a row says.
 
-ghost use Rattle.std.specs.Prelude.{◌≡◌, ⊤};
+ghost use Rattle.std.specs.Prelude.{⊤};
 
 use crate::held::{is_done, put, put_read};
 use crate::notation::{CallFault, Line, Object};

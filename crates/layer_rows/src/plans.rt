@@ -1,6 +1,6 @@
 //! What a request is planned as, the words for nodes, and what the ends of its parts become.
 
-ghost use Rattle.std.specs.Prelude.{◌≡◌, length, IfOk};
+ghost use Rattle.std.specs.Prelude.{IfOk};
 ghost use Rattle.key_split.specs.Join.{CanBeJoined};
 
 use crate::held::keep;

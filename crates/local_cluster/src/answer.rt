@@ -1,6 +1,6 @@
 //! How a node of a cluster in one process answers a request.
 
-ghost use Rattle.std.specs.Prelude.{◌≡◌, ◌++◌, ◌∷◌, [], IfOk, OnOk, OnErr, MatchResult, length, map, None};
+ghost use Rattle.std.specs.Prelude.{◌≡◌, ◌++◌, ◌∷◌, [], IfOk, OnOk, OnErr, MatchResult, map, None};
 ghost use Rattle.key_split.specs.Requests.{Command, requests_of};
 ghost use Rattle.key_split.specs.Told.{CanBeWritten, IsWritten};
 ghost use Rattle.local_cluster.specs.Addresses.{addresses};

@@ -2,7 +2,6 @@
 
 ghost use Rattle.std.specs.Prelude.{◌≡◌, ◌<◌, ◌≤◌, ◌↔◌, IfOk, IsTrue, length};
 ghost use Rattle.world_laws.specs.Headline.{IsNew};
-ghost use Rattle.slot_map.specs.Table.{Endpoint};
 ghost use Rattle.local_cluster.specs.Addresses.{addresses, IsListedAt};
 ghost use Rattle.local_cluster.specs.Held.{CountsNodes, WasListed, WasTold, WasTried};
 ghost use Rattle.local_cluster.specs.Local.{IsSound};

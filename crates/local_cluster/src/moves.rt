@@ -1,6 +1,5 @@
 //! Steps of moves, made by the nodes.
 
-ghost use Rattle.std.specs.Prelude.{◌≡◌};
 ghost use Rattle.local_cluster.specs.Local.{Makes};
 
 use crate::step::MoveStep;

@@ -1,7 +1,7 @@
 -- What a call of a port does, by its answer.
 -- A port that fails at a send may have sent all of the requests or none. The count of failures never falls, so a failure in any
 -- one of several calls shows.
-use Rattle.std.specs.Prelude.{◌≡◌, ◌⊎◌, ◌<◌, ◌≤◌, ◌-◌, ◌^◌, List, [], ◌∷◌, ℕ, Option, Some, None, Result, Ok, Err}
+use Rattle.std.specs.Prelude.{◌⊎◌, ◌<◌, ◌≤◌, ◌-◌, ◌^◌, List, [], ◌∷◌, ℕ, Option, Some, None, Result, Ok, Err}
 use Rattle.resp_wire.specs.declared.value.Value.{Value}
 use Rattle.key_split.specs.Requests.{Request}
 use Rattle.node_link.specs.declared.port.PortFault.{PortFault}

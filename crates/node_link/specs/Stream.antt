@@ -1,6 +1,6 @@
 -- What one call on a stream of bytes moves, by its answer.
 -- A socket keeps no list of its bytes, so its relation may hold of anything; a stream in memory keeps both lists.
-use Rattle.std.specs.Prelude.{◌≡◌, ◌≤◌, ◌<◌, List, [], ℕ, length, take}
+use Rattle.std.specs.Prelude.{◌≤◌, List, [], ℕ, length, take}
 use Rattle.node_link.specs.declared.stream.Flow.{Flow}
 use Rattle.node_link.specs.declared.stream.Flow.TheVariants.{Bytes, Nothing, Gone}
 use Rattle.node_link.specs.Port.{Rose}

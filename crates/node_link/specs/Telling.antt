@@ -3,11 +3,11 @@
 -- The first word of an error line decides.
 -- Any other value is the command's reply, other errors too. A redirection that can't be read, or to a new node when the
 -- table is full, is Unclear, a refusal: the node executed nothing.
-use Rattle.std.specs.Prelude.{◌≡◌, ◌⊎◌, List, [], ◌∷◌, ℕ, Option, Some, None, Result, Ok, Err, ◌||◌, codes, if◌then◌else◌, IsTrue}
+use Rattle.std.specs.Prelude.{◌≡◌, ◌⊎◌, List, [], ℕ, Option, Some, None, Result, Ok, Err, ◌||◌, codes, if◌then◌else◌, IsTrue}
 use Rattle.std.specs.Str.{bytes_eq}
 use Rattle.resp_wire.specs.declared.fault.NoMemory.{NoMemory}
 use Rattle.resp_wire.specs.declared.value.Value.{Value}
-use Rattle.resp_wire.specs.declared.value.Value.TheVariants.{Simple, Error, Integer, Bulk, NullBulk, Array, NullArray}
+use Rattle.resp_wire.specs.declared.value.Value.TheVariants.{Error}
 use Rattle.key_split.specs.declared.travel.Told.{Told}
 use Rattle.key_split.specs.declared.travel.Told.TheVariants.{Reply, Moved, Ask, TryAgain, ClusterDown, Unclear}
 use Rattle.slot_map.specs.Table.{Endpoint, Numbered, numbered, host_of, WouldAdd}

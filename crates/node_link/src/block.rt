@@ -1,8 +1,8 @@
 //! What the replies to a block of commands tell them.
 
-ghost use Rattle.std.specs.Prelude.{◌≡◌, ◌+◌, ◌∷◌, IfOk, length, codes, option_map, slice_get, take, map, reverse};
+ghost use Rattle.std.specs.Prelude.{◌≡◌, ◌+◌, IfOk, length, option_map, reverse};
 ghost use Rattle.std.specs.List.{find, list_all};
-ghost use Rattle.node_link.specs.Runs.{BlockOutcome, common_ask, ends_block, is_answer, is_ask_to_all, is_error, is_error_of, is_error_with, is_moved, is_queued, is_text, redirect_of, told_of_none};
+ghost use Rattle.node_link.specs.Runs.{BlockOutcome, common_ask, ends_block, is_answer, is_ask_to_all, is_error, is_error_of, is_moved, is_queued, is_text, redirect_of, told_of_none};
 ghost use Rattle.node_link.specs.Items.{AreItems};
 
 use crate::block_told::BlockTold;

@@ -1,7 +1,7 @@
 //! A port that fails after a number of calls.
 
-ghost use Rattle.std.specs.Prelude.{◌≡◌, ◌≤◌, ◌+◌, List, [], ◌∷◌};
-ghost use Rattle.key_split.specs.Requests.{Request, Slots, requests_of};
+ghost use Rattle.std.specs.Prelude.{◌≡◌, ◌≤◌, [], ◌∷◌};
+ghost use Rattle.key_split.specs.Requests.{Slots, requests_of};
 ghost use Rattle.key_split.specs.Runs.{count_in, requests_of_run};
 ghost use Rattle.node_link.specs.Port.{SendOutcome, NextOutcome};
 ghost use Rattle.node_link.specs.Waiting.{GaveNone};

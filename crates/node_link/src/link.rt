@@ -1,6 +1,6 @@
 //! A connection to a node, on which many commands are under way.
 
-ghost use Rattle.std.specs.Prelude.{◌≡◌, ◌<◌, ◌≤◌, ◌+◌, ◌*◌, ◌++◌, ◌∷◌, [], ℕ, List, IsTrue, ◌↔◌, IsSome, None, Some, MatchOption, length, map};
+ghost use Rattle.std.specs.Prelude.{◌≡◌, ◌<◌, ◌≤◌, ◌+◌, ◌*◌, ◌++◌, ◌∷◌, [], IsTrue, ◌↔◌, IsSome, None, Some, MatchOption, length, map};
 ghost use Rattle.std.specs.VecDeque.{deque_len, deque_capacity};
 ghost use Rattle.std.specs.List.{flat_map};
 ghost use Rattle.key_split.specs.Requests.{Slots, requests_of};

@@ -1,10 +1,9 @@
 //! The parts of a redirection line, over its bytes.
 
-ghost use Rattle.std.specs.Prelude.{codes, ◌≡◌, ◌<◌, ◌≤◌, length, position, nat_eq, nat_le, ◌&&◌, true, not, IfSome, Some, None, MatchOption, IsTrue};
+ghost use Rattle.std.specs.Prelude.{codes, ◌≡◌, ◌<◌, ◌≤◌, length, position, nat_eq, nat_le, ◌&&◌, true, not, IfSome, Some, None, MatchOption};
 ghost use Rattle.std.specs.List.{before_last, after_last, list_any, list_all, suffix_len};
 ghost use Rattle.std.specs.Char.{is_ascii_digit};
 ghost use Rattle.std.specs.Str.{bytes_eq};
-ghost use Rattle.resp_wire.specs.Text.{is_one_line};
 ghost use Rattle.node_link.specs.Line.{first_word, other_words, short_number, digits_value, number_within, endpoint_in, target_in};
 
 /// Where a line sends a command on.

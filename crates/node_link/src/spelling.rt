@@ -1,10 +1,10 @@
 //! Requests as bytes: each is spelled where it will be written from, with no value and no list of words in between.
 
-ghost use Rattle.std.specs.Prelude.{◌≡◌, ◌<◌, ◌≤◌, ◌+◌, ◌*◌, ◌++◌, ◌∷◌, [], All, List, ℕ, OnOk, length, decimal, codes};
+ghost use Rattle.std.specs.Prelude.{◌≡◌, ◌<◌, ◌≤◌, ◌+◌, ◌*◌, ◌++◌, ◌∷◌, [], All, List, ℕ, OnOk, length, codes};
 ghost use Rattle.std.specs.List.{flat_map};
 ghost use Rattle.key_split.specs.Laws.{IsPlain};
 ghost use Rattle.key_split.specs.PartModel.{Pair};
-ghost use Rattle.key_split.specs.Requests.{Slots, requests_of};
+ghost use Rattle.key_split.specs.Requests.{requests_of};
 ghost use Rattle.key_split.specs.Words.{behind_key, pair_words, words_of};
 ghost use Rattle.key_split.specs.Runs.{requests_of_run};
 ghost use Rattle.node_link.specs.Blocks.{IsPlainRequest, spelled_block};

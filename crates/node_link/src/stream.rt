@@ -1,6 +1,6 @@
 //! A stream of bytes that does not block.
 
-ghost use Rattle.std.specs.Prelude.{◌≡◌, ◌≤◌, List, [], ◌++◌, ℕ, length, take};
+ghost use Rattle.std.specs.Prelude.{◌≤◌, List, [], ◌++◌, ℕ, length};
 ghost use Rattle.node_link.specs.declared.stream.Flow.{Flow};
 ghost use Rattle.node_link.specs.Stream.{ReadOutcome, WriteOutcome};
 

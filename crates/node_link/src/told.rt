@@ -1,6 +1,6 @@
 //! What a node's reply says.
 
-ghost use Rattle.std.specs.Prelude.{◌≡◌, ◌<◌, ◌++◌, ◌||◌, ◌∷◌, [], List, ℕ, length, codes, IsTrue, true};
+ghost use Rattle.std.specs.Prelude.{◌≡◌, ◌<◌, ◌||◌, [], length, codes, IsTrue};
 ghost use Rattle.std.specs.Str.{bytes_eq};
 ghost use Rattle.resp_wire.specs.Text.{is_one_line};
 ghost use Rattle.slot_map.specs.Table.{Grows, host_of, Interns};

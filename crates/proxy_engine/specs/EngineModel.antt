@@ -11,7 +11,7 @@ use Rattle.proxy_lanes.specs.declared.ends.lane_ends.LaneEnds.{LaneEnds}
 use Rattle.proxy_lanes.specs.declared.ends.WorkerEnds.{WorkerEnds}
 use Rattle.proxy_lanes.specs.Carrier.{AreLanesOf}
 use Rattle.proxy_lanes.specs.Ends.{ChangesAt, HandsOver}
-use Rattle.proxy_lanes.specs.Beside.{HavePlaces, IsDrained, IsInStep}
+use Rattle.proxy_lanes.specs.Beside.{IsDrained, IsInStep}
 use Rattle.proxy_turns.specs.declared.newcomer.Newcomer.{Newcomer}
 use Rattle.proxy_turns.specs.Port.{Moves}
 use Rattle.proxy_turns.specs.Arrivals.{AreToCome}

@@ -65,7 +65,7 @@ impl<J: Naming, T: ShowsOps + Drop> MapWriter<J, T> {
 }
 
 impl<J: Naming, R: Wait + Drop> MapWriter<J, Tables<J, R>> {
-    ghost use Rattle.std.specs.Prelude.{◌≡◌, ◌++◌, ◌<◌, ◌^◌, [], IfOk, OnOk, OnErr, IfSome};
+    ghost use Rattle.std.specs.Prelude.{◌≡◌, ◌++◌, ◌<◌, ◌^◌, [], IfOk, OnOk, OnErr};
     ghost use Rattle.proxy_lanes.specs.Opened.{book_of};
     ghost use Rattle.proxy_lanes.specs.Publishing.{IsPublished};
     ghost use Rattle.proxy_lanes.specs.View.{new_view};

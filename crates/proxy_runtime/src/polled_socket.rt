@@ -1,6 +1,5 @@
 //! A socket that is tried only where it is ready.
 
-ghost use Rattle.std.specs.Prelude.{◌≡◌, ◌≤◌};
 
 use crate::keepalive::keep_alive;
 use crate::ready_set::Registration;

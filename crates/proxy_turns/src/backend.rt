@@ -1,6 +1,6 @@
 //! A backend: what the carrier keeps for one node.
 
-ghost use Rattle.std.specs.Prelude.{◌≡◌, ◌<◌, ◌↔◌, ℕ, List, Bool, IsTrue, IsSome, IsSomeAnd, None, Ok, Err, OnOk, OnErr, ◌≢◌, length};
+ghost use Rattle.std.specs.Prelude.{◌≡◌, ◌<◌, ◌↔◌, List, Bool, IsTrue, IsSome, IsSomeAnd, None, Ok, Err, OnOk, OnErr, ◌≢◌, length};
 ghost use Rattle.slot_map.specs.Table.{Endpoint};
 ghost use Rattle.node_link.specs.declared.link.LinkFault.TheVariants as link_fault;
 ghost use Rattle.slot_map.specs.declared.fault.MapFault.TheVariants as map_fault;

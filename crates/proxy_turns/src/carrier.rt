@@ -1,6 +1,6 @@
 //! The carrier: one turn after another.
 
-ghost use Rattle.std.specs.Prelude.{◌≡◌, ◌<◌, false, length};
+ghost use Rattle.std.specs.Prelude.{◌≡◌, ◌<◌, false};
 ghost use Rattle.std.specs.List.{list_any};
 ghost use Rattle.proxy_turns.specs.Backend.{has_open_link};
 

@@ -1,6 +1,6 @@
 //! One client of a worker.
 
-ghost use Rattle.std.specs.Prelude.{◌≡◌, ◌↔◌, [], IfOk, IsTrue, false, true};
+ghost use Rattle.std.specs.Prelude.{◌≡◌, ◌↔◌, IfOk, IsTrue, false, true};
 
 use crate::client_parts::ClientParts;
 use crate::port::ClientPort;

@@ -1,6 +1,6 @@
 //! The clients of a worker by their numbers.
 
-ghost use Rattle.std.specs.Prelude.{◌≡◌, ◌≢◌, ◌<◌, ◌≤◌, ◌+◌, ◌^◌, ◌↔◌, [], ℕ, IsTrue, IfOk, IfSome, MatchOption, OnOk, Ok, None, Some, length, false, slice_get};
+ghost use Rattle.std.specs.Prelude.{◌≡◌, ◌<◌, ◌≤◌, ◌+◌, ◌^◌, ◌↔◌, [], ℕ, IsTrue, IfOk, IfSome, MatchOption, OnOk, Ok, None, Some, length, false};
 ghost use Rattle.std.specs.FinMap.{get, insert};
 ghost use Rattle.proxy_turns.specs.ClientTurn.{SettleOutcome, TurnOutcome};
 ghost use Rattle.command_future.specs.CommandModel.{CommandModel};

@@ -34,7 +34,7 @@ pub(crate) struct Commands {
 
 impl Model for Commands {
     ghost use Rattle.std.specs.FinMap as map;
-    ghost use Rattle.std.specs.Coded.{codes, coded_ℕ};
+    ghost use Rattle.std.specs.Coded.{codes};
     ghost use Rattle.resp_wire.specs.Stored.{coded_data};
     ghost use Rattle.proxy_turns.specs.Commands.{CommandsModel};
 

@@ -1,8 +1,7 @@
 //! The commands of a worker that have something to do, now or after a pause.
 
-ghost use Rattle.std.specs.Prelude.{◌≡◌, ◌<◌, ◌∷◌, ◌||◌, ◌↔◌, [], ℕ, List, IfOk, IsTrue, MatchOption, OnOk, Some, drop, true, ⊤};
-ghost use Rattle.std.specs.List.{list_any};
-ghost use Rattle.std.specs.BinaryHeap.{IsHeap, IsHeap-prop, heap_items, heap_len, heap_capacity};
+ghost use Rattle.std.specs.Prelude.{◌≡◌, ◌<◌, ◌∷◌, ◌↔◌, [], ℕ, List, IsTrue, MatchOption, OnOk, Some, drop, true, ⊤};
+ghost use Rattle.std.specs.BinaryHeap.{IsHeap, IsHeap-prop, heap_items};
 ghost use Rattle.proxy_turns.specs.Waiting.{AreAllLater, AreLater, BeganNone, EndsThen, IsFirstDue, IsLater, first_due_first};
 
 use crate::gate::Gate;

@@ -123,7 +123,7 @@ impl Script {
 }
 
 impl ClientPort for Script {
-    ghost use Rattle.proxy_turns.specs.Port.{MovesNone, PullOutcome, PushOutcome, NoteOutcome};
+    ghost use Rattle.proxy_turns.specs.Port.{MovesNone, PullOutcome, PushOutcome};
     ghost use Rattle.proxy_turns.specs.Script.{PullAnswer, PushAnswer, script_moves};
 
     ghost moves = { script_moves };

@@ -3,7 +3,7 @@
 -- where their keys stand is the table of src/relay_table.rt: NAMES and SHAPES, row by row. Word 0 is the name.
 -- The faults in their order: wrong number of words, an option that is not passed on, the number of keys, no key, keys of
 -- different slots. Nothing of a refused request is sent.
-use Rattle.std.specs.Prelude.{ℕ, ℤ, pos, negsuc, ◌+◌, ◌-◌, ◌/◌, ◌%◌, ◌==◌, nat_le, nat_lt, nat_eq, List, [], ◌∷◌, ◌++◌, length, take, drop, Bool, true, false, ◌&&◌, ◌||◌, not, if◌then◌else◌, Option, None, Some, Result, Ok, Err, slice_get, slice_index_or, codes}
+use Rattle.std.specs.Prelude.{ℕ, ℤ, pos, negsuc, ◌+◌, ◌-◌, ◌/◌, ◌%◌, ◌==◌, nat_le, nat_lt, nat_eq, List, [], ◌∷◌, ◌++◌, length, take, drop, Bool, true, ◌&&◌, ◌||◌, not, if◌then◌else◌, Option, None, Some, Result, Ok, Err, slice_get, slice_index_or, codes}
 use Rattle.std.specs.List.{list_all, list_any, position}
 use Rattle.std.specs.Option.{option_map}
 use Rattle.slot_hash.specs.Slot.{slot_of}

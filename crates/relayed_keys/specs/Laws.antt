@@ -1,5 +1,5 @@
 -- What holds of every request that is passed on whole.
-use Rattle.std.specs.Prelude.{◌≡◌, Bool, true, IfOk, IfSome, Result, Option}
+use Rattle.std.specs.Prelude.{◌≡◌, true, IfOk, IfSome, Result, Option}
 use Rattle.std.specs.List.{list_all}
 use Rattle.relayed_keys.specs.declared.keys.RelayKeys.{RelayKeys}
 use Rattle.relayed_keys.specs.declared.keys.RelayFault.{RelayFault}

@@ -1,13 +1,13 @@
 -- When two values are the same.
 -- `==` of values makes this test. It answers true exactly for equal data (Laws.antt, `SameValues`).
-use Rattle.std.specs.Prelude.{◌≡◌, ◌&&◌, ◌==◌, ℕ, ℤ, Bool, true, false, List, [], refl, nat_eq, pos}
+use Rattle.std.specs.Prelude.{◌≡◌, ◌&&◌, ℕ, ℤ, Bool, true, false, List, [], refl, nat_eq, pos}
 use Rattle.std.specs.Bool.{Decides}
 use Rattle.std.specs.Ordering.{int_eq}
 use Rattle.std.specs.Cmp.{IsEquivalence, decided, signed_Decides, unsigned_Decides}
 use Rattle.std.specs.Cmp.Lexicographic.{pointwise, pointwise_decides}
 use Rattle.std.proofs.Common.{ap, sym, ◌∙◌, eqb, eq-eqb, arith}
 use Rattle.std.proofs.lemmas.Bool.{false≢true}
-use Rattle.resp_wire.specs.Data.{Data, Items, simple, error, integer, bulk, null_bulk, array, null_array, no_items, item, items_of, list_of}
+use Rattle.resp_wire.specs.Data.{Data, Items, simple, error, integer, bulk, null_bulk, array, null_array, no_items, item, items_of}
 use Rattle.resp_wire.specs.Seen.{data_of}
 use Rattle.resp_wire.specs.declared.value.Value.{Value}
 

@@ -1,7 +1,7 @@
 -- The words of a request (RESP2 specification, "Sending commands to a Redis server": an array of bulk strings alone).
 -- An empty array has no words. What a client asks for with one is said in session_order, Requests.antt.
 use Rattle.std.specs.Prelude.{ℕ, List, [], ◌∷◌, Option, Some, None, option_map, Bool, true, false}
-use Rattle.resp_wire.specs.Data.{Data, Items, simple, error, integer, bulk, null_bulk, array, null_array, no_items, item}
+use Rattle.resp_wire.specs.Data.{Data, Items, bulk, array, no_items, item}
 
 abbrev pub is_bulk : Data → Bool
 is_bulk (bulk word) = true

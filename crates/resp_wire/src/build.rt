@@ -1,13 +1,12 @@
 //! A value from its bytes.
 
-ghost use Rattle.std.specs.Prelude.{◌≡◌, map, IsTrue};
+ghost use Rattle.std.specs.Prelude.{IsTrue};
 ghost use Rattle.resp_wire.specs.Text.{is_one_line};
-ghost use Rattle.resp_wire.specs.Data.{items_of};
 ghost use Rattle.resp_wire.specs.Seen.{data_of, items_view};
 ghost use Rattle.resp_wire.specs.Bodies.{AreEndOf};
 ghost use Rattle.resp_wire.specs.Gives.{Builds, byte_of};
 ghost use Rattle.resp_wire.specs.Reading as reading;
-ghost use Rattle.resp_wire.specs.Reading.{value_at, items_at, items_in, integer_at, bulk_at, array_at, counted_array};
+ghost use Rattle.resp_wire.specs.Reading.{value_at, items_at, items_in, counted_array};
 
 use crate::bodies::Bodies;
 use crate::fault::WireFault;

@@ -1,10 +1,10 @@
 //! What a value begins with.
 
-ghost use Rattle.std.specs.Prelude.{◌≡◌, ◌++◌, ℕ, Some, None, true, false};
+ghost use Rattle.std.specs.Prelude.{◌++◌, ℕ, Some, None};
 ghost use Rattle.resp_wire.specs.Reading as reading;
 ghost use Rattle.resp_wire.specs.Reading.{items_in, counted_bulk, counted_array};
 ghost use Rattle.resp_wire.specs.Heads.{IsHead, IsHeadOf, IsBehind, IsFurther};
-ghost use Rattle.resp_wire.specs.Gives.{Ends, LineGives, IsLineText, LengthIs, BodyGives, IsBehindLine, byte_of};
+ghost use Rattle.resp_wire.specs.Gives.{LineGives, IsLineText, LengthIs, BodyGives, IsBehindLine, byte_of};
 
 use crate::fault::WireFault;
 use crate::limits::Limits;

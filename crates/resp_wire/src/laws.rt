@@ -1,6 +1,5 @@
 //! Laws of spelling.
 
-ghost use Rattle.std.specs.Prelude.{◌≡◌, ◌++◌, ℕ, List};
 ghost use Rattle.resp_wire.specs.Laws.{OneSpelling, OneFault, FrontIsWhole, FrontIsFaulty, FrontIsPartial, FrontKeepsValue, FrontKeepsFault, SpelledInOrder, CutsAlike, CanonicalSpells, CanonicalReads, SameValues};
 
 /// No bytes spell two values, and no spelling begins another.

@@ -1,6 +1,6 @@
 //! The words of a request.
 
-ghost use Rattle.std.specs.Prelude.{◌≡◌, IfOk, IfErr, Some, map, is_some, IsTrue, MatchOption, false};
+ghost use Rattle.std.specs.Prelude.{◌≡◌, IfOk, IfErr, Some, is_some, IsTrue, MatchOption, false};
 ghost use Rattle.resp_wire.specs.Data.{items_of, bulk};
 ghost use Rattle.resp_wire.specs.Seen.{data_of};
 ghost use Rattle.resp_wire.specs.Words.{words_of, bulks_of, is_bulk};

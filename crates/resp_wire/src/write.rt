@@ -1,7 +1,6 @@
 //! The canonical spelling of a value.
 
-ghost use Rattle.std.specs.Prelude.{◌≡◌, ◌++◌, [], OnOk, OnErr, decimal, map};
-ghost use Rattle.std.specs.Fmt.{signed_decimal};
+ghost use Rattle.std.specs.Prelude.{◌≡◌, ◌++◌, [], OnOk, OnErr, decimal};
 ghost use Rattle.resp_wire.specs.Data.{bulk, items_of};
 ghost use Rattle.resp_wire.specs.Seen.{data_of};
 ghost use Rattle.resp_wire.specs.Gives.{Grows};

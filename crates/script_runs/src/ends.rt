@@ -1,6 +1,6 @@
 //! The ends of a run's parts, found by their tickets.
 
-ghost use Rattle.std.specs.Prelude.{◌≡◌, ◌<◌, ℕ, IfOk, Some, cond, length, option_map};
+ghost use Rattle.std.specs.Prelude.{◌≡◌, ◌<◌, IfOk, Some, cond, option_map};
 ghost use Rattle.script_runs.specs.Ends.{end_for, found, same_key, ticket_key, IsIndexFrom};
 ghost use Rattle.script_runs.specs.declared.ends.Key.{Key};
 

@@ -1,6 +1,6 @@
 //! One client's script, planned anew.
 
-ghost use Rattle.std.specs.Prelude.{◌≡◌, ◌≤◌, ◌<◌, ◌+◌, ◌++◌, ◌^◌, [], None, IfOk, OnOk, false, length, option_map, true};
+ghost use Rattle.std.specs.Prelude.{◌≡◌, ◌≤◌, ◌<◌, ◌+◌, ◌++◌, ◌^◌, None, IfOk, OnOk, false, length, option_map, true};
 ghost use Rattle.key_split.specs.Join.{CanJoin};
 ghost use Rattle.session_order.specs.Output.{ends_from};
 ghost use Rattle.session_order.specs.PendingReply.{goodbye};
@@ -8,7 +8,7 @@ ghost use Rattle.session_order.specs.Replies.{bytes_of, joined, lines_owed, spel
 ghost use Rattle.script_runs.specs.Replayed.{after, goes_on, opened, outcome, outcome_of, says, state_of, takes_parts, where_whole};
 ghost use Rattle.script_runs.specs.Requests.{AsksFor, Requested};
 ghost use Rattle.script_runs.specs.Run.{ends_of, numbered};
-ghost use Rattle.script_runs.specs.Wanted.{IsNumbered, IsOpen};
+ghost use Rattle.script_runs.specs.Wanted.{IsNumbered};
 
 use crate::client_id::ClientId;
 use crate::ends::EndTable;

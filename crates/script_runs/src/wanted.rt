@@ -1,6 +1,6 @@
 //! What a script wants next.
 
-ghost use Rattle.std.specs.Prelude.{◌≡◌, ◌<◌, ◌≤◌, ◌+◌, ◌^◌, ℕ, List, IfOk, length};
+ghost use Rattle.std.specs.Prelude.{◌≡◌, ◌<◌, ◌≤◌, ◌^◌, ℕ, List, IfOk, length};
 ghost use Rattle.resp_wire.specs.Seen.{data_of};
 ghost use Rattle.key_split.specs.Join.{CanBeJoined};
 ghost use Rattle.session_order.specs.PendingReply.{plan_for};

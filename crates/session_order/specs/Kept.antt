@@ -1,6 +1,6 @@
 -- What the calls of a session keep of the parts that are out.
 -- A part that is out stays so, in its order and behind the same parts, until its own end is told or the session is gone with it.
-use Rattle.std.specs.Prelude.{◌≡◌, ◌≢◌, List, ℕ, Bool, Option, Result, IfSome}
+use Rattle.std.specs.Prelude.{◌≢◌, List, ℕ, Bool, Option, Result, IfSome}
 use Rattle.resp_wire.specs.declared.fault.NoMemory.{NoMemory}
 use Rattle.key_split.specs.PartModel.{PartModel}
 use Rattle.key_split.specs.declared.travel.Ticket.{Ticket}

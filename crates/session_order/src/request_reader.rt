@@ -1,7 +1,6 @@
 //! A client's bytes, and the request that is next of them.
 
 ghost use Rattle.std.specs.Prelude.{◌≡◌, ◌<◌, ◌≤◌, [], None, Some, OnErr, length, take};
-ghost use Rattle.resp_wire.specs.Seen.{data_of};
 ghost use Rattle.session_order.specs.Ahead.{GiveOutcome};
 
 use crate::request_kind::{RequestKind, kind_of};

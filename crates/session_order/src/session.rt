@@ -1,6 +1,6 @@
 //! A client's session.
 
-ghost use Rattle.std.specs.Prelude.{◌≡◌, ◌≢◌, ℕ, List, ◌<◌, ◌≤◌, ◌+◌, ◌-◌, ◌++◌, ◌^◌, ◌↔◌, [], ◌∷◌, None, IsTrue, IfOk, IfSome, OnOk, OnErr, Ok, Err, true, false, length, map, drop, take, replicate};
+ghost use Rattle.std.specs.Prelude.{◌≡◌, ◌≢◌, ℕ, List, ◌<◌, ◌≤◌, ◌+◌, ◌-◌, ◌++◌, ◌^◌, ◌↔◌, [], ◌∷◌, None, IsTrue, IfOk, OnOk, OnErr, Ok, Err, true, false, length, map, drop, take, replicate};
 ghost use Rattle.std.specs.VecDeque.{deque_len, deque_capacity};
 ghost use Rattle.session_order.specs.declared.queue.PartStage.TheVariants.{Waiting};
 ghost use Rattle.session_order.specs.LettingGo.{one_for};

@@ -1,7 +1,6 @@
 //! The lines that a session writes by itself.
 
-ghost use Rattle.std.specs.Prelude.{◌≡◌, IfOk, codes, IsTrue};
-ghost use Rattle.resp_wire.specs.Text.{is_one_line};
+ghost use Rattle.std.specs.Prelude.{◌≡◌, IfOk};
 ghost use Rattle.session_order.specs.PendingReply.{goodbye, protocol_error};
 
 use key_split::{error_line, simple_line};

@@ -1,6 +1,6 @@
 //! Requests of which not all has come.
 
-ghost use Rattle.std.specs.Prelude.{◌≢◌, ◌<◌, ◌≤◌, ◌+◌, ◌↔◌, ◌∷◌, ℕ, List, IsTrue};
+ghost use Rattle.std.specs.Prelude.{◌≢◌, ◌<◌, ◌+◌, ◌↔◌, ◌∷◌, ℕ, List, IsTrue};
 ghost use Rattle.socket_proxy.specs.Unfinished.{IsHeld, IsMost};
 
 use crate::share::share_of;

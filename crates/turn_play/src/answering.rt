@@ -1,6 +1,6 @@
 //! What a node writes to the item that it read.
 
-ghost use Rattle.std.specs.Prelude.{◌≡◌, ◌≤◌, ◌<◌, ◌+◌, ◌++◌, ◌∷◌, [], IfOk, IfErr, length, map, replicate, vec_capacity};
+ghost use Rattle.std.specs.Prelude.{◌≡◌, ◌≤◌, ◌<◌, ◌∷◌, [], IfOk, IfErr, length, map, replicate, vec_capacity};
 ghost use Rattle.std.specs.VecDeque.{deque_capacity, deque_len};
 ghost use Rattle.node_model.specs.Runs.{HaveOneSlot};
 ghost use Rattle.turn_laws.specs.ByteWires.{IsPlainItem};

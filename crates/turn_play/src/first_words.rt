@@ -1,6 +1,5 @@
 //! The words of the request that bytes begin with.
 
-ghost use Rattle.std.specs.Prelude.{◌≡◌};
 ghost use Rattle.resp_wire.specs.Seen.{data_of};
 ghost use Rattle.turn_play.specs.Hearing.{FindsValue, HearsWords, TellsWords};
 

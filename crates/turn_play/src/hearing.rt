@@ -1,7 +1,7 @@
 //! The item that a node reads first in the bytes that came.
 
-ghost use Rattle.std.specs.Prelude.{◌≡◌, ◌<◌, ◌≤◌, ◌↔◌, ◌∷◌, [], IfOk, IsTrue, codes, drop, length};
-ghost use Rattle.turn_laws.specs.ByteWires.{IsPlainItem, asking_after};
+ghost use Rattle.std.specs.Prelude.{◌≡◌, ◌<◌, ◌↔◌, ◌∷◌, [], IfOk, IsTrue, codes};
+ghost use Rattle.turn_laws.specs.ByteWires.{asking_after};
 ghost use Rattle.turn_play.specs.Hearing.{BeginsRequest, Hears, item_of, most_replies};
 
 use crate::block::{Block, commands_at, is_word};

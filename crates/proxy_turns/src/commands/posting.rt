@@ -1,7 +1,6 @@
 //! How commands are posted: those that were not posted yet together, and a posted one alone.
 
 ghost use Rattle.std.specs.Prelude.{◌≡◌, ◌≢◌, ◌<◌, ◌≤◌, ◌++◌, [], ◌∷◌, ℕ, Option, Result, All, IfOk, IfSome, MatchOption, OnErr, OnOk, false, length, ⊤};
-ghost use Rattle.std.specs.FinMap as map;
 ghost use Rattle.std.specs.HashMap.{spare};
 ghost use Rattle.slot_hash.specs.Slot.{slot_of};
 ghost use Rattle.key_split.specs.Runs.{GoTogether};

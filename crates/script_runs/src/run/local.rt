@@ -1,6 +1,6 @@
 //! A run of scripts over a cluster in one process.
 
-ghost use Rattle.std.specs.Prelude.{◌≡◌, ◌<◌, ◌≤◌, ◌^◌, length};
+ghost use Rattle.std.specs.Prelude.{◌<◌, ◌≤◌, ◌^◌, length};
 ghost use Rattle.script_runs.specs.Judged.{RunOutcome};
 
 use super::assembly::run_all;

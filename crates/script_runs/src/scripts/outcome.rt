@@ -1,6 +1,6 @@
 //! What a run of scripts writes, and its status.
 
-ghost use Rattle.std.specs.Prelude.{◌≡◌, ◌≤◌, ◌<◌, ◌++◌, ℕ, List, IfOk, length};
+ghost use Rattle.std.specs.Prelude.{◌≡◌, ◌≤◌, ◌<◌, IfOk, length};
 ghost use Rattle.cluster_world.specs.Reading.{IsShort};
 ghost use Rattle.script_runs.specs.RunText.{Writes, WritesRead, WritesReplies, WritesReport, WritesVerdict};
 
