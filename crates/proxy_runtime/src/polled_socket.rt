@@ -1,6 +1,5 @@
 //! A socket that is tried only where it is ready.
 
-
 use crate::keepalive::keep_alive;
 use crate::ready_set::Registration;
 use crate::socket::Socket;
