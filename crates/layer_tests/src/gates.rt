@@ -1,6 +1,7 @@
 //! Gates for tests.
 
 use proxy_turns::Gate;
+use resp_wire::NoMemory;
 use std::sync::atomic::{AtomicBool, AtomicU64, Ordering};
 use std::thread;
 
@@ -11,6 +12,11 @@ pub struct Open;
 impl Gate for Open {
     fn pass(&self, _: u16, _: u64) -> bool {
         true
+    }
+
+    fn take_news(&self, news: &mut Vec<u32>) -> Result<(), NoMemory> {
+        news.clear();
+        Ok(())
     }
 
     fn time(&self) -> Option<u64> {
@@ -95,6 +101,11 @@ impl Gate for Meeting {
         } else {
             self.pass_second(answered)
         }
+    }
+
+    fn take_news(&self, news: &mut Vec<u32>) -> Result<(), NoMemory> {
+        news.clear();
+        Ok(())
     }
 
     fn time(&self) -> Option<u64> {

@@ -33,10 +33,17 @@ impl News {
         }
     }
 
-    /// One of which there is news.
-    pub(crate) fn take(&self) -> Option<u32> {
-        let last = self.count.load(Ordering::Relaxed).checked_sub(1)?;
-        self.count.store(last, Ordering::Relaxed);
-        Some(self.clients.get(last)?.load(Ordering::Relaxed))
+    /// Puts the clients of which there is news in place of what `clients` holds. From then on there is news of none.
+    pub(crate) fn take(&self, clients: &mut Vec<u32>) -> Result<(), NoMemory> {
+        clients.clear();
+        let count = self.count.load(Ordering::Relaxed);
+        clients.reserve(count)?;
+        for place in 0..count {
+            if let Some(client) = self.clients.get(place) {
+                clients.push(client.load(Ordering::Relaxed))?;
+            }
+        }
+        self.count.store(0, Ordering::Relaxed);
+        Ok(())
     }
 }

@@ -186,9 +186,10 @@ impl ReadySet {
         }
     }
 
-    /// The number of a client whose socket may be read again, and of which this was not told yet.
-    pub fn next_news(&self) -> Option<u32> {
-        self.news.take()
+    /// Puts into `news`, in place of what it holds, the numbers of the clients whose sockets may be read again, and of which this was
+    /// not told yet.
+    pub fn take_news(&self, news: &mut Vec<u32>) -> Result<(), NoMemory> {
+        self.news.take(news)
     }
 }
 
@@ -247,7 +248,7 @@ impl Registration {
         Ok(Registration { ready, at, peer })
     }
 
-    /// A registration for the socket of the client of this number. `ReadySet::next_news` names it.
+    /// A registration for the socket of the client of this number. `ReadySet::take_news` names it.
     pub fn of_client(ready: &Arc<ReadySet, Global>, client: u32) -> Result<Registration, NoMemory> {
         let registration = Registration::new(ready, Peer::Client)?;
         if let Some(entry) = registration.entry() {

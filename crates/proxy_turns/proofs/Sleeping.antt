@@ -1,10 +1,11 @@
 -- Who sleeps at a place, and goes on to.
 use Rattle.std.proofs.Common.{◌≡◌, ◌≢◌, ◌∙◌, ◌<◌, ◌≤◌, ◌+◌, ◌-◌, ◌++◌, ◌∷◌, ◌==◌, [], ℕ, zero, suc, nat_eq, Bool, true, false, cond, List, Option, Some, None, inl, inr, refl, sym, ap, subst, arith, length, position, get_or, drop, slice_get, slice_range, slice_set, take, slice_index_or, swap_remove, eqb→eq}
-use Rattle.std.specs.Prelude.{◌⊎◌, MatchOption, T}
+use Rattle.std.specs.Prelude.{◌⊎◌, All, MatchOption, T}
 use Rattle.std.proofs.lemmas.Bool.{false≢true}
 use Rattle.std.proofs.lemmas.Bool.Decides.{nat_tests}
 use Rattle.std.proofs.lemmas.List.{length-append}
 use Rattle.std.proofs.lemmas.Option.{slice_get-get_or}
+use Rattle.std.proofs.lemmas.List.Elements.{All-cons, All-nil}
 use Rattle.std.proofs.lemmas.List.Quantifiers.{position-Some}
 use Rattle.std.specs.Map.{keys_of}
 use Rattle.std.specs.FinMap.{from_entries, get, insert}
@@ -17,7 +18,8 @@ use Rattle.proxy_turns.specs.ClientRest.{HasNoPlace, IsAsleep, IsClientAtRest}
 use Rattle.proxy_turns.specs.ClientTable.{IsAtRestAt, IsStillAt, RestBetween}
 use Rattle.proxy_turns.specs.Sleepers.{AreAsleep, IsAsleepAt, IsMarked, IsNextAwake}
 use Rattle.proxy_turns.proofs.ClientResting.{asleep_rests}
-use Rattle.proxy_turns.proofs.Posting.{some_same}
+use Rattle.proxy_turns.specs.Awake.{IsAwake}
+use Rattle.proxy_turns.proofs.Posting.{front_item, some_same}
 use Rattle.proxy_turns.proofs.Rounds.{set_here, set_others, still_on}
 use Rattle.proxy_turns.proofs.Tables.{none_some, wrote_at}
 
@@ -250,3 +252,28 @@ module _ {C : Type 0} (gives_none takes_none : C → Type 0) where
       by : (place < first) ⊎ (first ≤ place) → IsAtRestAt gives_none takes_none s2 o2 place
       by (inl l) = before.rests place (inr (omega arith, l))
       by (inr g) = before.rests place (inl (behind.rests place (inr (g, omega (arith, lt, before.len, behind.len, is)))))
+
+-- ---- those that are woken, one after another
+
+module _ {C : Type 0} (entries : List (ℕ × ClientModel C)) where
+  awake_still : (marks marks' : List ℕ) (number : ℕ) → ((place : ℕ) → IsMarked marks' place → IsMarked marks place) → IsAwake entries marks number → IsAwake entries marks' number
+  awake_still marks marks' number fewer (None, none, awake) = (None, none, tt)
+  awake_still marks marks' number fewer (Some at, there, awake) = (Some at, there, λ marked. awake (fewer at marked))
+
+  first_is : (rest : List ℕ) → 1 ≤ length rest → get_or rest 0 0 ≡ get_or rest 0 (get_or rest 0 0)
+  first_is [] some = absurd (omega (arith, some))
+  first_is (number ∷ rest) some = refl
+
+  pub one_more_awake : (all rest before marks : List ℕ) → 1 ≤ length rest
+      → ((place : ℕ) → IsMarked marks place → IsMarked before place) → IsAwake entries marks (get_or rest 0 0)
+      → ((m : List ℕ) → ((place : ℕ) → IsMarked m place → IsMarked before place) → All (IsAwake entries m) rest → All (IsAwake entries m) all)
+      → (m : List ℕ) → ((place : ℕ) → IsMarked m place → IsMarked marks place) → All (IsAwake entries m) (take (length rest - 1) (drop 1 rest)) → All (IsAwake entries m) all
+  one_more_awake all rest before marks some fewer here so_far m below later =
+      let number = get_or rest 0 0 in
+      let tail = take (length rest - 1) (drop 1 rest) in
+      so_far m (λ place marked. fewer place (below place marked))
+      (subst (All (IsAwake entries m)) (sym (front_item rest number some (first_is rest some))) (All-cons (IsAwake entries m) number tail (awake_still marks m number below here) later))
+
+pub all_awake : (P : ℕ → Type 0) (rest : List ℕ) → length rest < 1 → All P rest
+all_awake P [] none = All-nil P
+all_awake P (number ∷ rest) none = absurd (omega (arith, none))

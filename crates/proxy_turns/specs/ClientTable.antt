@@ -18,9 +18,10 @@ use Rattle.proxy_turns.specs.declared.turned.Finish.TheVariants as finish
 use Rattle.proxy_turns.specs.declared.turned.Turned.{Turned}
 use Rattle.proxy_turns.specs.WorkerModel.{Leaves, clients_in}
 
--- The clients by their numbers, in the order of their turns, and for how many more there is room.
+-- The clients by their numbers, in the order of their turns, a mark for the place of each that sleeps, and for how many more there is room.
 pub record ClientTableModel (C : Type 0) : Type 0 where
   pub entries : List (ℕ × ClientModel C)
+  pub marks : List ℕ
   pub spare : ℕ
 
 -- where the client of this number stands; `None` exactly where none has it

@@ -25,6 +25,7 @@ pub mod Owing
 pub mod Received
 pub mod Script
 pub mod Sleepers
+pub mod Awake
 pub mod Swapping
 pub mod Unpushed
 pub mod Beside

@@ -1,6 +1,6 @@
 //! The clients of a worker by their numbers.
 
-ghost use Rattle.std.specs.Prelude.{◌≡◌, ◌<◌, ◌≤◌, ◌+◌, ◌^◌, ◌↔◌, [], ℕ, IsTrue, IfOk, IfSome, MatchOption, OnOk, Ok, None, Some, length, false};
+ghost use Rattle.std.specs.Prelude.{◌≡◌, ◌<◌, ◌≤◌, ◌+◌, ◌^◌, ◌↔◌, [], ℕ, IsTrue, IfOk, IfSome, MatchOption, OnOk, Ok, None, Some, All, length, false};
 ghost use Rattle.std.specs.FinMap.{get, insert};
 ghost use Rattle.proxy_turns.specs.ClientTurn.{SettleOutcome, TurnOutcome};
 ghost use Rattle.command_future.specs.CommandModel.{CommandModel};
@@ -41,13 +41,14 @@ impl<C: ClientPort + Drop> Model for ClientTable<C> {
 
     ghost coded = { Prim.hlevel (codes, coded_data, map.code) };
 
-    ghost view = { λ table. record { entries = table.by_number.entries; spare = spare table.by_number } };
+    ghost view = { λ table. record { entries = table.by_number.entries; marks = table.sleepers.marks.items; spare = spare table.by_number } };
 
     ghost invariant = { λ table. AreAsleep C.gives_none table.sleepers.marks.items table.by_number.entries };
 }
 
 impl<C: ClientPort + Drop> ClientTable<C> {
-    ghost use Rattle.proxy_turns.specs.Sleepers.{IsAsleepAt};
+    ghost use Rattle.proxy_turns.specs.Sleepers.{IsAsleepAt, IsMarked};
+    ghost use Rattle.proxy_turns.specs.Awake.{IsAwake};
 
     pub(crate) fn new(alloc: Global) -> ClientTable<C>
         ensures { result.entries ≡ [] }
@@ -183,9 +184,23 @@ impl<C: ClientPort + Drop> ClientTable<C> {
         self.by_number.get_index_of(&number)
     }
 
-    /// The client of this number, where there is one, has turns again.
-    pub(crate) fn wake(&mut self, number: u32)
-        ensures { self.new ≡ self.old }
+    /// The clients of these numbers, where there are such, have turns again.
+    pub(crate) fn wake_each(&mut self, numbers: &[u32])
+        ensures entries { self.new.entries ≡ self.old.entries }
+        ensures woken { All (IsAwake self.new.entries self.new.marks) numbers.now }
+    {
+        let mut rest = numbers;
+        while let [number, later @ ..] = rest {
+            self.wake(*number);
+            rest = later;
+        }
+    }
+
+    // The client of this number, where there is one, has turns again.
+    fn wake(&mut self, number: u32)
+        ensures entries { self.new.entries ≡ self.old.entries }
+        ensures woken { IsAwake self.new.entries self.new.marks number }
+        ensures others { (place : ℕ) → IsMarked self.new.marks place → IsMarked self.old.marks place }
     {
         if let Some(place) = self.place_of(number) {
             self.sleepers.wake(place);

@@ -1,6 +1,8 @@
 //! Who lets a worker go on.
 
-ghost use Rattle.std.specs.Prelude.{ℕ, Bool, Option, ⊤};
+ghost use Rattle.std.specs.Prelude.{ℕ, Bool, List, OnOk, Option, ⊤};
+
+use resp_wire::NoMemory;
 
 /// Bytes of replies that wait or are under way for all clients of one worker, where a gate says nothing else.
 pub const MOST_HELD: usize = 32 * 1024 * 1024;
@@ -16,6 +18,9 @@ pub trait Gate {
     /// It told this time, or that there is none.
     ghost tells: { Self → Option ℕ → Type 0 } = { λ _ _. ⊤ };
 
+    /// It named these clients.
+    ghost names: { Self → List ℕ → Type 0 } = { λ _ _. ⊤ };
+
     /// It was told that the first of the commands that wait is due then, or that none waits.
     ghost waits: { Self → Option ℕ → Type 0 } = { λ _ _. ⊤ };
 
@@ -23,12 +28,11 @@ pub trait Gate {
     fn pass(&self, worker: u16, answered: u64) -> bool
         ensures asked { says self.now worker answered result };
 
-    /// The number of a client whose port may give bytes, or be gone, and of whom this was not told yet. Asked before each turn of
-    /// the worker until there is none: a client that is watched (`ClientPort::is_watched`), and for whom there is nothing else to
-    /// do, has no turn until it is named here.
-    fn next_news(&self) -> Option<u32> {
-        None
-    }
+    /// Puts into `news`, in place of what it holds, the numbers of the clients whose port may give bytes, or be gone, and of whom
+    /// this was not told yet. Asked in each turn of the worker, before clients have theirs: one that is watched
+    /// (`ClientPort::is_watched`), and for whom there is nothing else to do, has no turn until it is named here.
+    fn take_news(&self, news: &mut Vec<u32>) -> Result<(), NoMemory>
+        ensures named { OnOk result (names self.now news.new.items) };
 
     /// How many bytes of replies may wait or be under way for the worker's clients together. Past it, each client has its oldest
     /// request under way, and few parts behind it. Asked before each turn.

@@ -19,7 +19,7 @@ pub trait ClientPort {
     /// Its last push took nothing.
     ghost takes_none: { Self → Type 0 } = { λ _. ⊤ };
 
-    /// Whether the worker's gate will have news of it (`Gate::next_news`) once it may give bytes or is gone. Else it is asked at
+    /// Whether the worker's gate will have news of it (`Gate::take_news`) once it may give bytes or is gone. Else it is asked at
     /// each turn.
     fn is_watched(&self) -> bool {
         false

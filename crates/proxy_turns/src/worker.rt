@@ -1,6 +1,6 @@
 //! A worker, as a future: each poll is one pass of its gate and one turn.
 
-ghost use Rattle.std.specs.Prelude.{◌≡◌, ◌≢◌, ◌↔◌, IsTrue, MatchBool, false, length, true, ⊤};
+ghost use Rattle.std.specs.Prelude.{◌≡◌, ◌≢◌, ◌↔◌, ℕ, List, IsTrue, MatchBool, OnOk, false, length, true, ⊤};
 ghost use Rattle.std.specs.BinaryHeap.{heap_items};
 ghost use Rattle.futures.specs.Task.{Covers, Keeps};
 ghost use Rattle.futures.specs.Poll.{IfReady, OnPending};
@@ -70,6 +70,7 @@ impl<'g, C: ClientPort + Drop, J: Naming, G: Gate> Worker<'g, C, J, G> {
         ensures rests { IfStill result (IsWorkerAtRest C.gives_none C.takes_none (worker_model self.new)) }
         ensures runs { IsRunning self.old → IsRunning self.new }
         ensures pauses { IfStill result (AreAllLater (G.tells self.old.gate.now) (paused_in self.new)) }
+        ensures asked { OnOk result ((numbers : List ℕ) × G.names self.old.gate.now numbers) }
     {
         self.state.turn(self.gate)
     }

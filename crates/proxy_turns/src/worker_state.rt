@@ -1,8 +1,9 @@
 //! The clients of a worker, between them and the carrier the lanes.
 
-ghost use Rattle.std.specs.Prelude.{◌≡◌, ◌≢◌, ◌⊎◌, ◌<◌, ◌≤◌, ◌+◌, ◌∷◌, [], List, drop, IfOk, IfSome, IsTrue, MatchBool, ◌↔◌, OnOk, Ok, Some, length, true, vec_capacity};
+ghost use Rattle.std.specs.Prelude.{◌≡◌, ◌≢◌, ◌⊎◌, ◌<◌, ◌≤◌, ◌+◌, ◌∷◌, [], ℕ, List, drop, IfOk, IfSome, IsTrue, MatchBool, ◌↔◌, OnOk, Ok, Some, length, true, vec_capacity};
 ghost use Rattle.std.specs.BinaryHeap.{heap_items};
 ghost use Rattle.proxy_turns.specs.WorkerModel.{AdmitsClients, AreAllServed, Learns, RemovesClient, ServesClients, SettlesDue, TakesTold, TurnsClient, WorkerTurns, clients_in};
+ghost use Rattle.proxy_turns.specs.Awake.{AreWoken};
 ghost use Rattle.proxy_turns.specs.ClientRest.{HasNoPlace, IfStill};
 ghost use Rattle.command_future.specs.CommandModel.{CommandModel, WantsPost};
 ghost use Rattle.proxy_turns.specs.Pause.{pause_at};
@@ -60,6 +61,8 @@ pub(crate) struct WorkerState<C: ClientPort + Drop, J: Naming> {
     due: DueCommands,
     room: SharedRoom,
     round: Round,
+    // The numbers of the clients of whom there was news, in this turn or the last.
+    news: Vec<u32>,
     ghost ports_fit: { length ports.items + length clients.entries ≤ vec_capacity ports },
     ghost due_known: { AreNoted (clients_in clients.entries) due },
 }
@@ -98,6 +101,7 @@ impl<C: ClientPort + Drop, J: Naming> WorkerState<C, J> {
             due: DueCommands::new(alloc, worker),
             room: SharedRoom::new(alloc),
             round: Round::new(),
+            news: Vec::new(alloc),
         }
     }
 
@@ -109,6 +113,7 @@ impl<C: ClientPort + Drop, J: Naming> WorkerState<C, J> {
         ensures clients_rest { IfStill result (AreClientsAtRest C.gives_none C.takes_none (state_model self.new)) }
         ensures posted_rest { IfStill result (ArePostedAtRest (state_model self.new)) }
         ensures pauses { IfStill result (AreAllLater (G.tells gate.now) (heap_items self.new.due.paused)) }
+        ensures asked { OnOk result ((numbers : List ℕ) × G.names gate.now numbers) }
     {
         let came = self.admit_all()?;
         let told = self.take_told(gate)?;
@@ -347,9 +352,10 @@ impl<C: ClientPort + Drop, J: Naming> WorkerState<C, J> {
     fn serve_clients<G: Gate>(&mut self, gate: &G) -> Result<bool, NoMemory>
         ensures serves { ServesClients C.moves (state_model self.old) result (state_model self.new) }
         ensures rest { IfStill result (AreClientsAtRest C.gives_none C.takes_none (state_model self.new)) }
+        ensures asked { OnOk result ((numbers : List ℕ) × G.names gate.now numbers) }
         ensures due { self.new.due ≡ self.old.due }
     {
-        wake_those_with_news(&mut self.clients, gate);
+        wake_those_with_news(&mut self.clients, &mut self.news, gate)?;
         self.room.begin_round(gate.most_held());
         let count = self.clients.len();
         let first = self.round.first(count);
@@ -415,15 +421,17 @@ impl<C: ClientPort + Drop, J: Naming> WorkerState<C, J> {
 }
 
 // The clients of whom the gate has news have turns again.
-fn wake_those_with_news<C: ClientPort + Drop, G: Gate>(clients: &mut ClientTable<C>, gate: &G)
-    ensures { clients.new ≡ clients.old }
+fn wake_those_with_news<C: ClientPort + Drop, G: Gate>(
+    clients: &mut ClientTable<C>,
+    news: &mut Vec<u32>,
+    gate: &G,
+) -> Result<(), NoMemory>
+    ensures entries { clients.new.entries ≡ clients.old.entries }
+    ensures woken { OnOk result (AreWoken clients.new.entries clients.new.marks (G.names gate.now) news.new.items) }
 {
-    for _ in 0..u64::MAX {
-        let Some(number) = gate.next_news() else {
-            return;
-        };
-        clients.wake(number);
-    }
+    gate.take_news(news)?;
+    clients.wake_each(news);
+    Ok(())
 }
 
 // Whether something is left in the lanes that is to be taken.

@@ -3,6 +3,7 @@
 use crate::share::share_of;
 use proxy_runtime::ReadySet;
 use proxy_turns::{Gate, MOST_HELD};
+use resp_wire::NoMemory;
 
 /// Tells a worker the time of its thread, and of which clients there is news.
 #[derive(Drop)]
@@ -27,8 +28,8 @@ impl Gate for SocketGate<'_> {
         true
     }
 
-    fn next_news(&self) -> Option<u32> {
-        self.ready.next_news()
+    fn take_news(&self, news: &mut Vec<u32>) -> Result<(), NoMemory> {
+        self.ready.take_news(news)
     }
 
     fn most_held(&self) -> usize {

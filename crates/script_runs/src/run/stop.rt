@@ -1,6 +1,7 @@
 //! How the threads of a run are ended.
 
 use proxy_turns::Gate;
+use resp_wire::NoMemory;
 use std::sync::atomic::{AtomicBool, AtomicU64, Ordering};
 
 /// Raised once, for all threads to see.
@@ -64,6 +65,10 @@ pub(crate) struct StopGate<'g, G> {
 impl<'g, G: Gate> Gate for StopGate<'g, G> {
     fn pass(&self, worker: u16, answered: u64) -> bool {
         !self.signals.stop.is_raised() && self.gate.pass(worker, answered)
+    }
+
+    fn take_news(&self, news: &mut Vec<u32>) -> Result<(), NoMemory> {
+        self.gate.take_news(news)
     }
 
     fn posted(&self, count: u64) {

@@ -26,6 +26,11 @@ impl Gate for Open {
         true
     }
 
+    fn take_news(&self, news: &mut Vec<u32>) -> Result<(), NoMemory> {
+        news.clear();
+        Ok(())
+    }
+
     fn time(&self) -> Option<u64> {
         None
     }
