@@ -30,7 +30,8 @@ pub trait Gate {
 
     /// Puts into `news`, in place of what it holds, the numbers of the clients whose port may give bytes, or be gone, and of whom
     /// this was not told yet. Asked in each turn of the worker, before clients have theirs: one that is watched
-    /// (`ClientPort::is_watched`), and for whom there is nothing else to do, has no turn until it is named here.
+    /// (`ClientPort::is_watched`), and for whom there is nothing else to do, has no turn until it is named here. After NoMemory the
+    /// next call names them.
     fn take_news(&self, news: &mut Vec<u32>) -> Result<(), NoMemory>
         ensures named { OnOk result (names self.now news.new.items) };
 
