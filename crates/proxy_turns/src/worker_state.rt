@@ -356,6 +356,16 @@ impl<C: ClientPort + Drop, J: Naming> WorkerState<C, J> {
         ensures due { self.new.due ≡ self.old.due }
     {
         wake_those_with_news(&mut self.clients, &mut self.news, gate)?;
+        self.serve_awake(gate)
+    }
+
+    // The same, behind the news: all of whom there was news are awake.
+    fn serve_awake<G: Gate>(&mut self, gate: &G) -> Result<bool, NoMemory>
+        requires woken { AreWoken self.old.clients.entries self.old.clients.marks (G.names gate.now) self.old.news.items }
+        ensures serves { ServesClients C.moves (state_model self.old) result (state_model self.new) }
+        ensures rest { IfStill result (AreClientsAtRest C.gives_none C.takes_none (state_model self.new)) }
+        ensures due { self.new.due ≡ self.old.due }
+    {
         self.room.begin_round(gate.most_held());
         let count = self.clients.len();
         let first = self.round.first(count);
