@@ -1,6 +1,7 @@
 """Runs of the program that serve sockets of this machine, and plain clients of them."""
 
 import contextlib
+import os
 import signal
 import socket
 import subprocess
@@ -11,9 +12,10 @@ from program import LIMIT, PROGRAM
 
 
 @contextlib.contextmanager
-def started(words):
-    """A run that is ended by a signal when the block is left."""
-    with subprocess.Popen([PROGRAM, *words], stdin=subprocess.DEVNULL, stderr=subprocess.DEVNULL) as process:
+def started(words, variables=None):
+    """A run with these variables that is ended by a signal when the block is left."""
+    environment = {**os.environ, **(variables or {})}
+    with subprocess.Popen([PROGRAM, *words], stdin=subprocess.DEVNULL, stderr=subprocess.DEVNULL, env=environment) as process:
         try:
             yield process
         finally:

@@ -7,6 +7,7 @@ import threading
 
 from program import Runs, run
 from sockets import free_ports, heard, proxy, request
+from test_password import QUIT, guarded
 
 with open(os.path.join(os.path.dirname(os.path.abspath(__file__)), "..", "..", "README.md"), encoding="utf-8") as file:
     README = file.read()
@@ -106,6 +107,8 @@ class Readme(Runs):
         }
         with proxy(nobody, 1) as at:
             found |= {heard(at, b"PING\r\n"), heard(at, request("GET", "a") + request("QUIT")).removesuffix(b"+OK\r\n")}
+        with guarded() as at:
+            found |= {heard(at, request(*words) + QUIT).removesuffix(b"+OK\r\n") for words in [["PING"], ["AUTH", "another"]]}
         for said in [None, b"+OK\r\n"]:
             with FakeNode(said) as node, proxy(node.port, 1) as at:
                 found.add(heard(at, request("DEL", "a", "b") + request("QUIT")).removesuffix(b"+OK\r\n"))

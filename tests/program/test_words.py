@@ -86,7 +86,7 @@ class Refused(Runs):
 
     def test_variables_that_are_no_text(self):
         """The value is not repeated."""
-        for name in [b"CLUSTER_PROXY_USER", b"CLUSTER_PROXY_PASSWORD"]:
+        for name in [b"CLUSTER_PROXY_USER", b"CLUSTER_PROXY_PASSWORD", b"CLUSTER_PROXY_CLIENT_PASSWORD"]:
             variables = {os.fsdecode(name): os.fsdecode(b"\xff")}
             self.assertEqual(run(serving(), variables=variables), (2, b"", b"cluster_proxy: %s is not UTF-8\n" % name))
 

@@ -1,5 +1,6 @@
-"""Nodes that want a password, which the proxy has from the environment."""
+"""Passwords at the nodes and at the proxy, which has them from the environment."""
 
+import subprocess
 import time
 
 from cases_log import Logged
@@ -183,3 +184,22 @@ def a_password_that_is_repeated(world):
         check_same(client.ask("GET", "a"), GAVE_UP, "GET")
         wait_until(lambda: logged.lines("seed_unreachable"), "a line")
         check_silent(logged, PASSWORD)
+
+
+CLIENTS = "opens-for-clients"
+
+
+@case(beside="password")
+def clients_with_a_password(world):
+    """redis-cli says it, while another client that does not is refused; neither the log nor the page shows it."""
+    cluster, variables = locked_cluster(world), {**variables_of(PASSWORD), "CLUSTER_PROXY_CLIENT_PASSWORD": CLIENTS}
+    with Logged(world, cluster.nodes[0].port, "clients", variables) as logged, logged.proxy.client() as client:
+        words = ["redis-cli", "--no-auth-warning", "-p", str(logged.proxy.port)]
+        for auth, said in [(["-a", CLIENTS], b"OK"), (["--user", "default", "-a", CLIENTS], b"OK"), ([], b"NOAUTH Authentication required."), (["-a", PASSWORD], b"NOAUTH Authentication required.")]:
+            ran = subprocess.run([*words, *auth, "SET", "a", "1"], capture_output=True, timeout=60, check=False)
+            check(said in ran.stdout, f"redis-cli {auth} wrote {ran.stdout} and {ran.stderr}")
+        check_same(client.ask("GET", "a"), b"-NOAUTH Authentication required.\r\n", "GET")
+        check_same(client.ask("AUTH", CLIENTS), b"+OK\r\n", "AUTH")
+        check_same(client.ask("GET", "a"), b"$1\r\n1\r\n", "GET")
+        check_silent(logged, PASSWORD)
+        check_silent(logged, CLIENTS)

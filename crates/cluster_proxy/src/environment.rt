@@ -1,7 +1,8 @@
-//! What the environment says: how the proxy names itself to the nodes.
+//! What the environment says: the passwords at the nodes and at the proxy.
 
 ghost use Rattle.std.specs.Prelude.{◌≡◌, Err, MatchOption, None, Ok};
 
+use client_door::ClientPassword;
 use node_dial::Credentials;
 use resp_wire::NoMemory;
 use std::alloc::{AllocGlobal, Global};
@@ -13,6 +14,17 @@ const PASSWORD: &str = "CLUSTER_PROXY_PASSWORD";
 
 const USER: &str = "CLUSTER_PROXY_USER";
 
+const CLIENT_PASSWORD: &str = "CLUSTER_PROXY_CLIENT_PASSWORD";
+
+/// The passwords of the environment.
+#[derive(Drop)]
+pub struct Passwords {
+    /// What the nodes are told; `None` for nothing.
+    pub nodes: Option<Credentials>,
+    /// What clients have to say; `None` for nothing.
+    pub clients: Option<ClientPassword>,
+}
+
 /// Why the environment is refused.
 #[derive(Debug, Drop, Error)]
 pub enum EnvironmentFault {
@@ -22,6 +34,8 @@ pub enum EnvironmentFault {
     UserAlone,
     #[error("{0} is not UTF-8")]
     NotText(&'static str),
+    #[error("CLUSTER_PROXY_CLIENT_PASSWORD has fewer than 8 bytes")]
+    TooShort,
 }
 
 impl From<NoMemory> for EnvironmentFault {
@@ -30,10 +44,29 @@ impl From<NoMemory> for EnvironmentFault {
     }
 }
 
-/// The password of the environment, and the user, where they are there.
-pub fn credentials_of<R: Env + AllocGlobal>(
+/// The passwords that are there.
+pub fn passwords_of<R: Env + AllocGlobal>(rt: &R) -> Result<Passwords, EnvironmentFault> {
+    Ok(Passwords {
+        nodes: credentials_of(rt)?,
+        clients: client_password_of(rt)?,
+    })
+}
+
+/// The clients' password, where it is there.
+fn client_password_of<R: Env + AllocGlobal>(
     rt: &R,
-) -> Result<Option<Credentials>, EnvironmentFault> {
+) -> Result<Option<ClientPassword>, EnvironmentFault> {
+    let Some(text) = variable(rt, CLIENT_PASSWORD)? else {
+        return Ok(None);
+    };
+    match ClientPassword::new(text.into_bytes()) {
+        Some(password) => Ok(Some(password)),
+        None => Err(EnvironmentFault::TooShort),
+    }
+}
+
+/// The nodes' password, and the user, where they are there.
+fn credentials_of<R: Env + AllocGlobal>(rt: &R) -> Result<Option<Credentials>, EnvironmentFault> {
     let password = variable(rt, PASSWORD)?;
     let user = variable(rt, USER)?;
     match password {

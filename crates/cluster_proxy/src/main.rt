@@ -14,7 +14,7 @@ mod nodes;
 mod serve;
 
 use cluster_world::{WatchedReader, WatchedWriter, run_one, run_simulate};
-use environment::credentials_of;
+use environment::passwords_of;
 use event_log::ErrorStream;
 use nodes::serve_nodes;
 use program_words::{Choice, Serving, choose};
@@ -90,8 +90,8 @@ where
         + Sync
         + 'static,
 {
-    match credentials_of(rt) {
-        Ok(credentials) => status_of(rt, serve_clients(rt, serving, credentials, log)),
+    match passwords_of(rt) {
+        Ok(passwords) => status_of(rt, serve_clients(rt, serving, passwords, log)),
         Err(fault) => {
             let _ = eprintln!(rt; "cluster_proxy: {fault}");
             2

@@ -1,9 +1,9 @@
 //! `serve`: the proxy before a cluster.
 
 use crate::descriptors::descriptor_limit;
+use crate::environment::Passwords;
 use crate::log_lines::{log_end, log_start};
 use event_log::ErrorStream;
-use node_dial::Credentials;
 use program_words::{Address, Serving, VERSION, seed_table};
 use proxy_runtime::WireRunFault;
 use socket_proxy::{Admin, Proxy, listen, run_wire};
@@ -32,11 +32,11 @@ pub enum ServeFault<'a> {
     Run(WireRunFault),
 }
 
-/// Runs the proxy until it is drained, which names itself to the nodes so, and logs to this stream.
+/// Runs the proxy until it is drained, with these passwords, and logs to this stream.
 pub fn serve_clients<'a, R>(
     rt: &R,
     serving: Serving<'a>,
-    credentials: Option<Credentials>,
+    passwords: Passwords,
     log: &ErrorStream,
 ) -> Result<(), ServeFault<'a>>
 where
@@ -62,13 +62,15 @@ where
         return Err(ServeFault::Run(WireRunFault::NoMemory));
     };
     log_start(rt, rt.alloc(), &serving, log);
+    let Passwords { nodes, clients } = passwords;
     let proxy = Proxy {
         listener,
         seeds: &seeds,
         workers: serving.workers,
         clients: None,
         descriptors: descriptor_limit(),
-        credentials,
+        credentials: nodes,
+        password: clients,
         log,
     };
     let ended = run_wire(rt, rt.alloc(), proxy, admin);

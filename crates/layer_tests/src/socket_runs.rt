@@ -63,6 +63,7 @@ fn proxy<'a>(
         clients: Some(clients),
         descriptors: None,
         credentials: None,
+        password: None,
         log,
     }
 }

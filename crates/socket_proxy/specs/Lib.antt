@@ -7,3 +7,4 @@ pub mod Renewal
 pub mod Pace
 pub mod ClientRoom
 pub mod Seats
+pub mod Doorways

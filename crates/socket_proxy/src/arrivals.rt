@@ -2,14 +2,17 @@
 
 use crate::client::SocketClient;
 use crate::dealer::Arrival;
+use crate::doorway::Doorway;
 use crate::lingering::SharedLingering;
 use crate::shared::ThreadHandle;
 use crate::unfinished::{SharedUnfinished, UnfinishedRequest};
+use client_door::ClientPassword;
 use event_log::{Event, Figure};
 use mio::Registry;
 use proxy_lanes::Inlet;
 use proxy_runtime::{PolledSocket, Registration};
 use proxy_turns::ClientPort;
+use resp_wire::NoMemory;
 use std::alloc::Global;
 use std::io;
 use std::io::ErrorKind;
@@ -47,6 +50,8 @@ pub(crate) struct Arrivals<'b> {
     alloc: Global,
     inlet: Inlet<Arrival>,
     handle: &'b ThreadHandle,
+    /// What clients have to say, where they have to.
+    password: Option<&'b Arc<ClientPassword, Global>>,
     /// What the thread's poll watches.
     registry: Registry,
     unfinished: SharedUnfinished,
@@ -64,6 +69,7 @@ impl<'b> Arrivals<'b> {
         alloc: Global,
         inlet: Inlet<Arrival>,
         handle: &'b ThreadHandle,
+        password: Option<&'b Arc<ClientPassword, Global>>,
         registry: Registry,
         unfinished: SharedUnfinished,
         lingering: SharedLingering,
@@ -72,6 +78,7 @@ impl<'b> Arrivals<'b> {
             alloc,
             inlet,
             handle,
+            password,
             registry,
             unfinished,
             lingering,
@@ -139,12 +146,25 @@ impl<'b> Arrivals<'b> {
         let Ok(lingering) = self.lingering.clone() else {
             return Err(ErrorKind::OutOfMemory.into());
         };
+        let Ok(door) = self.door() else {
+            return Err(ErrorKind::OutOfMemory.into());
+        };
         let request = UnfinishedRequest::new(unfinished);
         let socket = PolledSocket::new(stream, registration, &self.registry)?;
         self.next = number.checked_add(1);
         Ok(NumberedClient {
             number,
-            port: SocketClient::new(self.alloc, socket, address, report, request, lingering),
+            port: SocketClient::new(
+                self.alloc, socket, door, address, report, request, lingering,
+            ),
         })
+    }
+
+    /// The door of a new client, where a password is wanted.
+    fn door(&self) -> Result<Option<Doorway>, NoMemory> {
+        match self.password {
+            Some(password) => Ok(Some(Doorway::new(self.alloc, Arc::try_clone(password)?))),
+            None => Ok(None),
+        }
     }
 }

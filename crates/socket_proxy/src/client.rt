@@ -2,6 +2,7 @@
 
 ghost use Rattle.std.specs.Prelude.{◌≡◌, None};
 
+use crate::doorway::Doorway;
 use crate::lingering::SharedLingering;
 use crate::request_times::RequestTimes;
 use crate::unfinished::UnfinishedRequest;
@@ -24,6 +25,8 @@ use std::sync::Arc;
 pub(crate) struct SocketClient {
     /// `None` once the client is gone.
     socket: Option<PolledSocket>,
+    /// `None` once it has passed, or where no password is wanted.
+    door: Option<Doorway>,
     report: Arc<ThreadReport, Global>,
     address: SocketAddr,
     request: UnfinishedRequest,
@@ -39,6 +42,7 @@ impl SocketClient {
     pub(crate) fn new(
         alloc: Global,
         socket: PolledSocket,
+        door: Option<Doorway>,
         address: SocketAddr,
         report: Arc<ThreadReport, Global>,
         request: UnfinishedRequest,
@@ -46,6 +50,7 @@ impl SocketClient {
     ) -> SocketClient {
         SocketClient {
             socket: Some(socket),
+            door,
             report,
             address,
             request,
@@ -68,6 +73,27 @@ impl SocketClient {
         match &self.socket {
             Some(socket) => self.is_owed.get() && socket.has_ended(),
             None => false,
+        }
+    }
+
+    /// Whether it is to be told something at the door.
+    fn is_answered(&self) -> bool {
+        match &self.door {
+            Some(door) => !door.is_silent(),
+            None => false,
+        }
+    }
+
+    /// Forgets the door behind it.
+    fn leave_door(&mut self)
+        ensures { self.new.socket ≡ self.old.socket }
+    {
+        let is_passed = match &self.door {
+            Some(door) => door.is_passed(),
+            None => false,
+        };
+        if is_passed {
+            drop(self.door.take());
         }
     }
 
@@ -117,7 +143,7 @@ impl ClientPort for SocketClient {
     ghost moves = { record { between = λ _ _ _ _ _. Unit {0}; gone = λ client. client.socket ≡ None } };
 
     fn is_watched(&self) -> bool {
-        if self.is_owed.get() || self.request.is_begun() {
+        if self.is_owed.get() || self.request.is_begun() || self.is_answered() {
             return false;
         }
         match &self.socket {
@@ -154,10 +180,14 @@ impl ClientPort for SocketClient {
         if self.stays() {
             return Ok(Flow::Nothing);
         }
+        self.leave_door();
         let Some(socket) = &mut self.socket else {
             return Ok(Flow::Gone);
         };
-        let flow = socket.read(buffer);
+        let flow = match &mut self.door {
+            Some(door) => door.read(socket, buffer)?,
+            None => socket.read(buffer),
+        };
         if let Flow::Bytes(count) = flow {
             self.request.grow(count)?;
         }
@@ -175,7 +205,10 @@ impl ClientPort for SocketClient {
         let Some(socket) = &mut self.socket else {
             return Ok(Flow::Gone);
         };
-        let flow = socket.write(first, second);
+        let flow = match &mut self.door {
+            Some(door) => door.write(socket, first, second),
+            None => socket.write(first, second),
+        };
         if let Flow::Bytes(count) = flow {
             self.note_written(count);
         }

@@ -11,6 +11,7 @@ use crate::setup::{ThreadSetups, push, setup_threads};
 use crate::shared::Shared;
 use crate::upstream::Upstream;
 use crate::worker_thread::{SocketTask, WorkerTask, run_worker};
+use client_door::ClientPassword;
 use event_log::{ErrorStream, Reporter};
 use mio::net::TcpListener;
 use node_dial::Credentials;
@@ -41,6 +42,8 @@ pub struct Proxy<'a> {
     pub descriptors: Option<u64>,
     /// The password at the nodes; `None` where they want none.
     pub credentials: Option<Credentials>,
+    /// The password that clients have to say; `None` where they have to say none.
+    pub password: Option<ClientPassword>,
     /// Where events are logged.
     pub log: &'a ErrorStream,
 }
@@ -84,6 +87,7 @@ where
         clients,
         descriptors,
         credentials,
+        password,
         log,
     } = proxy;
     let pages = page_setups(rt, alloc, admin, descriptors)?;
@@ -91,7 +95,7 @@ where
         shared,
         pollers,
         poller,
-    } = setup_threads(rt, alloc, workers)?;
+    } = setup_threads(rt, alloc, workers, password)?;
     let upstream = Upstream::new(alloc, seeds, credentials)?;
     let (dealer, inlets) = Dealer::new(alloc, shared.workers.len())?;
     let tasks = worker_tasks(alloc, pollers, inlets)?;

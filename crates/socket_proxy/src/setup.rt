@@ -1,6 +1,7 @@
 //! What each thread is given before it starts.
 
 use crate::shared::{Shared, ThreadHandle};
+use client_door::ClientPassword;
 use event_log::ThreadReport;
 use mio::Registry;
 use proxy_runtime::{Poller, ReadySet, WireRunFault};
@@ -19,11 +20,12 @@ pub(crate) struct ThreadSetups {
     pub(crate) poller: Poller,
 }
 
-/// Handles and pollers for the workers, and for the acceptor.
+/// Handles and pollers for the workers, whose clients have to say this password, and for the acceptor.
 pub(crate) fn setup_threads<R: Net>(
     rt: &R,
     alloc: Global,
     workers: u16,
+    password: Option<ClientPassword>,
 ) -> Result<ThreadSetups, WireRunFault> {
     let mut handles = Vec::new(alloc);
     let mut pollers = Vec::new(alloc);
@@ -31,11 +33,22 @@ pub(crate) fn setup_threads<R: Net>(
         setup_worker(rt, alloc, &mut handles, &mut pollers)?;
     }
     let (acceptor, poller) = setup_thread(rt, alloc)?;
+    let password = share_password(alloc, password)?;
     Ok(ThreadSetups {
-        shared: Shared::new(handles, acceptor),
+        shared: Shared::new(handles, acceptor, password),
         pollers,
         poller,
     })
+}
+
+fn share_password(
+    alloc: Global,
+    password: Option<ClientPassword>,
+) -> Result<Option<Arc<ClientPassword, Global>>, NoMemory> {
+    match password {
+        Some(password) => Ok(Some(Arc::new(alloc, password)?)),
+        None => Ok(None),
+    }
 }
 
 /// A handle and a poller for one more worker's thread.

@@ -1,5 +1,6 @@
 //! What all threads of a run share.
 
+use client_door::ClientPassword;
 use event_log::{Figure, ThreadReport};
 use mio::Waker;
 use proxy_runtime::ReadySet;
@@ -67,16 +68,23 @@ pub(crate) struct Shared {
     pub(crate) workers: Vec<ThreadHandle>,
     /// The thread that accepts clients and writes the log.
     pub(crate) acceptor: ThreadHandle,
+    /// What clients have to say, where they have to.
+    pub(crate) password: Option<Arc<ClientPassword, Global>>,
     stopped: AtomicBool,
     /// After how many seconds of the drain what is left is cut.
     drain_seconds: AtomicU64,
 }
 
 impl Shared {
-    pub(crate) fn new(workers: Vec<ThreadHandle>, acceptor: ThreadHandle) -> Shared {
+    pub(crate) fn new(
+        workers: Vec<ThreadHandle>,
+        acceptor: ThreadHandle,
+        password: Option<Arc<ClientPassword, Global>>,
+    ) -> Shared {
         Shared {
             workers,
             acceptor,
+            password,
             stopped: AtomicBool::new(false),
             drain_seconds: AtomicU64::new(NO_DRAIN),
         }

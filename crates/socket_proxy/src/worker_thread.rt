@@ -108,7 +108,7 @@ where
         + Send
         + 'static,
 {
-    let mut seat = seat_of(alloc, worker, handle, poller, inlet, shared.workers.len())?;
+    let mut seat = seat_of(alloc, worker, handle, poller, inlet, shared)?;
     for _ in rt.forever() {
         if !serve_anew(rt, alloc, &mut seat, upstream, shared)? {
             return Ok(());
@@ -124,16 +124,17 @@ fn seat_of<'a>(
     handle: &'a ThreadHandle,
     poller: Poller,
     inlet: Inlet<Arrival>,
-    workers: usize,
+    shared: &'a Shared,
 ) -> Result<Seat<'a>, WireRunFault> {
     let look_ups = LookUps::new(alloc, clone_registry(&poller)?)?;
-    let unfinished = Unfinished::new(alloc, workers)?;
+    let unfinished = Unfinished::new(alloc, shared.workers.len())?;
     let lingering = Lingering::new(alloc)?;
     let shared_lingering = share(&lingering)?;
     let arrivals = Arrivals::new(
         alloc,
         inlet,
         handle,
+        shared.password.as_ref(),
         clone_registry(&poller)?,
         unfinished,
         shared_lingering,
