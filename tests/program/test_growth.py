@@ -12,6 +12,7 @@ import growths
 from program import LIMIT, PROGRAM, rows_of, run, swept
 from scripted import heard_to_the_end
 from sockets import free_ports, heard, nodes, proxy, request
+from test_password import PASSWORD
 from test_simulate import HEADER, MOVE_SCRIPT
 
 SET = request("SET", "a", "1")
@@ -20,8 +21,10 @@ MGET = request("MGET", "a", "b", "{a}a-key-that-is-longer-than-sixteen-bytes")
 # What a client sends to a node, and is answered.
 AT_A_NODE = {SET: b"+OK\r\n", request("GET", "a"): b"$1\r\n1\r\n", request("QUIT"): b"+OK\r\n"}
 
-# What a client sends to the proxy, and is answered where no key is there before.
+# What a client sends to the proxy, which wants a password, and is answered where no key is there before.
 AT_THE_PROXY = {
+    request("AUTH", "sesame"): b"-WRONGPASS invalid username-password pair or user is disabled.\r\n",
+    request("AUTH", PASSWORD): b"+OK\r\n",
     request("MSET", "a", "1", "b", "2", "c", "3"): b"+OK\r\n",
     request("MGET", "a", "b", "x", "c", "{a}a-key-longer-than-sixteen-bytes"): b"*5\r\n$1\r\n1\r\n$1\r\n2\r\n$-1\r\n$1\r\n3\r\n$-1\r\n",
     request("EXISTS", "a", "b", "x"): b":2\r\n",
@@ -148,9 +151,10 @@ class Growth(unittest.TestCase):
 
         self.sweep(f"simulate, {row.name}", attempt)
 
-    def served(self, words, port, answers):
-        """A run that answers a client's requests so, or ends for want of memory, before it listens or behind some replies."""
-        environment = {**os.environ, **self.growths.variables}
+    def served(self, words, port, answers, variables=None):
+        """A run with these variables that answers a client's requests so, or ends for want of memory, before it listens or behind some
+        replies."""
+        environment = {**os.environ, **self.growths.variables, **(variables or {})}
         with subprocess.Popen([PROGRAM, *words], stdin=subprocess.DEVNULL, stderr=subprocess.PIPE, env=environment) as process:
             try:
                 return self.served_by(process, port, answers)
@@ -184,6 +188,6 @@ class Growth(unittest.TestCase):
 
             def attempt():
                 heard(other, request("DEL", "a", "b", "c", "n") + request("QUIT"))
-                return self.served(words, port, AT_THE_PROXY)
+                return self.served(words, port, AT_THE_PROXY, {"CLUSTER_PROXY_CLIENT_PASSWORD": PASSWORD})
 
             self.sweep("serve", attempt, AGREED)
