@@ -1,6 +1,6 @@
 # The commands of this repository. `rt` is Rattle's command, on the PATH of a machine that has the kit.
 
-.PHONY: run demo install deb test rounds proofs rows inputs start cluster bench
+.PHONY: run demo install deb test rounds prove tools proofs rows inputs start cluster bench
 
 # Where `make install` puts what, and `make deb` its package.
 PREFIX ?= /usr/local
@@ -28,15 +28,22 @@ install: $(program)
 deb: $(program)
 	@PROXY=$(program) package/deb $(packages)
 
-# The gate: every proof from nothing, every test and program, and the edits that must be refused, while the rounds of these are
-# tried on themselves; then, by that build, the program on whole inputs, beside rows of the layers, the example and a real cluster.
+# The gate: every proof from nothing, every test and program, and the edits that must be refused, while the rounds of these and
+# build/prove are tried on small repositories, since the first crates are proved one after the other; then, by that build, the program
+# on whole inputs, beside rows of the layers, the example and a real cluster.
 test:
-	@$(MAKE) --no-print-directory --jobs=2 rounds proofs
+	@$(MAKE) --no-print-directory --jobs=2 proofs tools rounds prove
 	@$(MAKE) --no-print-directory --jobs=2 inputs cluster start rows
 	@tests/edits/run --took
 
+tools:
+	-tests/real/install redis-server redis-cli promtool curl
+
 rounds:
 	tests/edits/run --itself
+
+prove:
+	tests/start/run test_prove
 
 proofs:
 	tests/edits/run
@@ -45,7 +52,7 @@ inputs:
 	tests/program/run
 
 start:
-	tests/start/run
+	tests/start/run test_demo test_package
 
 # (Behind one another: what is timed before a real cluster has one other test beside it, not two.)
 cluster:
