@@ -5,7 +5,10 @@ use resp_wire::NoMemory;
 use std::sync::atomic::{AtomicBool, AtomicU64, Ordering};
 use std::thread;
 
-/// Lets all go on.
+/// Of clients with numbers below this one `Open` has news.
+pub const WATCHED: u32 = 16;
+
+/// Lets all go on, and has news of all clients that it watches, in each turn.
 #[derive(Drop)]
 pub struct Open;
 
@@ -16,6 +19,9 @@ impl Gate for Open {
 
     fn take_news(&self, news: &mut Vec<u32>) -> Result<(), NoMemory> {
         news.clear();
+        for number in 0..WATCHED {
+            news.push(number)?;
+        }
         Ok(())
     }
 

@@ -1,5 +1,6 @@
 //! A client in memory, which lines still see while a proxy serves it.
 
+use crate::gates::WATCHED;
 use key_split::{Ended, Ticket};
 use node_link::Flow;
 use proxy_turns::{ClientPort, Script};
@@ -11,6 +12,7 @@ use std::rc::Rc;
 /// A script that two hold: the proxy and the row.
 #[derive(Drop)]
 pub struct SharedClient {
+    number: u32,
     script: Rc<RefCell<Script>>,
     /// How many ends were noted.
     noted: Rc<RefCell<u64>>,
@@ -26,17 +28,25 @@ pub fn shared<T: Drop>(alloc: Global, value: T) -> Result<Rc<RefCell<T>>, NoMemo
 
 impl SharedClient {
     /// A client that sends these bytes.
-    pub fn new(alloc: Global, client: u32, bytes: Bytes) -> Result<SharedClient, NoMemory> {
-        let script = shared(alloc, Script::new(alloc, client, bytes))?;
+    pub fn new(alloc: Global, number: u32, bytes: Bytes) -> Result<SharedClient, NoMemory> {
+        let script = shared(alloc, Script::new(alloc, number, bytes))?;
         let noted = shared(alloc, 0)?;
-        Ok(SharedClient { script, noted })
+        Ok(SharedClient {
+            number,
+            script,
+            noted,
+        })
     }
 
     /// The same client.
     pub fn again(&self) -> Result<SharedClient, AllocError> {
         let script = self.script.clone()?;
         let noted = self.noted.clone()?;
-        Ok(SharedClient { script, noted })
+        Ok(SharedClient {
+            number: self.number,
+            script,
+            noted,
+        })
     }
 
     /// The client holds these bytes, as if they had been replied.
@@ -71,6 +81,10 @@ impl SharedClient {
 impl ClientPort for SharedClient {
     // It promises nothing: the rows look at what it holds.
     ghost moves = { record { between = λ old pulled pushed noted new. Unit {0}; gone = λ port. Unit {0} } };
+
+    fn is_watched(&self) -> bool {
+        self.number < WATCHED
+    }
 
     fn pull(&mut self, buffer: &mut [u8]) -> Result<Flow, NoMemory> {
         let Ok(mut script) = self.script.try_borrow_mut() else {
