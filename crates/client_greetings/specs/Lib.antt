@@ -1,0 +1,2 @@
+pub mod Greetings
+pub mod Replies
