@@ -34,6 +34,11 @@ impl Doorway {
         self.door.state() == DoorState::Open && self.is_silent()
     }
 
+    /// Whether the connection is to be closed.
+    fn is_over(&self) -> bool {
+        self.door.state() == DoorState::Over && self.is_silent()
+    }
+
     /// Whether nothing waits to be sent.
     pub(crate) fn is_silent(&self) -> bool {
         self.door.unsent().is_empty()
@@ -49,12 +54,11 @@ impl Doorway {
         ensures passed { IfOk result (λ flow. BytesOnlyIf (self.new.door.state ≡ Open) flow) }
         ensures length { length buffer.new ≡ length buffer.old }
     {
-        if self.send(socket) == Flow::Gone {
+        if self.send(socket) == Flow::Gone || self.is_over() {
             return Ok(Flow::Gone);
         }
         match self.door.state() {
             DoorState::Open => Ok(socket.read(buffer)),
-            DoorState::Over if self.is_silent() => Ok(Flow::Gone),
             DoorState::Shut if self.is_silent() => self.listen(socket, buffer),
             _ => Ok(Flow::Nothing),
         }
@@ -97,7 +101,7 @@ impl Doorway {
             return Ok(flow);
         };
         let left = self.door.take(&self.password, &buffer[..count])?.len();
-        if self.send(socket) == Flow::Gone {
+        if self.send(socket) == Flow::Gone || self.is_over() {
             return Ok(Flow::Gone);
         }
         if left == 0 || self.door.state() != DoorState::Open {
