@@ -54,7 +54,7 @@ impl Model for Door {
 }
 
 impl Door {
-    ghost use Rattle.std.specs.Prelude.{◌≤◌, OnOk, OnErr, MatchResult, drop, length};
+    ghost use Rattle.std.specs.Prelude.{◌≤◌, IfOk, OnOk, OnErr, MatchResult, drop, length};
     ghost use Rattle.client_door.specs.AtDoor.{taken, door_after, new_door};
 
     /// The door of a client that has said nothing.
@@ -74,7 +74,8 @@ impl Door {
         password: &ClientPassword,
         bytes: &'a [u8],
     ) -> Result<&'a [u8], NoMemory>
-        ensures { MatchResult result (λ left. taken password.now self.old bytes.now ≡ (self.new, left.now)) (λ _. self.new.state ≡ DoorState.Over) }
+        ensures takes { MatchResult result (λ left. taken password.now self.old bytes.now ≡ (self.new, left.now)) (λ _. self.new.state ≡ DoorState.Over) }
+        ensures within { IfOk result (λ left. length left.now ≤ length bytes.now) }
     {
         let mut rest = bytes;
         while let [byte, later @ ..] = rest {
