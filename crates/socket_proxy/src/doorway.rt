@@ -1,6 +1,6 @@
 //! The door in a client's connection, where clients have to say a password.
 
-ghost use Rattle.std.specs.Prelude.{◌≡◌, length, IfOk};
+ghost use Rattle.std.specs.Prelude.{◌≡◌, ◌++◌, length, IfOk};
 ghost use Rattle.client_door.specs.declared.door.DoorState.TheVariants.{Open};
 ghost use Rattle.socket_proxy.specs.Doorways.{BytesOnlyIf, IsWithin};
 
@@ -66,7 +66,7 @@ impl Doorway {
 
     /// Writes behind what waits to be sent.
     pub(crate) fn write(&mut self, socket: &mut PolledSocket, first: &[u8], second: &[u8]) -> Flow
-        ensures { IsWithin result (length first.now + length second.now) }
+        ensures { IsWithin result (length (first.now ++ second.now)) }
     {
         if self.send(socket) == Flow::Gone {
             return Flow::Gone;
