@@ -309,7 +309,8 @@ class Proxy:
         if self.paged:
             words += ["--admin", f"127.0.0.1:{self.admin}"]
         self.process = self.room.start([*limited, *words, "--workers", str(self.workers)], f"{self.name}.log", self.variables)
-        wait_until(lambda: self.has_ended() or does_answer(self.port), f"{self.name} to answer")
+        password = (self.variables or {}).get("CLUSTER_PROXY_CLIENT_PASSWORD")
+        wait_until(lambda: self.has_ended() or does_answer(self.port, password), f"{self.name} to answer")
         check(not self.has_ended(), f"{self.name} ended at its start: {self.said()}")
 
     def has_ended(self):
