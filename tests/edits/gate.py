@@ -119,11 +119,10 @@ class Gate:
         lines.append(f"edits: {name}: {refused} of {len(outcome.tried)} refused in {outcome.rounds} rounds, {outcome.seconds:.0f} s of a processor, {wall:.0f} s")
         print("\n".join(lines), flush=True)
 
-    def run_ci(self):
-        """Runs `rt ci` over the copy, with nothing that an earlier run on this machine proved, and gives its status. Where one crate's
-        check has the machine to itself, it takes all processors, unless RT_JOBS says how many checks run."""
+    def run_ci(self, lanes):
+        """Runs `rt ci` over the copy, with nothing that an earlier run on this machine proved, and gives its status."""
         how = {"cwd": self.proved, "stdin": subprocess.DEVNULL, "stdout": subprocess.PIPE, "stderr": subprocess.STDOUT}
-        with subprocess.Popen(words_of_ci(), text=True, errors="replace", **how) as started:
+        with subprocess.Popen(words_of_ci(), env={**os.environ, "RT_JOBS": str(lanes)}, text=True, errors="replace", **how) as started:
             for line in started.stdout:
                 print(line, end="", flush=True)
                 self.heard(line.rstrip("\n"))
@@ -142,7 +141,7 @@ class Gate:
             self.ready = [it for it in self.ready if not only or it in only]
         for it in workers:
             it.start()
-        status = 0 if log else self.run_ci()
+        status = 0 if log else self.run_ci(lanes)
         with self.changed:
             self.closed = self.is_over = True
             self.changed.notify_all()
