@@ -6,7 +6,7 @@ use std::sync::atomic::{AtomicBool, AtomicU64, Ordering};
 use std::thread;
 
 /// Of clients with numbers below this one `Open` has news.
-pub const WATCHED: u32 = 16;
+pub const WATCHED: u32 = 4;
 
 /// Lets all go on, and has news of all clients that it watches, in each turn.
 #[derive(Drop)]
