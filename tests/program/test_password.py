@@ -46,7 +46,7 @@ ROWS = {
     "a second AUTH": (AUTH + AUTH + QUIT, OK + b"-ERR unknown command\r\n" + OK),
 }
 
-# What is cut into two pieces at each place.
+# What is cut into pieces of each size.
 CUT = request("AUTH", "sesame") + GET + AUTH + request("SET", "a", "1") + request("GET", "a") + QUIT
 CUT_HEARD = WRONG + NOAUTH + OK + OK + b"$1\r\n1\r\n" + OK
 
@@ -76,7 +76,7 @@ class Password(unittest.TestCase):
         with guarded() as proxied:
             self.assertEqual(heard(proxied, CUT, piece=1), CUT_HEARD)
 
-    def test_cut_at_each_place(self):
+    def test_pieces_of_each_size(self):
         with guarded() as proxied:
             for size in range(1, len(CUT)):
                 self.assertEqual(heard(proxied, CUT, piece=size), CUT_HEARD, f"pieces of {size}")
@@ -86,7 +86,7 @@ class Password(unittest.TestCase):
         with guarded() as proxied:
             self.assertEqual(heard(proxied, request("SET", "a", "1") + AUTH + request("GET", "a") + QUIT), NOAUTH + OK + NULL + OK)
 
-    def test_no_end_without_an_end(self):
+    def test_an_end_behind_requests(self):
         """A client that sends no more is answered first."""
         with guarded() as proxied, connection(*proxied) as client:
             client.sendall(GET + AUTH + GET)

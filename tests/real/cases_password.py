@@ -191,7 +191,7 @@ CLIENTS = "opens-for-clients"
 
 @case(beside="password")
 def clients_with_a_password(world):
-    """redis-cli says it, while another client that does not is refused; neither the log nor the page shows it."""
+    """redis-cli says it, while another client that does not is refused; neither the log nor the list of processes shows it."""
     cluster, variables = locked_cluster(world), {**variables_of(PASSWORD), "CLUSTER_PROXY_CLIENT_PASSWORD": CLIENTS}
     with Logged(world, cluster.nodes[0].port, "clients", variables) as logged, logged.proxy.client() as client:
         words = ["redis-cli", "--no-auth-warning", "-p", str(logged.proxy.port)]

@@ -1,6 +1,6 @@
 -- What a client is answered that has not said the password: Redis command reference, AUTH and QUIT; Redis documentation, ACL.
 -- There is one user, `default`, as at a server with `requirepass`.
-use Rattle.std.specs.Prelude.{ℕ, List, [], ◌∷◌, Bool, false, ◌&&◌, ◌==◌, if◌then◌else◌, drop, codes}
+use Rattle.std.specs.Prelude.{ℕ, List, [], ◌∷◌, Bool, ◌&&◌, if◌then◌else◌, drop, codes}
 use Rattle.std.specs.Str.{bytes_eq}
 use Rattle.resp_wire.specs.Data.{Data, simple, error, bulk}
 use Rattle.resp_wire.specs.Canonical.{canonical}

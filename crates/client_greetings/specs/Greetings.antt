@@ -1,5 +1,5 @@
 -- What clients of Redis ask when they connect: Redis command reference, HELLO, CLIENT SETNAME and its kin, COMMAND, CONFIG GET, INFO.
--- A subcommand that is not here is no greeting.
+-- SETINFO and NO-TOUCH are of Redis 7.2. Of HELLO's options SETNAME alone is known here. A subcommand that is not here is no greeting.
 use Rattle.std.specs.Prelude.{ℕ, List, [], ◌∷◌, Bool, ◌||◌, ◌&&◌, nat_le, if◌then◌else◌, is_some, Option, None, Some, codes}
 use Rattle.std.specs.List.{list_all}
 use Rattle.std.specs.Str.{bytes_eq}

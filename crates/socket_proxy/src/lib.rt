@@ -14,7 +14,8 @@
 //! says. What a proxy does with bytes is promised by `proxy_engine`. A client is dealt to a worker that has no more clients than
 //! any other (`specs/Dealing.antt`), as they are counted, of the workers that take clients now. A worker's thread sleeps only where its
 //! proxy is at rest. When it lets its clients go to begin anew, when it begins, and with which table, is exact (`specs/Renewal.antt`,
-//! `specs/Seats.antt`). Where a password is wanted, each client's bytes go to its `client_door` first. Of the threads, the sockets and the waking nothing more is proved.
+//! `specs/Seats.antt`). Where a password is wanted, each client's bytes go to its `client_door` first. Of the threads, the
+//! sockets and the waking nothing more is proved.
 #![tactic(auto)]
 
 mod accept_loop;
