@@ -1,4 +1,5 @@
--- What a greeting is answered: Redis 7.0, in RESP2, but that an option of HELLO that is not known is not repeated. A proxy says that it is a server alone, and has no command, setting or section to tell of.
+-- What a greeting is answered: Redis 7.0, in RESP2, but that an option of HELLO that is not known is not repeated.
+-- A proxy says that it is a server alone, and has no command, setting or section to tell of.
 use Rattle.std.specs.Prelude.{ℕ, List, [], ◌∷◌, ◌++◌, pos, codes}
 use Rattle.std.specs.Fmt.{decimal}
 use Rattle.resp_wire.specs.Data.{Data, bulk, integer, array, no_items}
